@@ -1,0 +1,5 @@
+pub mod ImageLemmas
+mod TornSectors
+mod TornLemmas
+mod TornLoop
+mod Written

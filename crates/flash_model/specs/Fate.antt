@@ -1,0 +1,46 @@
+-- What becomes of a program or erase call of a flash in memory.
+use Rattle.std.specs.Prelude.{◌+◌, ◌-◌, ◌%◌, ◌++◌, ℕ, zero, suc, Bool, true, false, List, length, take, drop, map, min, slice_index, slice_range, Option, Some, None, is_ok, Result, bit_and, bit_or, if◌then◌else◌}
+use Rattle.std.specs.List.{range_with_len}
+use Rattle.flash_model.specs.declared.flash.Order.{Order}
+use Rattle.flash_model.specs.declared.flash.Order.TheVariants.{Cut}
+use Rattle.flash_model.specs.declared.fate.Fate.{Fate}
+use Rattle.flash_model.specs.declared.fate.Fate.TheVariants.{Passes, Tears, Fails}
+
+-- Without power a call fails. An order that lets no further call pass tears this one.
+abbrev pub fate_of : Bool → Option Order → Fate
+fate_of true armed = Fails
+fate_of false None = Passes
+fate_of false (Some (Cut zero mask)) = Tears mask
+fate_of false (Some (Cut (suc after) mask)) = Passes
+
+-- What is armed behind a call: an order that struck is gone, and one that let the call pass lets one fewer pass.
+abbrev pub armed_after : Bool → Option Order → Option Order
+armed_after true armed = armed
+armed_after false None = None
+armed_after false (Some (Cut zero mask)) = None
+armed_after false (Some (Cut (suc after) mask)) = Some (Cut after mask)
+
+-- where the mask has a 0 the old bit, and where it has a 1 the new one
+abbrev pub torn_byte : ℕ → ℕ → ℕ → ℕ
+torn_byte old new mask = bit_or (bit_and old (255 - mask)) (bit_and new mask)
+
+-- a bit of a torn byte, by that of the mask
+abbrev pub chosen_bit : ℕ → ℕ → ℕ → ℕ
+chosen_bit zero old new = old
+chosen_bit (suc one) old new = new
+
+-- a range that a torn call leaves: the mask's 8 bytes repeat from its start
+abbrev pub torn_bytes : List ℕ → List ℕ → List ℕ → List ℕ
+torn_bytes mask old finished =
+    map (λ k. torn_byte (slice_index old k) (slice_index finished k) (slice_index mask (k % 8))) (range_with_len 0 (length old))
+
+-- a sector behind a call on its places from start to end, which finished would have left those bytes
+abbrev pub sector_after : Fate → ℕ → ℕ → List ℕ → List ℕ → List ℕ
+sector_after Passes start end finished old = finished
+sector_after (Tears mask) start end finished old =
+    take start old ++ torn_bytes mask (slice_range old start end) (slice_range finished start end) ++ drop end old
+sector_after Fails start end finished old = old
+
+-- the count of failed calls behind this result, which stays where 64 bits count no further
+abbrev pub failures_after : {T E : Type 0} → ℕ → Result T E → ℕ
+failures_after before result = if is_ok result then before else min (before + 1) 18446744073709551615

@@ -1,0 +1,5 @@
+pub mod Fate
+pub mod Image
+pub mod Memory
+pub mod MemoryLaws
+pub mod Torn

@@ -1,0 +1,35 @@
+-- A flash in memory as its callers see it, and what an armed order makes of its calls.
+use Rattle.std.specs.Prelude.{◌≡◌, ℕ, Bool, false, Option, None}
+use Rattle.flash_model.specs.declared.flash.Order.{Order}
+use Rattle.flash_model.specs.declared.memory.MemoryFlash.{MemoryFlash}
+use Rattle.flash_model.specs.Image.{Image}
+use Rattle.flash_model.specs.declared.fate.Fate.{Fate}
+use Rattle.flash_model.specs.Fate.{fate_of, armed_after}
+
+-- the bytes of both sectors
+abbrev pub image_of : {S : ℕ} → MemoryFlash S → Image
+image_of flash = record { first = flash.first; second = flash.second }
+
+-- the order that was armed and has not struck
+abbrev pub armed_in : {S : ℕ} → MemoryFlash S → Option Order
+armed_in flash = flash.armed
+
+-- how many calls have failed, as far as 64 bits count
+abbrev pub failures_of : {S : ℕ} → MemoryFlash S → ℕ
+failures_of flash = flash.failures
+
+-- whether power was lost
+abbrev pub is_powerless : {S : ℕ} → MemoryFlash S → Bool
+is_powerless flash = flash.is_lost
+
+-- power is there, and nothing is armed
+abbrev pub IsReliable : {S : ℕ} → MemoryFlash S → Type 0
+IsReliable flash = (is_powerless flash ≡ false) × (armed_in flash ≡ None)
+
+-- what becomes of the next program or erase call
+abbrev pub next_fate : {S : ℕ} → MemoryFlash S → Fate
+next_fate flash = fate_of (is_powerless flash) (armed_in flash)
+
+-- what is armed behind the next program or erase call
+abbrev pub next_armed : {S : ℕ} → MemoryFlash S → Option Order
+next_armed flash = armed_after (is_powerless flash) (armed_in flash)

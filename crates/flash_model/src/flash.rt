@@ -1,0 +1,90 @@
+// What a flash does, whether its calls end or fail.
+ghost use Rattle.std.specs.Prelude.{◌≡◌, ◌+◌, ◌≤◌, ℕ, Bool, length, slice_range, IsOk, OnOk, OnErr, true, false};
+ghost use Rattle.flash_model.specs.Image.{Image, IsImage, IsSectorSize, sector_of, with_sector, programmed, erased};
+ghost use Rattle.flash_model.specs.Torn.{Torn, HasCause, StaysLost};
+
+/// One of the two sectors.
+#[derive(Clone, Copy, Debug, PartialEq, Eq)]
+pub enum Sector {
+    First,
+    Second,
+}
+
+/// A call of the flash failed: the one refusal, number 1.
+#[derive(Clone, Copy, Debug, PartialEq, Eq)]
+pub struct FlashFault;
+
+/// What a flash can be told to do to a later call, so that failures can be tried out.
+#[derive(Clone, Copy, Debug, PartialEq, Eq)]
+pub enum Order {
+    /// Loses power in the program or erase call after `after` further ones. It leaves the old bit where the mask has
+    /// a 0 and the new bit where it has a 1; the mask's 8 bytes repeat from the start of the call's range.
+    Cut { after: u32, mask: [u8; 8] },
+}
+
+/// Two sectors of `S` bytes: 512 and 256 for each of 1 to 255 slots behind them. `erase` turns a sector to FF,
+/// `program` turns ones to zeros. A call that fails leaves each bit of its range old or new.
+pub trait Flash<const S: usize>: Drop {
+    /// The bytes of both sectors.
+    ghost image: { Self → Image };
+
+    /// How many calls have failed, as far as 64 bits count.
+    ghost failures: { Self → ℕ };
+
+    /// Whether power was lost: every call fails until it is back.
+    ghost is_lost: { Self → Bool };
+
+    /// Where it holds, no call fails: power is there, and nothing was armed. A flash that promises nothing has `⊥`.
+    ghost is_reliable: { Self → Type 0 };
+
+    /// Reads the bytes from `place` on.
+    fn read(&mut self, sector: Sector, place: usize, buffer: &mut [u8]) -> Result<(), FlashFault>
+        requires { place + length buffer.old ≤ S }
+        ensures done { OnOk result (buffer.new ≡ slice_range (sector_of (image self.old) sector) place (place + length buffer.old)) }
+        ensures same { image self.new ≡ image self.old }
+        ensures cause { HasCause (failures self.old) (failures self.new) result }
+        ensures lost { StaysLost (is_lost self.old) (is_lost self.new) result }
+        ensures reliable { is_reliable self.old → IsOk result × is_reliable self.new };
+
+    /// Turns to 0 each bit that is 0 in `bytes`, from `place` on.
+    fn program(&mut self, sector: Sector, place: usize, bytes: &[u8]) -> Result<(), FlashFault>
+        requires { place + length bytes.now ≤ S }
+        ensures done { OnOk result (image self.new ≡ with_sector (image self.old) sector (programmed (sector_of (image self.old) sector) place bytes.now)) }
+        ensures torn { OnErr result (Torn sector place (place + length bytes.now) (programmed (sector_of (image self.old) sector) place bytes.now) (image self.old) (image self.new)) }
+        ensures cause { HasCause (failures self.old) (failures self.new) result }
+        ensures lost { StaysLost (is_lost self.old) (is_lost self.new) result }
+        ensures untouched { is_lost self.old ≡ true → image self.new ≡ image self.old }
+        ensures reliable { is_reliable self.old → IsOk result × is_reliable self.new };
+
+    /// Turns every bit of a sector to 1.
+    fn erase(&mut self, sector: Sector) -> Result<(), FlashFault>
+        ensures done { OnOk result (image self.new ≡ with_sector (image self.old) sector (erased S)) }
+        ensures torn { OnErr result (Torn sector 0 S (erased S) (image self.old) (image self.new)) }
+        ensures cause { HasCause (failures self.old) (failures self.new) result }
+        ensures lost { StaysLost (is_lost self.old) (is_lost self.new) result }
+        ensures untouched { is_lost self.old ≡ true → image self.new ≡ image self.old }
+        ensures reliable { is_reliable self.old → IsOk result × is_reliable self.new };
+
+    /// How many calls have failed; at `u64::MAX` it stays there.
+    fn failures(&self) -> u64
+        ensures { result ≡ failures self.now };
+
+    /// Whether power was lost.
+    fn is_lost(&self) -> bool
+        ensures { result ≡ is_lost self.now };
+
+    /// Tells the flash what to do to a later call. No byte changes.
+    fn arm(&mut self, order: Order)
+        ensures image { image self.new ≡ image self.old }
+        ensures failures { failures self.new ≡ failures self.old }
+        ensures lost { is_lost self.new ≡ is_lost self.old };
+
+    /// Both sectors have `S` bytes.
+    ghost sized: { (flash : Self) → IsImage S (image flash) };
+
+    /// There is room for the base and for 1 to 255 slots.
+    ghost sector_size: { (flash : Self) → IsSectorSize S };
+
+    /// A reliable flash has power.
+    ghost has_power: { (flash : Self) → is_reliable flash → is_lost flash ≡ false };
+}

@@ -1,0 +1,12 @@
+//! A flash memory of two sectors, each erased as a whole, whose calls may fail, or be cut short by a loss of power,
+//! and then leave any mixture of the old bits and the new ones.
+#![tactic(auto)]
+
+mod fate;
+mod flash;
+mod memory;
+#[cfg(test)]
+mod tests;
+
+pub use flash::{Flash, FlashFault, Order, Sector};
+pub use memory::MemoryFlash;

@@ -1,0 +1,266 @@
+// A flash in memory, whose power can be lost inside a call.
+ghost use Rattle.std.specs.Prelude.{◌≡◌, ◌+◌, ◌≤◌, ◌↔◌, Option, None, Some, true, false, length, slice_range, IsOk, OnOk, OnErr, is_err, min};
+ghost use Rattle.std.proofs.Props.{props};
+ghost use Rattle.flash_model.specs.Image.{IsImage, IsSectorSize, sector_of, with_sector, programmed, erased};
+ghost use Rattle.flash_model.specs.Torn.{Torn, HasRisen, HasCause, StaysLost};
+ghost use Rattle.flash_model.specs.Fate.{sector_after, failures_after};
+
+use crate::fate::{self, Fate};
+use crate::flash::{Flash, FlashFault, Order, Sector};
+
+/// A flash in memory. An order that was armed by [`fuse`](MemoryFlash::fuse) loses its power in a later call, which is
+/// then torn; until [`power_up`](MemoryFlash::power_up) each call fails.
+#[derive(Drop)]
+pub struct MemoryFlash<const S: usize> {
+    first: [u8; S],
+    second: [u8; S],
+    armed: Option<Order>,
+    failures: u64,
+    is_lost: bool,
+    ghost sized: { IsImage S (record { first = first; second = second }) } by { Prim.hlevel props },
+    ghost sector_size: { IsSectorSize S } by { Prim.hlevel props },
+}
+
+impl<const S: usize> MemoryFlash<S> {
+    ghost use Rattle.flash_model.specs.Memory.{image_of, armed_in, failures_of, is_powerless, next_fate, next_armed};
+    ghost use Rattle.flash_model.specs.declared.flash.Order.TheVariants.{Cut};
+
+    /// A flash with both sectors erased, power there, nothing armed and no failure counted.
+    pub fn blank() -> Self
+        requires { IsSectorSize S }
+        ensures image { image_of result ≡ record { first = erased S; second = erased S } }
+        ensures armed { armed_in result ≡ None }
+        ensures failures { failures_of result ≡ 0 }
+        ensures lost { is_powerless result ≡ false }
+    {
+        Self::from_sectors([0xFF; S], [0xFF; S])
+    }
+
+    /// A flash with these bytes, power there, nothing armed and no failure counted.
+    pub fn from_sectors(first: [u8; S], second: [u8; S]) -> Self
+        requires { IsSectorSize S }
+        ensures image { image_of result ≡ record { first = first.entry; second = second.entry } }
+        ensures armed { armed_in result ≡ None }
+        ensures failures { failures_of result ≡ 0 }
+        ensures lost { is_powerless result ≡ false }
+    {
+        MemoryFlash {
+            first,
+            second,
+            armed: None,
+            failures: 0,
+            is_lost: false,
+        }
+    }
+
+    /// The bytes of one sector.
+    pub fn sector(&self, sector: Sector) -> &[u8]
+        ensures bytes { result.now ≡ sector_of (image_of self.now) sector }
+        ensures size { length result.now ≡ S }
+    {
+        match sector {
+            Sector::First => &self.first,
+            Sector::Second => &self.second,
+        }
+    }
+
+    /// Loses power in the program or erase call after `after` further ones, which is then torn: the new bit where the
+    /// mask has a 1, else the old, the mask's 8 bytes repeating from the start of the call's range. An order that was
+    /// armed before is forgotten.
+    pub fn fuse(&mut self, after: u32, mask: [u8; 8])
+        ensures armed { armed_in self.new ≡ Some (Cut after mask) }
+        ensures image { image_of self.new ≡ image_of self.old }
+        ensures failures { failures_of self.new ≡ failures_of self.old }
+        ensures lost { is_powerless self.new ≡ is_powerless self.old }
+    {
+        self.armed = Some(Order::Cut { after, mask });
+    }
+
+    /// Gives power back, and changes nothing else: an order that has not struck stays armed.
+    pub fn power_up(&mut self)
+        ensures lost { is_powerless self.new ≡ false }
+        ensures armed { armed_in self.new ≡ armed_in self.old }
+        ensures image { image_of self.new ≡ image_of self.old }
+        ensures failures { failures_of self.new ≡ failures_of self.old }
+    {
+        self.is_lost = false;
+    }
+
+    /// Decides on the next program or erase call, and takes it off the order that is armed.
+    fn next_fate(&mut self) -> Fate
+        ensures fate { result ≡ next_fate self.old }
+        ensures armed { armed_in self.new ≡ next_armed self.old }
+        ensures lost { is_powerless self.new ≡ false ↔ (result ≡ Fate.Passes) }
+        ensures image { image_of self.new ≡ image_of self.old }
+        ensures failures { failures_of self.new ≡ failures_of self.old }
+    {
+        match (self.is_lost, self.armed) {
+            (true, _) => Fate::Fails,
+            (false, None) => Fate::Passes,
+            (false, Some(Order::Cut { after: 0, mask })) => {
+                self.armed = None;
+                self.is_lost = true;
+                Fate::Tears(mask)
+            }
+            (false, Some(Order::Cut { after, mask })) => {
+                self.armed = Some(Order::Cut {
+                    after: after - 1,
+                    mask,
+                });
+                Fate::Passes
+            }
+        }
+    }
+
+    /// The answer of a program or erase call, which is counted where it fails.
+    fn outcome(&mut self, fate: Fate) -> Result<(), FlashFault>
+        ensures passes { IsOk result ↔ (fate ≡ Fate.Passes) }
+        ensures cause { HasCause (failures_of self.old) (failures_of self.new) result }
+        ensures armed { armed_in self.new ≡ armed_in self.old }
+        ensures lost { is_powerless self.new ≡ is_powerless self.old }
+        ensures image { image_of self.new ≡ image_of self.old }
+        ensures failures { failures_of self.new ≡ failures_after (failures_of self.old) result }
+    {
+        match fate {
+            Fate::Passes => Ok(()),
+            Fate::Tears(_) | Fate::Fails => Err(self.failed()),
+        }
+    }
+
+    /// Counts a call that failed.
+    fn failed(&mut self) -> FlashFault
+        ensures armed { armed_in self.new ≡ armed_in self.old }
+        ensures lost { is_powerless self.new ≡ is_powerless self.old }
+        ensures image { image_of self.new ≡ image_of self.old }
+        ensures failures { failures_of self.new ≡ min (failures_of self.old + 1) 18446744073709551615 }
+        ensures cause { HasRisen (failures_of self.old) (failures_of self.new) }
+    {
+        self.failures = self.failures.saturating_add(1);
+        FlashFault
+    }
+}
+
+impl<const S: usize> Flash<S> for MemoryFlash<S> {
+    ghost use Rattle.flash_model.specs.Memory.{image_of, armed_in, failures_of, is_powerless, next_fate, next_armed, IsReliable};
+    ghost use Rattle.flash_model.specs.MemoryLaws.{IsImage-of, IsSectorSize-of, has_power-of};
+
+    ghost image = { image_of };
+
+    ghost failures = { failures_of };
+
+    ghost is_lost = { is_powerless };
+
+    ghost is_reliable = { IsReliable };
+
+    /// Reads the bytes from `place` on. It fails exactly where there is no power, and counts for no order.
+    fn read(&mut self, sector: Sector, place: usize, buffer: &mut [u8]) -> Result<(), FlashFault>
+        requires { place + length buffer.old ≤ S }
+
+        // What the trait asks.
+        ensures done { OnOk result (buffer.new ≡ slice_range (sector_of (image_of self.old) sector) place (place + length buffer.old)) }
+        ensures same { image_of self.new ≡ image_of self.old }
+        ensures cause { HasCause (failures_of self.old) (failures_of self.new) result }
+        ensures lost { StaysLost (is_powerless self.old) (is_powerless self.new) result }
+        ensures reliable { IsReliable self.old → IsOk result × IsReliable self.new }
+
+        // What a flash in memory does beside, exactly.
+        ensures passes { IsOk result ↔ (is_powerless self.old ≡ false) }
+        ensures refused { OnErr result (buffer.new ≡ buffer.old) }
+        ensures armed { armed_in self.new ≡ armed_in self.old }
+        ensures power { is_powerless self.new ≡ is_powerless self.old }
+        ensures failures { failures_of self.new ≡ failures_after (failures_of self.old) result }
+    {
+        if self.is_lost {
+            return Err(self.failed());
+        }
+        let bytes = self.sector(sector);
+        buffer.copy_from_slice(&bytes[place..place + buffer.len()]);
+        Ok(())
+    }
+
+    /// Turns to 0 each bit that is 0 in `bytes`, from `place` on. It fails exactly where there is no power or the order
+    /// that is armed strikes.
+    fn program(&mut self, sector: Sector, place: usize, bytes: &[u8]) -> Result<(), FlashFault>
+        requires { place + length bytes.now ≤ S }
+
+        // What the trait asks.
+        ensures done { OnOk result (image_of self.new ≡ with_sector (image_of self.old) sector (programmed (sector_of (image_of self.old) sector) place bytes.now)) }
+        ensures torn { OnErr result (Torn sector place (place + length bytes.now) (programmed (sector_of (image_of self.old) sector) place bytes.now) (image_of self.old) (image_of self.new)) }
+        ensures cause { HasCause (failures_of self.old) (failures_of self.new) result }
+        ensures lost { StaysLost (is_powerless self.old) (is_powerless self.new) result }
+        ensures untouched { is_powerless self.old ≡ true → image_of self.new ≡ image_of self.old }
+        ensures reliable { IsReliable self.old → IsOk result × IsReliable self.new }
+
+        // What a flash in memory does beside, exactly.
+        ensures passes { IsOk result ↔ (next_fate self.old ≡ Fate.Passes) }
+        ensures image { image_of self.new ≡ with_sector (image_of self.old) sector (sector_after (next_fate self.old) place (place + length bytes.now) (programmed (sector_of (image_of self.old) sector) place bytes.now) (sector_of (image_of self.old) sector)) }
+        ensures armed { armed_in self.new ≡ next_armed self.old }
+        ensures power { is_powerless self.new ≡ is_err result }
+        ensures failures { failures_of self.new ≡ failures_after (failures_of self.old) result }
+    {
+        let fate = self.next_fate();
+        match sector {
+            Sector::First => fate::program(&mut self.first, place, bytes, fate),
+            Sector::Second => fate::program(&mut self.second, place, bytes, fate),
+        }
+        self.outcome(fate)
+    }
+
+    /// Turns every bit of a sector to 1. It fails exactly where there is no power or the order that is armed strikes.
+    fn erase(&mut self, sector: Sector) -> Result<(), FlashFault>
+        // What the trait asks.
+        ensures done { OnOk result (image_of self.new ≡ with_sector (image_of self.old) sector (erased S)) }
+        ensures torn { OnErr result (Torn sector 0 S (erased S) (image_of self.old) (image_of self.new)) }
+        ensures cause { HasCause (failures_of self.old) (failures_of self.new) result }
+        ensures lost { StaysLost (is_powerless self.old) (is_powerless self.new) result }
+        ensures untouched { is_powerless self.old ≡ true → image_of self.new ≡ image_of self.old }
+        ensures reliable { IsReliable self.old → IsOk result × IsReliable self.new }
+
+        // What a flash in memory does beside, exactly.
+        ensures passes { IsOk result ↔ (next_fate self.old ≡ Fate.Passes) }
+        ensures image { image_of self.new ≡ with_sector (image_of self.old) sector (sector_after (next_fate self.old) 0 S (erased S) (sector_of (image_of self.old) sector)) }
+        ensures armed { armed_in self.new ≡ next_armed self.old }
+        ensures power { is_powerless self.new ≡ is_err result }
+        ensures failures { failures_of self.new ≡ failures_after (failures_of self.old) result }
+    {
+        let fate = self.next_fate();
+        match sector {
+            Sector::First => fate::erase(&mut self.first, fate),
+            Sector::Second => fate::erase(&mut self.second, fate),
+        }
+        self.outcome(fate)
+    }
+
+    fn failures(&self) -> u64
+        ensures { result ≡ failures_of self.now }
+    {
+        self.failures
+    }
+
+    fn is_lost(&self) -> bool
+        ensures { result ≡ is_powerless self.now }
+    {
+        self.is_lost
+    }
+
+    /// Arms the order, in the place of one that was armed before. No byte changes.
+    fn arm(&mut self, order: Order)
+        // What the trait asks.
+        ensures image { image_of self.new ≡ image_of self.old }
+        ensures failures { failures_of self.new ≡ failures_of self.old }
+        ensures lost { is_powerless self.new ≡ is_powerless self.old }
+
+        // What a flash in memory does beside, exactly.
+        ensures armed { armed_in self.new ≡ Some order }
+    {
+        match order {
+            Order::Cut { after, mask } => self.fuse(after, mask),
+        }
+    }
+
+    ghost sized = { IsImage-of };
+
+    ghost sector_size = { IsSectorSize-of };
+
+    ghost has_power = { has_power-of };
+}

@@ -1,0 +1,4 @@
+pub mod StationName
+pub mod IpSuite
+pub mod Settings
+pub mod Command

@@ -1,0 +1,96 @@
+// An IP suite: address, subnet mask and gateway.
+ghost use Rattle.std.specs.Prelude.{◌≡◌, ◌↔◌, IsTrue, IsSome, IfSome, length};
+ghost use Rattle.pn_values.specs.IpSuite.{IsMask, IsSuite, zero_suite};
+
+use std::marker::Model;
+
+/// The IP suite of a station (IEC 61158-6-10, 4.3.1.4.11): address, subnet mask and gateway, each of four octets
+/// as they are sent. A clause sees the three as lists.
+#[derive(Clone, Copy)]
+pub struct IpSuite {
+    address: [u8; 4],
+    mask: [u8; 4],
+    gateway: [u8; 4],
+}
+
+impl Model for IpSuite {
+    ghost use Rattle.pn_values.specs.IpSuite.{Suite, IsSuite};
+
+    ghost Value = { Suite };
+
+    ghost view = { λ suite. record { address = suite.address; mask = suite.mask; gateway = suite.gateway } };
+
+    ghost invariant = { λ suite. IsSuite (record { address = suite.address; mask = suite.mask; gateway = suite.gateway }) };
+
+    ghost inverse = { λ suite. record { address = suite.address; mask = suite.mask; gateway = suite.gateway } };
+}
+
+impl IpSuite {
+    /// The suite of a station that has no address yet: twelve zeros.
+    pub fn zero() -> IpSuite
+        ensures { result ≡ zero_suite }
+    {
+        IpSuite {
+            address: [0; 4],
+            mask: [0; 4],
+            gateway: [0; 4],
+        }
+    }
+
+    /// The suite of these, if there is one: the mask is ones and then zeros, and all three are zero or the address
+    /// begins with a byte from 1 to 126 or from 128 to 223. The gateway is free.
+    pub fn new(address: [u8; 4], mask: [u8; 4], gateway: [u8; 4]) -> Option<IpSuite>
+        ensures valid { IsSome result ↔ IsSuite (record { address = address; mask = mask; gateway = gateway }) }
+        ensures value { IfSome result (λ suite. suite ≡ record { address = address; mask = mask; gateway = gateway }) }
+    {
+        let host = matches!(address[0], 1..=126 | 128..=223);
+        let none = address == [0; 4] && mask == [0; 4] && gateway == [0; 4];
+        if is_mask(mask) && (host || none) {
+            Some(IpSuite {
+                address,
+                mask,
+                gateway,
+            })
+        } else {
+            None
+        }
+    }
+
+    /// The IP address; zeros where there is none.
+    pub fn address(&self) -> [u8; 4]
+        ensures value { result ≡ self.now.address }
+        ensures valid { IsSuite self.now }
+        ensures length { length self.now.address ≡ 4 }
+    {
+        self.address
+    }
+
+    /// The subnet mask.
+    pub fn mask(&self) -> [u8; 4]
+        ensures value { result ≡ self.now.mask }
+        ensures length { length self.now.mask ≡ 4 }
+    {
+        self.mask
+    }
+
+    /// The default gateway; the address itself or zeros where there is none.
+    pub fn gateway(&self) -> [u8; 4]
+        ensures value { result ≡ self.now.gateway }
+        ensures length { length self.now.gateway ≡ 4 }
+    {
+        self.gateway
+    }
+}
+
+/// Whether a mask is ones and then zeros.
+fn is_mask(mask: [u8; 4]) -> bool
+    ensures { IsTrue result ↔ IsMask mask }
+{
+    let number = u64::from(u32::from_be_bytes(mask));
+    for zeros in 0..33u32 {
+        if number + (1u64 << zeros) == 1 << 32 {
+            return true;
+        }
+    }
+    false
+}

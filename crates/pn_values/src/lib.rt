@@ -1,0 +1,26 @@
+//! The values of a PROFINET IO device that have a meaning of their own: addresses, the station name, I&M texts,
+//! the settings that survive a power failure, the commands that change them, and what a device is made of.
+#![tactic(auto)]
+
+mod command;
+mod identity;
+mod im_value;
+mod ip_suite;
+mod mac;
+mod real;
+mod set_item;
+mod settings;
+mod station_name;
+
+pub use command::Command;
+pub use identity::Identity;
+pub use im_value::{ImValue, Padded};
+pub use ip_suite::IpSuite;
+pub use mac::Mac;
+pub use real::{ParameterRecord, Real, RealModule, RealSubmodule};
+pub use set_item::{BlockError, SetItem};
+pub use settings::Settings;
+pub use station_name::StationName;
+
+#[cfg(test)]
+mod tests;

@@ -1,0 +1,40 @@
+use arrayvec::ArrayVec;
+
+/// What is plugged in a device: at most 16 modules, in slots 0 to 15.
+#[derive(Drop)]
+pub struct Real {
+    pub modules: ArrayVec<RealModule, 16>,
+}
+
+/// A module that is plugged in a slot, with at most four submodules.
+#[derive(Default, Drop)]
+pub struct RealModule {
+    /// SlotNumber, 0 to 15.
+    pub slot: u16,
+    /// ModuleIdentNumber.
+    pub ident: u32,
+    pub submodules: ArrayVec<RealSubmodule, 4>,
+}
+
+/// A submodule that is plugged in a subslot.
+#[derive(Default, Drop)]
+pub struct RealSubmodule {
+    /// SubslotNumber.
+    pub subslot: u16,
+    /// SubmoduleIdentNumber.
+    pub ident: u32,
+    /// Bytes of input data; 0 for none.
+    pub input: u16,
+    /// Bytes of output data; 0 for none.
+    pub output: u16,
+    pub parameters: ArrayVec<ParameterRecord, 2>,
+}
+
+/// A parameter record that a submodule takes.
+#[derive(Clone, Copy, Default)]
+pub struct ParameterRecord {
+    /// Index of the record, 0 to 32,767.
+    pub index: u16,
+    /// Its exact length, 1 to 64 bytes.
+    pub length: u16,
+}

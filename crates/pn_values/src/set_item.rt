@@ -1,0 +1,34 @@
+use crate::Command;
+
+/// BlockError of the answer to one block of a Set (IEC 61158-6-10, 4.3.1.4.6).
+#[derive(Clone, Copy, Debug, Default, PartialEq, Eq)]
+pub enum BlockError {
+    /// Done.
+    #[default]
+    Done = 0,
+    /// The option is not supported.
+    Option = 1,
+    /// The suboption, or this mode of it, is not supported.
+    Suboption = 2,
+    /// The length or the value is not valid.
+    Value = 3,
+    /// There is no room for it any more.
+    Exhausted = 4,
+    /// It could not be stored.
+    Local = 5,
+    /// Not while an application relation exists.
+    InOperation = 6,
+}
+
+/// What one block of a Set comes to: a command to carry out, or an answer that asks for nothing to be stored.
+#[derive(Drop)]
+pub enum SetItem {
+    Ask(Command),
+    Answer(BlockError),
+}
+
+impl Default for SetItem {
+    fn default() -> SetItem {
+        SetItem::Answer(BlockError::Done)
+    }
+}

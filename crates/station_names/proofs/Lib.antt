@@ -1,0 +1,4 @@
+pub mod Faults
+pub mod Labels
+pub mod Rows
+pub mod SingleLabel

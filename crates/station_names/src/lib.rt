@@ -1,0 +1,12 @@
+//! The rules of a station name, and which of them a text breaks first.
+#![tactic(auto)]
+
+mod label;
+mod name_check;
+mod name_fault;
+
+pub use name_check::check;
+pub use name_fault::NameFault;
+
+#[cfg(test)]
+mod tests;

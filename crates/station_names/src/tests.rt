@@ -1,0 +1,69 @@
+use crate::{NameFault, check};
+use std::test::Fail;
+
+#[test]
+fn tells_names_from_faults(rt: HostRuntime) {
+    let rows = [
+        ("pump-1", None),
+        ("a--b", None),
+        ("1000.2.3.4", None),
+        ("1.2.3.4.5", None),
+        ("port-0011", None),
+        ("x.port-001", None),
+        ("", Some(NameFault::EmptyLabel)),
+        ("a..b", Some(NameFault::EmptyLabel)),
+        ("Port", Some(NameFault::BadByte)),
+        ("a-.b", Some(NameFault::HyphenEnd)),
+        ("1.2.3.4", Some(NameFault::LooksLikeAddress)),
+        ("port-001", Some(NameFault::PortForm)),
+        ("port-001-00002", Some(NameFault::PortForm)),
+        ("port-001.x", Some(NameFault::PortForm)),
+    ];
+    for (text, fault) in rows {
+        assert_eq!(rt; check(text.as_bytes()).err(), fault, "{text}");
+    }
+}
+
+#[test]
+fn counts_bytes(rt: HostRuntime) {
+    // labels of 63, 63, 63 and 49 bytes
+    let mut text = [b'a'; 241];
+    text[63] = b'.';
+    text[127] = b'.';
+    text[191] = b'.';
+    assert_eq!(rt; check(&text).err(), Some(NameFault::TooLong));
+    assert_eq!(rt; check(&text[..240]).err(), None);
+    assert_eq!(rt; check(&[b'a'; 64]).err(), Some(NameFault::LabelTooLong));
+}
+
+#[test]
+fn says_what_is_wrong(rt: HostRuntime) -> Result<(), Fail> {
+    let rows = [
+        (NameFault::TooLong, "a station name has at most 240 bytes"),
+        (NameFault::EmptyLabel, "a label of a station name is empty"),
+        (
+            NameFault::LabelTooLong,
+            "a label of a station name has at most 63 bytes",
+        ),
+        (
+            NameFault::BadByte,
+            "a station name has only the letters a to z, digits, hyphens and dots",
+        ),
+        (
+            NameFault::HyphenEnd,
+            "a label of a station name neither begins nor ends with a hyphen",
+        ),
+        (
+            NameFault::LooksLikeAddress,
+            "a station name does not look like an IP address",
+        ),
+        (
+            NameFault::PortForm,
+            "a station name does not begin with the name of a port",
+        ),
+    ];
+    for (fault, text) in rows {
+        assert_eq!(rt; format!(in rt.alloc(); "{fault}")?.as_str(), text);
+    }
+    Ok(())
+}
