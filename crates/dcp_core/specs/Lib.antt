@@ -1,0 +1,9 @@
+pub mod Kinds
+pub mod Request
+pub mod Format
+pub mod Reading
+pub mod Bytes
+pub mod Identify
+pub mod Get
+pub mod Valid
+pub mod Set

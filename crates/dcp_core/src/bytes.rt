@@ -1,0 +1,54 @@
+// Appending blocks, and the header of an answer.
+ghost use Rattle.std.specs.Prelude.{◌≡◌, ◌+◌, ◌≤◌, ◌++◌, length};
+ghost use Rattle.arrayvec.specs.ArrayVec.{array_vec_len};
+ghost use Rattle.dcp_core.specs.Bytes.{block_bytes, response_bytes, answer_bytes, error_number};
+
+use crate::Kind;
+use arrayvec::ArrayVec;
+use pn_values::BlockError;
+
+/// An answer: what follows the FrameID. It fits one frame.
+pub type Answer = ArrayVec<u8, 1498>;
+
+/// The blocks of an answer, which is a header of ten bytes and these.
+pub(crate) type Blocks = ArrayVec<u8, 1488>;
+
+/// Appends a block of BlockInfo and a value. There must be room.
+pub(crate) fn put_block(blocks: &mut Blocks, kind: Kind, info: [u8; 2], value: &[u8])
+    requires { array_vec_len blocks.old + length value.now + 7 ≤ 1488 }
+    ensures items { blocks.new.items ≡ blocks.old.items ++ block_bytes kind (info ++ value.now) }
+    ensures len { array_vec_len blocks.new ≤ array_vec_len blocks.old + length value.now + 7 }
+{
+    let length = (value.len() + 2) as u16;
+    let _ = blocks.try_extend_from_slice(&[kind.option(), kind.suboption()]);
+    let _ = blocks.try_extend_from_slice(&length.to_be_bytes());
+    let _ = blocks.try_extend_from_slice(&info);
+    let _ = blocks.try_extend_from_slice(value);
+    if value.len() % 2 == 1 {
+        blocks.push(0);
+    }
+}
+
+/// Appends how a block or pair of this kind came out. There must be room.
+pub(crate) fn put_response(blocks: &mut Blocks, kind: Kind, error: BlockError)
+    requires { array_vec_len blocks.old + 8 ≤ 1488 }
+    ensures items { blocks.new.items ≡ blocks.old.items ++ response_bytes kind error }
+    ensures len { array_vec_len blocks.new ≡ array_vec_len blocks.old + 8 }
+{
+    let response = [5, 4, 0, 3, kind.option(), kind.suboption(), error as u8, 0];
+    let _ = blocks.try_extend_from_slice(&response);
+}
+
+/// An answer with these blocks: ServiceID, success, the transaction, and DCPDataLength.
+pub(crate) fn answer(service: u8, xid: u32, blocks: &Blocks) -> Answer
+    ensures items { result.items ≡ answer_bytes service xid blocks.now.items }
+    ensures length { length result.items ≤ 1498 }
+{
+    let mut answer = ArrayVec::new();
+    let _ = answer.try_extend_from_slice(&[service, 1]);
+    let _ = answer.try_extend_from_slice(&xid.to_be_bytes());
+    let _ = answer.try_extend_from_slice(&[0, 0]);
+    let _ = answer.try_extend_from_slice(&(blocks.len() as u16).to_be_bytes());
+    let _ = answer.try_extend_from_slice(blocks.as_slice());
+    answer
+}

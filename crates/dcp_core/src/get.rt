@@ -1,0 +1,46 @@
+// A Get: the values asked for.
+ghost use Rattle.std.specs.Prelude.{◌≡◌, ◌+◌, ◌≤◌, ◌++◌, length, map};
+ghost use Rattle.std.specs.List.{list_any};
+ghost use Rattle.arrayvec.specs.ArrayVec.{array_vec_len};
+ghost use Rattle.dcp_core.specs.Kinds.{is_same};
+ghost use Rattle.dcp_core.specs.Request.{asked};
+ghost use Rattle.dcp_core.specs.Identify.{most_of};
+ghost use Rattle.dcp_core.specs.Get.{get_bytes, got};
+
+use crate::bytes::{Answer, Blocks, answer, put_response};
+use crate::identify::put_value;
+use crate::{Block, Kind, Request};
+use pn_values::{Identity, Settings};
+
+/// The answer to a Get: for each pair, in order, its value or why there is none; a repeated pair at its first place only.
+pub fn get_answer(identity: &Identity, settings: &Settings, request: &Request<'_>) -> Answer
+    ensures items { result.items ≡ get_bytes identity.now settings.now (asked request.now) }
+    ensures length { length result.items ≤ 1498 }
+{
+    let asked_for = request.blocks.as_slice();
+    let mut blocks = Blocks::new();
+    for (index, block) in asked_for.iter().enumerate() {
+        if !is_among(&asked_for[..index], block.kind) {
+            put_pair(&mut blocks, identity, settings, block.kind);
+        }
+    }
+    answer(3, request.xid, &blocks)
+}
+
+/// Whether one of these blocks is about this kind.
+fn is_among(earlier: &[Block<'_>], kind: Kind) -> bool
+    ensures { result ≡ list_any (is_same kind) (map (λ block. block.kind) earlier.now) }
+{
+    earlier.iter().any(|block| kind.is_same(block.kind))
+}
+
+/// Appends the value of a kind, or why there is none. There must be room.
+fn put_pair(blocks: &mut Blocks, identity: &Identity, settings: &Settings, kind: Kind)
+    requires { array_vec_len blocks.old + most_of kind ≤ 1488 }
+    ensures items { blocks.new.items ≡ blocks.old.items ++ got identity.now settings.now kind }
+    ensures most { array_vec_len blocks.new ≤ array_vec_len blocks.old + most_of kind }
+{
+    if !put_value(blocks, identity, settings, kind) {
+        put_response(blocks, kind, kind.blame());
+    }
+}

@@ -1,0 +1,96 @@
+// Reading requests.
+ghost use Rattle.std.specs.Prelude.{◌≡◌, ◌++◌, ℕ, List, IfOk, Ok, map};
+ghost use Rattle.dcp_core.specs.Request.{Asked, asked, asked_block};
+ghost use Rattle.dcp_core.specs.Format.{kind, block, block_of, blocks_of, service_of};
+ghost use Rattle.dcp_core.specs.Reading.{Gives, IsRequest, request_of};
+
+use crate::{Block, DcpFault, Kind, Request, Service};
+use arrayvec::ArrayVec;
+use wire::{skip, split, u8_at, u16_at, u32_at};
+
+/// Reads the request that begins behind a FrameID; what follows it is padding. The first fault counts: Length, then
+/// Service, then Block.
+pub fn read_request<'a>(frame_id: u16, bytes: &'a [u8]) -> Result<Request<'a>, DcpFault>
+    ensures found { IfOk result (λ request. IsRequest frame_id bytes.now (asked request)) }
+    ensures only { (request : Asked) → IsRequest frame_id bytes.now request → Gives asked result (Ok request) }
+    ensures behind { (first more : List ℕ) (request : Asked) → IsRequest frame_id first request → bytes.now ≡ first ++ more → Gives asked result (Ok request) }
+    ensures exact { Gives asked result (request_of frame_id bytes.now) }
+{
+    request_at(frame_id, bytes)
+}
+
+#[tactic(auto, unfolding(crate::specs::Reading::request_of, crate::specs::Format::request, crate::specs::Format::header_and_data, crate::specs::Format::data_of))]
+fn request_at<'a>(frame_id: u16, bytes: &'a [u8]) -> Result<Request<'a>, DcpFault>
+    ensures { Gives asked result (request_of frame_id bytes.now) }
+{
+    let (id, rest) = u8_at(bytes, DcpFault::Length)?;
+    let (service_type, rest) = u8_at(rest, DcpFault::Length)?;
+    let (xid, rest) = u32_at(rest, DcpFault::Length)?;
+    let (_delay, rest) = u16_at(rest, DcpFault::Length)?;
+    let (length, rest) = u16_at(rest, DcpFault::Length)?;
+    let (data, _behind) = split(rest, length as usize, DcpFault::Length)?;
+    let service = service_at(frame_id, id, service_type)?;
+    let blocks = blocks_at(service, data)?;
+    Ok(Request {
+        service,
+        xid,
+        blocks,
+    })
+}
+
+/// The service that FrameID, ServiceID and ServiceType ask for.
+fn service_at(frame_id: u16, id: u8, service_type: u8) -> Result<Service, DcpFault>
+    ensures { result ≡ service_of frame_id id service_type }
+{
+    match (frame_id, id, service_type) {
+        (0xFEFD, 3, 0) => Ok(Service::Get),
+        (0xFEFD, 4, 0) => Ok(Service::Set),
+        (0xFEFE, 5, 0) => Ok(Service::Identify),
+        _ => Err(DcpFault::Service),
+    }
+}
+
+/// All blocks or pairs.
+fn blocks_at(service: Service, bytes: &[u8]) -> Result<ArrayVec<Block<'_>, 16>, DcpFault>
+    ensures { Gives (λ blocks. map asked_block blocks.items) result ((blocks_of service).read bytes.now) }
+{
+    let mut found = ArrayVec::new();
+    let mut rest = bytes;
+    while !rest.is_empty() {
+        if found.is_full() {
+            return Err(DcpFault::Block);
+        }
+        let (block, behind) = block_at(service, rest)?;
+        found.push(block);
+        rest = behind;
+    }
+    Ok(found)
+}
+
+/// One block or pair, and the bytes behind it.
+#[tactic(auto, unfolding(crate::specs::Format::block_of, crate::specs::Format::pair, crate::specs::Format::block))]
+fn block_at(service: Service, bytes: &[u8]) -> Result<(Block<'_>, &[u8]), DcpFault>
+    ensures { Gives (λ x. (asked_block x.0, x.1.now)) result ((block_of service).read bytes.now) }
+{
+    let (kind, rest) = kind_at(bytes)?;
+    if matches!(service, Service::Get) {
+        let contents = &[];
+        return Ok((Block { kind, contents }, rest));
+    }
+    let (length, rest) = u16_at(rest, DcpFault::Block)?;
+    let (contents, rest) = split(rest, length as usize, DcpFault::Block)?;
+    if matches!(service, Service::Set) && contents.len() < 2 {
+        return Err(DcpFault::Block);
+    }
+    Ok((Block { kind, contents }, skip(rest, contents.len() % 2)))
+}
+
+/// A kind, and the bytes behind it.
+#[tactic(auto, unfolding(crate::specs::Format::kind))]
+fn kind_at(bytes: &[u8]) -> Result<(Kind, &[u8]), DcpFault>
+    ensures { Gives (λ x. (x.0, x.1.now)) result (kind.read bytes.now) }
+{
+    let (option, rest) = u8_at(bytes, DcpFault::Block)?;
+    let (suboption, rest) = u8_at(rest, DcpFault::Block)?;
+    Ok((Kind::of(option, suboption), rest))
+}

@@ -1,0 +1,5 @@
+pub mod Store
+pub mod Machine
+pub mod Steps
+pub mod Runs
+pub mod Restarts

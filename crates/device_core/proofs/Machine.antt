@@ -1,0 +1,129 @@
+-- What one step and runs of steps do.
+use Rattle.std.proofs.Common.{◌≡◌, ℕ, Bool, true, false, List, [], ◌∷◌, ◌++◌, refl, sym, ap, ◌∙◌, append_assoc}
+use Rattle.std.proofs.lemmas.List.{append-nil}
+use Rattle.pn_values.specs.declared.identity.Identity.{Identity}
+use Rattle.settings_store.specs.State.{Values}
+use Rattle.settings_store.specs.Machine.{Outcome, carried}
+use Rattle.settings_store.specs.Legal.{made_of}
+use Rattle.device_core.specs.declared.event.Event.{Event}
+use Rattle.device_core.specs.State.{Live}
+use Rattle.pn_values.specs.declared.mac.Mac.{Mac}
+use Rattle.dcp_core.specs.declared.request.Service.{Service}
+use Rattle.dcp_core.specs.declared.request.Service.TheVariants as service
+use Rattle.dcp_core.specs.Request.{Asked}
+use Rattle.dcp_core.specs.Set.{plan_of, set_bytes}
+use Rattle.device_core.specs.declared.event.Note.TheVariants as note
+use Rattle.device_core.specs.Heard.{Heard, Ticks, Unreadable, Elsewhere, Asks, heard_of}
+use Rattle.device_core.specs.Machine.{Finished, Stepped, Ran, items_of, is_set, lamp_after, answer_frame, finished, heard_step, step_of, handed, first_step, later_steps, then_run, run_of}
+use Rattle.device_core.proofs.Store.{failed_accepted, stays_failed, stored_made, still_fine, made_append}
+
+-- a step that asks nothing of the flash
+unfoldable pub quiet_step : Identity → Live → Heard → Stepped
+quiet_step identity live heard =
+    let end = finished identity live.values.running live.lamp heard [] in
+    record { live = record { values = live.values; lamp = end.lamp }; frames = end.frames; note = end.note; accepted = [] }
+
+nothing_for : (service : Service) (asker : Mac) (request : Asked) → request.service ≡ service → is_set (Asks asker request) ≡ false → items_of (Asks asker request) ≡ []
+nothing_for service.Set asker request is none = let e = rw is at none in cc
+nothing_for service.Get asker request is none = rw is refl
+nothing_for service.Identify asker request is none = rw is refl
+
+nothing_asked : (heard : Heard) → is_set heard ≡ false → items_of heard ≡ []
+nothing_asked (Asks asker request) none = nothing_for request.service asker request refl none
+nothing_asked Ticks none = refl
+nothing_asked Unreadable none = refl
+nothing_asked Elsewhere none = refl
+
+pub is_quiet : (outcomes : List Outcome) (identity : Identity) (live : Live) (heard : Heard) → is_set heard ≡ false → heard_step outcomes identity live heard ≡ quiet_step identity live heard
+unfolding heard_step quiet_step
+is_quiet outcomes identity live heard none = let nothing = nothing_asked heard none in rw nothing refl
+
+-- a Set
+unfoldable pub set_step : List Outcome → Identity → Live → Mac → Asked → Stepped
+set_step outcomes identity live asker request =
+    let settled = carried outcomes live.values (plan_of false request) in
+    record {
+      live = record { values = settled.values; lamp = lamp_after live.lamp request };
+      frames = answer_frame identity asker 65277 (set_bytes request settled.answers) ∷ [];
+      note = note.Done;
+      accepted = settled.accepted;
+    }
+
+pub is_set_step : (outcomes : List Outcome) (identity : Identity) (live : Live) (asker : Mac) (request : Asked) → request.service ≡ service.Set
+    → heard_step outcomes identity live (Asks asker request) ≡ set_step outcomes identity live asker request
+unfolding heard_step set_step
+is_set_step outcomes identity live asker request set = rw set refl
+
+-- after a commit that failed nothing is accepted
+pub step_none : (outcomes : List Outcome) (identity : Identity) (live : Live) (heard : Heard) → live.values.has_failed ≡ true → (heard_step outcomes identity live heard).accepted ≡ []
+unfolding heard_step
+step_none outcomes identity live heard failed = failed_accepted outcomes live.values (items_of heard) failed
+
+pub step_failed : (outcomes : List Outcome) (identity : Identity) (live : Live) (heard : Heard) → live.values.has_failed ≡ true → (heard_step outcomes identity live heard).live.values.has_failed ≡ true
+unfolding heard_step
+step_failed outcomes identity live heard failed = stays_failed outcomes live.values (items_of heard) failed
+
+-- while no commit failed, what is stored is what the accepted commands make
+pub step_stored : (outcomes : List Outcome) (identity : Identity) (live : Live) (heard : Heard) → (heard_step outcomes identity live heard).live.values.has_failed ≡ false
+    → (heard_step outcomes identity live heard).live.values.stored ≡ made_of (heard_step outcomes identity live heard).accepted live.values.stored
+unfolding heard_step
+step_stored outcomes identity live heard fine = stored_made outcomes live.values (items_of heard) fine
+
+-- a run, and then a step
+unfoldable pub then_step : Ran → Stepped → Ran
+then_step ran step = record { live = step.live; frames = ran.frames ++ handed step; accepted = ran.accepted ++ step.accepted }
+
+-- outcomes of some events, and those of one more
+snoc : List (List Outcome) → List Event → List Outcome → List (List Outcome)
+snoc front [] last = last ∷ []
+snoc front (event ∷ events) last = first_step front ∷ snoc (later_steps front) events last
+
+-- the same, none where there are none
+pub joined : List (List Outcome) → List Event → List Outcome → List (List Outcome)
+joined [] events [] = []
+joined [] events (outcome ∷ outcomes) = snoc [] events (outcome ∷ outcomes)
+joined (one ∷ front) events last = snoc (one ∷ front) events last
+
+pub joined_quiet : (front : List (List Outcome)) (events : List Event) (last : List Outcome) → front ≡ [] → last ≡ [] → joined front events last ≡ []
+unfolding joined
+joined_quiet [] events [] _ _ = refl
+joined_quiet [] events (outcome ∷ outcomes) _ none = cc
+joined_quiet (one ∷ front) events last none _ = cc
+
+run_quiet : (identity : Identity) (live : Live) (events : List Event) (event : Event)
+    → run_of [] identity live (events ++ event ∷ []) ≡ then_step (run_of [] identity live events) (step_of [] identity (run_of [] identity live events).live event)
+unfolding then_step
+run_quiet identity live [] event = simp append-nil
+run_quiet identity live (one ∷ events) event =
+    ap (then_run (step_of [] identity live one)) (run_quiet identity (step_of [] identity live one).live events event) ∙ simp append_assoc
+
+run_snoc : (front : List (List Outcome)) (last : List Outcome) (identity : Identity) (live : Live) (events : List Event) (event : Event)
+    → run_of (snoc front events last) identity live (events ++ event ∷ []) ≡ then_step (run_of front identity live events) (step_of last identity (run_of front identity live events).live event)
+unfolding then_step snoc
+run_snoc front last identity live [] event = simp append-nil
+run_snoc front last identity live (one ∷ events) event =
+    ap (then_run (step_of (first_step front) identity live one)) (run_snoc (later_steps front) last identity (step_of (first_step front) identity live one).live events event) ∙ simp append_assoc
+
+pub run_joined : (front : List (List Outcome)) (last : List Outcome) (identity : Identity) (live : Live) (events : List Event) (event : Event)
+    → run_of (joined front events last) identity live (events ++ event ∷ []) ≡ then_step (run_of front identity live events) (step_of last identity (run_of front identity live events).live event)
+unfolding joined
+run_joined [] [] identity live events event = run_quiet identity live events event
+run_joined [] (outcome ∷ outcomes) identity live events event = run_snoc [] (outcome ∷ outcomes) identity live events event
+run_joined (one ∷ front) last identity live events event = run_snoc (one ∷ front) last identity live events event
+
+-- once a commit failed, one has failed
+pub run_failed : (outcomes : List (List Outcome)) (identity : Identity) (live : Live) (events : List Event) → live.values.has_failed ≡ true → (run_of outcomes identity live events).live.values.has_failed ≡ true
+run_failed outcomes identity live [] failed = failed
+run_failed outcomes identity live (event ∷ events) failed =
+    run_failed (later_steps outcomes) identity (step_of (first_step outcomes) identity live event).live events (step_failed (first_step outcomes) identity live (heard_of identity event) failed)
+
+-- while no commit failed, what is stored is what the accepted commands make
+pub run_made : (outcomes : List (List Outcome)) (identity : Identity) (live : Live) (events : List Event) → (run_of outcomes identity live events).live.values.has_failed ≡ false
+    → (run_of outcomes identity live events).live.values.stored ≡ made_of (run_of outcomes identity live events).accepted live.values.stored
+run_made outcomes identity live [] fine = refl
+run_made outcomes identity live (event ∷ events) fine =
+    let step : Stepped = step_of (first_step outcomes) identity live event in
+    let still : step.live.values.has_failed ≡ false = still_fine _ _ (run_failed (later_steps outcomes) identity step.live events) fine in
+    run_made (later_steps outcomes) identity step.live events fine
+    ∙ ap (made_of (run_of (later_steps outcomes) identity step.live events).accepted) (step_stored (first_step outcomes) identity live (heard_of identity event) still)
+    ∙ sym (made_append step.accepted (run_of (later_steps outcomes) identity step.live events).accepted live.values.stored)

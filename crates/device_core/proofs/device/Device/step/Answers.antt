@@ -1,0 +1,15 @@
+-- What is said of the event, from what its step does.
+use Rattle.std.proofs.Common.{ap, sym, ◌∙◌}
+use Rattle.device_core.specs.Heard.{heard_of}
+use Rattle.device_core.proofs.Steps.{refused_step, none_sent, identify_step}
+use Rattle.device_core.proofs.device.Device.step.Goals as goal
+
+pub returns-clause-refused : goal.returns-clause-refused
+returns-clause-refused g c = λ refused.
+    let nothing = refused_step g.F.Flash.image g.F.Flash.failures c.args.self.now c.respond.new.self _ _ _ c.respond.ensures.steps refused in
+    (nothing.0, none_sent _ c.respond.new.outbox.items nothing.1)
+
+pub returns-clause-identify : goal.returns-clause-identify
+returns-clause-identify g c = λ asker request is identify.
+    identify_step g.F.Flash.image g.F.Flash.failures c.args.self.now c.respond.new.self _ _ _ c.respond.ensures.steps asker request
+    (sym c.hear-heard.ensures ∙ ap (λ s. heard_of s.identity c.args.event.now) c.self.view_is ∙ is) identify

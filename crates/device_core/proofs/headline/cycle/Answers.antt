@@ -1,0 +1,35 @@
+-- A start, a run, and a start on what they left.
+use Rattle.std.proofs.Common.{◌≡◌, false, sym, ap, subst}
+use Rattle.settings_journal.specs.Image.{LeftByDevice}
+use Rattle.device_core.proofs.Restarts.{restarts_if, refused_if, never_refused}
+use Rattle.device_core.proofs.headline.cycle.Goals as goal
+
+pub returns-clause-headline : goal.returns-clause-headline
+returns-clause-headline g c = λ left first room starts.
+    let parts = c.into_parts-identity.ensures in
+    let identity : c.into_parts-identity.result.0 ≡ c.run.new.self.identity = ap (λ t. t.0) parts in
+    let real : c.into_parts-identity.result.1 ≡ c.run.new.self.real = ap (λ t. t.1) parts in
+    let powered = rw (ap (λ t. t.2) parts) at c.power_up.ensures in
+    restarts_if g.F.Flash.image g.F.Flash.failures _ c.args.identity c.args.real c.args.flash first room c.args.events.now _ _ c.in_ok-device.device c.run.new.self c.power_up.result c.boot-2.result
+    (c.in_ok-device.ensures.known first room starts) c.in_ok-device.ensures.identity.0 c.in_ok-device.ensures.identity.1 c.in_ok-device.ensures.same c.in_ok-device.ensures.cause
+    left c.run.ensures.runs powered (c.requires.keeps c.run.new.self.flash c.power_up.result powered)
+    c.boot-2.ensures.known c.boot-2.ensures.fresh c.boot-2.ensures.starts (rw (identity, real) at c.boot-2.ensures.identity) c.boot-2.ensures.same c.boot-2.ensures.cause
+
+pub returns-clause-left : goal.returns-clause-left
+returns-clause-left g c = λ left.
+    let powered = rw (ap (λ t. t.2) c.into_parts-identity.ensures) at c.power_up.ensures in
+    c.boot-2.ensures.left (subst LeftByDevice (sym (c.requires.keeps c.run.new.self.flash c.power_up.result powered))
+    (c.run.ensures.runs.safe.left (subst LeftByDevice (sym c.in_ok-device.ensures.same) left)))
+
+pub returns-clause-refused : goal.returns-clause-refused
+returns-clause-refused g c =
+    let powered = rw (ap (λ t. t.2) c.into_parts-identity.ensures) at c.power_up.ensures in
+    refused_if g.F.Flash.image g.F.Flash.failures _ c.args.flash c.run.new.self.flash c.power_up.result _ _ c.boot-2.result
+    powered (c.requires.keeps c.run.new.self.flash c.power_up.result powered) c.boot-2.ensures.same c.boot-2.ensures.cause
+
+pub returns-clause-reliable : goal.returns-clause-reliable
+returns-clause-reliable g c = λ reliable powers left.
+    let powered = rw (ap (λ t. t.2) c.into_parts-identity.ensures) at c.power_up.ensures in
+    let fine : c.in_ok-device.device.live.values.has_failed ≡ false = ap (λ l. l.values.has_failed) c.in_ok-device.ensures.fresh in
+    let still = c.run.ensures.reliable (c.in_ok-device.ensures.reliable reliable) fine in
+    never_refused g.F.Flash.is_reliable c.boot-2.result (c.boot-2.ensures.reliable (powers c.run.new.self.flash c.power_up.result powered still.0)) (returns-clause-left g c left)

@@ -1,0 +1,59 @@
+-- A cycle of a device, from a start to the next one after a power failure.
+use Rattle.std.specs.Prelude.{◌≡◌, ◌⊎◌, ℕ, Bool, true, false, List, [], ◌∷◌, ◌++◌}
+use Rattle.flash_model.specs.Image.{Image}
+use Rattle.pn_values.specs.declared.identity.Identity.{Identity}
+use Rattle.pn_values.specs.declared.real.Real.{Real}
+use Rattle.pn_values.specs.declared.settings.Settings.{Settings}
+use Rattle.settings_journal.specs.declared.journal.BootFault.{BootFault}
+use Rattle.settings_journal.specs.Commit.{HasBootCause}
+use Rattle.settings_journal.specs.Image.{StartsWith, LeftByDevice}
+use Rattle.settings_store.specs.Machine.{Outcome, Accepted}
+use Rattle.settings_store.specs.Legal.{made_of}
+use Rattle.settings_store.specs.Carries.{IsCaused}
+use Rattle.device_core.specs.declared.event.Event.{Event}
+use Rattle.device_core.specs.State.{State, Live}
+use Rattle.device_core.specs.Machine.{Ran, run_of}
+
+-- a device as it starts: what is stored runs, no commit failed, power is there and the lamp is off
+abbrev pub started : Settings → ℕ → Live
+started settings room = record {
+  values = record { running = settings; stored = settings; room = room; has_failed = false; is_lost = false };
+  lamp = 0;
+}
+
+-- the events of a cycle that begins with the first settings, and with room for so many commits
+abbrev pub cycle_of : List (List Outcome) → Identity → Settings → ℕ → List Event → Ran
+cycle_of outcomes identity first room events = run_of outcomes identity (started first room) events
+
+-- The settings that all accepted commands make of the first ones, or all but a last one that was not answered 'done'.
+abbrev pub IsMadeOf : List Accepted → Settings → Settings → Type 0
+IsMadeOf accepted first settings =
+    (settings ≡ made_of accepted first)
+    ⊎ ((front : List Accepted) × (last : Accepted) × (accepted ≡ front ++ last ∷ []) × (last.is_done ≡ false) × (settings ≡ made_of front first))
+
+-- The headline. The cycle went through the events, with whatever outcomes its flash chose for the calls that store. The
+-- restarted device has, running and stored, what all accepted commands of the cycle, or all but a last one that was not
+-- answered 'done', make of the first settings; where no commit failed, just what the cycle stored. Nothing else is left of
+-- the cycle, and the image is again one that this device left. `power_up` relates a flash to itself with its power back.
+pub record Restarts {F : Type 0} (image : F → Image) (failures : F → ℕ) (power_up : F → F → Type 0) (identity : Identity) (real : Real) (flash : F) (first : Settings) (room : ℕ) (events : List Event) (before now : List (List ℕ)) (restarted : State F) : Type 0 where
+  pub outcomes : List (List Outcome)
+  pub lost : F
+  pub back : F
+  pub powered : power_up lost back
+  pub caused : IsCaused outcomes (failures flash) (failures lost) (started first room).values (cycle_of outcomes identity first room events).live.values
+  pub handed_on : now ≡ before ++ (cycle_of outcomes identity first room events).frames
+  pub has : IsMadeOf (cycle_of outcomes identity first room events).accepted first restarted.live.values.stored
+  pub clean : (cycle_of outcomes identity first room events).live.values.has_failed ≡ false →
+      restarted.live ≡ started (cycle_of outcomes identity first room events).live.values.stored (cycle_of outcomes identity first room events).live.values.room
+  pub nothing_else : restarted.live ≡ started restarted.live.values.stored restarted.live.values.room
+  pub starts : StartsWith (image restarted.flash) restarted.live.values.stored restarted.live.values.room
+  pub identity_is : restarted.identity ≡ identity
+  pub real_is : restarted.real ≡ real
+  pub left : LeftByDevice (image restarted.flash)
+  pub same : (image restarted.flash ≡ image lost) × (failures restarted.flash ≡ failures back)
+
+-- A start was refused, the first one or the one after the cycle, for a cause of its own; no byte changed in it.
+abbrev pub IsRefused : {F : Type 0} → (F → Image) → (F → ℕ) → (F → F → Type 0) → F → List (List ℕ) → List (List ℕ) → BootFault → F → Type 0
+IsRefused {F} image failures power_up flash before now fault left =
+    ((now ≡ before) × HasBootCause fault (failures flash) (failures left) × (image left ≡ image flash))
+    ⊎ ((lost : F) × (back : F) × power_up lost back × HasBootCause fault (failures back) (failures left) × (image left ≡ image lost))

@@ -1,0 +1,6 @@
+pub mod State
+pub mod Heard
+pub mod Hearing
+pub mod Machine
+pub mod Steps
+pub mod Cycle

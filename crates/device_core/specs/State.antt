@@ -1,0 +1,17 @@
+-- What a contract sees of a device.
+use Rattle.std.specs.Prelude.{ℕ}
+use Rattle.pn_values.specs.declared.identity.Identity.{Identity}
+use Rattle.pn_values.specs.declared.real.Real.{Real}
+use Rattle.settings_store.specs.State.{Values}
+
+-- what changes from event to event: the settings, and for how many units the lamp still flashes
+pub record Live : Type 0 where
+  pub values : Values
+  pub lamp : ℕ
+
+-- the flash, what the device is, and what changes
+pub record State (F : Type 0) : Type 0 where
+  pub flash : F
+  pub identity : Identity
+  pub real : Real
+  pub live : Live

@@ -1,0 +1,74 @@
+-- What a step and a run do, whatever the flash does.
+use Rattle.std.specs.Prelude.{◌≡◌, ◌≢◌, ◌⊎◌, ℕ, Bool, true, false, List, [], ◌∷◌, ◌++◌, if◌then◌else◌}
+use Rattle.flash_model.specs.Image.{Image}
+use Rattle.pn_values.specs.declared.mac.Mac.{Mac}
+use Rattle.settings_store.specs.Machine.{Outcome}
+use Rattle.settings_store.specs.Legal.{CrashSafe}
+use Rattle.settings_store.specs.Carries.{IsCaused, Holds}
+use Rattle.dcp_core.specs.Request.{Asked}
+use Rattle.dcp_core.specs.Identify.{matches, identify_bytes}
+use Rattle.device_core.specs.declared.event.Event.{Event}
+use Rattle.device_core.specs.declared.event.Note.{Note}
+use Rattle.device_core.specs.declared.event.Note.TheVariants.{Done, Filter}
+use Rattle.device_core.specs.State.{State, Live}
+use Rattle.device_core.specs.Heard.{Heard}
+use Rattle.device_core.specs.Machine.{heard_step, step_of, run_of, is_set, answer_frame}
+
+-- what a device is does not change
+pub record IsSame {F : Type 0} (old new : State F) : Type 0 where
+  pub identity : new.identity ≡ old.identity
+  pub real : new.real ≡ old.real
+
+-- What was heard is carried out, for some outcomes of the calls that store, which the flash chose: what changes, the frames
+-- and the note are those of the step, the outcomes have their cause, the image is safe and holds what is stored, all but
+-- a Set leaves the flash alone, and power that is lost stays lost.
+pub record Steps {F : Type 0} (image : F → Image) (failures : F → ℕ) (old : State F) (heard : Heard) (sent : List (List ℕ)) (said : Note) (new : State F) : Type 0 where
+  pub outcomes : List Outcome
+  pub same : IsSame old new
+  pub live : new.live ≡ (heard_step outcomes old.identity old.live heard).live
+  pub frames : sent ≡ (heard_step outcomes old.identity old.live heard).frames
+  pub note : said ≡ (heard_step outcomes old.identity old.live heard).note
+  pub caused : IsCaused outcomes (failures old.flash) (failures new.flash) old.live.values new.live.values
+  pub safe : CrashSafe old.live.values.has_failed old.live.values.stored (heard_step outcomes old.identity old.live heard).accepted (image old.flash) (image new.flash)
+  pub holds : Holds (image new.flash) new.live.values
+  pub untouched : is_set heard ≡ false → new.flash ≡ old.flash
+  pub stays_lost : old.live.values.is_lost ≡ true → new.live.values.is_lost ≡ true
+
+-- An Identify request changes nothing. It is answered, by identity and running settings alone, where it matches them.
+pub record Identifies {F : Type 0} (old : State F) (asker : Mac) (request : Asked) (sent : List (List ℕ)) (said : Note) (new : State F) : Type 0 where
+  pub unchanged : new ≡ old
+  pub answered : matches old.identity old.live.values.running request ≡ true →
+      (said ≡ Done) × (sent ≡ answer_frame old.identity asker 65279 (identify_bytes old.identity old.live.values.running request.xid) ∷ [])
+  pub filtered : matches old.identity old.live.values.running request ≡ false → (said ≡ Filter) × (sent ≡ [])
+
+-- what a run hands on of a step: its frames, unless power is lost
+pub record HandsOn {F : Type 0} (image : F → Image) (failures : F → ℕ) (old : State F) (heard : Heard) (before now : List (List ℕ)) (new : State F) : Type 0 where
+  pub sent : List (List ℕ)
+  pub said : Note
+  pub steps : Steps image failures old heard sent said new
+  pub handed_on : now ≡ before ++ (if new.live.values.is_lost then [] else sent)
+
+-- Steps after one another, for some outcomes of each. Before and now are what the sink has taken; once power is lost it
+-- takes no more.
+pub record Runs {F : Type 0} (image : F → Image) (failures : F → ℕ) (old : State F) (events : List Event) (before now : List (List ℕ)) (new : State F) : Type 0 where
+  pub outcomes : List (List Outcome)
+  pub same : IsSame old new
+  pub live : new.live ≡ (run_of outcomes old.identity old.live events).live
+  pub frames : now ≡ before ++ (run_of outcomes old.identity old.live events).frames
+  pub caused : IsCaused outcomes (failures old.flash) (failures new.flash) old.live.values new.live.values
+  pub safe : CrashSafe old.live.values.has_failed old.live.values.stored (run_of outcomes old.identity old.live events).accepted (image old.flash) (image new.flash)
+  pub holds : Holds (image new.flash) new.live.values
+  pub stays_lost : old.live.values.is_lost ≡ true → (new.live.values.is_lost ≡ true) × (now ≡ before)
+
+-- the step with no flash call failing
+pub record IsExactStep {F : Type 0} (old : State F) (event : Event) (sent : List (List ℕ)) (said : Note) (new : State F) : Type 0 where
+  pub same : IsSame old new
+  pub live : new.live ≡ (step_of [] old.identity old.live event).live
+  pub frames : sent ≡ (step_of [] old.identity old.live event).frames
+  pub note : said ≡ (step_of [] old.identity old.live event).note
+
+-- the run with no flash call failing
+pub record IsExactRun {F : Type 0} (old : State F) (events : List Event) (before now : List (List ℕ)) (new : State F) : Type 0 where
+  pub same : IsSame old new
+  pub live : new.live ≡ (run_of [] old.identity old.live events).live
+  pub frames : now ≡ before ++ (run_of [] old.identity old.live events).frames

@@ -1,0 +1,148 @@
+// The device.
+ghost use Rattle.std.specs.Prelude.{◌≡◌, ℕ, true, false, IsErr, IfOk, IfErr, MatchResult};
+ghost use Rattle.flash_model.specs.Image.{erased};
+ghost use Rattle.pn_values.specs.Settings.{factory_settings};
+ghost use Rattle.pn_values.specs.declared.settings.Settings.{Settings};
+ghost use Rattle.settings_journal.specs.Commit.{HasBootCause};
+ghost use Rattle.settings_journal.specs.Image.{StartsWith, IsForeign, LeftByDevice};
+ghost use Rattle.device_core.specs.Cycle.{started};
+
+use flash_model::{Flash, Order};
+use pn_values::{Identity, Real, Settings};
+use settings_journal::BootFault;
+use settings_store::Store;
+use std::marker::Model;
+
+/// A PROFINET IO device over a flash. A clause sees the flash, what the device is, and what changes from event to event.
+#[derive(Drop)]
+pub struct Device<F: Flash<S>, const S: usize> {
+    pub(crate) identity: Identity,
+    pub(crate) real: Real,
+    pub(crate) store: Store<F, S>,
+    pub(crate) lamp: u32,
+}
+
+impl<F: Flash<S>, const S: usize> Model for Device<F, S> {
+    ghost use Rattle.settings_store.specs.Carries.{Holds};
+    ghost use Rattle.device_core.specs.State.{State};
+
+    ghost Value = { State F };
+
+    ghost view = { λ device. record {
+      flash = device.store.flash;
+      identity = device.identity;
+      real = device.real;
+      live = record { values = device.store.values; lamp = device.lamp };
+    } };
+
+    ghost invariant = { λ device. Holds (F.image device.store.flash) device.store.values };
+}
+
+impl<F: Flash<S>, const S: usize> Device<F, S> {
+    /// Starts a device from what the flash keeps, and writes nothing. A refusal hands the flash back.
+    pub fn boot(identity: Identity, real: Real, flash: F) -> Result<Device<F, S>, (BootFault, F)>
+        // What is stored runs, and nothing is left of an earlier cycle.
+        ensures starts { IfOk result (λ device. StartsWith (F.image flash) device.live.values.stored device.live.values.room) }
+        ensures fresh { IfOk result (λ device. device.live ≡ started device.live.values.stored device.live.values.room) }
+        ensures identity { IfOk result (λ device. (device.identity ≡ identity) × (device.real ≡ real)) }
+
+        // What can be read is given, unless a read fails.
+        ensures known { (settings : Settings) (room : ℕ) → StartsWith (F.image flash) settings room →
+            MatchResult result (λ device. device.live ≡ started settings room) (λ refused. refused.0 ≡ BootFault.FlashFault) }
+        ensures left { LeftByDevice (F.image flash) → IfErr result (λ refused. refused.0 ≡ BootFault.FlashFault) }
+        ensures blank { F.image flash ≡ record { first = erased S; second = erased S } →
+            LeftByDevice (F.image flash) × StartsWith (F.image flash) factory_settings 65535 }
+
+        // Foreign is what cannot be read, and nothing else.
+        ensures foreign { IfErr result (λ refused. refused.0 ≡ BootFault.Foreign → IsForeign (F.image flash)) }
+        ensures strange { IsForeign (F.image flash) → IsErr result }
+
+        // Nothing is written, and FlashFault is answered where a read fails and only there.
+        ensures same { MatchResult result (λ device. F.image device.flash ≡ F.image flash) (λ refused. F.image refused.1 ≡ F.image flash) }
+        ensures cause { MatchResult result (λ device. F.failures device.flash ≡ F.failures flash)
+            (λ refused. HasBootCause refused.0 (F.failures flash) (F.failures refused.1)) }
+        ensures reliable { F.is_reliable flash →
+            MatchResult result (λ device. F.is_reliable device.flash) (λ refused. F.is_reliable refused.1 × (refused.0 ≡ BootFault.Foreign)) }
+    {
+        Ok(Device {
+            identity,
+            real,
+            store: Store::boot(flash)?,
+            lamp: 0,
+        })
+    }
+
+    /// The settings that run.
+    pub fn running(&self) -> &Settings
+        ensures { result.now ≡ self.now.live.values.running }
+    {
+        self.store.running()
+    }
+
+    /// The settings that a restart finds, where no commit failed since the start.
+    pub fn stored(&self) -> &Settings
+        ensures value { result.now ≡ self.now.live.values.stored }
+        ensures holds { self.now.live.values.has_failed ≡ false →
+            StartsWith (F.image self.now.flash) self.now.live.values.stored self.now.live.values.room }
+    {
+        self.store.stored()
+    }
+
+    /// For how many units the lamp still flashes.
+    pub fn lamp(&self) -> u32
+        ensures { result ≡ self.now.live.lamp }
+    {
+        self.lamp
+    }
+
+    /// What is plugged in.
+    pub fn real(&self) -> &Real
+        ensures { result.now ≡ self.now.real }
+    {
+        &self.real
+    }
+
+    /// Whether power was lost.
+    pub fn is_lost(&self) -> bool
+        ensures { result ≡ self.now.live.values.is_lost }
+    {
+        self.store.is_lost()
+    }
+
+    /// The flash.
+    pub fn flash(&self) -> &F
+        ensures { result.now ≡ self.now.flash }
+    {
+        self.store.flash()
+    }
+
+    /// Tells the flash what to do to a later call. Nothing else changes.
+    pub fn arm(&mut self, order: Order)
+        ensures live { self.new.live ≡ self.old.live }
+        ensures identity { (self.new.identity ≡ self.old.identity) × (self.new.real ≡ self.old.real) }
+        ensures image { F.image self.new.flash ≡ F.image self.old.flash }
+        ensures failures { F.failures self.new.flash ≡ F.failures self.old.flash }
+    {
+        self.store.arm(order);
+    }
+
+    /// The flash, given back.
+    pub fn into_flash(self) -> F
+        ensures { result ≡ self.flash }
+    {
+        self.into_parts().2
+    }
+
+    /// Identity, what is plugged in, and the flash, given back.
+    pub(crate) fn into_parts(self) -> (Identity, Real, F)
+        ensures { result ≡ (self.identity, self.real, self.flash) }
+    {
+        let Device {
+            identity,
+            real,
+            store,
+            lamp: _,
+        } = self;
+        (identity, real, store.into_flash())
+    }
+}

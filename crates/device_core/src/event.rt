@@ -1,0 +1,23 @@
+use frame_codec::Bytes;
+
+/// What happens to a device.
+#[derive(Drop)]
+pub enum Event {
+    /// These bytes came from the network. Of a longer byte string its first 1,519 bytes stand here, which are refused alike.
+    Frame(Bytes),
+    /// A unit of 31.25 microseconds is over.
+    Tick,
+}
+
+/// What became of an event.
+#[derive(Clone, Copy, Debug, PartialEq, Eq)]
+pub enum Note {
+    /// It was carried out or answered, a negative answer among them.
+    Done = 0,
+    /// The frame is for another station, or of a kind that a device does not take.
+    NotMine = 1,
+    /// The frame cannot be read.
+    Fault = 2,
+    /// An Identify request that does not match.
+    Filter = 3,
+}

@@ -1,0 +1,71 @@
+//! What an event is to a device.
+ghost use Rattle.std.specs.Prelude.{◌≡◌};
+ghost use Rattle.device_core.specs.Heard.{is_taken as is_taken_by, heard_of, heard_content};
+ghost use Rattle.device_core.specs.Hearing.{meaning_of};
+ghost use Rattle.frame_codec.specs.Meaning.{content_of};
+
+use crate::Event;
+use dcp_core::{Request, read_request};
+use frame_codec::{DCP_GET_SET, DCP_IDENTIFY_REQUEST, Layered, Payload, read};
+use pn_values::{Identity, Mac};
+
+/// The address of all stations for Identify requests (IEC 61158-6-10, 4.3.1.3.1).
+const IDENTIFY_MULTICAST: Mac = Mac {
+    octets: [0x01, 0x0E, 0xCF, 0x00, 0x00, 0x00],
+};
+
+/// What an event is to a device.
+#[derive(Drop)]
+pub(crate) enum Heard<'a> {
+    /// A unit of time is over.
+    Tick,
+    /// A frame, or the request in it, that cannot be read.
+    Unreadable,
+    /// A frame for another station, or of a kind that a device does not take.
+    Elsewhere,
+    /// A DCP request, and the station that asks.
+    Request { source: Mac, request: Request<'a> },
+}
+
+/// Reads an event. A frame is read first, and then its destination is looked at.
+#[tactic(auto, unfolding(crate::specs::Heard::heard_of))]
+pub(crate) fn hear<'a>(identity: &Identity, event: &'a Event) -> Heard<'a>
+    ensures { heard_of identity.now event.now ≡ meaning_of result }
+{
+    match event {
+        Event::Tick => Heard::Tick,
+        Event::Frame(bytes) => match read(bytes.as_slice()) {
+            Ok(layered) => hear_frame(identity, layered),
+            Err(_) => Heard::Unreadable,
+        },
+    }
+}
+
+// A frame by its layers.
+fn hear_frame<'a>(identity: &Identity, layered: Layered<'a>) -> Heard<'a>
+    ensures { heard_content identity.now layered.entry.destination layered.entry.source (content_of layered.entry.payload) ≡ meaning_of result }
+{
+    let Payload::RealTime { frame_id, body } = layered.payload;
+    if !is_taken(identity, layered.destination, frame_id) {
+        return Heard::Elsewhere;
+    }
+    match read_request(frame_id, body) {
+        Ok(request) => Heard::Request {
+            source: layered.source,
+            request,
+        },
+        Err(_) => Heard::Unreadable,
+    }
+}
+
+// Whether a frame with this destination and FrameID is for the device.
+fn is_taken(identity: &Identity, destination: Mac, frame_id: u16) -> bool
+    ensures { result ≡ is_taken_by identity.now destination frame_id }
+{
+    let is_own = destination == identity.mac;
+    match frame_id {
+        DCP_GET_SET => is_own,
+        DCP_IDENTIFY_REQUEST => is_own || destination == IDENTIFY_MULTICAST,
+        _ => false,
+    }
+}

@@ -1,0 +1,15 @@
+//! One step of a PROFINET IO device, runs of steps, and what a power failure leaves of them.
+#![tactic(auto)]
+
+mod device;
+mod event;
+mod headline;
+mod hearing;
+mod run;
+mod sink;
+mod step;
+
+pub use device::Device;
+pub use event::{Event, Note};
+pub use headline::cycle;
+pub use sink::Sink;

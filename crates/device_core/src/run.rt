@@ -1,0 +1,50 @@
+// Runs of steps.
+ghost use Rattle.std.specs.Prelude.{◌≡◌, ◌<◌, ◌-◌, ◌^◌, ◌++◌, true, false, map};
+ghost use Rattle.device_core.specs.Heard.{heard_of};
+ghost use Rattle.device_core.specs.Steps.{HandsOn, Runs, IsExactRun};
+
+use crate::{Device, Event, Sink};
+use flash_model::Flash;
+use frame_codec::Outbox;
+
+impl<F: Flash<S>, const S: usize> Device<F, S> {
+    /// Takes the events in order, and hands the frames on, up to the event in which power is lost.
+    pub fn run<K: Sink>(&mut self, events: &[Event], sink: &mut K)
+        ensures runs { Runs F.image F.failures self.old events.now (K.taken sink.old) (K.taken sink.new) self.new }
+
+        // With no flash call failing.
+        ensures exact { F.failures self.new.flash ≡ F.failures self.old.flash → F.failures self.old.flash < 2 ^ 64 - 1 →
+            IsExactRun self.old events.now (K.taken sink.old) (K.taken sink.new) self.new }
+        ensures reliable { F.is_reliable self.old.flash → self.old.live.values.has_failed ≡ false →
+            F.is_reliable self.new.flash × (self.new.live.values.has_failed ≡ false)
+            × IsExactRun self.old events.now (K.taken sink.old) (K.taken sink.new) self.new }
+    {
+        // What is stored is what a restart finds, before the first event too.
+        let _ = &self.store;
+        let mut outbox = Outbox::new();
+        for event in events {
+            self.take(event, &mut outbox, sink);
+        }
+    }
+
+    // One event of a run.
+    fn take<K: Sink>(&mut self, event: &Event, outbox: &mut Outbox, sink: &mut K)
+        ensures steps { HandsOn F.image F.failures self.old (heard_of self.old.identity event.now) (K.taken sink.old) (K.taken sink.new) self.new }
+        ensures reliable { F.is_reliable self.old.flash → self.old.live.values.has_failed ≡ false →
+            F.is_reliable self.new.flash × (self.new.live.values.has_failed ≡ false) }
+    {
+        let _ = self.step(event, outbox);
+        if !self.is_lost() {
+            hand_on(outbox, sink);
+        }
+    }
+}
+
+// Hands the frames in the box on, in order.
+fn hand_on<K: Sink>(outbox: &Outbox, sink: &mut K)
+    ensures { K.taken sink.new ≡ K.taken sink.old ++ map (λ frame. frame.items) outbox.now.items }
+{
+    for frame in outbox.as_slice() {
+        sink.take(frame);
+    }
+}

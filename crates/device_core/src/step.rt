@@ -1,0 +1,155 @@
+// One step: what an event is, and what comes of it.
+ghost use Rattle.std.specs.Prelude.{◌≡◌, ◌≢◌, ◌<◌, ◌-◌, ◌^◌, [], ◌∷◌, true, false, map};
+ghost use Rattle.pn_values.specs.declared.mac.Mac.{Mac};
+ghost use Rattle.settings_store.specs.Carries.{Holds};
+ghost use Rattle.dcp_core.specs.Request.{Asked, asked};
+ghost use Rattle.dcp_core.specs.Get.{get_bytes};
+ghost use Rattle.device_core.specs.Heard.{Asks, heard_of};
+ghost use Rattle.device_core.specs.Hearing.{meaning_of};
+ghost use Rattle.device_core.specs.Machine.{answer_frame, identified, lamp_after as lamp_of};
+ghost use Rattle.device_core.specs.Steps.{Steps, Identifies, IsExactStep};
+
+use crate::hearing::{Heard, hear};
+use crate::{Device, Event, Note};
+use arrayvec::ArrayVec;
+use dcp_core::{
+    Answer, Request, Service, get_answer, has_signal, identify_answer, identify_matches,
+    set_answer, set_plan,
+};
+use flash_model::Flash;
+use frame_codec::{DCP_GET_SET, DCP_IDENTIFY_RESPONSE, Frame, Layered, Outbox, Payload, write};
+use pn_values::{Identity, Mac};
+
+/// For how many units of 31.25 microseconds the lamp flashes after a Signal: 3 seconds.
+const LAMP_UNITS: u32 = 96_000;
+
+impl<F: Flash<S>, const S: usize> Device<F, S> {
+    /// Takes an event, and puts the frames to be sent into the box, which it empties first.
+    pub fn step(&mut self, event: &Event, outbox: &mut Outbox) -> Note
+        ensures steps { Steps F.image F.failures self.old (heard_of self.old.identity event.now) (map (λ frame. frame.items) outbox.new.items) result self.new }
+
+        // With no flash call failing.
+        ensures exact { F.failures self.new.flash ≡ F.failures self.old.flash → F.failures self.old.flash < 2 ^ 64 - 1 →
+            IsExactStep self.old event.now (map (λ frame. frame.items) outbox.new.items) result self.new }
+        ensures reliable { F.is_reliable self.old.flash → self.old.live.values.has_failed ≡ false →
+            F.is_reliable self.new.flash × (self.new.live.values.has_failed ≡ false)
+            × IsExactStep self.old event.now (map (λ frame. frame.items) outbox.new.items) result self.new }
+
+        // An event that is refused changes nothing at all.
+        ensures refused { result ≢ Note.Done → (self.new ≡ self.old) × (outbox.new.items ≡ []) }
+        ensures identify { (asker : Mac) (request : Asked) → heard_of self.old.identity event.now ≡ Asks asker request → request.service ≡ Service.Identify →
+            Identifies self.old asker request (map (λ frame. frame.items) outbox.new.items) result self.new }
+    {
+        outbox.clear();
+        let heard = hear(&self.identity, event);
+        self.respond(heard, outbox)
+    }
+
+    // What comes of what was heard. The box is empty.
+    fn respond(&mut self, heard: Heard<'_>, outbox: &mut Outbox) -> Note
+        requires empty { outbox.old.items ≡ [] }
+        requires stored { Holds (F.image self.old.flash) self.old.live.values }
+        ensures steps { Steps F.image F.failures self.old (meaning_of heard.entry) (map (λ frame. frame.items) outbox.new.items) result self.new }
+        ensures reliable { F.is_reliable self.old.flash → F.is_reliable self.new.flash × (self.new.live.values.has_failed ≡ self.old.live.values.has_failed) }
+    {
+        match heard {
+            Heard::Tick => self.tick(),
+            Heard::Unreadable => Note::Fault,
+            Heard::Elsewhere => Note::NotMine,
+            Heard::Request { source, request } => self.serve(source, &request, outbox),
+        }
+    }
+
+    // A unit of time is over.
+    fn tick(&mut self) -> Note
+        ensures lamp { self.new ≡ record self.old { live = record { values = self.old.live.values; lamp = self.old.live.lamp - 1 } } }
+        ensures note { result ≡ Note.Done }
+    {
+        self.lamp = self.lamp.saturating_sub(1);
+        Note::Done
+    }
+
+    // A request of a station. The box is empty.
+    fn serve(&mut self, asker: Mac, request: &Request<'_>, outbox: &mut Outbox) -> Note
+        requires empty { outbox.old.items ≡ [] }
+        requires stored { Holds (F.image self.old.flash) self.old.live.values }
+        ensures steps { Steps F.image F.failures self.old (Asks asker (asked request.now)) (map (λ frame. frame.items) outbox.new.items) result self.new }
+        ensures reliable { F.is_reliable self.old.flash → F.is_reliable self.new.flash × (self.new.live.values.has_failed ≡ self.old.live.values.has_failed) }
+    {
+        match request.service {
+            Service::Identify => self.identify(asker, request, outbox),
+            Service::Get => self.get(asker, request, outbox),
+            Service::Set => self.set(asker, request, outbox),
+        }
+    }
+
+    // An Identify request (IEC 61158-6-10, 4.3.2.3).
+    fn identify(&self, asker: Mac, request: &Request<'_>, outbox: &mut Outbox) -> Note
+        requires { outbox.old.items ≡ [] }
+        ensures frames { map (λ frame. frame.items) outbox.new.items
+            ≡ (identified self.now.identity self.now.live.values.running self.now.live.lamp asker (asked request.now)).frames }
+        ensures note { result ≡ (identified self.now.identity self.now.live.values.running self.now.live.lamp asker (asked request.now)).note }
+    {
+        let running = self.store.running();
+        if !identify_matches(&self.identity, running, request) {
+            return Note::Filter;
+        }
+        let answer = identify_answer(&self.identity, running, request.xid);
+        outbox.push(frame_to(&self.identity, asker, DCP_IDENTIFY_RESPONSE, &answer));
+        Note::Done
+    }
+
+    // A Get (4.3.2.4).
+    fn get(&self, asker: Mac, request: &Request<'_>, outbox: &mut Outbox) -> Note
+        requires { outbox.old.items ≡ [] }
+        ensures frames { map (λ frame. frame.items) outbox.new.items
+            ≡ answer_frame self.now.identity asker 65277 (get_bytes self.now.identity self.now.live.values.running (asked request.now)) ∷ [] }
+        ensures note { result ≡ Note.Done }
+    {
+        let answer = get_answer(&self.identity, self.store.running(), request);
+        outbox.push(frame_to(&self.identity, asker, DCP_GET_SET, &answer));
+        Note::Done
+    }
+
+    // A Set (4.3.2.5): its blocks in order, each by itself. No application relation exists.
+    fn set(&mut self, asker: Mac, request: &Request<'_>, outbox: &mut Outbox) -> Note
+        requires empty { outbox.old.items ≡ [] }
+        requires service { request.now.service ≡ Service.Set }
+        ensures steps { Steps F.image F.failures self.old (Asks asker (asked request.now)) (map (λ frame. frame.items) outbox.new.items) result self.new }
+        ensures reliable { F.is_reliable self.old.flash → F.is_reliable self.new.flash × (self.new.live.values.has_failed ≡ self.old.live.values.has_failed) }
+    {
+        let items = set_plan(request, false);
+        let mut answers = ArrayVec::new();
+        self.store.carry_out(items.as_slice(), &mut answers);
+        self.lamp = lamp_after(self.lamp, request);
+        let answer = set_answer(request, &answers);
+        outbox.push(frame_to(&self.identity, asker, DCP_GET_SET, &answer));
+        Note::Done
+    }
+}
+
+// For how many units the lamp flashes after a Set, where it flashed for so many before.
+fn lamp_after(lamp: u32, request: &Request<'_>) -> u32
+    ensures { result ≡ lamp_of lamp (asked request.now) }
+{
+    if has_signal(request) {
+        LAMP_UNITS
+    } else {
+        lamp
+    }
+}
+
+// A DCP answer to the station that asked.
+fn frame_to(identity: &Identity, asker: Mac, frame_id: u16, answer: &Answer) -> Frame
+    ensures { result.items ≡ answer_frame identity.now asker frame_id answer.now.items }
+{
+    write(&Layered {
+        destination: asker,
+        source: identity.mac,
+        tag: None,
+        payload: Payload::RealTime {
+            frame_id,
+            body: answer.as_slice(),
+        },
+    })
+}

@@ -1,0 +1,161 @@
+-- What holds of frames: reading and the relation are one, and how long what is written is.
+use Rattle.std.proofs.Common.{◌≡◌, ℕ, ◌+◌, ◌-◌, ◌≤◌, Bool, true, false, cond, ltb, List, [], ◌++◌, length, replicate, Option, Some, None, Result, Ok, Err, refl, sym, ap, subst, ◌∙◌, append_assoc, arith}
+use Rattle.std.proofs.lemmas.Bool.{ltb-false, le-ltb}
+use Rattle.std.proofs.lemmas.List.{length-append, length-replicate}
+use Rattle.wire.proofs.Fields.{bind_ok}
+use Rattle.frame_codec.specs.declared.link.Link.{Link}
+use Rattle.frame_codec.specs.declared.fault.FrameFault.{FrameFault}
+use Rattle.frame_codec.specs.declared.fault.FrameFault.TheVariants.{TooLong}
+use Rattle.frame_codec.specs.Meaning.{Content, RealTime, Meaning}
+use Rattle.frame_codec.specs.Frame.{mac, tag_and_type, link, real_time, content_under, content_size, content_with, link_of, layers, longest, IsFrame, FitsFrame, frame_of, frame_bytes, padding_of, with_behind, type_of}
+use Rattle.frame_codec.proofs.Layers.{link_sound, layers_sound}
+
+-- ---- reading
+
+-- a length that was judged
+judged : (b : Bool) (r : Result Meaning FrameFault) (meaning : Meaning) → cond b (Err TooLong) r ≡ Ok meaning → (b ≡ false) × (r ≡ Ok meaning)
+judged true r meaning e = absurd cc
+judged false r meaning e = (refl, e)
+
+-- the link header that stands in front of a frame
+record HasLink (bytes : List ℕ) (meaning : Meaning) : Type 0 where
+  header : Link
+  rest : List ℕ
+  reads : link.read bytes ≡ Ok (header, rest)
+  tag : header.tag ≡ meaning.tag
+
+link_in : (bytes : List ℕ) (meaning : Meaning) → layers.Spells bytes meaning → HasLink bytes meaning
+unfolding layers
+link_in bytes meaning spelled = record {
+  header = spelled.0.0;
+  rest = spelled.2.0;
+  reads = link_sound.again bytes spelled.0.0 spelled.2.0 spelled.2.1;
+  tag = ap (λ (m : Meaning). m.tag) spelled.1;
+}
+
+-- what is read is a frame
+pub frame_takes : (bytes : List ℕ) (meaning : Meaning) → frame_of bytes ≡ Ok meaning → IsFrame bytes meaning
+unfolding frame_of
+frame_takes bytes meaning e =
+    let a = bind_ok (link.read bytes) (λ header. cond (ltb (longest header.0.tag) (length bytes)) (Err TooLong) (layers.read bytes)) meaning e in
+    let j = judged (ltb (longest a.0.0.tag) (length bytes)) (layers.read bytes) meaning a.2 in
+    let spelled = layers_sound.takes bytes meaning j.1 in
+    let h = link_in bytes meaning spelled in
+    let one : a.0.0 ≡ h.header = cc in
+    let short : length bytes ≤ longest a.0.0.tag = ltb-false _ _ j.0 in
+    record { spelled = spelled; short = subst (λ (tag : Option ℕ). length bytes ≤ longest tag) (ap (λ (x : Link). x.tag) one ∙ h.tag) short }
+
+-- a frame is read
+pub frame_again : (bytes : List ℕ) (meaning : Meaning) → IsFrame bytes meaning → frame_of bytes ≡ Ok meaning
+unfolding frame_of
+frame_again bytes meaning frame =
+    let h = link_in bytes meaning frame.spelled in
+    let short : length bytes ≤ longest h.header.tag = subst (λ (tag : Option ℕ). length bytes ≤ longest tag) (sym h.tag) frame.short in
+    rw (h.reads, le-ltb _ _ short) (layers_sound.again bytes meaning frame.spelled)
+
+-- ---- writing
+
+-- the bytes of the content
+abbrev body_of : Content → List ℕ
+body_of content = (content_under (type_of content)).write content
+
+-- the link header and the content make the layers
+pub joined : (meaning : Meaning) (ether_type : ℕ) (front bytes : List ℕ) → ether_type ≡ type_of meaning.content
+    → front ≡ link.write (record (link_of meaning) { ether_type = ether_type }) [] → bytes ≡ front ++ (content_under (type_of meaning.content)).write meaning.content → bytes ≡ layers.write meaning
+unfolding layers
+joined meaning ether_type front bytes kind one both =
+    both ∙ ap (λ (xs : List ℕ). xs ++ body_of meaning.content) (one ∙ ap (λ (n : ℕ). link.write (record (link_of meaning) { ether_type = n }) []) kind)
+    ∙ sym (link_sound.local (link_of meaning) (body_of meaning.content))
+
+-- both fit
+pub both_fit : (meaning : Meaning) (ether_type : ℕ) → ether_type ≡ type_of meaning.content
+    → link.Fits (record (link_of meaning) { ether_type = ether_type }) → (content_under (type_of meaning.content)).Fits meaning.content → layers.Fits meaning
+unfolding layers
+both_fit meaning ether_type kind one other = (subst (λ (n : ℕ). link.Fits (record (link_of meaning) { ether_type = n })) kind one, other)
+
+-- how long a link header is
+abbrev link_size : Option ℕ → ℕ
+link_size None = 14
+link_size (Some tag) = 18
+
+tag_size_is : (tag : Option ℕ) (content : Content) → tag_and_type.size (tag, type_of content) + 12 ≡ link_size tag
+unfolding tag_and_type
+tag_size_is None (RealTime frame_id body) = refl
+tag_size_is (Some tag) (RealTime frame_id body) = refl
+
+content_size_is : (content : Content) → (content_under (type_of content)).size content ≡ content_size content
+unfolding real_time
+content_size_is (RealTime frame_id body) = refl
+
+size_is : (meaning : Meaning) → layers.Fits meaning → layers.size meaning ≡ link_size meaning.tag + content_size meaning.content
+unfolding layers link mac
+size_is meaning fits =
+    omega (arith, fits.0.0, fits.0.1.0, tag_size_is meaning.tag meaning.content, content_size_is meaning.content)
+
+content_behind : (content : Content) (more : List ℕ) → body_of content ++ more ≡ body_of (content_with content more)
+unfolding real_time
+content_behind (RealTime frame_id body) more = refl
+
+type_behind : (content : Content) (more : List ℕ) → type_of (content_with content more) ≡ type_of content
+type_behind (RealTime frame_id body) more = refl
+
+content_fits_behind : (content : Content) (more : List ℕ) → (content_under (type_of content)).Fits content → (content_under (type_of (content_with content more))).Fits (content_with content more)
+unfolding real_time
+content_fits_behind (RealTime frame_id body) more fits = fits
+
+layers_fit_behind : (meaning : Meaning) (more : List ℕ) → layers.Fits meaning → layers.Fits (with_behind meaning more)
+unfolding layers
+layers_fit_behind meaning more fits =
+    (subst (λ (n : ℕ). link.Fits (record (link_of meaning) { ether_type = n })) (sym (type_behind meaning.content more)) fits.0, content_fits_behind meaning.content more fits.1)
+
+-- what is written, with more behind it, is what is written for the meaning with that behind it
+layers_behind : (meaning : Meaning) (more : List ℕ) → layers.write meaning ++ more ≡ layers.write (with_behind meaning more)
+unfolding layers
+layers_behind meaning more =
+    let header = link_of meaning in
+    let longer = content_with meaning.content more in
+    ap (λ (xs : List ℕ). xs ++ more) (link_sound.local header (body_of meaning.content))
+    ∙ append_assoc (link.write header []) (body_of meaning.content) more
+    ∙ ap (λ (xs : List ℕ). link.write header [] ++ xs) (content_behind meaning.content more)
+    ∙ sym (link_sound.local header (body_of longer))
+    ∙ ap (λ (n : ℕ). link.write (record header { ether_type = n }) (body_of longer)) (sym (type_behind meaning.content more))
+
+-- what is written is a frame, with more behind it up to the limit
+pub written_is_frame : (meaning : Meaning) (more : List ℕ) → layers.Fits meaning → length (layers.write meaning) + length more ≤ longest meaning.tag → IsFrame (layers.write meaning ++ more) (with_behind meaning more)
+written_is_frame meaning more fits short = record {
+  spelled = rw (layers_behind meaning more) (layers_sound.written (with_behind meaning more) (layers_fit_behind meaning more fits));
+  short = omega (arith, short, length-append (layers.write meaning) more);
+}
+
+most_of : (tag : Option ℕ) (content size : ℕ) → content ≤ 1500 → size ≡ (link_size tag + content) + (60 - (link_size tag + content)) → size ≤ longest tag
+most_of None content size room e = omega arith
+most_of (Some tag) content size room e = omega arith
+
+-- a frame that is sent, and its length
+pub record IsSent (meaning : Meaning) (frame : List ℕ) : Type 0 where
+  pub exact : frame ≡ frame_bytes meaning
+  pub least : 60 ≤ length frame
+  pub most : length frame ≤ longest meaning.tag
+  pub spelled : IsFrame frame (with_behind meaning (padding_of meaning))
+  pub behind : (more : List ℕ) → length frame + length more ≤ longest meaning.tag → IsFrame (frame ++ more) (with_behind meaning (padding_of meaning ++ more))
+
+pub is_sent : (meaning : Meaning) (written frame : List ℕ) → FitsFrame meaning → layers.Fits meaning → written ≡ layers.write meaning
+    → frame ≡ written ++ replicate (60 - length written) 0 → IsSent meaning frame
+unfolding frame_bytes
+is_sent meaning written frame room fits e f =
+    let exact : frame ≡ layers.write meaning ++ padding_of meaning = f ∙ ap (λ (xs : List ℕ). xs ++ replicate (60 - length xs) 0) e in
+    let size = layers_sound.sized meaning ∙ size_is meaning fits in
+    let padded : length frame ≡ length (layers.write meaning) + (60 - length (layers.write meaning)) =
+    ap length exact ∙ length-append (layers.write meaning) (padding_of meaning) ∙ ap (λ (n : ℕ). length (layers.write meaning) + n) (length-replicate {A = ℕ} (60 - length (layers.write meaning)) 0) in
+    let most = most_of meaning.tag (content_size meaning.content) (length frame) room (padded ∙ ap (λ (n : ℕ). n + (60 - n)) size) in
+    record {
+      exact = exact;
+      least = omega arith;
+      most = most;
+      spelled = rw exact (written_is_frame meaning (padding_of meaning) fits (omega (arith, most, padded, length-replicate {A = ℕ} (60 - length (layers.write meaning)) 0)));
+      behind = λ more short.
+          let parts : frame ++ more ≡ layers.write meaning ++ (padding_of meaning ++ more) = ap (λ (xs : List ℕ). xs ++ more) exact ∙ append_assoc (layers.write meaning) (padding_of meaning) more in
+          let long : length (layers.write meaning) + length (padding_of meaning ++ more) ≤ longest meaning.tag =
+          omega (arith, short, length-append (padding_of meaning) more, length-replicate {A = ℕ} (60 - length (layers.write meaning)) 0, padded) in
+          rw parts (written_is_frame meaning (padding_of meaning ++ more) fits long);
+    }

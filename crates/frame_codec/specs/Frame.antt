@@ -1,0 +1,111 @@
+-- The frames of Ethernet (IEEE 802.3), with at most one VLAN tag (IEEE 802.1Q), that carry PROFINET.
+use Rattle.std.specs.Prelude.{◌+◌, ◌-◌, ◌≤◌, ◌==◌, ℕ, List, ◌++◌, length, replicate, Option, Some, None, Result, Err, nat_lt, if◌then◌else◌}
+use Rattle.pn_values.specs.declared.mac.Mac.{Mac}
+use Rattle.wire.specs.Codec.{Codec, Whole, ◌>>=◌}
+use Rattle.wire.specs.Formats.{raw, number, then_by, ◌⨾◌, seen, when}
+use Rattle.wire.specs.Whole.{everything, refused, ends_by, seen_whole, pick}
+use Rattle.frame_codec.specs.declared.link.Link.{Link}
+use Rattle.frame_codec.specs.declared.fault.FrameFault.{FrameFault}
+use Rattle.frame_codec.specs.declared.fault.FrameFault.TheVariants.{TooShort, TooLong, Tag, EtherType}
+use Rattle.frame_codec.specs.Meaning.{Content, RealTime, Meaning}
+
+-- the EtherType that a VLAN tag begins with
+abbrev pub vlan : ℕ
+vlan = 0x8100
+
+-- the EtherType of PROFINET
+abbrev pub profinet : ℕ
+profinet = 0x8892
+
+-- six octets
+unfoldable pub mac : Codec FrameFault Mac
+mac = seen (λ octets. record { octets = octets }) (λ address. address.octets) (raw TooShort 6)
+
+-- the tag's word and the EtherType of a link header, from its first EtherType and what follows a tag's
+abbrev pub tag_and_type_of : ℕ × Option (ℕ × ℕ) → Option ℕ × ℕ
+tag_and_type_of (first, None) = (None, first)
+tag_and_type_of (first, Some tagged) = (Some tagged.0, tagged.1)
+
+-- the other way round
+abbrev pub parts_of_tag : Option ℕ × ℕ → ℕ × Option (ℕ × ℕ)
+parts_of_tag (None, ether_type) = (ether_type, None)
+parts_of_tag (Some tag, ether_type) = (vlan, Some (tag, ether_type))
+
+-- an EtherType, in front of which a tag may stand: its own EtherType and its word
+unfoldable pub tag_and_type : Codec FrameFault (Option ℕ × ℕ)
+tag_and_type = seen tag_and_type_of parts_of_tag
+    (then_by (number TooShort 2) (λ first. when (first == vlan) (number TooShort 2 ⨾ number TooShort 2)))
+
+-- the link header
+unfoldable pub link : Codec FrameFault Link
+link = seen (λ x. record { destination = x.0; source = x.1.0; tag = x.1.1.0; ether_type = x.1.1.1 })
+    (λ header. (header.destination, (header.source, (header.tag, header.ether_type))))
+    (mac ⨾ mac ⨾ tag_and_type)
+
+-- the FrameID of a content, and what is behind it
+abbrev pub parts_of_content : Content → ℕ × List ℕ
+parts_of_content (RealTime frame_id body) = (frame_id, body)
+
+-- a FrameID, and all that is behind it
+unfoldable pub real_time : Whole FrameFault Content
+real_time = seen_whole (λ x. RealTime x.0 x.1) parts_of_content (ends_by (number TooShort 2) (λ _. everything))
+
+-- the content behind an EtherType: behind a tag's own EtherType no second tag may stand
+abbrev pub content_under : ℕ → Whole FrameFault Content
+content_under ether_type =
+    pick (ether_type == vlan) (refused Tag) (pick (ether_type == profinet) real_time (refused EtherType))
+
+-- the EtherType of a content
+abbrev pub type_of : Content → ℕ
+type_of (RealTime frame_id body) = profinet
+
+-- the link header of a frame of this meaning
+abbrev pub link_of : Meaning → Link
+link_of meaning = record { destination = meaning.destination; source = meaning.source; tag = meaning.tag; ether_type = type_of meaning.content }
+
+-- the layers of a frame, however long it is
+unfoldable pub layers : Whole FrameFault Meaning
+layers = seen_whole (λ x. record { destination = x.0.destination; source = x.0.source; tag = x.0.tag; content = x.1 })
+    (λ meaning. (link_of meaning, meaning.content))
+    (ends_by link (λ (header : Link). content_under header.ether_type))
+
+-- how long a frame may be: a tag is on top
+abbrev pub longest : Option ℕ → ℕ
+longest None = 1514
+longest (Some tag) = 1518
+
+-- these bytes are a frame of this meaning
+pub record IsFrame (bytes : List ℕ) (meaning : Meaning) : Type 0 where
+  pub spelled : layers.Spells bytes meaning
+  pub short : length bytes ≤ longest meaning.tag
+
+-- the meaning of a frame, or its first fault: first the link header is read, then the length is judged, then the rest
+unfoldable pub frame_of : List ℕ → Result Meaning FrameFault
+frame_of bytes = link.read bytes >>= λ header.
+    if nat_lt (longest header.0.tag) (length bytes) then Err TooLong else layers.read bytes
+
+-- ---- what is written
+
+-- how many bytes a content has
+abbrev pub content_size : Content → ℕ
+content_size (RealTime frame_id body) = 2 + length body
+
+-- the content fits a frame, whether tagged or not
+abbrev pub FitsFrame : Meaning → Type 0
+FitsFrame meaning = content_size meaning.content ≤ 1500
+
+-- the zeros behind a frame that would be shorter than 60 bytes
+abbrev pub padding_of : Meaning → List ℕ
+padding_of meaning = replicate (60 - length (layers.write meaning)) 0
+
+-- the frame that is sent for a meaning
+unfoldable pub frame_bytes : Meaning → List ℕ
+frame_bytes meaning = layers.write meaning ++ padding_of meaning
+
+-- the content with more bytes behind it
+abbrev pub content_with : Content → List ℕ → Content
+content_with (RealTime frame_id body) more = RealTime frame_id (body ++ more)
+
+-- the meaning of a frame with more bytes behind it
+abbrev pub with_behind : Meaning → List ℕ → Meaning
+with_behind meaning more = record meaning { content = content_with meaning.content more }

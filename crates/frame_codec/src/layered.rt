@@ -1,0 +1,21 @@
+use pn_values::Mac;
+
+/// A frame by its layers.
+#[derive(Clone, Copy, Debug, PartialEq, Eq)]
+pub struct Layered<'a> {
+    /// To whom it goes.
+    pub destination: Mac,
+    /// From whom it comes.
+    pub source: Mac,
+    /// The tag control information of its VLAN tag (IEEE 802.1Q, 9.6), if it has one.
+    pub tag: Option<u16>,
+    /// What it carries.
+    pub payload: Payload<'a>,
+}
+
+/// What a frame carries.
+#[derive(Clone, Copy, Debug, PartialEq, Eq)]
+pub enum Payload<'a> {
+    /// EtherType 0x8892: the FrameID and all octets behind it, padding too.
+    RealTime { frame_id: u16, body: &'a [u8] },
+}

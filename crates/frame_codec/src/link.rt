@@ -1,0 +1,75 @@
+//! What stands in front of the content.
+ghost use Rattle.std.specs.Prelude.{◌≡◌};
+ghost use Rattle.wire.specs.Codec.{Gives};
+ghost use Rattle.frame_codec.specs.Frame.{mac, tag_and_type, link, longest};
+
+use crate::FrameFault;
+use pn_values::Mac;
+use wire::{octets_at, u16_at};
+
+/// The EtherType that a VLAN tag begins with (IEEE 802.1Q, 9.4).
+pub(crate) const VLAN: u16 = 0x8100;
+
+/// The EtherType of PROFINET.
+pub(crate) const PROFINET: u16 = 0x8892;
+
+/// The addresses, the word of the tag if there is one, and the EtherType.
+#[derive(Clone, Copy)]
+pub(crate) struct Link {
+    pub(crate) destination: Mac,
+    pub(crate) source: Mac,
+    pub(crate) tag: Option<u16>,
+    pub(crate) ether_type: u16,
+}
+
+/// How many octets a frame may have.
+pub(crate) fn longest_of(tag: Option<u16>) -> usize
+    ensures { result ≡ longest tag }
+{
+    match tag {
+        None => 1514,
+        Some(_) => 1518,
+    }
+}
+
+/// An address.
+#[tactic(auto, unfolding(crate::specs::Frame::mac))]
+fn mac_at(bytes: &[u8]) -> Result<(Mac, &[u8]), FrameFault>
+    ensures { Gives (λ x. (x.0, x.1.now)) result (mac.read bytes.now) }
+{
+    let (octets, rest) = octets_at::<6, FrameFault>(bytes, FrameFault::TooShort)?;
+    Ok((Mac { octets }, rest))
+}
+
+/// The word of the tag, if there is one, and the EtherType.
+#[tactic(auto, unfolding(crate::specs::Frame::tag_and_type))]
+fn tag_and_type_at(bytes: &[u8]) -> Result<(Option<u16>, u16, &[u8]), FrameFault>
+    ensures { Gives (λ x. ((x.0, x.1), x.2.now)) result (tag_and_type.read bytes.now) }
+{
+    let (first, rest) = u16_at(bytes, FrameFault::TooShort)?;
+    if first != VLAN {
+        return Ok((None, first, rest));
+    }
+    let (tag, rest) = u16_at(rest, FrameFault::TooShort)?;
+    let (ether_type, rest) = u16_at(rest, FrameFault::TooShort)?;
+    Ok((Some(tag), ether_type, rest))
+}
+
+/// The link header, and the octets behind it.
+#[tactic(auto, unfolding(crate::specs::Frame::link))]
+pub(crate) fn link_at(bytes: &[u8]) -> Result<(Link, &[u8]), FrameFault>
+    ensures { Gives (λ x. (x.0, x.1.now)) result (link.read bytes.now) }
+{
+    let (destination, rest) = mac_at(bytes)?;
+    let (source, rest) = mac_at(rest)?;
+    let (tag, ether_type, rest) = tag_and_type_at(rest)?;
+    Ok((
+        Link {
+            destination,
+            source,
+            tag,
+            ether_type,
+        },
+        rest,
+    ))
+}

@@ -1,0 +1,62 @@
+//! From octets to layers.
+ghost use Rattle.std.specs.Prelude.{IfOk, Ok};
+ghost use Rattle.wire.specs.Codec.{Gives};
+ghost use Rattle.frame_codec.specs.Meaning.{Meaning, content_of, meaning_of};
+ghost use Rattle.frame_codec.specs.Frame.{IsFrame, content_under, real_time, frame_of};
+
+use crate::link::{PROFINET, VLAN, link_at, longest_of};
+use crate::{FrameFault, Layered, Payload};
+use wire::u16_at;
+
+/// The FrameID, and all that is behind it.
+#[tactic(auto, unfolding(crate::specs::Frame::real_time))]
+fn real_time_at(bytes: &[u8]) -> Result<Payload<'_>, FrameFault>
+    ensures { Gives content_of result (real_time.read bytes.now) }
+{
+    let (frame_id, body) = u16_at(bytes, FrameFault::TooShort)?;
+    Ok(Payload::RealTime { frame_id, body })
+}
+
+/// The content that stands behind this EtherType.
+fn content_at(ether_type: u16, bytes: &[u8]) -> Result<Payload<'_>, FrameFault>
+    ensures { Gives content_of result ((content_under ether_type).read bytes.now) }
+{
+    if ether_type == VLAN {
+        return Err(FrameFault::Tag);
+    }
+    if ether_type == PROFINET {
+        return real_time_at(bytes);
+    }
+    Err(FrameFault::EtherType)
+}
+
+/// The layers, or the first fault.
+#[tactic(auto, unfolding(crate::specs::Frame::frame_of, crate::specs::Frame::layers))]
+fn layers_at(bytes: &[u8]) -> Result<Layered<'_>, FrameFault>
+    ensures { Gives meaning_of result (frame_of bytes.now) }
+{
+    let (link, rest) = link_at(bytes)?;
+    if bytes.len() > longest_of(link.tag) {
+        return Err(FrameFault::TooLong);
+    }
+    let payload = content_at(link.ether_type, rest)?;
+    Ok(Layered {
+        destination: link.destination,
+        source: link.source,
+        tag: link.tag,
+        payload,
+    })
+}
+
+/// Reads a frame. What is behind the layers is padding, and is no part of the meaning, except under EtherType 0x8892,
+/// where all is. A frame may be shorter than 60 octets.
+pub fn read(bytes: &[u8]) -> Result<Layered<'_>, FrameFault>
+    // What is read is spelled so.
+    ensures found { IfOk result (λ layered. IsFrame bytes.now (meaning_of layered)) }
+    // What is spelled so is read, and as nothing else.
+    ensures only { (meaning : Meaning) → IsFrame bytes.now meaning → Gives meaning_of result (Ok meaning) }
+    // Which fault it is.
+    ensures exact { Gives meaning_of result (frame_of bytes.now) }
+{
+    layers_at(bytes)
+}

@@ -1,0 +1,152 @@
+ghost use Rattle.std.specs.Prelude.{◌≡◌, ◌+◌, length};
+ghost use Rattle.frame_codec.specs.Meaning.{meaning_of};
+ghost use Rattle.frame_codec.specs.Frame.{content_size};
+
+use super::*;
+use pn_values::Mac;
+
+/// A DCP Identify request for all stations, as it is sent on the wire before padding.
+const IDENTIFY: [u8; 30] = [
+    0x01, 0x0E, 0xCF, 0x00, 0x00, 0x00, 0x02, 0x00, 0x00, 0x00, 0x00, 0x02, 0x88, 0x92, 0xFE, 0xFE,
+    0x05, 0x00, 0x00, 0x00, 0x00, 0x01, 0x00, 0x01, 0x00, 0x04, 0xFF, 0xFF, 0x00, 0x00,
+];
+
+/// The same with a VLAN tag of priority 0.
+const TAGGED: [u8; 34] = [
+    0x01, 0x0E, 0xCF, 0x00, 0x00, 0x00, 0x02, 0x00, 0x00, 0x00, 0x00, 0x02, 0x81, 0x00, 0x00, 0x00,
+    0x88, 0x92, 0xFE, 0xFE, 0x05, 0x00, 0x00, 0x00, 0x00, 0x01, 0x00, 0x01, 0x00, 0x04, 0xFF, 0xFF,
+    0x00, 0x00,
+];
+
+/// What both carry behind the FrameID.
+const BODY: [u8; 14] = [
+    0x05, 0x00, 0x00, 0x00, 0x00, 0x01, 0x00, 0x01, 0x00, 0x04, 0xFF, 0xFF, 0x00, 0x00,
+];
+
+/// The layers of an Identify request with this tag and this body.
+fn identify(tag: Option<u16>, body: &[u8]) -> Layered<'_>
+    ensures { content_size (meaning_of result).content ≡ 2 + length body.now }
+{
+    Layered {
+        destination: Mac {
+            octets: [0x01, 0x0E, 0xCF, 0x00, 0x00, 0x00],
+        },
+        source: Mac {
+            octets: [0x02, 0x00, 0x00, 0x00, 0x00, 0x02],
+        },
+        tag,
+        payload: Payload::RealTime {
+            frame_id: DCP_IDENTIFY_REQUEST,
+            body,
+        },
+    }
+}
+
+#[test]
+fn reads_with_and_without_tag(rt: HostRuntime) {
+    assert_eq!(rt; read(&IDENTIFY), Ok(identify(None, &BODY)));
+    assert_eq!(rt; read(&TAGGED), Ok(identify(Some(0), &BODY)));
+    assert_eq!(rt;
+        read(&IDENTIFY[..20]),
+        Ok(identify(None, &BODY[..4])),
+        "only the link layer is judged here"
+    );
+    assert_eq!(rt; read(&IDENTIFY[..16]), Ok(identify(None, &[])));
+}
+
+#[test]
+fn short_frames(rt: HostRuntime) {
+    for length in [0, 5, 13, 14, 15] {
+        assert_eq!(rt;
+            read(&IDENTIFY[..length]),
+            Err(FrameFault::TooShort),
+            "{length}"
+        );
+    }
+    for length in [13, 14, 15, 17, 18, 19] {
+        assert_eq!(rt;
+            read(&TAGGED[..length]),
+            Err(FrameFault::TooShort),
+            "{length} with a tag"
+        );
+    }
+}
+
+#[test]
+fn long_frames(rt: HostRuntime) {
+    let mut long = [0; 1520];
+    long[12] = 0x88;
+    long[13] = 0x92;
+    assert!(rt; read(&long[..1514]).is_ok());
+    assert_eq!(rt; read(&long[..1515]), Err(FrameFault::TooLong));
+    long[13] = 0x93;
+    assert_eq!(rt;
+        read(&long[..1515]),
+        Err(FrameFault::TooLong),
+        "the length is judged before the EtherType"
+    );
+    long[12] = 0x81;
+    long[13] = 0x00;
+    long[16] = 0x88;
+    long[17] = 0x92;
+    assert!(rt; read(&long[..1518]).is_ok());
+    assert_eq!(rt; read(&long[..1519]), Err(FrameFault::TooLong));
+    long[16] = 0x81;
+    long[17] = 0x00;
+    assert_eq!(rt; read(&long), Err(FrameFault::TooLong), "two tags");
+    assert_eq!(rt;
+        read(&long[..18]),
+        Err(FrameFault::Tag),
+        "nothing behind the second"
+    );
+    assert_eq!(rt; read(&long[..1518]), Err(FrameFault::Tag));
+}
+
+#[test]
+fn other_ether_types(rt: HostRuntime) {
+    for ether_type in [
+        [0x88, 0x93],
+        [0x08, 0x00],
+        [0x08, 0x06],
+        [0x92, 0x88],
+        [0x00, 0x01],
+    ] {
+        let mut frame = IDENTIFY;
+        frame[12] = ether_type[0];
+        frame[13] = ether_type[1];
+        assert_eq!(rt; read(&frame), Err(FrameFault::EtherType));
+        assert_eq!(rt;
+            read(&frame[..15]),
+            Err(FrameFault::EtherType),
+            "before its FrameID"
+        );
+    }
+}
+
+#[test]
+fn writes_padded(rt: HostRuntime) {
+    let mut padded = [0; 60];
+    padded[..30].copy_from_slice(&IDENTIFY);
+    assert_eq!(rt; write(&identify(None, &BODY)).as_slice(), padded.as_slice());
+    padded[..34].copy_from_slice(&TAGGED);
+    assert_eq!(rt;
+        write(&identify(Some(0), &BODY)).as_slice(),
+        padded.as_slice()
+    );
+    let body = [7; 1498];
+    assert_eq!(rt; write(&identify(None, &body[..44])).len(), 60);
+    assert_eq!(rt; write(&identify(None, &body[..45])).len(), 61);
+    assert_eq!(rt; write(&identify(None, &body)).len(), 1514);
+    assert_eq!(rt; write(&identify(Some(0xC000), &body)).len(), 1518);
+}
+
+#[test]
+fn outbox_of_frames(rt: HostRuntime) {
+    let mut outbox = Outbox::new();
+    outbox.push(write(&identify(None, &BODY)));
+    assert_eq!(rt; outbox.len(), 1);
+    assert_eq!(rt;
+        read(outbox.as_slice()[0].as_slice()),
+        Ok(identify(None, &outbox.as_slice()[0].as_slice()[16..]))
+    );
+}

@@ -1,0 +1,115 @@
+//! From layers to octets.
+ghost use Rattle.std.specs.Prelude.{◌≡◌, ◌+◌, ◌-◌, ◌≢◌, ◌≤◌, List, ℕ, [], ◌++◌, length, replicate, Ok};
+ghost use Rattle.arrayvec.specs.ArrayVec.{array_vec_len};
+ghost use Rattle.frame_codec.specs.Meaning.{content_of, meaning_of};
+ghost use Rattle.frame_codec.specs.Frame.{IsFrame, FitsFrame, content_size, content_under, frame_of, frame_bytes, layers, link, longest, padding_of, tag_and_type, type_of, vlan, with_behind};
+
+use crate::link::{Link, PROFINET, VLAN};
+use crate::{Frame, Layered, Payload};
+use arrayvec::ArrayVec;
+use wire::{append, append_u16};
+
+/// The EtherType under which a payload is sent.
+fn ether_type_of(payload: &Payload) -> u16
+    ensures value { result ≡ type_of (content_of payload.now) }
+    ensures kind { result ≢ vlan }
+{
+    match *payload {
+        Payload::RealTime { .. } => PROFINET,
+    }
+}
+
+/// Appends the tag, if there is one, and the EtherType.
+#[tactic(auto, unfolding(crate::specs::Frame::tag_and_type))]
+fn put_tag_and_type(frame: &mut Frame, tag: Option<u16>, ether_type: u16)
+    requires room { array_vec_len frame.old + 6 ≤ 1518 }
+    requires kind { ether_type ≢ vlan }
+    ensures items { frame.new.items ≡ frame.old.items ++ tag_and_type.write (tag, ether_type) [] }
+    ensures len { array_vec_len frame.new ≤ array_vec_len frame.old + 6 }
+    ensures fits { tag_and_type.Fits (tag, ether_type) }
+{
+    match tag {
+        None => append_u16(frame, ether_type),
+        Some(tag) => {
+            append_u16(frame, VLAN);
+            append_u16(frame, tag);
+            append_u16(frame, ether_type);
+        }
+    }
+}
+
+/// Appends the link header to an empty frame.
+#[tactic(auto, unfolding(crate::specs::Frame::link, crate::specs::Frame::mac))]
+fn put_link(frame: &mut Frame, header: &Link)
+    requires empty { array_vec_len frame.old ≡ 0 }
+    requires kind { header.now.ether_type ≢ vlan }
+    ensures items { frame.new.items ≡ link.write header.now [] }
+    ensures len { array_vec_len frame.new ≤ 18 }
+    ensures fits { link.Fits header.now }
+{
+    append(frame, &header.destination.octets);
+    append(frame, &header.source.octets);
+    put_tag_and_type(frame, header.tag, header.ether_type);
+}
+
+/// Appends the content.
+#[tactic(auto, unfolding(crate::specs::Frame::real_time))]
+fn put_content(frame: &mut Frame, payload: &Payload)
+    requires { array_vec_len frame.old + content_size (content_of payload.now) ≤ 1518 }
+    ensures items { frame.new.items ≡ frame.old.items ++ (content_under (type_of (content_of payload.now))).write (content_of payload.now) }
+    ensures fits { (content_under (type_of (content_of payload.now))).Fits (content_of payload.now) }
+{
+    match *payload {
+        Payload::RealTime { frame_id, body } => {
+            append_u16(frame, frame_id);
+            append(frame, body);
+        }
+    }
+}
+
+/// Appends the layers to an empty frame.
+fn put_layers(frame: &mut Frame, layered: &Layered)
+    requires empty { array_vec_len frame.old ≡ 0 }
+    requires room { FitsFrame (meaning_of layered.now) }
+    ensures items { frame.new.items ≡ layers.write (meaning_of layered.now) }
+    ensures fits { layers.Fits (meaning_of layered.now) }
+{
+    let header = Link {
+        destination: layered.destination,
+        source: layered.source,
+        tag: layered.tag,
+        ether_type: ether_type_of(&layered.payload),
+    };
+    put_link(frame, &header);
+    put_content(frame, &layered.payload);
+}
+
+/// Appends zeros up to 60 octets.
+fn pad(frame: &mut Frame)
+    ensures { frame.new.items ≡ frame.old.items ++ replicate (60 - length frame.old.items) 0 }
+{
+    let zeros = [0; 60];
+    if frame.len() < zeros.len() {
+        append(frame, &zeros[frame.len()..]);
+    }
+}
+
+/// Writes a frame, and behind it zeros up to 60 octets, the tag counted.
+pub fn write(layered: &Layered) -> Frame
+    // What is carried takes at most 1,500 octets, the FrameID counted.
+    requires { FitsFrame (meaning_of layered.now) }
+    // The octets, each of them.
+    ensures exact { result.items ≡ frame_bytes (meaning_of layered.now) }
+    // They spell what was given, with the padding.
+    ensures spelled { IsFrame result.items (with_behind (meaning_of layered.now) (padding_of (meaning_of layered.now))) }
+    // With more behind it, up to the limit, it is read as the same with that behind.
+    ensures behind { (more : List ℕ) → length result.items + length more ≤ longest layered.now.tag →
+        frame_of (result.items ++ more) ≡ Ok (with_behind (meaning_of layered.now) (padding_of (meaning_of layered.now) ++ more)) }
+    ensures least { 60 ≤ length result.items }
+    ensures most { length result.items ≤ longest layered.now.tag }
+{
+    let mut frame = ArrayVec::new();
+    put_layers(&mut frame, layered);
+    pad(&mut frame);
+    frame
+}

@@ -1,0 +1,56 @@
+//! The program. `pnscript run` runs the script on standard input on a demo device, and writes to standard output what
+//! it prints.
+#![tactic(auto)]
+
+mod words;
+
+use script_runner::{RunFault, run};
+use std::env;
+use std::io::{self, BufWriter, ErrorKind, Input, Write};
+use std::process::ExitCode;
+use words::is_run;
+
+/// The status of words that ask for nothing.
+const USAGE: u8 = 64;
+
+fn main(rt: HostRuntime) -> ExitCode {
+    match obey(&rt) {
+        Ok(true) => ExitCode::SUCCESS,
+        Ok(false) => {
+            let _ = eprintln!(rt; "pnscript: usage");
+            ExitCode::from(USAGE)
+        }
+        Err(fault) => {
+            let _ = eprintln!(rt; "pnscript: {fault}");
+            ExitCode::from(fault.number())
+        }
+    }
+}
+
+/// Does what the words ask for. Says whether they ask for anything.
+fn obey(rt: &HostRuntime) -> Result<bool, RunFault> {
+    let words = match env::args(rt) {
+        Ok(words) => words,
+        Err(error) if error.kind() == ErrorKind::OutOfMemory => return Err(RunFault::OutOfMemory),
+        Err(_) => return Ok(false),
+    };
+    let words: Vec<String> = words
+        .collect(rt.alloc())
+        .map_err(|_| RunFault::OutOfMemory)?;
+    if !is_run(rt.alloc(), words.as_slice())? {
+        return Ok(false);
+    }
+    play(rt)?;
+    Ok(true)
+}
+
+/// Runs the script on standard input. What its lines printed is written whether a later one is refused or not.
+fn play(rt: &HostRuntime) -> Result<(), RunFault> {
+    let mut reader = rt.reader();
+    let Ok(mut writer) = BufWriter::new(rt.alloc(), io::writer(rt)) else {
+        return Err(RunFault::OutOfMemory);
+    };
+    let played = run(rt.alloc(), &mut reader, &mut writer);
+    writer.flush().map_err(|_| RunFault::Write)?;
+    played
+}

@@ -1,0 +1,88 @@
+-- What a writer has got, and what a reader has given, where those are known.
+use Rattle.std.proofs.Common.{◌≡◌, ℕ, ◌+◌, ◌<◌, ◌≤◌, List, [], ◌∷◌, ◌++◌, Option, Some, None, IfSome, length, append_assoc, append-nil, arith, refl, ap, sym, ◌∙◌, length-append}
+use Rattle.std.specs.Io.KnownBytes.{Appends, Keeps, Consumes, IsAtEnd}
+use Rattle.script_runner.specs.Output.{AppendsFront, IsSoFar}
+
+pub appends_none : (old : Option (List ℕ)) → Appends old old []
+appends_none None = tt
+appends_none (Some xs) = sym (append-nil xs)
+
+pub appends_on : (old mid new : Option (List ℕ)) (a b : List ℕ) → Appends old mid a → Appends mid new b → Appends old new (a ++ b)
+appends_on None mid new a b f g = tt
+appends_on (Some xs) None new a b f g = absurd f
+appends_on (Some xs) (Some ys) None a b f g = absurd g
+appends_on (Some xs) (Some ys) (Some zs) a b f g = g ∙ ap (λ t. t ++ b) f ∙ append_assoc xs a b
+
+keeps_appends : (old new : Option (List ℕ)) → Keeps old new → Appends old new []
+keeps_appends None new k = tt
+keeps_appends (Some xs) None k = absurd k
+keeps_appends (Some xs) (Some ys) k = k ∙ sym (append-nil xs)
+
+-- nothing was written yet
+pub so_far_none : (old : Option (List ℕ)) (whole : List ℕ) → IsSoFar old old whole whole
+so_far_none old whole = record { front = []; parts = refl; appended = appends_none old }
+
+-- more was written
+pub so_far_on : (old mid new : Option (List ℕ)) (rest later whole text : List ℕ) → IsSoFar old mid rest whole → rest ≡ text ++ later → Appends mid new text → IsSoFar old new later whole
+so_far_on old mid new rest later whole text so e f = record {
+  front = so.front ++ text;
+  parts = so.parts ∙ ap (λ t. so.front ++ t) e ∙ sym (append_assoc so.front text later);
+  appended = appends_on old mid new so.front text so.appended f;
+}
+
+-- all was written
+pub so_far_all : (old new : Option (List ℕ)) (rest whole : List ℕ) → IsSoFar old new rest whole → rest ≡ [] → Appends old new whole
+so_far_all old new rest whole so e =
+    let same : whole ≡ so.front = so.parts ∙ ap (λ t. so.front ++ t) e ∙ append-nil so.front in
+    rw same so.appended
+
+-- and then a front of the rest
+pub so_far_front : (old mid new : Option (List ℕ)) (rest whole : List ℕ) → IsSoFar old mid rest whole → AppendsFront mid new rest → AppendsFront old new whole
+so_far_front old mid new rest whole so more = record {
+  front = so.front ++ more.front;
+  behind = more.behind;
+  parts = so.parts ∙ ap (λ t. so.front ++ t) more.parts ∙ sym (append_assoc so.front more.front more.behind);
+  appended = appends_on old mid new so.front more.front so.appended more.appended;
+}
+
+-- and then nothing
+pub keeps_front : (old new : Option (List ℕ)) (text : List ℕ) → Keeps old new → AppendsFront old new text
+keeps_front old new text k = record { front = []; behind = text; parts = refl; appended = keeps_appends old new k }
+
+-- a front of a text is a front of a longer one
+pub front_longer : (old new : Option (List ℕ)) (text more : List ℕ) → AppendsFront old new text → AppendsFront old new (text ++ more)
+front_longer old new text more f = record {
+  front = f.front;
+  behind = f.behind ++ more;
+  parts = ap (λ t. t ++ more) f.parts ∙ append_assoc f.front f.behind more;
+  appended = f.appended;
+}
+
+-- ---- readers
+
+pub consumes_none : (old : Option (List ℕ)) → Consumes old old []
+consumes_none None = tt
+consumes_none (Some xs) = refl
+
+pub consumes_on : (old mid new : Option (List ℕ)) (a b : List ℕ) → Consumes old mid a → Consumes mid new b → Consumes old new (a ++ b)
+consumes_on None mid new a b f g = tt
+consumes_on (Some xs) None new a b f g = absurd f
+consumes_on (Some xs) (Some ys) None a b f g = absurd g
+consumes_on (Some xs) (Some ys) (Some zs) a b f g = f ∙ ap (λ t. a ++ t) g ∙ sym (append_assoc a b zs)
+
+-- at the end all was read
+pub consumed_all : (old mid new : Option (List ℕ)) (input : List ℕ) → Consumes old mid input → Consumes mid new [] → IsAtEnd new → IfSome old (λ bytes. input ≡ bytes)
+consumed_all None mid new input f g e = tt
+consumed_all (Some xs) None new input f g e = absurd f
+consumed_all (Some xs) (Some ys) None input f g e = absurd g
+consumed_all (Some xs) (Some ys) (Some zs) input f g e = sym (f ∙ ap (λ t. input ++ t) (g ∙ e) ∙ append-nil input)
+
+-- more was given than this
+pub consumed_more : (old mid new : Option (List ℕ)) (input more : List ℕ) (limit : ℕ) → Consumes old mid input → Consumes mid new more → limit < length input + length more → IfSome old (λ bytes. limit < length bytes)
+consumed_more None mid new input more limit f g h = tt
+consumed_more (Some xs) None new input more limit f g h = absurd f
+consumed_more (Some xs) (Some ys) None input more limit f g h = absurd g
+consumed_more (Some xs) (Some ys) (Some zs) input more limit f g h =
+    let e : length xs ≡ length (input ++ (more ++ zs)) = ap length (f ∙ ap (λ t. input ++ t) g) in
+    let e2 = simp length-append at e in
+    omega arith

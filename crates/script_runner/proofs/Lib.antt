@@ -1,0 +1,6 @@
+pub mod Cut
+pub mod Hex
+pub mod Known
+pub mod Playing
+pub mod Digits
+pub mod Ticking

@@ -1,0 +1,19 @@
+use Rattle.std.proofs.Common.{subst, sym, ◌∙◌, ap}
+use Rattle.settings_journal.specs.Image.{LeftByDevice}
+use Rattle.script_runner.proofs.session.Power.start.Goals as goal
+
+pub returns-in-Ok-clause-stored : goal.returns-in-Ok-clause-stored
+returns-in-Ok-clause-stored c settings room reliable left starts =
+    let live = c.in-Ok.ensures.known settings room starts in
+    record {
+      live_is = live;
+      identity = c.in-Ok.ensures.identity.0 ∙ c.identity.ensures;
+      reliable = c.in-Ok.ensures.reliable reliable;
+      unfailed = ap (λ l. l.values.has_failed) live;
+      left = subst LeftByDevice (sym c.in-Ok.ensures.same) left;
+    }
+
+pub returns-in-Ok-clause-blank : goal.returns-in-Ok-clause-blank
+returns-in-Ok-clause-blank c reliable blank =
+    let at_first = c.in-Ok.ensures.blank blank in
+    returns-in-Ok-clause-stored c _ _ reliable at_first.0 at_first.1

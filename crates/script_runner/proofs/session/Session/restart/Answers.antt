@@ -1,0 +1,14 @@
+use Rattle.std.proofs.Common.{◌≡◌, ◌++◌, lit<, lit≤, refl, subst, sym, ap, ◌∙◌, None}
+use Rattle.std.proofs.lemmas.Result.{on_ok_weaker}
+use Rattle.script_runner.specs.Script.{said}
+use Rattle.script_runner.specs.Session.{IsRunning}
+use Rattle.script_runner.specs.Text.{boot_line}
+use Rattle.script_runner.proofs.Playing.{unrefused}
+use Rattle.script_runner.proofs.session.Session.restart.Goals as goal
+
+pub returns : goal.returns
+unfolding said
+returns c live running =
+    let runs = c.restart-self.ensures live (subst (IsRunning live) (sym c.replace-power.ensures.value) running) in
+    let unrefused : c.refusal.result ≡ None = c.refusal.ensures ∙ unrefused _ _ runs in
+    on_ok_weaker c.boot.result (λ text. record { runs = runs; text = text ∙ ap (λ refused. c.args.self.now.text.items ++ boot_line refused) unrefused }) c.boot.ensures

@@ -1,0 +1,97 @@
+-- The lines of a script, and what they ask for.
+use Rattle.std.specs.Prelude.{◌≡◌, ◌==◌, ◌||◌, ℕ, zero, suc, Bool, nat_lt, nat_eq, List, [], ◌∷◌, length, take, slice_index, if◌then◌else◌, codes, Option, Some, None, Result, Ok, Err}
+use Rattle.std.specs.List.{slice_split, list_any}
+use Rattle.std.specs.Option.{option_map}
+use Rattle.std.specs.Cmp.Lexicographic.{pointwise}
+use Rattle.arrayvec.specs.ArrayVec.{ArrayVec}
+use Rattle.hex.specs.Hex.{decode_of}
+use Rattle.flash_model.specs.declared.flash.Order.TheVariants.{Cut}
+use Rattle.script_runner.specs.Numbers.{number_of, repeated}
+use Rattle.hex.specs.declared.error.FromHexError.{FromHexError}
+use Rattle.script_runner.specs.declared.command.Command.{Command}
+use Rattle.script_runner.specs.declared.command.Command.TheVariants.{Frame, Restart, Tick, Show, Arm}
+use Rattle.script_runner.specs.declared.command.Line.{Line}
+use Rattle.script_runner.specs.declared.command.Line.TheVariants.{Unfit, Skipped, Asks, Unknown}
+use Rattle.script_runner.specs.declared.command.Words.{Words}
+use Rattle.script_runner.specs.declared.command.Words.TheVariants.{One, Two, Three, More}
+
+-- the parts behind a separator, if there is one
+abbrev pub behind : ℕ → Option (List ℕ) → List (List ℕ)
+behind separator None = []
+behind separator (Some rest) = slice_split (λ b. b == separator) rest
+
+-- the words of a line: single spaces part them
+abbrev pub words_of : List ℕ → List (List ℕ)
+words_of line = slice_split (λ b. b == 32) line
+
+-- these are the words of a line
+abbrev pub AreWords : List ℕ → Words → Type 0
+AreWords line (One first) = words_of line ≡ first.now ∷ []
+AreWords line (Two first second) = words_of line ≡ first.now ∷ second.now ∷ []
+AreWords line (Three first second third) = words_of line ≡ first.now ∷ second.now ∷ third.now ∷ []
+AreWords line More = (first second third fourth : List ℕ) × (more : List (List ℕ)) × (words_of line ≡ first ∷ second ∷ third ∷ fourth ∷ more)
+
+-- a word is this text
+abbrev pub is_text : List ℕ → List ℕ → Bool
+is_text word text = pointwise nat_eq word text
+
+-- what is handed in of bytes that were decoded: at most 1,519
+abbrev pub handed_in : Result (List ℕ) FromHexError → Option (ArrayVec ℕ)
+handed_in (Ok bytes) = Some (record { items = take 1519 bytes })
+handed_in (Err fault) = None
+
+-- the bytes that some hex digits spell, at least one
+abbrev pub bytes_of : List ℕ → Option (ArrayVec ℕ)
+bytes_of digits = if length digits == 0 then None else handed_in (decode_of digits)
+
+abbrev pub bare : List ℕ → Option Command
+bare word = if is_text word (codes "restart") then Some Restart else (if is_text word (codes "show") then Some Show else None)
+
+-- units of time, at least one
+abbrev pub ticks_of : Option ℕ → Option Command
+ticks_of None = None
+ticks_of (Some zero) = None
+ticks_of (Some (suc more)) = Some (Tick (suc more))
+
+abbrev pub with_one : List ℕ → List ℕ → Option Command
+with_one word first =
+    if is_text word (codes "frame") then option_map Frame (bytes_of first)
+    else (if is_text word (codes "tick") then ticks_of (number_of 1000000 first) else None)
+
+-- the mask that decoded bytes are
+abbrev pub mask_of : Result (List ℕ) FromHexError → Option (List ℕ)
+mask_of (Ok bytes) = repeated bytes
+mask_of (Err fault) = None
+
+-- an order to lose power, if there is a number and a mask
+abbrev pub cut_of : Option ℕ → Option (List ℕ) → Option Command
+cut_of None mask = None
+cut_of (Some after) mask = option_map (λ mask. Arm (Cut after mask)) mask
+
+abbrev pub with_two : List ℕ → List ℕ → List ℕ → Option Command
+with_two word first second =
+    if is_text word (codes "cut") then cut_of (number_of 4294967295 first) (mask_of (decode_of second)) else None
+
+-- what some words ask for
+abbrev pub command_of : List (List ℕ) → Option Command
+command_of [] = None
+command_of (word ∷ []) = bare word
+command_of (word ∷ first ∷ []) = with_one word first
+command_of (word ∷ first ∷ second ∷ []) = with_two word first second
+command_of (word ∷ first ∷ second ∷ third ∷ more) = None
+
+-- longer than 65,536 bytes, or not ASCII
+abbrev pub is_unfit : List ℕ → Bool
+is_unfit line = nat_lt 65536 (length line) || list_any (λ b. nat_lt 127 b) line
+
+-- empty, or a comment, which begins with '#'
+abbrev pub is_skipped : List ℕ → Bool
+is_skipped line = length line == 0 || slice_index line 0 == 35
+
+abbrev pub asked : Option Command → Line
+asked (Some command) = Asks command
+asked None = Unknown
+
+-- what a line is
+unfoldable pub meaning_of : List ℕ → Line
+meaning_of line = if is_unfit line then Unfit else (if is_skipped line then Skipped else asked (command_of (words_of line)))

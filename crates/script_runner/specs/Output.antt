@@ -1,0 +1,23 @@
+-- What a writer gets.
+use Rattle.std.specs.Prelude.{◌≡◌, ◌⊎◌, ℕ, List, ◌++◌, Option, Result, Ok, Err}
+use Rattle.std.specs.Io.KnownBytes.{Appends}
+use Rattle.script_runner.specs.declared.fault.RunFault.{RunFault}
+use Rattle.script_runner.specs.declared.fault.RunFault.TheVariants.{Write, OutOfMemory}
+
+-- the writer got a front of the text
+pub record AppendsFront (old new : Option (List ℕ)) (text : List ℕ) : Type 0 where
+  pub front : List ℕ
+  pub behind : List ℕ
+  pub parts : text ≡ front ++ behind
+  pub appended : Appends old new front
+
+-- the writer got the text, or a front of it before a write failed or memory was refused
+abbrev pub Puts : Option (List ℕ) → Option (List ℕ) → List ℕ → Result (Unit {0}) RunFault → Type 0
+Puts old new text (Ok done) = Appends old new text
+Puts old new text (Err fault) = ((fault ≡ Write) ⊎ (fault ≡ OutOfMemory)) × AppendsFront old new text
+
+-- the writer got a front of the whole text, and this is the rest of it
+pub record IsSoFar (old new : Option (List ℕ)) (rest whole : List ℕ) : Type 0 where
+  pub front : List ℕ
+  pub parts : whole ≡ front ++ rest
+  pub appended : Appends old new front

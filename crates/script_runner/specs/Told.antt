@@ -1,0 +1,48 @@
+-- What a run leaves in its writer, by its result.
+use Rattle.std.specs.Prelude.{◌≡◌, ◌<◌, ◌≤◌, ◌⊎◌, ℕ, List, length, Option, Some, None, Result, Ok, Err}
+use Rattle.std.specs.Io.KnownBytes.{Appends, Keeps}
+use Rattle.script_runner.specs.declared.fault.RunFault.{RunFault}
+use Rattle.script_runner.specs.declared.fault.RunFault.TheVariants.{Read, Write, Line, OutOfMemory, EndlessInput}
+use Rattle.script_runner.specs.Output.{AppendsFront}
+use Rattle.script_runner.specs.Script.{output_of, refused_line}
+
+-- Of a script that was read whole: at the end all of its output was written, at a line that is refused the output of the
+-- lines before it, and where a write failed or memory was refused a front of the output.
+abbrev pub IsPlayed : Option (List ℕ) → Option (List ℕ) → List ℕ → Result (Unit {0}) RunFault → Type 0
+IsPlayed old new input (Ok done) = Appends old new (output_of input) × (refused_line input ≡ None)
+IsPlayed old new input (Err (Line n)) = Appends old new (output_of input) × (refused_line input ≡ Some n)
+IsPlayed old new input (Err Write) = AppendsFront old new (output_of input)
+IsPlayed old new input (Err OutOfMemory) = AppendsFront old new (output_of input)
+IsPlayed old new input (Err Read) = ⊥
+IsPlayed old new input (Err EndlessInput) = ⊥
+
+-- the longest script
+abbrev pub limit : ℕ
+limit = 16777216
+
+-- Of a script that is the reader's bytes: one that is too long is answered EndlessInput, if a read or memory did not fail
+-- before its end, and only such a one is. After Read and EndlessInput nothing was written.
+abbrev pub IsWhole : Option (List ℕ) → Option (List ℕ) → List ℕ → Result (Unit {0}) RunFault → Type 0
+IsWhole old new input (Err Read) = Keeps old new
+IsWhole old new input (Err EndlessInput) = Keeps old new × (limit < length input)
+IsWhole old new input (Err OutOfMemory) = Unit {0}
+IsWhole old new input (Ok done) = length input ≤ limit
+IsWhole old new input (Err (Line n)) = length input ≤ limit
+IsWhole old new input (Err Write) = length input ≤ limit
+
+-- Of the same: what was written of its output.
+abbrev pub IsTold : Option (List ℕ) → Option (List ℕ) → List ℕ → Result (Unit {0}) RunFault → Type 0
+IsTold old new input (Err Read) = Keeps old new
+IsTold old new input (Err EndlessInput) = Keeps old new
+IsTold old new input (Err OutOfMemory) = AppendsFront old new (output_of input)
+IsTold old new input (Ok done) = IsPlayed old new input (Ok done)
+IsTold old new input (Err (Line n)) = IsPlayed old new input (Err (Line n))
+IsTold old new input (Err Write) = IsPlayed old new input (Err Write)
+
+-- a fault of a script that was read
+abbrev pub IsPlayFault : RunFault → Type 0
+IsPlayFault Read = ⊥
+IsPlayFault Write = Unit {0}
+IsPlayFault (Line n) = Unit {0}
+IsPlayFault OutOfMemory = Unit {0}
+IsPlayFault EndlessInput = ⊥

@@ -1,0 +1,254 @@
+// The lines of a script, and what they ask for.
+ghost use Rattle.std.specs.Prelude.{◌≡◌, ◌≢◌, ◌∷◌, ◌==◌, ◌<◌, ◌≤◌, ◌/◌, [], ℕ, List, nat_lt, true, false, length, take, IsErr, IfOk, IfSome};
+ghost use Rattle.std.specs.List.{slice_split, list_any, position};
+ghost use Rattle.std.specs.Option.{option_map, option_copied};
+ghost use Rattle.std.specs.Str.Lines.{lines, strip_carriage_return};
+ghost use Rattle.hex.specs.Hex.{decode_of};
+ghost use Rattle.script_runner.specs.Line.{behind, AreWords, bytes_of, command_of, meaning_of, words_of, bare, with_one, with_two, ticks_of, mask_of};
+ghost use Rattle.script_runner.specs.Numbers.{number_of};
+
+use crate::bytes::copied;
+use crate::numbers;
+use flash_model::Order;
+use frame_codec::Bytes;
+use std::alloc::AllocError;
+
+/// How many bytes a line may have, what ends it not counted.
+pub(crate) const LONGEST_LINE: usize = 65_536;
+
+/// For how many units a line may let time go by.
+const MOST_TICKS: u32 = 1_000_000;
+
+/// What a script asks for.
+#[derive(Drop)]
+pub(crate) enum Command {
+    /// Hand these bytes to the device, as from the network.
+    Frame(Bytes),
+    /// Take the device's power away, and give it back.
+    Restart,
+    /// Let so many units of time go by.
+    Tick(u32),
+    /// Show the settings and the lamp.
+    Show,
+    /// Tell the flash what to do to a later call.
+    Arm(Order),
+}
+
+/// What a line is.
+#[derive(Drop)]
+pub(crate) enum Line {
+    /// Too long, or not ASCII.
+    Unfit,
+    /// Empty, or a comment.
+    Skipped,
+    /// It asks for this.
+    Asks(Command),
+    /// None of these.
+    Unknown,
+}
+
+/// The words of a line.
+pub(crate) enum Words<'a> {
+    One(&'a [u8]),
+    Two(&'a [u8], &'a [u8]),
+    Three(&'a [u8], &'a [u8], &'a [u8]),
+    More,
+}
+
+/// What some bytes are up to a separator, and what they are behind it.
+pub(crate) fn cut_at(bytes: &[u8], separator: u8) -> (&[u8], Option<&[u8]>)
+    ensures shorter { IfSome result.1 (λ rest. length rest.now < length bytes.now) }
+    ensures parts { slice_split (λ b. b == separator) bytes.now ≡ result.0.now ∷ behind separator (option_copied result.1) }
+{
+    match place_of(bytes, separator) {
+        None => (bytes, None),
+        Some(place) => (&bytes[..place], Some(&bytes[place + 1..])),
+    }
+}
+
+/// Where a byte stands first.
+fn place_of(bytes: &[u8], wanted: u8) -> Option<usize>
+    ensures place { result ≡ position (λ b. b == wanted) bytes.now }
+    ensures within { IfSome result (λ place. place < length bytes.now) }
+{
+    bytes.iter().position(|b| *b == wanted)
+}
+
+/// The first line of some bytes, without what ends it, and what follows it.
+pub(crate) fn first_line(bytes: &[u8]) -> (&[u8], &[u8])
+    requires { bytes.now ≢ [] }
+    ensures lines { lines bytes.now ≡ result.0.now ∷ lines result.1.now }
+    ensures shorter { length result.1.now < length bytes.now }
+{
+    let (line, rest) = cut_at(bytes, b'\n');
+    match rest {
+        None => (line, &[]),
+        Some(rest) => (without_return(line), rest),
+    }
+}
+
+/// A line without the carriage return at its end, if it has one.
+fn without_return(line: &[u8]) -> &[u8]
+    ensures { result.now ≡ strip_carriage_return line.now }
+{
+    match line {
+        [front @ .., b'\r'] => front,
+        _ => line,
+    }
+}
+
+/// The words of a line, which single spaces part.
+pub(crate) fn words_in(line: &[u8]) -> Words<'_>
+    ensures { AreWords line.now result }
+{
+    let (first, rest) = cut_at(line, b' ');
+    let Some(rest) = rest else {
+        return Words::One(first);
+    };
+    let (second, rest) = cut_at(rest, b' ');
+    let Some(rest) = rest else {
+        return Words::Two(first, second);
+    };
+    let (third, rest) = cut_at(rest, b' ');
+    match rest {
+        None => Words::Three(first, second, third),
+        Some(_) => Words::More,
+    }
+}
+
+/// What a line means. `buffer` is for the bytes of a frame.
+#[tactic(auto, unfolding(crate::specs::Line::meaning_of))]
+pub(crate) fn meaning(line: &[u8], buffer: &mut Vec<u8>) -> Result<Line, AllocError>
+    ensures { IfOk result (λ meaning. meaning ≡ meaning_of line.now) }
+{
+    if line.len() > LONGEST_LINE || has_more_than_ascii(line) {
+        return Ok(Line::Unfit);
+    }
+    if line.is_empty() || line[0] == b'#' {
+        return Ok(Line::Skipped);
+    }
+    match asked_by(words_in(line), buffer)? {
+        Some(command) => Ok(Line::Asks(command)),
+        None => Ok(Line::Unknown),
+    }
+}
+
+/// Whether some byte is not ASCII.
+fn has_more_than_ascii(line: &[u8]) -> bool
+    ensures { result ≡ list_any (λ b. nat_lt 127 b) line.now }
+{
+    line.iter().any(|b| *b > 127)
+}
+
+/// What some words ask for.
+fn asked_by(words: Words<'_>, buffer: &mut Vec<u8>) -> Result<Option<Command>, AllocError>
+    ensures { IfOk result (λ command. (line : List ℕ) → AreWords line words.entry → command ≡ command_of (words_of line)) }
+{
+    match words {
+        Words::One(word) => Ok(bare(word)),
+        Words::Two(word, first) => with_one(word, first, buffer),
+        Words::Three(word, first, second) => with_two(word, first, second, buffer),
+        Words::More => Ok(None),
+    }
+}
+
+fn bare(word: &[u8]) -> Option<Command>
+    ensures { result ≡ bare word.now }
+{
+    if word == b"restart".as_slice() {
+        Some(Command::Restart)
+    } else if word == b"show".as_slice() {
+        Some(Command::Show)
+    } else {
+        None
+    }
+}
+
+fn with_one(word: &[u8], first: &[u8], buffer: &mut Vec<u8>) -> Result<Option<Command>, AllocError>
+    ensures { IfOk result (λ command. command ≡ with_one word.now first.now) }
+{
+    if word == b"frame".as_slice() {
+        Ok(decoded(first, buffer)?.map(Command::Frame))
+    } else if word == b"tick".as_slice() {
+        Ok(ticks(first))
+    } else {
+        Ok(None)
+    }
+}
+
+fn ticks(digits: &[u8]) -> Option<Command>
+    ensures { result ≡ ticks_of (number_of 1000000 digits.now) }
+{
+    match numbers::decimal(digits, MOST_TICKS) {
+        None | Some(0) => None,
+        Some(units) => Some(Command::Tick(units)),
+    }
+}
+
+fn with_two(
+    word: &[u8],
+    first: &[u8],
+    second: &[u8],
+    buffer: &mut Vec<u8>,
+) -> Result<Option<Command>, AllocError>
+    ensures { IfOk result (λ command. command ≡ with_two word.now first.now second.now) }
+{
+    if word != b"cut".as_slice() {
+        return Ok(None);
+    }
+    let Some(after) = numbers::decimal(first, u32::MAX) else {
+        return Ok(None);
+    };
+    let Some(mask) = mask(second, buffer)? else {
+        return Ok(None);
+    };
+    Ok(Some(Command::Arm(Order::Cut { after, mask })))
+}
+
+/// The mask that some hex digits spell.
+fn mask(digits: &[u8], buffer: &mut Vec<u8>) -> Result<Option<[u8; 8]>, AllocError>
+    ensures { IfOk result (λ mask. mask ≡ mask_of (decode_of digits.now)) }
+{
+    buffer.resize(digits.len() / 2, 0)?;
+    let bytes = buffer.as_mut_slice();
+    if !decode(digits, bytes) {
+        return Ok(None);
+    }
+    Ok(numbers::mask_of(bytes))
+}
+
+/// The bytes that some hex digits spell. Of more than 1,519 bytes the first 1,519 are given: no frame is so long.
+fn decoded(digits: &[u8], buffer: &mut Vec<u8>) -> Result<Option<Bytes>, AllocError>
+    ensures { IfOk result (λ bytes. bytes ≡ bytes_of digits.now) }
+{
+    if digits.is_empty() {
+        return Ok(None);
+    }
+    buffer.resize(digits.len() / 2, 0)?;
+    let bytes = buffer.as_mut_slice();
+    if !decode(digits, bytes) {
+        return Ok(None);
+    }
+    Ok(Some(copied(front(bytes, 1519))))
+}
+
+/// The first of some bytes, at most so many.
+fn front(bytes: &[u8], most: usize) -> &[u8]
+    ensures value { result.now ≡ take most bytes.now }
+    ensures most { length result.now ≤ most }
+{
+    if bytes.len() > most {
+        &bytes[..most]
+    } else {
+        bytes
+    }
+}
+
+/// Decodes hex digits, two for each of the bytes. Says whether they are hex digits, and as many.
+fn decode(digits: &[u8], bytes: &mut [u8]) -> bool
+    requires { length bytes.old ≡ length digits.now / 2 }
+    ensures decoded { result ≡ true → decode_of digits.now ≡ Ok bytes.new }
+    ensures refused { result ≡ false → IsErr (decode_of digits.now) }
+{
+    hex::decode_to_slice(digits, bytes).is_ok()
+}

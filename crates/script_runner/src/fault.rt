@@ -1,0 +1,41 @@
+// Why a run ended early.
+ghost use Rattle.std.specs.Prelude.{◌≡◌};
+ghost use Rattle.script_runner.specs.Fault.{number_of};
+
+use thiserror::Error;
+
+/// Why a run ended early.
+#[derive(Debug, Drop, PartialEq, Eq, Error)]
+pub enum RunFault {
+    /// A read failed; nothing was written.
+    #[error("read")]
+    Read,
+    /// A write failed, or took nothing.
+    #[error("write")]
+    Write,
+    /// This line, counted from 1 with the skipped ones, is none that a script has. What the lines before it print was
+    /// written.
+    #[error("line {0}")]
+    Line(u32),
+    /// There was no memory.
+    #[error("out of memory")]
+    OutOfMemory,
+    /// The script is longer than 16,777,216 bytes; nothing was written.
+    #[error("endless input")]
+    EndlessInput,
+}
+
+impl RunFault {
+    /// Its number, which a program ends with.
+    pub fn number(&self) -> u8
+        ensures { result ≡ number_of self.now }
+    {
+        match self {
+            RunFault::Read => 1,
+            RunFault::Write => 2,
+            RunFault::Line(_) => 3,
+            RunFault::OutOfMemory => 4,
+            RunFault::EndlessInput => 6,
+        }
+    }
+}

@@ -1,0 +1,21 @@
+//! Scripts: lines of frames and orders for a demo device, and the text that it answers.
+#![tactic(auto)]
+
+mod bytes;
+mod command;
+mod demo;
+mod fault;
+mod input;
+mod numbers;
+mod output;
+mod play;
+mod render;
+mod session;
+mod show;
+mod whole;
+
+pub use fault::RunFault;
+pub use whole::run;
+
+#[cfg(test)]
+mod tests;

@@ -1,0 +1,23 @@
+// How text is written.
+ghost use Rattle.std.specs.Prelude.{◌≡◌};
+ghost use Rattle.script_runner.specs.Output.{Puts};
+
+use crate::RunFault;
+use std::io::Write;
+
+/// Writes all of a text. A write that fails, or takes nothing, is the write fault.
+pub(crate) fn put<W: Write>(writer: &mut W, text: &[u8]) -> Result<(), RunFault>
+    ensures { Puts (W.contents writer.old) (W.contents writer.new) text.now result }
+{
+    let mut rest = text;
+    while !rest.is_empty() {
+        let Ok(taken) = writer.write(rest) else {
+            return Err(RunFault::Write);
+        };
+        if taken == 0 {
+            return Err(RunFault::Write);
+        }
+        rest = &rest[taken..];
+    }
+    Ok(())
+}

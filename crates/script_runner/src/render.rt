@@ -1,0 +1,64 @@
+// The lines that are printed. Each function appends one of them to a text.
+ghost use Rattle.std.specs.Prelude.{◌≡◌, ◌++◌, OnOk, map};
+ghost use Rattle.script_runner.specs.Text.{boot_line, out_line, out_lines, note_line, note_word};
+
+use device_core::Note;
+use frame_codec::Frame;
+use settings_journal::BootFault;
+use std::alloc::AllocError;
+
+/// How a start ended.
+pub(crate) fn boot(refused: Option<BootFault>, text: &mut Vec<u8>) -> Result<(), AllocError>
+    ensures { OnOk result (text.new.items ≡ text.old.items ++ boot_line refused) }
+{
+    match refused {
+        None => text.extend_from_slice(b"boot ok\n"),
+        Some(BootFault::FlashFault) => text.extend_from_slice(b"boot flash-fault\n"),
+        Some(BootFault::Foreign) => text.extend_from_slice(b"boot foreign\n"),
+    }
+}
+
+/// A frame that is sent.
+#[tactic(auto, unfolding(crate::specs::Text::out_line))]
+pub(crate) fn out(frame: &Frame, text: &mut Vec<u8>) -> Result<(), AllocError>
+    ensures { OnOk result (text.new.items ≡ text.old.items ++ out_line frame.now.items) }
+{
+    let bytes = frame.as_slice();
+    let mut digits = [0; 3036];
+    let digits = &mut digits[..2 * bytes.len()];
+    let _ = hex::encode_to_slice(bytes, digits);
+    text.extend_from_slice(b"out ")?;
+    text.extend_from_slice(digits)?;
+    text.extend_from_slice(b"\n")
+}
+
+/// Frames that are sent, the first of them first.
+pub(crate) fn outs(frames: &[Frame], text: &mut Vec<u8>) -> Result<(), AllocError>
+    ensures { OnOk result (text.new.items ≡ text.old.items ++ out_lines (map (λ frame. frame.items) frames.now)) }
+{
+    for frame in frames {
+        out(frame, text)?;
+    }
+    Ok(())
+}
+
+/// What became of an event.
+#[tactic(auto, unfolding(crate::specs::Text::note_line))]
+pub(crate) fn note(note: Note, text: &mut Vec<u8>) -> Result<(), AllocError>
+    ensures { OnOk result (text.new.items ≡ text.old.items ++ note_line note) }
+{
+    text.extend_from_slice(b"note ")?;
+    text.extend_from_slice(word(note))?;
+    text.extend_from_slice(b"\n")
+}
+
+fn word(note: Note) -> &'static [u8]
+    ensures { result.now ≡ note_word note }
+{
+    match note {
+        Note::Done => b"done",
+        Note::NotMine => b"not-mine",
+        Note::Fault => b"fault",
+        Note::Filter => b"filter",
+    }
+}

@@ -1,0 +1,96 @@
+// The lines that show the settings and the lamp. Each function appends one of them to a text.
+ghost use Rattle.std.specs.Prelude.{◌≡◌, ◌≤◌, ◌++◌, length, OnOk, decimal};
+ghost use Rattle.script_runner.specs.Show.{name_line, suite_line, dotted, text_line, lamp_line, shown};
+
+use itoa::Buffer;
+use pn_values::{IpSuite, Settings, StationName};
+use std::alloc::AllocError;
+
+/// All of the lines: what runs, beside the name and the suite that are stored, and for how long the lamp still flashes.
+pub(crate) fn all(
+    running: &Settings,
+    stored: &Settings,
+    lamp: u32,
+    text: &mut Vec<u8>,
+) -> Result<(), AllocError>
+    ensures { OnOk result (text.new.items ≡ text.old.items ++ shown running.now stored.now lamp) }
+{
+    name(b"name ", &running.name, text)?;
+    suite(b"ip ", &running.suite, text)?;
+    name(b"stored-name ", &stored.name, text)?;
+    suite(b"stored-ip ", &stored.suite, text)?;
+    im_text(b"im1 ", running.im1.as_bytes(), text)?;
+    im_text(b"im2 ", running.im2.as_bytes(), text)?;
+    im_text(b"im3 ", running.im3.as_bytes(), text)?;
+    lamp_units(lamp, text)
+}
+
+/// A station name, or `-` where there is none.
+#[tactic(auto, unfolding(crate::specs::Show::name_line))]
+fn name(label: &[u8], name: &StationName, text: &mut Vec<u8>) -> Result<(), AllocError>
+    ensures { OnOk result (text.new.items ≡ text.old.items ++ name_line label.now name.now) }
+{
+    let bytes = name.as_bytes();
+    text.extend_from_slice(label)?;
+    text.extend_from_slice(if bytes.is_empty() { b"-" } else { bytes })?;
+    text.extend_from_slice(b"\n")
+}
+
+/// An IP suite: address, subnet mask and gateway.
+#[tactic(auto, unfolding(crate::specs::Show::suite_line))]
+fn suite(label: &[u8], suite: &IpSuite, text: &mut Vec<u8>) -> Result<(), AllocError>
+    ensures { OnOk result (text.new.items ≡ text.old.items ++ suite_line label.now suite.now) }
+{
+    text.extend_from_slice(label)?;
+    octets(suite.address(), text)?;
+    text.extend_from_slice(b" ")?;
+    octets(suite.mask(), text)?;
+    text.extend_from_slice(b" ")?;
+    octets(suite.gateway(), text)?;
+    text.extend_from_slice(b"\n")
+}
+
+/// Four octets as decimal numbers that dots part.
+#[tactic(auto, unfolding(crate::specs::Show::dotted))]
+fn octets(octets: [u8; 4], text: &mut Vec<u8>) -> Result<(), AllocError>
+    ensures { OnOk result (text.new.items ≡ text.old.items ++ dotted octets) }
+{
+    number(u32::from(octets[0]), text)?;
+    text.extend_from_slice(b".")?;
+    number(u32::from(octets[1]), text)?;
+    text.extend_from_slice(b".")?;
+    number(u32::from(octets[2]), text)?;
+    text.extend_from_slice(b".")?;
+    number(u32::from(octets[3]), text)
+}
+
+fn number(number: u32, text: &mut Vec<u8>) -> Result<(), AllocError>
+    ensures { OnOk result (text.new.items ≡ text.old.items ++ decimal number) }
+{
+    let mut buffer = Buffer::new();
+    text.extend_from_slice(buffer.format(number).as_bytes())
+}
+
+/// An I&M text, of at most 54 bytes, in hex.
+#[tactic(auto, unfolding(crate::specs::Show::text_line))]
+fn im_text(label: &[u8], bytes: &[u8], text: &mut Vec<u8>) -> Result<(), AllocError>
+    requires { length bytes.now ≤ 54 }
+    ensures { OnOk result (text.new.items ≡ text.old.items ++ text_line label.now bytes.now) }
+{
+    let mut digits = [0; 108];
+    let digits = &mut digits[..2 * bytes.len()];
+    let _ = hex::encode_to_slice(bytes, digits);
+    text.extend_from_slice(label)?;
+    text.extend_from_slice(digits)?;
+    text.extend_from_slice(b"\n")
+}
+
+/// For how many units of time the lamp still flashes.
+#[tactic(auto, unfolding(crate::specs::Show::lamp_line))]
+fn lamp_units(units: u32, text: &mut Vec<u8>) -> Result<(), AllocError>
+    ensures { OnOk result (text.new.items ≡ text.old.items ++ lamp_line units) }
+{
+    text.extend_from_slice(b"lamp ")?;
+    number(units, text)?;
+    text.extend_from_slice(b"\n")
+}

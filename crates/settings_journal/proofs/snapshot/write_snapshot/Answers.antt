@@ -1,0 +1,29 @@
+-- What each of the three calls leaves.
+use Rattle.std.proofs.Common.{◌∙◌, ap, inl, inr, arith}
+use Rattle.std.proofs.lemmas.Result.{on_ok_weaker}
+use Rattle.flash_model.specs.Image.{sector_of}
+use Rattle.settings_journal.proofs.Writes.{IsWritten, sector_with, erase_rises, program_closed, written, opened, half_opened, either}
+use Rattle.settings_journal.proofs.snapshot.write_snapshot.Goals as goal
+use Rattle.settings_journal.proofs.snapshot.write_snapshot.Given as given
+use Rattle.settings_journal.proofs.snapshot.write_snapshot.Goals.{After-program-2}
+
+full : (g : given.Over) (c : After-program-2 g) → IsWritten (sector_of (g.F.Flash.image c.program.new.self) c.args.sector) c.args.base.now
+full g c =
+    let blank = ap (λ image. sector_of image c.args.sector) c.in_ok-erase.ensures.done ∙ sector_with _ c.args.sector _ in
+    written _ _ _ _ c.args.base.now (g.met.F.Flash.sector_size c.args.flash.now) blank (λ k. (c.type_inv.base k).fits) c.requires (g.met.F.Flash.sized c.program.new.self) c.in_ok-program.ensures.done
+
+pub returns-in_err-erase-clause-left : goal.returns-in_err-erase-clause-left
+returns-in_err-erase-clause-left g c =
+    inl (erase_rises _ _ _ _ (g.met.F.Flash.sector_size c.args.flash.now) (g.met.F.Flash.sized c.args.flash.now) c.in_err-erase.ensures.torn)
+
+pub returns-in_err-program-clause-left : goal.returns-in_err-program-clause-left
+returns-in_err-program-clause-left g c =
+    let blank = ap (λ image. sector_of image c.args.sector) c.in_ok-erase.ensures.done ∙ sector_with _ c.args.sector _ in
+    inr (inl (program_closed _ _ _ _ _ _ (g.met.F.Flash.sector_size c.args.flash.now) blank (omega arith) c.in_err-program.ensures.torn))
+
+pub returns-clause-done : goal.returns-clause-done
+returns-clause-done g c = on_ok_weaker c.program-2.result (opened _ _ _ _ (full g c)) c.program-2.ensures.done
+
+pub returns-clause-left : goal.returns-clause-left
+returns-clause-left g c =
+    either c.program-2.result (λ e. inr (inr (opened _ _ _ _ (full g c) e))) (half_opened _ _ _ _ _ _ _ (full g c)) c.program-2.ensures.done c.program-2.ensures.torn

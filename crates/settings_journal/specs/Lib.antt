@@ -1,0 +1,6 @@
+pub mod State
+pub mod Head
+pub mod Image
+pub mod Start
+pub mod Snapshot
+pub mod Commit

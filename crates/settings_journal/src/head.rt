@@ -1,0 +1,47 @@
+// The head of a sector: its first 512 bytes, with a base and the gate.
+ghost use Rattle.std.specs.Prelude.{◌≡◌, ◌↔◌, ◌+◌, ◌≤◌, slice_range, IsTrue};
+ghost use Rattle.settings_journal.specs.Head.{gate_of};
+ghost use Rattle.settings_journal.specs.Start.{IsReadAs};
+
+/// How many bytes of a sector the journal reads: the base, and the gate behind it.
+pub(crate) const HEAD: usize = 512;
+
+/// "PNS" and the version.
+pub(crate) const MAGIC: [u8; 4] = [b'P', b'N', b'S', 1];
+
+/// Where the gate is.
+pub(crate) const GATE: usize = 511;
+
+/// What the gate is when the base in front of it counts.
+pub(crate) const OPEN: u8 = 0;
+
+// Where two bytes, the higher first, keep how many generations are left.
+const LEFT: usize = 4;
+
+/// The generation of a head that counts: its gate is open, magic and version are right, and the generation is not 0.
+pub(crate) fn generation_of(head: &[u8; HEAD]) -> Option<u16>
+    ensures { IsReadAs head.now result }
+{
+    if !is_open(head) || part(head, 0) != MAGIC {
+        return None;
+    }
+    let generation = u16::MAX - u16::from_be_bytes(part(head, LEFT));
+    (generation > 0).then_some(generation)
+}
+
+/// Whether the gate is open.
+pub(crate) fn is_open(head: &[u8; HEAD]) -> bool
+    ensures { IsTrue result ↔ (gate_of head.now ≡ 0) }
+{
+    head[GATE] == OPEN
+}
+
+/// So many bytes of the head, from a place on.
+pub(crate) fn part<const N: usize>(head: &[u8; HEAD], place: usize) -> [u8; N]
+    requires { place + N ≤ 512 }
+    ensures { result ≡ slice_range head.now place (place + N) }
+{
+    let mut bytes = [0; N];
+    bytes.copy_from_slice(&head[place..place + N]);
+    bytes
+}

@@ -1,0 +1,210 @@
+// The journal: its start, and the commit.
+ghost use Rattle.std.specs.Prelude.{◌≡◌, ◌↔◌, ◌⊎◌, ◌+◌, ◌≤◌, ℕ, true, false, IsTrue, IsErr, IfOk, IfErr, OnOk, OnErr, IsErrOf, MatchResult};
+ghost use Rattle.pn_values.specs.Command.{apply};
+ghost use Rattle.pn_values.specs.Settings.{factory_settings};
+ghost use Rattle.pn_values.specs.declared.settings.Settings.{Settings};
+ghost use Rattle.flash_model.specs.Image.{erased};
+ghost use Rattle.settings_journal.specs.Image.{StartsFrom, StartsWith, IsForeign, LeftByDevice, IsGeneration, spare};
+ghost use Rattle.settings_journal.specs.Commit.{IsKept, HasBootCause, HasCommitCause};
+
+use crate::base::encode;
+use crate::snapshot::{read_head, write_snapshot};
+use crate::start::start_of;
+use flash_model::{Flash, Order, Sector};
+use pn_values::{Command, Settings};
+use std::marker::Model;
+
+/// Why a journal did not start.
+#[derive(Clone, Copy, Debug, PartialEq, Eq)]
+pub enum BootFault {
+    /// A call of the flash failed.
+    FlashFault = 1,
+    /// What is on the flash was not left by a journal of this layout.
+    Foreign = 2,
+}
+
+/// Why a commit was refused.
+#[derive(Clone, Copy, Debug, PartialEq, Eq)]
+pub enum CommitFault {
+    /// The last generation is in use; nothing changed.
+    Exhausted = 1,
+    /// A call of the flash failed. What is stored is old or new, and nothing more is stored until the next start.
+    FlashFault = 2,
+    /// An earlier commit failed; nothing changed.
+    Failed = 3,
+}
+
+/// The settings of a station, and the flash that keeps them. A clause sees the flash, the settings, how many commits
+/// there is room for, and whether one has failed.
+#[derive(Drop)]
+pub struct Journal<F: Flash<S>, const S: usize> {
+    flash: F,
+    settings: Settings,
+    active: Option<Sector>,
+    generation: u16,
+    has_failed: bool,
+}
+
+impl<F: Flash<S>, const S: usize> Model for Journal<F, S> {
+    ghost use Rattle.std.specs.Prelude.{◌≡◌, ◌-◌, false};
+    ghost use Rattle.settings_journal.specs.Image.{StartsFrom};
+    ghost use Rattle.settings_journal.specs.State.{State};
+
+    ghost Value = { State F };
+
+    ghost view = { λ j. record { flash = j.flash; settings = j.settings; room = 65535 - j.generation; has_failed = j.has_failed } };
+
+    ghost invariant = { λ j. j.has_failed ≡ false → StartsFrom (F.image j.flash) j.active j.settings (65535 - j.generation) };
+}
+
+impl<F: Flash<S>, const S: usize> Journal<F, S> {
+    /// Reads what the flash keeps, and writes nothing. A refusal hands the flash back.
+    pub fn boot(flash: F) -> Result<Journal<F, S>, (BootFault, F)>
+        // What is read there, or what a station leaves the factory with.
+        ensures starts { IfOk result (λ journal. StartsWith (F.image flash) journal.settings journal.room) }
+        ensures fresh { IfOk result (λ journal. journal.has_failed ≡ false) }
+
+        // What can be read is given, unless a read fails.
+        ensures known { (settings : Settings) (room : ℕ) → StartsWith (F.image flash) settings room →
+            MatchResult result (λ journal. (journal.settings ≡ settings) × (journal.room ≡ room)) (λ refused. refused.0 ≡ BootFault.FlashFault) }
+        ensures left { LeftByDevice (F.image flash) → IfErr result (λ refused. refused.0 ≡ BootFault.FlashFault) }
+
+        // Foreign is what cannot be read, and nothing else.
+        ensures foreign { IfErr result (λ refused. refused.0 ≡ BootFault.Foreign → IsForeign (F.image flash)) }
+        ensures strange { IsForeign (F.image flash) → IsErr result }
+
+        // A flash that was never written.
+        ensures blank { F.image flash ≡ record { first = erased S; second = erased S } →
+            LeftByDevice (F.image flash) × StartsWith (F.image flash) factory_settings 65535 }
+
+        // Nothing is written, and FlashFault is answered where a read fails and only there.
+        ensures same { MatchResult result (λ journal. F.image journal.flash ≡ F.image flash) (λ refused. F.image refused.1 ≡ F.image flash) }
+        ensures cause { MatchResult result (λ journal. F.failures journal.flash ≡ F.failures flash)
+            (λ refused. HasBootCause refused.0 (F.failures flash) (F.failures refused.1)) }
+        ensures lost { MatchResult result (λ journal. F.is_lost journal.flash ≡ false) (λ refused. F.is_lost flash ≡ true → F.is_lost refused.1 ≡ true) }
+        ensures reliable { F.is_reliable flash →
+            MatchResult result (λ journal. F.is_reliable journal.flash) (λ refused. F.is_reliable refused.1 × (refused.0 ≡ BootFault.Foreign)) }
+    {
+        let mut flash = flash;
+        let Ok(first) = read_head(&mut flash, Sector::First) else {
+            return Err((BootFault::FlashFault, flash));
+        };
+        let Ok(second) = read_head(&mut flash, Sector::Second) else {
+            return Err((BootFault::FlashFault, flash));
+        };
+        let Some(start) = start_of(&first, &second) else {
+            return Err((BootFault::Foreign, flash));
+        };
+        Ok(Journal {
+            flash,
+            settings: start.settings,
+            active: start.active,
+            generation: start.generation,
+            has_failed: false,
+        })
+    }
+
+    /// The settings that are stored.
+    pub fn settings(&self) -> &Settings
+        ensures value { result.now ≡ self.now.settings }
+        ensures stored { self.now.has_failed ≡ false → StartsWith (F.image self.now.flash) self.now.settings self.now.room }
+    {
+        &self.settings
+    }
+
+    /// Whether the next commit has no room.
+    pub fn is_exhausted(&self) -> bool
+        ensures { IsTrue result ↔ (self.now.room ≡ 0) }
+    {
+        self.generation == u16::MAX
+    }
+
+    /// Whether a commit failed since the start, so that none is carried out any more.
+    pub fn has_failed(&self) -> bool
+        ensures { result ≡ self.now.has_failed }
+    {
+        self.has_failed
+    }
+
+    /// The flash that keeps the settings.
+    pub fn flash(&self) -> &F
+        ensures { result.now ≡ self.now.flash }
+    {
+        &self.flash
+    }
+
+    /// Tells the flash what to do to a later call.
+    pub fn arm(&mut self, order: Order)
+        ensures settings { self.new.settings ≡ self.old.settings }
+        ensures room { self.new.room ≡ self.old.room }
+        ensures has_failed { self.new.has_failed ≡ self.old.has_failed }
+        ensures image { F.image self.new.flash ≡ F.image self.old.flash }
+        ensures failures { F.failures self.new.flash ≡ F.failures self.old.flash }
+        ensures lost { F.is_lost self.new.flash ≡ F.is_lost self.old.flash }
+    {
+        F::arm(&mut self.flash, order);
+    }
+
+    /// The flash, given back.
+    pub fn into_flash(self) -> F
+        ensures { result ≡ self.flash }
+    {
+        self.flash
+    }
+
+    /// Stores what the command makes of the settings. After a fault nothing more is stored until the next start.
+    pub fn commit(&mut self, command: &Command) -> Result<(), CommitFault>
+        // It is stored when it is answered.
+        ensures settings { OnOk result (self.new.settings ≡ apply command.now self.old.settings) }
+        ensures room { OnOk result (self.new.room + 1 ≡ self.old.room) }
+        ensures stored { self.new.has_failed ≡ false → StartsWith (F.image self.new.flash) self.new.settings self.new.room }
+        ensures generation { (before : ℕ) → IsGeneration (F.image self.old.flash) before →
+            OnOk result ((now : ℕ) × IsGeneration (F.image self.new.flash) now × (now ≤ before + 1)) }
+        ensures refused { OnErr result ((self.new.settings ≡ self.old.settings) × (self.new.room ≡ self.old.room)) }
+        ensures has_failed { (self.new.has_failed ≡ false) ↔ ((self.old.has_failed ≡ false) × (IsErrOf result CommitFault.FlashFault → ⊥)) }
+
+        // When each refusal comes, and what it leaves.
+        ensures failed { IsErrOf result CommitFault.Failed ↔ (self.old.has_failed ≡ true) }
+        ensures exhausted { IsErrOf result CommitFault.Exhausted ↔ ((self.old.has_failed ≡ false) × (self.old.room ≡ 0)) }
+        ensures untouched { IsErrOf result CommitFault.Failed ⊎ IsErrOf result CommitFault.Exhausted → self.new ≡ self.old }
+        ensures cause { HasCommitCause result (F.failures self.old.flash) (F.failures self.new.flash) }
+        ensures lost { OnOk result (F.is_lost self.new.flash ≡ false) }
+        ensures stays_lost { F.is_lost self.old.flash ≡ true → F.is_lost self.new.flash ≡ true }
+        ensures reliable { F.is_reliable self.old.flash → F.is_reliable self.new.flash × (IsErrOf result CommitFault.FlashFault → ⊥) }
+
+        // Whichever call failed, with power lost or not: the image is left by this device, and a start on it gives the
+        // settings from before or those after the command.
+        ensures left { LeftByDevice (F.image self.old.flash) → LeftByDevice (F.image self.new.flash) }
+        ensures kept { self.old.has_failed ≡ false → LeftByDevice (F.image self.old.flash) →
+            IsKept (F.image self.new.flash) self.old.settings (apply command.now self.old.settings) }
+    {
+        if self.has_failed {
+            return Err(CommitFault::Failed);
+        }
+        if self.is_exhausted() {
+            return Err(CommitFault::Exhausted);
+        }
+        let sector = spare_of(self.active);
+        let settings = command.apply(self.settings.copy());
+        let generation = self.generation + 1;
+        let base = encode(generation, &settings);
+        if write_snapshot(&mut self.flash, sector, base.as_slice()).is_err() {
+            self.has_failed = true;
+            return Err(CommitFault::FlashFault);
+        }
+        self.settings = settings;
+        self.active = Some(sector);
+        self.generation = generation;
+        Ok(())
+    }
+}
+
+// The sector that is not active, which the next snapshot goes to.
+fn spare_of(active: Option<Sector>) -> Sector
+    ensures { result ≡ spare active }
+{
+    match active {
+        Some(Sector::First) => Sector::Second,
+        Some(Sector::Second) | None => Sector::First,
+    }
+}

@@ -1,0 +1,191 @@
+// Images whose bytes were worked out by hand from the layout, and calls at a flash in memory.
+use crate::{BootFault, CommitFault, Journal};
+use flash_model::{MemoryFlash, Order, Sector};
+use pn_values::Command;
+use station_names::NameFault;
+
+const SIZE: usize = 4096;
+
+// "PNS" and the version; the generation 1, which leaves 65,534; a name of six bytes.
+const FIRST: &[u8; 13] = b"PNS\x01\xFF\xFE\x06pump-1";
+
+// The same with the generation 2.
+const SECOND: &[u8; 13] = b"PNS\x01\xFF\xFD\x06pump-2";
+
+type Stored = Journal<MemoryFlash<SIZE>, SIZE>;
+
+fn set(name: &[u8]) -> Result<Command, NameFault> {
+    Ok(Command::SetName {
+        permanent: true,
+        name: station_names::check(name)?,
+    })
+}
+
+fn start(flash: MemoryFlash<SIZE>) -> Result<Stored, BootFault> {
+    Journal::boot(flash).map_err(|refused| refused.0)
+}
+
+// A sector with this front and gate, and zeros between them: no address, and texts of zeros.
+fn sector(front: &[u8; 13], gate: u8) -> [u8; SIZE] {
+    let mut bytes = [0; SIZE];
+    bytes[..13].copy_from_slice(front);
+    bytes[511] = gate;
+    bytes
+}
+
+#[test]
+fn names_are_stored_in_turn(rt: HostRuntime) -> Result<(), std::test::Fail> {
+    let mut journal = start(MemoryFlash::blank())?;
+    assert_eq!(rt; journal.settings().name.as_bytes().len(), 0);
+    journal.commit(&set(b"pump-1")?)?;
+    let first = journal.flash().sector(Sector::First);
+    assert_eq!(rt; &first[..13], FIRST.as_slice());
+    assert_eq!(rt; first[511], 0x00);
+    assert_eq!(rt;
+        journal.flash().sector(Sector::Second),
+        [0xFF; SIZE].as_slice()
+    );
+    journal.commit(&set(b"pump-2")?)?;
+    assert_eq!(rt;
+        &journal.flash().sector(Sector::First)[..13],
+        FIRST.as_slice()
+    );
+    assert_eq!(rt;
+        &journal.flash().sector(Sector::Second)[..13],
+        SECOND.as_slice()
+    );
+    let again = start(journal.into_flash())?;
+    assert_eq!(rt; again.settings().name.as_bytes(), b"pump-2".as_slice());
+    assert!(rt; !again.is_exhausted());
+    assert!(rt; !again.has_failed());
+    Ok(())
+}
+
+#[test]
+fn a_write_that_is_cut_short_is_not_seen(rt: HostRuntime) -> Result<(), std::test::Fail> {
+    let mut journal = start(MemoryFlash::blank())?;
+    journal.commit(&set(b"pump-1")?)?;
+    let mask = [0x55; 8];
+    journal.arm(Order::Cut { after: 2, mask });
+    let cut = journal.commit(&set(b"pump-2")?);
+    assert!(rt; matches!(cut, Err(CommitFault::FlashFault)));
+    assert!(rt; matches!(journal.commit(&set(b"pump-2")?), Err(CommitFault::Failed)));
+    assert!(rt; journal.has_failed());
+    assert_eq!(rt; journal.settings().name.as_bytes(), b"pump-1".as_slice());
+    assert_eq!(rt; journal.flash().sector(Sector::Second)[511], 0xAA);
+    let mut flash = journal.into_flash();
+    flash.power_up();
+    let mut journal = start(flash)?;
+    assert_eq!(rt; journal.settings().name.as_bytes(), b"pump-1".as_slice());
+    journal.commit(&set(b"pump-3")?)?;
+    let again = start(journal.into_flash())?;
+    assert_eq!(rt; again.settings().name.as_bytes(), b"pump-3".as_slice());
+    Ok(())
+}
+
+#[test]
+fn an_erase_that_is_cut_short_leaves_the_last_settings(
+    rt: HostRuntime,
+) -> Result<(), std::test::Fail> {
+    let masks = [
+        [0x00; 8],
+        [0x55; 8],
+        [0xFF; 8],
+        [0x00, 0x00, 0x00, 0x00, 0xFF, 0xFF, 0x00, 0x00],
+    ];
+    for mask in masks {
+        let mut journal = start(MemoryFlash::blank())?;
+        journal.commit(&set(b"pump-1")?)?;
+        journal.commit(&set(b"pump-2")?)?;
+        journal.arm(Order::Cut { after: 0, mask });
+        let cut = journal.commit(&set(b"pump-3")?);
+        assert!(rt; matches!(cut, Err(CommitFault::FlashFault)), "at {mask:?}");
+        let Err((fault, mut flash)) = Journal::boot(journal.into_flash()) else {
+            panic!(rt; "it has no power at {mask:?}");
+        };
+        assert_eq!(rt; fault, BootFault::FlashFault, "at {mask:?}");
+        flash.power_up();
+        let again = start(flash)?;
+        assert_eq!(rt;
+            again.settings().name.as_bytes(),
+            b"pump-2".as_slice(),
+            "at {mask:?}"
+        );
+    }
+    Ok(())
+}
+
+#[test]
+fn what_no_journal_left_is_foreign(rt: HostRuntime) {
+    let blank = [0xFF; SIZE];
+    let images = [
+        (sector(FIRST, 0), sector(FIRST, 0), "one generation twice"),
+        (
+            sector(b"PNJ\x01\xFF\xFE\x06pump-1", 0),
+            blank,
+            "another magic",
+        ),
+        (
+            blank,
+            sector(b"PNS\x02\xFF\xFE\x06pump-1", 0),
+            "another version",
+        ),
+        (
+            sector(b"PNS\x01\xFF\xFF\x06pump-1", 0),
+            blank,
+            "the generation 0",
+        ),
+        (sector(b"PNS\x01\xFF\xFE\x06pump_1", 0), blank, "no name"),
+        (
+            sector(b"PNS\x01\xFF\xFE\xF1pump-1", 0),
+            blank,
+            "a name of 241 bytes",
+        ),
+        (
+            sector(b"PNS\x01\xFF\xFE\x04pump-1", 0),
+            blank,
+            "bytes behind the name",
+        ),
+        ([0; SIZE], [0; SIZE], "zeros"),
+    ];
+    for (first, second, what) in images {
+        let answer = start(MemoryFlash::from_sectors(first, second));
+        assert!(rt; matches!(answer, Err(BootFault::Foreign)), "at {what}");
+    }
+}
+
+#[test]
+fn the_newest_sector_is_read(rt: HostRuntime) -> Result<(), std::test::Fail> {
+    let blank = [0xFF; SIZE];
+    let images = [
+        (sector(FIRST, 0), sector(SECOND, 0), b"pump-2"),
+        (sector(SECOND, 0), sector(FIRST, 0), b"pump-2"),
+        (sector(FIRST, 0), sector(SECOND, 1), b"pump-1"),
+        (blank, sector(FIRST, 0), b"pump-1"),
+        (
+            sector(FIRST, 0),
+            sector(b"PNJ\x01\xFF\xFD\x06pump-2", 0),
+            b"pump-1",
+        ),
+    ];
+    for (first, second, name) in images {
+        let journal = start(MemoryFlash::from_sectors(first, second))?;
+        assert_eq!(rt; journal.settings().name.as_bytes(), name.as_slice());
+    }
+    Ok(())
+}
+
+#[test]
+fn the_last_generation_is_kept(rt: HostRuntime) -> Result<(), std::test::Fail> {
+    let last = sector(b"PNS\x01\x00\x01\x06pump-1", 0);
+    let mut journal = start(MemoryFlash::from_sectors(last, [0xFF; SIZE]))?;
+    assert!(rt; !journal.is_exhausted());
+    journal.commit(&set(b"pump-2")?)?;
+    assert!(rt; journal.is_exhausted());
+    let refused = journal.commit(&set(b"pump-3")?);
+    assert!(rt; matches!(refused, Err(CommitFault::Exhausted)));
+    assert!(rt; !journal.has_failed());
+    let again = start(journal.into_flash())?;
+    assert_eq!(rt; again.settings().name.as_bytes(), b"pump-2".as_slice());
+    Ok(())
+}

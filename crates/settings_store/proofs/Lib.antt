@@ -1,0 +1,4 @@
+pub mod Machine
+pub mod Crash
+pub mod Steps
+pub mod Laws

@@ -1,0 +1,201 @@
+-- What the machine does over more items than one.
+use Rattle.std.proofs.Common.{◌≡◌, ◌==◌, ℕ, Bool, true, false, List, [], ◌∷◌, ◌++◌, map, refl, ap, ◌∙◌, append_assoc, length, suc, ◌+◌, ◌-◌, arith}
+use Rattle.std.proofs.lemmas.Bool.{cond_both}
+use Rattle.std.proofs.lemmas.Bool.Decides.{nat_tests}
+use Rattle.std.proofs.lemmas.List.Elements.{All-nil, All-cons}
+use Rattle.pn_values.specs.declared.settings.Settings.{Settings}
+use Rattle.pn_values.specs.declared.command.Command.{Command}
+use Rattle.pn_values.specs.declared.set_item.SetItem.{SetItem}
+use Rattle.pn_values.specs.declared.set_item.SetItem.TheVariants.{Ask, Answer}
+use Rattle.pn_values.specs.declared.set_item.BlockError.{BlockError}
+use Rattle.pn_values.specs.declared.set_item.BlockError.TheVariants.{Exhausted, Local}
+use Rattle.settings_store.specs.State.{Values}
+use Rattle.settings_store.specs.Machine.{Outcome, Pass, Fault, Accepted, Carried, answered, accepted, carried_one, first_of, rest_of, followed_by, carried}
+use Rattle.settings_store.specs.Legal.{made_of, AreDone, DoneButLast}
+
+-- a command that is accepted passes, or has its fault
+accepted_is : (P : Carried → Type 0) (outcome : Outcome) (values : Values) (command : Command)
+    → P (accepted Pass values command) → ((is_lost : Bool) → P (accepted (Fault is_lost) values command)) → P (accepted outcome values command)
+accepted_is P Pass values command passed fault = passed
+accepted_is P (Fault is_lost) values command passed fault = fault is_lost
+
+-- An item is answered and changes nothing, or no commit failed before it and it passes or has its fault.
+pub item_is : (P : Carried → Type 0) (outcome : Outcome) (values : Values) (item : SetItem)
+    → ((answer : BlockError) → P (answered answer values))
+    → ((command : Command) → values.has_failed ≡ false → (values.room == 0) ≡ false → P (accepted Pass values command))
+    → ((is_lost : Bool) (command : Command) → values.has_failed ≡ false → (values.room == 0) ≡ false → P (accepted (Fault is_lost) values command))
+    → P (carried_one outcome values item)
+item_is P outcome values (Answer answer) alone passed fault = alone answer
+item_is P outcome values (Ask command) alone passed fault =
+    cond_both values.has_failed _ _ P (λ _. alone Local)
+    (λ fine. cond_both (values.room == 0) _ _ P (λ _. alone Exhausted)
+    (λ room. accepted_is P outcome values command (passed command fine room) (λ is_lost. fault is_lost command fine room)))
+
+-- after a commit that failed nothing changes
+pub failed_values : (outcomes : List Outcome) (values : Values) (items : List SetItem) → values.has_failed ≡ true → (carried outcomes values items).values ≡ values
+failed_values outcomes values [] failed = refl
+failed_values outcomes values (item ∷ items) failed =
+    item_is (λ one. (carried (rest_of outcomes) one.values items).values ≡ values) (first_of outcomes) values item
+    (λ _. failed_values (rest_of outcomes) values items failed) (λ _ fine _. cc) (λ _ _ fine _. cc)
+
+-- and nothing more is accepted
+pub failed_accepted : (outcomes : List Outcome) (values : Values) (items : List SetItem) → values.has_failed ≡ true → (carried outcomes values items).accepted ≡ []
+failed_accepted outcomes values [] failed = refl
+failed_accepted outcomes values (item ∷ items) failed =
+    item_is (λ one. one.accepted ++ (carried (rest_of outcomes) one.values items).accepted ≡ []) (first_of outcomes) values item
+    (λ _. failed_accepted (rest_of outcomes) values items failed) (λ _ fine _. cc) (λ _ _ fine _. cc)
+
+pub stays_failed : (outcomes : List Outcome) (values : Values) (items : List SetItem) → values.has_failed ≡ true → (carried outcomes values items).values.has_failed ≡ true
+stays_failed outcomes values items failed = ap (λ v. v.has_failed) (failed_values outcomes values items failed) ∙ failed
+
+-- what all of two lists make of the first settings
+pub made_append : (front back : List Accepted) (first : Settings) → made_of (front ++ back) first ≡ made_of back (made_of front first)
+made_append [] back first = refl
+made_append (one ∷ front) back first = made_append front back _
+
+-- While no commit failed, what is stored is what the accepted commands make of what was stored.
+pub stored_made : (outcomes : List Outcome) (values : Values) (items : List SetItem) → (carried outcomes values items).values.has_failed ≡ false
+    → (carried outcomes values items).values.stored ≡ made_of (carried outcomes values items).accepted values.stored
+stored_made outcomes values [] fine = refl
+stored_made outcomes values (item ∷ items) fine =
+    item_is (λ one. (carried (rest_of outcomes) one.values items).values.has_failed ≡ false
+    → (carried (rest_of outcomes) one.values items).values.stored ≡ made_of (one.accepted ++ (carried (rest_of outcomes) one.values items).accepted) values.stored)
+    (first_of outcomes) values item
+    (λ _. stored_made (rest_of outcomes) values items)
+    (λ command _ _. stored_made (rest_of outcomes) (accepted Pass values command).values items)
+    (λ is_lost command _ _ fine. let failed = stays_failed (rest_of outcomes) (accepted (Fault is_lost) values command).values items refl in cc)
+    fine
+
+one_taken : (room left count : ℕ) → (room == 0) ≡ false → left + count ≡ room - 1 → left + suc count ≡ room
+one_taken room left count some rest = grind (arith, nat_tests)
+
+-- An item takes room where it is accepted and passes, and nothing else does.
+pub room_left : (outcomes : List Outcome) (values : Values) (items : List SetItem) → (carried outcomes values items).values.has_failed ≡ false
+    → (carried outcomes values items).values.room + length (carried outcomes values items).accepted ≡ values.room
+room_left outcomes values [] fine = omega arith
+room_left outcomes values (item ∷ items) fine =
+    item_is (λ one. (carried (rest_of outcomes) one.values items).values.has_failed ≡ false
+    → (carried (rest_of outcomes) one.values items).values.room + length (one.accepted ++ (carried (rest_of outcomes) one.values items).accepted) ≡ values.room)
+    (first_of outcomes) values item
+    (λ _. room_left (rest_of outcomes) values items)
+    (λ command _ room fine. let on = room_left (rest_of outcomes) (accepted Pass values command).values items fine in one_taken _ _ _ room on)
+    (λ is_lost command _ _ fine. let failed = stays_failed (rest_of outcomes) (accepted (Fault is_lost) values command).values items refl in cc)
+    fine
+
+-- Where no commit failed, each accepted command is answered 'done'.
+pub all_done : (outcomes : List Outcome) (values : Values) (items : List SetItem) → (carried outcomes values items).values.has_failed ≡ false
+    → AreDone (carried outcomes values items).accepted
+all_done outcomes values [] fine = All-nil _
+all_done outcomes values (item ∷ items) fine =
+    item_is (λ one. (carried (rest_of outcomes) one.values items).values.has_failed ≡ false → AreDone (one.accepted ++ (carried (rest_of outcomes) one.values items).accepted))
+    (first_of outcomes) values item
+    (λ _. all_done (rest_of outcomes) values items)
+    (λ command _ _ fine. let on = all_done (rest_of outcomes) (accepted Pass values command).values items fine in All-cons (λ a. a.is_done ≡ true) _ _ refl on)
+    (λ is_lost command _ _ fine. let failed = stays_failed (rest_of outcomes) (accepted (Fault is_lost) values command).values items refl in cc)
+    fine
+
+one_more : (first : Accepted) (back : List Accepted) → first.is_done ≡ true → DoneButLast back → DoneButLast (first ∷ back)
+one_more first back done rest = record {
+  front = first ∷ rest.front;
+  last = rest.last;
+  parts = ap (λ l. first ∷ l) rest.parts;
+  done = All-cons (λ a. a.is_done ≡ true) first rest.front done rest.done;
+  not_done = rest.not_done;
+}
+
+-- Where one failed, each but the last is, and the last is not.
+pub done_but_last : (outcomes : List Outcome) (values : Values) (items : List SetItem) → values.has_failed ≡ false → (carried outcomes values items).values.has_failed ≡ true
+    → DoneButLast (carried outcomes values items).accepted
+done_but_last outcomes values [] fine failed = absurd (cc)
+done_but_last outcomes values (item ∷ items) fine failed =
+    item_is (λ one. (carried (rest_of outcomes) one.values items).values.has_failed ≡ true → DoneButLast (one.accepted ++ (carried (rest_of outcomes) one.values items).accepted))
+    (first_of outcomes) values item
+    (λ _. done_but_last (rest_of outcomes) values items fine)
+    (λ command _ _ failed. one_more (record { command = command; is_done = true }) _ refl (done_but_last (rest_of outcomes) (accepted Pass values command).values items fine failed))
+    (λ is_lost command _ _ _. let none = failed_accepted (rest_of outcomes) (accepted (Fault is_lost) values command).values items refl in
+    record {
+      front = [];
+      last = record { command = command; is_done = false };
+      parts = ap (λ l. record { command = command; is_done = false } ∷ l) none;
+      done = All-nil _;
+      not_done = refl;
+    })
+    failed
+
+-- one answer for each item
+pub each_answered : (outcomes : List Outcome) (values : Values) (items : List SetItem) → length (carried outcomes values items).answers ≡ length items
+each_answered outcomes values [] = refl
+each_answered outcomes values (item ∷ items) =
+    item_is (λ one. length (one.answers ++ (carried (rest_of outcomes) one.values items).answers) ≡ length (item ∷ items)) (first_of outcomes) values item
+    (λ _. ap suc (each_answered (rest_of outcomes) values items))
+    (λ command _ _. ap suc (each_answered (rest_of outcomes) (accepted Pass values command).values items))
+    (λ is_lost command _ _. ap suc (each_answered (rest_of outcomes) (accepted (Fault is_lost) values command).values items))
+
+-- items that ask for nothing to be stored change nothing
+pub only_answers : (outcomes : List Outcome) (values : Values) (answers : List BlockError)
+    → carried outcomes values (map Answer answers) ≡ record { values = values; answers = answers; accepted = [] }
+only_answers outcomes values [] = refl
+only_answers outcomes values (answer ∷ answers) = ap (followed_by (answered answer values)) (only_answers (rest_of outcomes) values answers)
+
+-- what is left of the outcomes after so many items
+after : List Outcome → List SetItem → List Outcome
+after outcomes [] = outcomes
+after outcomes (item ∷ items) = after (rest_of outcomes) items
+
+-- one outcome for each item, written out
+padded : List Outcome → List SetItem → List Outcome
+padded outcomes [] = []
+padded outcomes (item ∷ items) = first_of outcomes ∷ padded (rest_of outcomes) items
+
+followed_assoc : (first second third : Carried) → followed_by first (followed_by second third) ≡ followed_by (followed_by first second) third
+followed_assoc first second third = simp append_assoc
+
+carried_append : (outcomes : List Outcome) (values : Values) (items more : List SetItem) →
+    carried outcomes values (items ++ more) ≡ followed_by (carried outcomes values items) (carried (after outcomes items) (carried outcomes values items).values more)
+unfolding after
+carried_append outcomes values [] more = refl
+carried_append outcomes values (item ∷ items) more =
+    let one : Carried = carried_one (first_of outcomes) values item in
+    let front : Carried = carried (rest_of outcomes) one.values items in
+    ap (followed_by one) (carried_append (rest_of outcomes) one.values items more)
+    ∙ followed_assoc one front (carried (after (rest_of outcomes) items) front.values more)
+
+carried_padded : (outcomes back : List Outcome) (values : Values) (items : List SetItem) → carried (padded outcomes items ++ back) values items ≡ carried outcomes values items
+unfolding padded
+carried_padded outcomes back values [] = refl
+carried_padded outcomes back values (item ∷ items) =
+    ap (followed_by (carried_one (first_of outcomes) values item)) (carried_padded (rest_of outcomes) back (carried_one (first_of outcomes) values item).values items)
+
+after_padded : (outcomes back : List Outcome) (items : List SetItem) → after (padded outcomes items ++ back) items ≡ back
+unfolding after padded
+after_padded outcomes back [] = refl
+after_padded outcomes back (item ∷ items) = after_padded (rest_of outcomes) back items
+
+after_quiet : (items : List SetItem) → after [] items ≡ []
+unfolding after
+after_quiet [] = refl
+after_quiet (item ∷ items) = after_quiet items
+
+-- the outcomes over some items and then more: none where neither has any
+pub joined : List Outcome → List Outcome → List SetItem → List Outcome
+joined [] [] items = []
+joined [] (outcome ∷ outcomes) items = padded [] items ++ outcome ∷ outcomes
+joined (outcome ∷ outcomes) back items = padded (outcome ∷ outcomes) items ++ back
+
+pub joined_quiet : (front back : List Outcome) (items : List SetItem) → front ≡ [] → back ≡ [] → joined front back items ≡ []
+unfolding joined
+joined_quiet [] [] items _ _ = refl
+joined_quiet [] (outcome ∷ outcomes) items _ none = cc
+joined_quiet (outcome ∷ outcomes) back items none _ = cc
+
+padded_then : (front back : List Outcome) (values : Values) (items more : List SetItem) →
+    carried (padded front items ++ back) values (items ++ more) ≡ followed_by (carried front values items) (carried back (carried front values items).values more)
+padded_then front back values items more =
+    carried_append (padded front items ++ back) values items more ∙ simp (carried_padded, after_padded)
+
+pub joined_then : (front back : List Outcome) (values : Values) (items more : List SetItem) →
+    carried (joined front back items) values (items ++ more) ≡ followed_by (carried front values items) (carried back (carried front values items).values more)
+unfolding joined
+joined_then [] [] values items more = carried_append [] values items more ∙ simp after_quiet
+joined_then [] (outcome ∷ outcomes) values items more = padded_then [] (outcome ∷ outcomes) values items more
+joined_then (outcome ∷ outcomes) back values items more = padded_then (outcome ∷ outcomes) back values items more

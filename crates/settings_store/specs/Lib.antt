@@ -1,0 +1,4 @@
+pub mod State
+pub mod Machine
+pub mod Legal
+pub mod Carries

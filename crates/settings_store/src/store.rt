@@ -1,0 +1,167 @@
+// The store: what runs beside what is stored.
+ghost use Rattle.std.specs.Prelude.{◌≡◌, ◌≤◌, ℕ, true, false, length, IsErr, IfOk, IfErr, MatchResult, [], ◌∷◌};
+ghost use Rattle.flash_model.specs.Image.{Image, erased};
+ghost use Rattle.pn_values.specs.Settings.{factory_settings};
+ghost use Rattle.pn_values.specs.declared.settings.Settings.{Settings};
+ghost use Rattle.settings_journal.specs.Commit.{HasBootCause};
+ghost use Rattle.settings_journal.specs.Image.{StartsWith, IsForeign, LeftByDevice};
+ghost use Rattle.settings_store.specs.Carries.{Carries, Holds};
+
+use arrayvec::ArrayVec;
+use flash_model::{Flash, Order};
+use pn_values::{BlockError, Command, SetItem, Settings};
+use settings_journal::{BootFault, CommitFault, Journal};
+use std::marker::Model;
+
+/// The settings of a station: those that run, and those that a restart finds. A clause sees the flash and the values.
+#[derive(Drop)]
+pub struct Store<F: Flash<S>, const S: usize> {
+    journal: Journal<F, S>,
+    running: Settings,
+}
+
+impl<F: Flash<S>, const S: usize> Model for Store<F, S> {
+    ghost use Rattle.std.specs.Prelude.{◌≡◌, false};
+    ghost use Rattle.settings_journal.specs.Image.{StartsWith};
+    ghost use Rattle.settings_store.specs.State.{State};
+
+    ghost Value = { State F };
+
+    ghost view = { λ store. record {
+      flash = store.journal.flash;
+      values = record {
+        running = store.running;
+        stored = store.journal.settings;
+        room = store.journal.room;
+        has_failed = store.journal.has_failed;
+        is_lost = F.is_lost store.journal.flash;
+      };
+    } };
+
+    ghost invariant = { λ store. store.journal.has_failed ≡ false → StartsWith (F.image store.journal.flash) store.journal.settings store.journal.room };
+}
+
+impl<F: Flash<S>, const S: usize> Store<F, S> {
+    /// Starts from what the flash keeps, and writes nothing. A refusal hands the flash back.
+    pub fn boot(flash: F) -> Result<Store<F, S>, (BootFault, F)>
+        // What is stored runs, and nothing else.
+        ensures starts { IfOk result (λ store. StartsWith (F.image flash) store.values.stored store.values.room) }
+        ensures running { IfOk result (λ store. store.values.running ≡ store.values.stored) }
+        ensures fresh { IfOk result (λ store. (store.values.has_failed ≡ false) × (store.values.is_lost ≡ false)) }
+
+        // What can be read is given, unless a read fails.
+        ensures known { (settings : Settings) (room : ℕ) → StartsWith (F.image flash) settings room →
+            MatchResult result (λ store. (store.values.stored ≡ settings) × (store.values.room ≡ room)) (λ refused. refused.0 ≡ BootFault.FlashFault) }
+        ensures left { LeftByDevice (F.image flash) → IfErr result (λ refused. refused.0 ≡ BootFault.FlashFault) }
+        ensures blank { F.image flash ≡ record { first = erased S; second = erased S } →
+            LeftByDevice (F.image flash) × StartsWith (F.image flash) factory_settings 65535 }
+
+        // Foreign is what cannot be read, and nothing else.
+        ensures foreign { IfErr result (λ refused. refused.0 ≡ BootFault.Foreign → IsForeign (F.image flash)) }
+        ensures strange { IsForeign (F.image flash) → IsErr result }
+
+        // Nothing is written, and FlashFault is answered where a read fails and only there.
+        ensures same { MatchResult result (λ store. F.image store.flash ≡ F.image flash) (λ refused. F.image refused.1 ≡ F.image flash) }
+        ensures cause { MatchResult result (λ store. F.failures store.flash ≡ F.failures flash)
+            (λ refused. HasBootCause refused.0 (F.failures flash) (F.failures refused.1)) }
+        ensures stays_lost { IfErr result (λ refused. F.is_lost flash ≡ true → F.is_lost refused.1 ≡ true) }
+        ensures reliable { F.is_reliable flash →
+            MatchResult result (λ store. F.is_reliable store.flash) (λ refused. F.is_reliable refused.1 × (refused.0 ≡ BootFault.Foreign)) }
+    {
+        let journal = Journal::boot(flash)?;
+        let running = journal.settings().copy();
+        Ok(Store { journal, running })
+    }
+
+    /// The settings that run.
+    pub fn running(&self) -> &Settings
+        ensures { result.now ≡ self.now.values.running }
+    {
+        &self.running
+    }
+
+    /// The settings that a restart finds, where no commit failed since the start.
+    pub fn stored(&self) -> &Settings
+        ensures value { result.now ≡ self.now.values.stored }
+        ensures holds { self.now.values.has_failed ≡ false → StartsWith (F.image self.now.flash) self.now.values.stored self.now.values.room }
+    {
+        self.journal.settings()
+    }
+
+    /// Whether power was lost.
+    pub fn is_lost(&self) -> bool
+        ensures { result ≡ self.now.values.is_lost }
+    {
+        self.journal.flash().is_lost()
+    }
+
+    /// The flash.
+    pub fn flash(&self) -> &F
+        ensures { result.now ≡ self.now.flash }
+    {
+        self.journal.flash()
+    }
+
+    /// Tells the flash what to do to a later call. Nothing else changes.
+    pub fn arm(&mut self, order: Order)
+        ensures values { self.new.values ≡ self.old.values }
+        ensures image { F.image self.new.flash ≡ F.image self.old.flash }
+        ensures failures { F.failures self.new.flash ≡ F.failures self.old.flash }
+    {
+        self.journal.arm(order);
+    }
+
+    /// The flash, given back.
+    pub fn into_flash(self) -> F
+        ensures { result ≡ self.flash }
+    {
+        self.journal.into_flash()
+    }
+
+    /// Carries the items out in order, each by itself, and says how each is answered. `answers` is emptied first.
+    pub fn carry_out<const N: usize>(
+        &mut self,
+        items: &[SetItem],
+        answers: &mut ArrayVec<BlockError, N>,
+    )
+        requires { length items.now ≤ N }
+        ensures carries { Carries F.image F.failures self.old items.now answers.new.items self.new }
+        ensures reliable { F.is_reliable self.old.flash → F.is_reliable self.new.flash × (self.new.values.has_failed ≡ self.old.values.has_failed) }
+    {
+        // What the journal keeps holds before the first item, too.
+        let _ = &self.journal;
+        answers.clear();
+        for item in items {
+            let answer = self.carry_one(item);
+            answers.push(answer);
+        }
+    }
+
+    /// Carries one item out, and says how it is answered.
+    fn carry_one(&mut self, item: &SetItem) -> BlockError
+        requires { Holds (F.image self.old.flash) self.old.values }
+        ensures carries { Carries F.image F.failures self.old (item.now ∷ []) (result ∷ []) self.new }
+        ensures reliable { F.is_reliable self.old.flash → F.is_reliable self.new.flash × (self.new.values.has_failed ≡ self.old.values.has_failed) }
+    {
+        match item {
+            SetItem::Ask(command) => self.commit(command),
+            SetItem::Answer(answer) => *answer,
+        }
+    }
+
+    /// Stores what the command asks for, and shows it once it is stored.
+    fn commit(&mut self, command: &Command) -> BlockError
+        ensures carries { Carries F.image F.failures self.old (SetItem.Ask command.now ∷ []) (result ∷ []) self.new }
+        ensures reliable { F.is_reliable self.old.flash → F.is_reliable self.new.flash × (self.new.values.has_failed ≡ self.old.values.has_failed) }
+    {
+        match self.journal.commit(command) {
+            Ok(()) => {
+                self.running = command.show(self.running.copy());
+                BlockError::Done
+            }
+            Err(CommitFault::Exhausted) => BlockError::Exhausted,
+            Err(CommitFault::FlashFault) => BlockError::Local,
+            Err(CommitFault::Failed) => BlockError::Local,
+        }
+    }
+}

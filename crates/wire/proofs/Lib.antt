@@ -1,0 +1,5 @@
+pub mod Fields
+pub mod Joined
+pub mod Wholes
+pub mod Lists
+pub mod Given

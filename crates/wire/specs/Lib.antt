@@ -1,0 +1,4 @@
+pub mod Codec
+pub mod Formats
+pub mod Whole
+pub mod Filled

@@ -1,0 +1,44 @@
+use super::*;
+use arrayvec::ArrayVec;
+
+/// Octets that differ from each other.
+const OCTETS: [u8; 7] = [0x12, 0x34, 0x56, 0x78, 0x9A, 0xBC, 0xDE];
+
+#[test]
+fn reads_fields(rt: HostRuntime) {
+    assert_eq!(rt;
+        split(&OCTETS, 3, "short"),
+        Ok((&OCTETS[..3], &OCTETS[3..]))
+    );
+    assert_eq!(rt; split(&OCTETS, 8, "short"), Err("short"));
+    assert_eq!(rt; u8_at(&OCTETS, 1), Ok((0x12, &OCTETS[1..])));
+    assert_eq!(rt; u8_at(&[], 1), Err(1));
+    assert_eq!(rt; u16_at(&OCTETS, 1), Ok((0x1234, &OCTETS[2..])));
+    assert_eq!(rt; u16_at(&OCTETS[..1], 1), Err(1));
+    assert_eq!(rt; u32_at(&OCTETS, 1), Ok((0x1234_5678, &OCTETS[4..])));
+    assert_eq!(rt; u32_at(&OCTETS[..3], 1), Err(1));
+    assert_eq!(rt;
+        octets_at::<6, u8>(&OCTETS, 1),
+        Ok(([0x12, 0x34, 0x56, 0x78, 0x9A, 0xBC], &OCTETS[6..]))
+    );
+    assert_eq!(rt; octets_at::<8, u8>(&OCTETS, 1), Err(1));
+}
+
+#[test]
+fn skips_what_is_there(rt: HostRuntime) {
+    assert_eq!(rt; skip(&OCTETS, 1), &OCTETS[1..]);
+    assert_eq!(rt; skip(&OCTETS, 0), OCTETS.as_slice());
+    assert_eq!(rt; skip(&OCTETS[6..], 1).len(), 0);
+    assert_eq!(rt; skip(&OCTETS[7..], 1).len(), 0);
+}
+
+#[test]
+fn appends_fields(rt: HostRuntime) {
+    let mut out: ArrayVec<u8, 9> = ArrayVec::new();
+    append_u8(&mut out, 0x12);
+    append_u16(&mut out, 0x3456);
+    append_u32(&mut out, 0x789A_BCDE);
+    append(&mut out, &[1, 2]);
+    assert_eq!(rt; &out.as_slice()[..7], OCTETS.as_slice());
+    assert_eq!(rt; &out.as_slice()[7..], [1, 2].as_slice());
+}
