@@ -13,3 +13,6 @@ pub use device::Device;
 pub use event::{Event, Note};
 pub use headline::cycle;
 pub use sink::Sink;
+
+#[cfg(test)]
+mod tests;
