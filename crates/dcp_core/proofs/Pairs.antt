@@ -125,7 +125,7 @@ module _ (got : Kind → List ℕ) (blocks : List Block) (i : ℕ) (d : Block) (
   }
 
   -- there is room for one more
-  pub has_room : (written : List ℕ) → list_any (is_same kind) before ≡ false → length blocks ≤ 16 → IsSoFar got written blocks i → length written + most_of kind ≤ 1488
+  pub has_room : (written : List ℕ) → list_any (is_same kind) before ≡ false → length blocks ≤ 16 → IsSoFar got written blocks i → length written + most_of kind ≤ 727
   has_room written new few h =
       let room = room_new before kind new in
       let was = h.room in

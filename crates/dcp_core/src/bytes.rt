@@ -7,15 +7,16 @@ use crate::Kind;
 use arrayvec::ArrayVec;
 use pn_values::BlockError;
 
-/// An answer: what follows the FrameID. It fits one frame.
-pub type Answer = ArrayVec<u8, 1498>;
+/// An answer, which is what follows the FrameID: a header of 10 bytes, and for each of at most 16 kinds up to 32 bytes, for
+/// the name 247.
+pub type Answer = ArrayVec<u8, 737>;
 
 /// The blocks of an answer, which is a header of ten bytes and these.
-pub(crate) type Blocks = ArrayVec<u8, 1488>;
+pub(crate) type Blocks = ArrayVec<u8, 727>;
 
 /// Appends a block of BlockInfo and a value. There must be room.
 pub(crate) fn put_block(blocks: &mut Blocks, kind: Kind, info: [u8; 2], value: &[u8])
-    requires { array_vec_len blocks.old + length value.now + 7 ≤ 1488 }
+    requires { array_vec_len blocks.old + length value.now + 7 ≤ 727 }
     ensures items { blocks.new.items ≡ blocks.old.items ++ block_bytes kind (info ++ value.now) }
     ensures len { array_vec_len blocks.new ≤ array_vec_len blocks.old + length value.now + 7 }
 {
@@ -31,7 +32,7 @@ pub(crate) fn put_block(blocks: &mut Blocks, kind: Kind, info: [u8; 2], value: &
 
 /// Appends how a block or pair of this kind came out. There must be room.
 pub(crate) fn put_response(blocks: &mut Blocks, kind: Kind, error: BlockError)
-    requires { array_vec_len blocks.old + 8 ≤ 1488 }
+    requires { array_vec_len blocks.old + 8 ≤ 727 }
     ensures items { blocks.new.items ≡ blocks.old.items ++ response_bytes kind error }
     ensures len { array_vec_len blocks.new ≡ array_vec_len blocks.old + 8 }
 {
@@ -42,7 +43,7 @@ pub(crate) fn put_response(blocks: &mut Blocks, kind: Kind, error: BlockError)
 /// An answer with these blocks: ServiceID, success, the transaction, and DCPDataLength.
 pub(crate) fn answer(service: u8, xid: u32, blocks: &Blocks) -> Answer
     ensures items { result.items ≡ answer_bytes service xid blocks.now.items }
-    ensures length { length result.items ≤ 1498 }
+    ensures length { length result.items ≤ 737 }
 {
     let mut answer = ArrayVec::new();
     let _ = answer.try_extend_from_slice(&[service, 1]);

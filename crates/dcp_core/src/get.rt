@@ -15,7 +15,7 @@ use pn_values::{Identity, Settings};
 /// The answer to a Get: for each pair, in order, its value or why there is none; a repeated pair at its first place only.
 pub fn get_answer(identity: &Identity, settings: &Settings, request: &Request<'_>) -> Answer
     ensures items { result.items ≡ get_bytes identity.now settings.now (asked request.now) }
-    ensures length { length result.items ≤ 1498 }
+    ensures length { length result.items ≤ 737 }
 {
     let asked_for = request.blocks.as_slice();
     let mut blocks = Blocks::new();
@@ -36,7 +36,7 @@ fn is_among(earlier: &[Block<'_>], kind: Kind) -> bool
 
 /// Appends the value of a kind, or why there is none. There must be room.
 fn put_pair(blocks: &mut Blocks, identity: &Identity, settings: &Settings, kind: Kind)
-    requires { array_vec_len blocks.old + most_of kind ≤ 1488 }
+    requires { array_vec_len blocks.old + most_of kind ≤ 727 }
     ensures items { blocks.new.items ≡ blocks.old.items ++ got identity.now settings.now kind }
     ensures most { array_vec_len blocks.new ≤ array_vec_len blocks.old + most_of kind }
 {

@@ -85,7 +85,7 @@ fn octets_of(suite: &IpSuite) -> ArrayVec<u8, 12>
 #[tactic(auto, unfolding(crate::specs::Identify::identify_bytes))]
 pub fn identify_answer(identity: &Identity, settings: &Settings, xid: u32) -> Answer
     ensures items { result.items ≡ identify_bytes identity.now settings.now xid }
-    ensures length { length result.items ≤ 1498 }
+    ensures length { length result.items ≤ 737 }
 {
     let mut blocks = Blocks::new();
     put_value(&mut blocks, identity, settings, Kind::StationType);
@@ -105,7 +105,7 @@ pub(crate) fn put_value(
     settings: &Settings,
     kind: Kind,
 ) -> bool
-    requires { array_vec_len blocks.old + most_of kind ≤ 1488 }
+    requires { array_vec_len blocks.old + most_of kind ≤ 727 }
     ensures found { result ≡ is_some (value_of identity.now settings.now kind) }
     ensures items { blocks.new.items ≡ blocks.old.items ++ valued identity.now settings.now kind }
     ensures most { array_vec_len blocks.new ≤ array_vec_len blocks.old + most_of kind }
@@ -133,7 +133,7 @@ pub(crate) fn put_value(
 
 /// Appends the block of the IP suite. There must be room.
 fn put_suite(blocks: &mut Blocks, suite: &IpSuite)
-    requires { array_vec_len blocks.old + 19 ≤ 1488 }
+    requires { array_vec_len blocks.old + 19 ≤ 727 }
     ensures items { blocks.new.items ≡ blocks.old.items ++ block_bytes Kind.IpSuite (suite_info (suite_bytes suite.now) ++ suite_bytes suite.now) }
     ensures most { array_vec_len blocks.new ≤ array_vec_len blocks.old + 19 }
 {

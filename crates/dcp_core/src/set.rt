@@ -168,7 +168,7 @@ fn is_signal(block: &Block<'_>) -> bool
 /// The answer to a Set: how each block came out.
 pub fn set_answer(request: &Request<'_>, answers: &ArrayVec<BlockError, 16>) -> Answer
     ensures items { result.items ≡ set_bytes (asked request.now) answers.now.items }
-    ensures length { length result.items ≤ 1498 }
+    ensures length { length result.items ≤ 737 }
 {
     let mut responses = Blocks::new();
     for (block, error) in request.blocks.as_slice().iter().zip(answers.as_slice()) {

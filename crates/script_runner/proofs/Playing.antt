@@ -6,11 +6,9 @@ use Rattle.settings_journal.specs.declared.journal.BootFault.{BootFault}
 use Rattle.device_core.specs.State.{Live}
 use Rattle.script_runner.specs.declared.fault.RunFault.{RunFault}
 use Rattle.script_runner.specs.declared.fault.RunFault.TheVariants.{Write, OutOfMemory}
-use Rattle.script_runner.specs.declared.command.Line.{Line}
-use Rattle.script_runner.specs.declared.command.Line.TheVariants.{Unfit, Skipped, Asks, Unknown}
 use Rattle.script_runner.specs.declared.session.Power.{Power}
 use Rattle.script_runner.specs.declared.session.Power.TheVariants.{On, Off}
-use Rattle.script_runner.specs.Line.{meaning_of}
+use Rattle.script_runner.specs.Line.{Line, Unfit, Skipped, Asks, Unknown, meaning_of}
 use Rattle.script_runner.specs.Output.{AppendsFront, Puts, IsSoFar}
 use Rattle.script_runner.specs.Script.{Answer, answer_of, then_told, told, number_or, refused_from, output_of, refused_line}
 use Rattle.script_runner.specs.Session.{IsRunning, IsAnswered, IsObeyed, Obeys, is_off, refusal_of, text_of}

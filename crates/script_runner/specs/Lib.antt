@@ -2,6 +2,7 @@ pub mod Fault
 pub mod Output
 pub mod Numbers
 pub mod Line
+pub mod Read
 pub mod Demo
 pub mod Text
 pub mod Show

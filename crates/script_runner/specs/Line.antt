@@ -1,19 +1,31 @@
 -- The lines of a script, and what they ask for.
-use Rattle.std.specs.Prelude.{◌≡◌, ◌==◌, ◌||◌, ℕ, zero, suc, Bool, nat_lt, nat_eq, List, [], ◌∷◌, length, take, slice_index, if◌then◌else◌, codes, Option, Some, None, Result, Ok, Err}
+use Rattle.std.specs.Prelude.{◌≡◌, ◌==◌, ◌||◌, ℕ, zero, suc, Bool, nat_lt, nat_eq, List, [], ◌∷◌, length, slice_index, if◌then◌else◌, codes, Option, Some, None, Result, Ok, Err}
 use Rattle.std.specs.List.{slice_split, list_any}
 use Rattle.std.specs.Option.{option_map}
 use Rattle.std.specs.Cmp.Lexicographic.{pointwise}
-use Rattle.arrayvec.specs.ArrayVec.{ArrayVec}
 use Rattle.hex.specs.Hex.{decode_of}
+use Rattle.flash_model.specs.declared.flash.Order.{Order}
 use Rattle.flash_model.specs.declared.flash.Order.TheVariants.{Cut}
 use Rattle.script_runner.specs.Numbers.{number_of, repeated}
 use Rattle.hex.specs.declared.error.FromHexError.{FromHexError}
-use Rattle.script_runner.specs.declared.command.Command.{Command}
-use Rattle.script_runner.specs.declared.command.Command.TheVariants.{Frame, Restart, Tick, Show, Arm}
-use Rattle.script_runner.specs.declared.command.Line.{Line}
-use Rattle.script_runner.specs.declared.command.Line.TheVariants.{Unfit, Skipped, Asks, Unknown}
 use Rattle.script_runner.specs.declared.command.Words.{Words}
 use Rattle.script_runner.specs.declared.command.Words.TheVariants.{One, Two, Three, More}
+
+-- what a script asks for: hand in these bytes, take the power away and give it back, let time go by, show the settings,
+-- tell the flash what to do
+pub data Command : Type 0 where
+  Frame : (bytes : List ℕ) → Command
+  Restart : Command
+  Tick : (units : ℕ) → Command
+  Show : Command
+  Arm : (order : Order) → Command
+
+-- what a line is: too long or not ASCII, empty or a comment, one that asks for something, or none of these
+pub data Line : Type 0 where
+  Unfit : Line
+  Skipped : Line
+  Asks : (command : Command) → Line
+  Unknown : Line
 
 -- the parts behind a separator, if there is one
 abbrev pub behind : ℕ → Option (List ℕ) → List (List ℕ)
@@ -35,14 +47,14 @@ AreWords line More = (first second third fourth : List ℕ) × (more : List (Lis
 abbrev pub is_text : List ℕ → List ℕ → Bool
 is_text word text = pointwise nat_eq word text
 
--- what is handed in of bytes that were decoded: at most 1,519
-abbrev pub handed_in : Result (List ℕ) FromHexError → Option (ArrayVec ℕ)
-handed_in (Ok bytes) = Some (record { items = take 1519 bytes })
-handed_in (Err fault) = None
+-- bytes that were decoded
+abbrev pub if_decoded : Result (List ℕ) FromHexError → Option (List ℕ)
+if_decoded (Ok bytes) = Some bytes
+if_decoded (Err fault) = None
 
 -- the bytes that some hex digits spell, at least one
-abbrev pub bytes_of : List ℕ → Option (ArrayVec ℕ)
-bytes_of digits = if length digits == 0 then None else handed_in (decode_of digits)
+abbrev pub bytes_of : List ℕ → Option (List ℕ)
+bytes_of digits = if length digits == 0 then None else if_decoded (decode_of digits)
 
 abbrev pub bare : List ℕ → Option Command
 bare word = if is_text word (codes "restart") then Some Restart else (if is_text word (codes "show") then Some Show else None)

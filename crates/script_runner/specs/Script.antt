@@ -1,5 +1,5 @@
 -- What a script prints: its lines in order, each read as a command to the demo device, whose flash never fails.
-use Rattle.std.specs.Prelude.{◌+◌, ℕ, zero, suc, List, [], ◌∷◌, ◌++◌, Option, Some, None}
+use Rattle.std.specs.Prelude.{◌+◌, ℕ, zero, suc, List, [], ◌∷◌, ◌++◌, take, Option, Some, None}
 use Rattle.std.specs.Str.Lines.{lines}
 use Rattle.pn_values.specs.Settings.{factory_settings}
 use Rattle.device_core.specs.declared.event.Event.TheVariants as event
@@ -7,12 +7,8 @@ use Rattle.device_core.specs.declared.event.Note.TheVariants.{Done}
 use Rattle.device_core.specs.State.{Live}
 use Rattle.device_core.specs.Machine.{Stepped, step_of}
 use Rattle.device_core.specs.Cycle.{started}
-use Rattle.script_runner.specs.declared.command.Command.{Command}
-use Rattle.script_runner.specs.declared.command.Command.TheVariants.{Frame, Restart, Tick, Show, Arm}
-use Rattle.script_runner.specs.declared.command.Line.{Line}
-use Rattle.script_runner.specs.declared.command.Line.TheVariants.{Unfit, Skipped, Asks, Unknown}
 use Rattle.script_runner.specs.Demo.{demo}
-use Rattle.script_runner.specs.Line.{meaning_of}
+use Rattle.script_runner.specs.Line.{Command, Frame, Restart, Tick, Show, Arm, Line, Unfit, Skipped, Asks, Unknown, meaning_of}
 use Rattle.script_runner.specs.Show.{shown}
 use Rattle.script_runner.specs.Text.{boot_line, out_lines, note_line}
 
@@ -37,9 +33,10 @@ ticked (suc units) live =
 abbrev pub tick_answer : Answer → Answer
 tick_answer answer = record { live = answer.live; text = answer.text ++ note_line Done }
 
--- what a command does: a restart runs what is stored, and an order to the flash is none to the device
+-- What a command does. Of more than 1,519 bytes the first 1,519 are handed in, which are refused alike. A restart runs what
+-- is stored, and an order to the flash is none to the device.
 unfoldable pub said : Live → Command → Answer
-said live (Frame bytes) = step_answer (step_of [] demo live (event.Frame bytes))
+said live (Frame bytes) = step_answer (step_of [] demo live (event.Frame (record { items = take 1519 bytes })))
 said live Restart = record { live = started live.values.stored live.values.room; text = boot_line None }
 said live (Tick units) = tick_answer (ticked units live)
 said live Show = record { live = live; text = shown live.values.running live.values.stored live.lamp }

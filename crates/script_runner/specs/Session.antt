@@ -10,7 +10,7 @@ use Rattle.device_core.specs.Machine.{Stepped}
 use Rattle.device_core.specs.State.{State, Live}
 use Rattle.script_runner.specs.declared.fault.RunFault.{RunFault}
 use Rattle.script_runner.specs.declared.fault.RunFault.TheVariants.{Write, OutOfMemory}
-use Rattle.script_runner.specs.declared.command.Line.{Line}
+use Rattle.script_runner.specs.Line.{Line}
 use Rattle.script_runner.specs.declared.session.Power.{Power}
 use Rattle.script_runner.specs.declared.session.Power.TheVariants.{On, Off}
 use Rattle.script_runner.specs.Demo.{demo}

@@ -1,16 +1,15 @@
 // The lines of a script, and what they ask for.
-ghost use Rattle.std.specs.Prelude.{◌≡◌, ◌≢◌, ◌∷◌, ◌==◌, ◌<◌, ◌≤◌, ◌/◌, [], ℕ, List, nat_lt, true, false, length, take, IsErr, IfOk, IfSome};
+ghost use Rattle.std.specs.Prelude.{◌≡◌, ◌≢◌, ◌∷◌, ◌==◌, ◌<◌, ◌/◌, [], ℕ, List, nat_lt, true, false, length, IsErr, IfOk, IfSome};
 ghost use Rattle.std.specs.List.{slice_split, list_any, position};
 ghost use Rattle.std.specs.Option.{option_map, option_copied};
 ghost use Rattle.std.specs.Str.Lines.{lines, strip_carriage_return};
 ghost use Rattle.hex.specs.Hex.{decode_of};
 ghost use Rattle.script_runner.specs.Line.{behind, AreWords, bytes_of, command_of, meaning_of, words_of, bare, with_one, with_two, ticks_of, mask_of};
 ghost use Rattle.script_runner.specs.Numbers.{number_of};
+ghost use Rattle.script_runner.specs.Read.{command_read, line_read};
 
-use crate::bytes::copied;
 use crate::numbers;
 use flash_model::Order;
-use frame_codec::Bytes;
 use std::alloc::AllocError;
 
 /// How many bytes a line may have, what ends it not counted.
@@ -20,10 +19,10 @@ pub(crate) const LONGEST_LINE: usize = 65_536;
 const MOST_TICKS: u32 = 1_000_000;
 
 /// What a script asks for.
-#[derive(Drop)]
-pub(crate) enum Command {
+#[derive(Clone, Copy)]
+pub(crate) enum Command<'a> {
     /// Hand these bytes to the device, as from the network.
-    Frame(Bytes),
+    Frame(&'a [u8]),
     /// Take the device's power away, and give it back.
     Restart,
     /// Let so many units of time go by.
@@ -35,14 +34,14 @@ pub(crate) enum Command {
 }
 
 /// What a line is.
-#[derive(Drop)]
-pub(crate) enum Line {
+#[derive(Clone, Copy)]
+pub(crate) enum Line<'a> {
     /// Too long, or not ASCII.
     Unfit,
     /// Empty, or a comment.
     Skipped,
     /// It asks for this.
-    Asks(Command),
+    Asks(Command<'a>),
     /// None of these.
     Unknown,
 }
@@ -118,8 +117,8 @@ pub(crate) fn words_in(line: &[u8]) -> Words<'_>
 
 /// What a line means. `buffer` is for the bytes of a frame.
 #[tactic(auto, unfolding(crate::specs::Line::meaning_of))]
-pub(crate) fn meaning(line: &[u8], buffer: &mut Vec<u8>) -> Result<Line, AllocError>
-    ensures { IfOk result (λ meaning. meaning ≡ meaning_of line.now) }
+pub(crate) fn meaning<'a>(line: &[u8], buffer: &'a mut Vec<u8>) -> Result<Line<'a>, AllocError>
+    ensures { IfOk result (λ meaning. line_read meaning ≡ meaning_of line.now) }
 {
     if line.len() > LONGEST_LINE || has_more_than_ascii(line) {
         return Ok(Line::Unfit);
@@ -141,8 +140,11 @@ fn has_more_than_ascii(line: &[u8]) -> bool
 }
 
 /// What some words ask for.
-fn asked_by(words: Words<'_>, buffer: &mut Vec<u8>) -> Result<Option<Command>, AllocError>
-    ensures { IfOk result (λ command. (line : List ℕ) → AreWords line words.entry → command ≡ command_of (words_of line)) }
+fn asked_by<'a>(
+    words: Words<'_>,
+    buffer: &'a mut Vec<u8>,
+) -> Result<Option<Command<'a>>, AllocError>
+    ensures { IfOk result (λ command. (line : List ℕ) → AreWords line words.entry → option_map command_read command ≡ command_of (words_of line)) }
 {
     match words {
         Words::One(word) => Ok(bare(word)),
@@ -152,8 +154,8 @@ fn asked_by(words: Words<'_>, buffer: &mut Vec<u8>) -> Result<Option<Command>, A
     }
 }
 
-fn bare(word: &[u8]) -> Option<Command>
-    ensures { result ≡ bare word.now }
+fn bare(word: &[u8]) -> Option<Command<'static>>
+    ensures { option_map command_read result ≡ bare word.now }
 {
     if word == b"restart".as_slice() {
         Some(Command::Restart)
@@ -164,8 +166,12 @@ fn bare(word: &[u8]) -> Option<Command>
     }
 }
 
-fn with_one(word: &[u8], first: &[u8], buffer: &mut Vec<u8>) -> Result<Option<Command>, AllocError>
-    ensures { IfOk result (λ command. command ≡ with_one word.now first.now) }
+fn with_one<'a>(
+    word: &[u8],
+    first: &[u8],
+    buffer: &'a mut Vec<u8>,
+) -> Result<Option<Command<'a>>, AllocError>
+    ensures { IfOk result (λ command. option_map command_read command ≡ with_one word.now first.now) }
 {
     if word == b"frame".as_slice() {
         Ok(decoded(first, buffer)?.map(Command::Frame))
@@ -176,8 +182,8 @@ fn with_one(word: &[u8], first: &[u8], buffer: &mut Vec<u8>) -> Result<Option<Co
     }
 }
 
-fn ticks(digits: &[u8]) -> Option<Command>
-    ensures { result ≡ ticks_of (number_of 1000000 digits.now) }
+fn ticks(digits: &[u8]) -> Option<Command<'static>>
+    ensures { option_map command_read result ≡ ticks_of (number_of 1000000 digits.now) }
 {
     match numbers::decimal(digits, MOST_TICKS) {
         None | Some(0) => None,
@@ -190,8 +196,8 @@ fn with_two(
     first: &[u8],
     second: &[u8],
     buffer: &mut Vec<u8>,
-) -> Result<Option<Command>, AllocError>
-    ensures { IfOk result (λ command. command ≡ with_two word.now first.now second.now) }
+) -> Result<Option<Command<'static>>, AllocError>
+    ensures { IfOk result (λ command. option_map command_read command ≡ with_two word.now first.now second.now) }
 {
     if word != b"cut".as_slice() {
         return Ok(None);
@@ -217,9 +223,9 @@ fn mask(digits: &[u8], buffer: &mut Vec<u8>) -> Result<Option<[u8; 8]>, AllocErr
     Ok(numbers::mask_of(bytes))
 }
 
-/// The bytes that some hex digits spell. Of more than 1,519 bytes the first 1,519 are given: no frame is so long.
-fn decoded(digits: &[u8], buffer: &mut Vec<u8>) -> Result<Option<Bytes>, AllocError>
-    ensures { IfOk result (λ bytes. bytes ≡ bytes_of digits.now) }
+/// The bytes that some hex digits spell, at least one.
+fn decoded<'a>(digits: &[u8], buffer: &'a mut Vec<u8>) -> Result<Option<&'a [u8]>, AllocError>
+    ensures { IfOk result (λ bytes. option_copied bytes ≡ bytes_of digits.now) }
 {
     if digits.is_empty() {
         return Ok(None);
@@ -229,19 +235,7 @@ fn decoded(digits: &[u8], buffer: &mut Vec<u8>) -> Result<Option<Bytes>, AllocEr
     if !decode(digits, bytes) {
         return Ok(None);
     }
-    Ok(Some(copied(front(bytes, 1519))))
-}
-
-/// The first of some bytes, at most so many.
-fn front(bytes: &[u8], most: usize) -> &[u8]
-    ensures value { result.now ≡ take most bytes.now }
-    ensures most { length result.now ≤ most }
-{
-    if bytes.len() > most {
-        &bytes[..most]
-    } else {
-        bytes
-    }
+    Ok(Some(bytes))
 }
 
 /// Decodes hex digits, two for each of the bytes. Says whether they are hex digits, and as many.

@@ -19,13 +19,14 @@ pub(crate) fn play<W: Write>(alloc: Global, input: &[u8], writer: &mut W) -> Res
     ensures played { AreUncut (lines input.now) → IsPlayed (W.contents writer.old) (W.contents writer.new) input.now result }
 {
     let mut session = Session::new(alloc);
+    let mut buffer = Vec::new(alloc);
     put(writer, b"boot ok\n")?;
     let mut rest = input;
     let mut number = 0;
     while !rest.is_empty() {
         let (line, later) = first_line(rest);
         number += 1;
-        if !session.take(line, writer)? {
+        if !session.take(line, &mut buffer, writer)? {
             return Err(RunFault::Line(number));
         }
         rest = later;

@@ -1,5 +1,6 @@
 // The lines that are printed. Each function appends one of them to a text.
-ghost use Rattle.std.specs.Prelude.{◌≡◌, ◌++◌, OnOk, map};
+ghost use Rattle.std.specs.Prelude.{◌≡◌, ◌≤◌, ◌++◌, length, OnOk, map};
+ghost use Rattle.hex.specs.Hex.{encode_lower};
 ghost use Rattle.script_runner.specs.Text.{boot_line, out_line, out_lines, note_line, note_word};
 
 use device_core::Note;
@@ -23,13 +24,33 @@ pub(crate) fn boot(refused: Option<BootFault>, text: &mut Vec<u8>) -> Result<(),
 pub(crate) fn out(frame: &Frame, text: &mut Vec<u8>) -> Result<(), AllocError>
     ensures { OnOk result (text.new.items ≡ text.old.items ++ out_line frame.now.items) }
 {
-    let bytes = frame.as_slice();
-    let mut digits = [0; 3036];
-    let digits = &mut digits[..2 * bytes.len()];
-    let _ = hex::encode_to_slice(bytes, digits);
     text.extend_from_slice(b"out ")?;
-    text.extend_from_slice(digits)?;
+    hex_digits(frame.as_slice(), text)?;
     text.extend_from_slice(b"\n")
+}
+
+/// Bytes, two digits for each. This is no line of its own.
+pub(crate) fn hex_digits(bytes: &[u8], text: &mut Vec<u8>) -> Result<(), AllocError>
+    ensures { OnOk result (text.new.items ≡ text.old.items ++ encode_lower bytes.now) }
+{
+    let mut rest = bytes;
+    while !rest.is_empty() {
+        let (piece, later) = rest.split_at(rest.len().min(32));
+        digits_of_piece(piece, text)?;
+        rest = later;
+    }
+    Ok(())
+}
+
+/// At most 32 bytes, two digits for each.
+fn digits_of_piece(piece: &[u8], text: &mut Vec<u8>) -> Result<(), AllocError>
+    requires { length piece.now ≤ 32 }
+    ensures { OnOk result (text.new.items ≡ text.old.items ++ encode_lower piece.now) }
+{
+    let mut digits = [0; 64];
+    let digits = &mut digits[..2 * piece.len()];
+    let _ = hex::encode_to_slice(piece, digits);
+    text.extend_from_slice(digits)
 }
 
 /// Frames that are sent, the first of them first.

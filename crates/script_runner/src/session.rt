@@ -11,12 +11,13 @@ ghost use Rattle.script_runner.specs.Demo.{demo};
 ghost use Rattle.script_runner.specs.Script.{ticked};
 ghost use Rattle.script_runner.specs.Session.{Runs, IsStepped, AreTicked};
 
+use crate::bytes::{copied, front};
 use crate::command::{self, Command, Line};
 use crate::output::put;
 use crate::{RunFault, demo, render, show};
 use device_core::{Device, Event, Note};
 use flash_model::{Flash, MemoryFlash, Order};
-use frame_codec::{Bytes, Outbox};
+use frame_codec::Outbox;
 use settings_journal::BootFault;
 use std::alloc::{AllocError, Global};
 use std::io::Write;
@@ -95,20 +96,19 @@ impl Power {
     }
 }
 
-/// A run: the device, the frames that it sends at a time, the text that a line prints, and room for a frame's bytes.
+/// A run: the device, the frames that it sends at a time, and the text that a line prints.
 #[derive(Drop)]
 pub(crate) struct Session {
     power: Power,
     outbox: Outbox,
     text: Vec<u8>,
-    buffer: Vec<u8>,
 }
 
 impl Session {
-    ghost use Rattle.script_runner.specs.Line.{meaning_of};
+    ghost use Rattle.script_runner.specs.Line.{Frame, Restart, Tick, Show, meaning_of};
+    ghost use Rattle.script_runner.specs.Read.{command_read};
     ghost use Rattle.script_runner.specs.Script.{said, factory_device, IsPlain, IsUncut};
     ghost use Rattle.script_runner.specs.Session.{IsRunning, Takes, Obeys, IsObeyed};
-    ghost use Rattle.script_runner.specs.declared.command.Command.TheVariants.{Frame, Restart, Tick, Show};
 
     /// The demo device over a blank flash, as it starts.
     pub(crate) fn new(alloc: Global) -> Session
@@ -118,17 +118,22 @@ impl Session {
             power: Power::start(MemoryFlash::blank()),
             outbox: Outbox::new(),
             text: Vec::new(alloc),
-            buffer: Vec::new(alloc),
         }
     }
 
-    /// Takes a line of the script, and writes what it prints. Says whether it is a line that a script may have.
-    pub(crate) fn take<W: Write>(&mut self, line: &[u8], writer: &mut W) -> Result<bool, RunFault>
+    /// Takes a line of the script, and writes what it prints. Says whether it is a line that a script may have. `buffer`
+    /// is for the bytes that the line spells.
+    pub(crate) fn take<W: Write>(
+        &mut self,
+        line: &[u8],
+        buffer: &mut Vec<u8>,
+        writer: &mut W,
+    ) -> Result<bool, RunFault>
         ensures faults { IfErr result (λ fault. (fault ≡ RunFault.Write) ⊎ (fault ≡ RunFault.OutOfMemory)) }
         ensures takes { (live : Live) → IsRunning live self.old.power → IsUncut (meaning_of line.now) →
             Takes live (meaning_of line.now) (W.contents writer.old) (W.contents writer.new) self.new.power result }
     {
-        let Ok(meaning) = command::meaning(line, &mut self.buffer) else {
+        let Ok(meaning) = command::meaning(line, buffer) else {
             return Err(RunFault::OutOfMemory);
         };
         if self.power.is_off() && !is_heard_without_power(&meaning) {
@@ -146,10 +151,10 @@ impl Session {
     }
 
     /// Does what a command asks for, and writes what it prints.
-    fn obey<W: Write>(&mut self, command: Command, writer: &mut W) -> Result<(), RunFault>
+    fn obey<W: Write>(&mut self, command: Command<'_>, writer: &mut W) -> Result<(), RunFault>
         ensures faults { IfErr result (λ fault. (fault ≡ RunFault.Write) ⊎ (fault ≡ RunFault.OutOfMemory)) }
-        ensures obeys { (live : Live) → IsRunning live self.old.power → IsPlain command →
-            Obeys (said live command) (W.contents writer.old) (W.contents writer.new) self.new.power result }
+        ensures obeys { (live : Live) → IsRunning live self.old.power → IsPlain (command_read command.entry) →
+            Obeys (said live (command_read command.entry)) (W.contents writer.old) (W.contents writer.new) self.new.power result }
     {
         self.text.clear();
         let Ok(()) = self.answer(command) else {
@@ -159,9 +164,9 @@ impl Session {
     }
 
     /// Does what a command asks for, and renders what it prints.
-    fn answer(&mut self, command: Command) -> Result<(), AllocError>
-        ensures { (live : Live) → IsRunning live self.old.power → IsPlain command →
-            OnOk result (IsObeyed (said live command) self.new.power self.old.text.items self.new.text.items) }
+    fn answer(&mut self, command: Command<'_>) -> Result<(), AllocError>
+        ensures { (live : Live) → IsRunning live self.old.power → IsPlain (command_read command.entry) →
+            OnOk result (IsObeyed (said live (command_read command.entry)) self.new.power self.old.text.items self.new.text.items) }
     {
         match command {
             Command::Frame(bytes) => self.hand_in(bytes),
@@ -175,15 +180,15 @@ impl Session {
         }
     }
 
-    /// Hands bytes to the device, as from the network.
+    /// Hands bytes to the device, as from the network, at most 1,519 of them: no frame is so long.
     #[tactic(auto, unfolding(crate::specs::Script::said))]
-    fn hand_in(&mut self, bytes: Bytes) -> Result<(), AllocError>
+    fn hand_in(&mut self, bytes: &[u8]) -> Result<(), AllocError>
         ensures { (live : Live) → IsRunning live self.old.power →
-            OnOk result (IsObeyed (said live (Frame bytes)) self.new.power self.old.text.items self.new.text.items) }
+            OnOk result (IsObeyed (said live (Frame bytes.now)) self.new.power self.old.text.items self.new.text.items) }
     {
         match &mut self.power {
             Power::On(device) => {
-                let event = Event::Frame(bytes);
+                let event = Event::Frame(copied(front(bytes, 1519)));
                 let note = step(device, &event, &mut self.outbox, &mut self.text)?;
                 if device.flash().is_lost() {
                     self.text.clear();
@@ -248,7 +253,7 @@ impl Session {
 
 /// Whether a line is more than `off` while there is no power: it is skipped, is none that a script may have, or gives
 /// the power back.
-fn is_heard_without_power(line: &Line) -> bool {
+fn is_heard_without_power(line: &Line<'_>) -> bool {
     matches!(
         line,
         Line::Unfit | Line::Skipped | Line::Asks(Command::Restart)

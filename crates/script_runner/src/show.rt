@@ -1,7 +1,8 @@
 // The lines that show the settings and the lamp. Each function appends one of them to a text.
-ghost use Rattle.std.specs.Prelude.{◌≡◌, ◌≤◌, ◌++◌, length, OnOk, decimal};
+ghost use Rattle.std.specs.Prelude.{◌≡◌, ◌++◌, OnOk, decimal};
 ghost use Rattle.script_runner.specs.Show.{name_line, suite_line, dotted, text_line, lamp_line, shown};
 
+use crate::render::hex_digits;
 use itoa::Buffer;
 use pn_values::{IpSuite, Settings, StationName};
 use std::alloc::AllocError;
@@ -71,17 +72,13 @@ fn number(number: u32, text: &mut Vec<u8>) -> Result<(), AllocError>
     text.extend_from_slice(buffer.format(number).as_bytes())
 }
 
-/// An I&M text, of at most 54 bytes, in hex.
+/// An I&M text, in hex.
 #[tactic(auto, unfolding(crate::specs::Show::text_line))]
 fn im_text(label: &[u8], bytes: &[u8], text: &mut Vec<u8>) -> Result<(), AllocError>
-    requires { length bytes.now ≤ 54 }
     ensures { OnOk result (text.new.items ≡ text.old.items ++ text_line label.now bytes.now) }
 {
-    let mut digits = [0; 108];
-    let digits = &mut digits[..2 * bytes.len()];
-    let _ = hex::encode_to_slice(bytes, digits);
     text.extend_from_slice(label)?;
-    text.extend_from_slice(digits)?;
+    hex_digits(bytes, text)?;
     text.extend_from_slice(b"\n")
 }
 

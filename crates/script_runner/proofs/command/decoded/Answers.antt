@@ -1,4 +1,4 @@
-use Rattle.std.proofs.Common.{◌<◌, length, arith, ◌∙◌, ap}
+use Rattle.std.proofs.Common.{◌<◌, length, arith}
 use Rattle.std.proofs.lemmas.Bool.Decides.{nat_tests}
 use Rattle.script_runner.proofs.Hex.{bytes_decoded}
 use Rattle.script_runner.proofs.command.decoded.Goals as goal
@@ -6,4 +6,4 @@ use Rattle.script_runner.proofs.command.decoded.Goals as goal
 pub returns : goal.returns
 returns c =
     let some : 0 < length c.args.digits.now = grind (arith, nat_tests) in
-    bytes_decoded c.args.digits.now c.decode.new.bytes c.copied.result some (grind (arith, c.decode.ensures.decoded)) (c.copied.ensures ∙ ap (λ items. record { items = items }) c.front.ensures.value)
+    bytes_decoded c.args.digits.now c.decode.new.bytes some (grind (arith, c.decode.ensures.decoded))

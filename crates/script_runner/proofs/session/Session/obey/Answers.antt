@@ -1,4 +1,5 @@
 use Rattle.std.proofs.Common.{[], subst}
+use Rattle.script_runner.specs.Read.{command_read}
 use Rattle.script_runner.specs.Script.{said}
 use Rattle.script_runner.specs.Output.{Puts}
 use Rattle.script_runner.specs.Session.{IsObeyed}
@@ -8,5 +9,5 @@ use Rattle.script_runner.proofs.session.Session.obey.Goals as goal
 pub returns-clause-obeys : goal.returns-clause-obeys
 returns-clause-obeys g c live running plain =
     let obeyed = c.in-Ok.ensures live running plain in
-    let from_nothing = subst (λ before. IsObeyed (said live c.args.command) c.answer.new.self.power before c.answer.new.self.text.items) c.clear.ensures.items obeyed in
-    obeyed_puts (said live c.args.command) c.answer.new.self.power _ _ _ c.put.result from_nothing (subst (λ text. Puts (g.W.Write.contents c.args.writer.now) (g.W.Write.contents c.put.new.writer) text c.put.result) c.as_slice.ensures.value c.put.ensures)
+    let from_nothing = subst (λ before. IsObeyed (said live (command_read c.args.command)) c.answer.new.self.power before c.answer.new.self.text.items) c.clear.ensures.items obeyed in
+    obeyed_puts (said live (command_read c.args.command)) c.answer.new.self.power _ _ _ c.put.result from_nothing (subst (λ text. Puts (g.W.Write.contents c.args.writer.now) (g.W.Write.contents c.put.new.writer) text c.put.result) c.as_slice.ensures.value c.put.ensures)

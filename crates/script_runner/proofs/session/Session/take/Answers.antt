@@ -1,4 +1,5 @@
 use Rattle.std.proofs.Common.{[], sym, ap, subst, ◌∙◌}
+use Rattle.script_runner.specs.Read.{command_read, line_read}
 use Rattle.script_runner.specs.Script.{said, answer_of, IsUncut}
 use Rattle.script_runner.proofs.Known.{appends_none}
 use Rattle.script_runner.proofs.session.Session.take.Goals as goal
@@ -6,17 +7,17 @@ use Rattle.script_runner.proofs.session.Session.take.Goals as goal
 pub returns-in-Skipped-clause-takes : goal.returns-in-Skipped-clause-takes
 returns-in-Skipped-clause-takes g c live running uncut = record {
   answer = record { live = live; text = [] };
-  is = ap (answer_of live) (sym c.in-Ok.ensures ∙ c.in-Skipped.is);
+  is = ap (answer_of live) (sym c.in-Ok.ensures ∙ ap line_read c.in-Skipped.is);
   text = appends_none _;
   runs = running;
 }
 
 pub returns-in_ok-obey-in-Asks-clause-takes : goal.returns-in_ok-obey-in-Asks-clause-takes
 returns-in_ok-obey-in-Asks-clause-takes g c live running uncut =
-    let meant = sym c.in-Ok.ensures ∙ c.in-Asks.is in
+    let meant = sym c.in-Ok.ensures ∙ ap line_read c.in-Asks.is in
     let obeyed = c.in_ok-obey-in-Asks.ensures.obeys live running (subst IsUncut meant uncut) in
     record {
-      answer = said live c.in-Asks.command;
+      answer = said live (command_read c.in-Asks.command);
       is = ap (answer_of live) meant;
       text = obeyed.0;
       runs = obeyed.1;

@@ -1,0 +1,19 @@
+-- What the code reads of a line, without where its bytes lie in memory.
+use Rattle.script_runner.specs.declared.command.Command.{Command as Code}
+use Rattle.script_runner.specs.declared.command.Command.TheVariants as code
+use Rattle.script_runner.specs.declared.command.Line.{Line as CodeLine}
+use Rattle.script_runner.specs.declared.command.Line.TheVariants as line
+use Rattle.script_runner.specs.Line.{Command, Frame, Restart, Tick, Show, Arm, Line, Unfit, Skipped, Asks, Unknown}
+
+abbrev pub command_read : Code → Command
+command_read (code.Frame bytes) = Frame bytes.now
+command_read code.Restart = Restart
+command_read (code.Tick units) = Tick units
+command_read code.Show = Show
+command_read (code.Arm order) = Arm order
+
+abbrev pub line_read : CodeLine → Line
+line_read line.Unfit = Unfit
+line_read line.Skipped = Skipped
+line_read (line.Asks command) = Asks (command_read command)
+line_read line.Unknown = Unknown
