@@ -1,4 +1,3 @@
-pub mod Store
 pub mod Machine
 pub mod Steps
 pub mod Runs

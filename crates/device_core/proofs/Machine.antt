@@ -1,9 +1,9 @@
 -- What one step and runs of steps do.
-use Rattle.std.proofs.Common.{◌≡◌, ℕ, Bool, true, false, List, [], ◌∷◌, ◌++◌, refl, sym, ap, ◌∙◌, append_assoc}
+use Rattle.std.proofs.Common.{◌≡◌, ◌+◌, ℕ, Bool, true, false, List, [], ◌∷◌, ◌++◌, length, length-append, refl, sym, ap, ◌∙◌, append_assoc, arith}
 use Rattle.std.proofs.lemmas.List.{append-nil}
 use Rattle.pn_values.specs.declared.identity.Identity.{Identity}
 use Rattle.settings_store.specs.State.{Values}
-use Rattle.settings_store.specs.Machine.{Outcome, carried}
+use Rattle.settings_store.specs.Machine.{Outcome, Accepted, carried}
 use Rattle.settings_store.specs.Legal.{made_of}
 use Rattle.device_core.specs.declared.event.Event.{Event}
 use Rattle.device_core.specs.State.{Live}
@@ -15,7 +15,7 @@ use Rattle.dcp_core.specs.Set.{plan_of, set_bytes}
 use Rattle.device_core.specs.declared.event.Note.TheVariants as note
 use Rattle.device_core.specs.Heard.{Heard, Ticks, Unreadable, Elsewhere, Asks, heard_of}
 use Rattle.device_core.specs.Machine.{Finished, Stepped, Ran, items_of, is_set, lamp_after, answer_frame, finished, heard_step, step_of, handed, first_step, later_steps, then_run, run_of}
-use Rattle.device_core.proofs.Store.{failed_accepted, stays_failed, stored_made, still_fine, made_append}
+use Rattle.settings_store.proofs.Laws.{failed_accepted, stays_failed, stored_made, made_append, room_left}
 
 -- a step that asks nothing of the flash
 unfoldable pub quiet_step : Identity → Live → Heard → Stepped
@@ -69,6 +69,12 @@ pub step_stored : (outcomes : List Outcome) (identity : Identity) (live : Live) 
 unfolding heard_step
 step_stored outcomes identity live heard fine = stored_made outcomes live.values (items_of heard) fine
 
+-- while no commit failed, each accepted command takes one of the room for commits, and nothing else does
+pub step_room : (outcomes : List Outcome) (identity : Identity) (live : Live) (heard : Heard) → (heard_step outcomes identity live heard).live.values.has_failed ≡ false
+    → (heard_step outcomes identity live heard).live.values.room + length (heard_step outcomes identity live heard).accepted ≡ live.values.room
+unfolding heard_step
+step_room outcomes identity live heard fine = room_left outcomes live.values (items_of heard) fine
+
 -- a run, and then a step
 unfoldable pub then_step : Ran → Stepped → Ran
 then_step ran step = record { live = step.live; frames = ran.frames ++ handed step; accepted = ran.accepted ++ step.accepted }
@@ -111,6 +117,10 @@ run_joined [] [] identity live events event = run_quiet identity live events eve
 run_joined [] (outcome ∷ outcomes) identity live events event = run_snoc [] (outcome ∷ outcomes) identity live events event
 run_joined (one ∷ front) last identity live events event = run_snoc (one ∷ front) last identity live events event
 
+still_fine : (before now : Bool) → (before ≡ true → now ≡ true) → now ≡ false → before ≡ false
+still_fine true now stays fine = let failed : now ≡ true = stays refl in cc
+still_fine false now stays fine = refl
+
 -- once a commit failed, one has failed
 pub run_failed : (outcomes : List (List Outcome)) (identity : Identity) (live : Live) (events : List Event) → live.values.has_failed ≡ true → (run_of outcomes identity live events).live.values.has_failed ≡ true
 run_failed outcomes identity live [] failed = failed
@@ -127,3 +137,16 @@ run_made outcomes identity live (event ∷ events) fine =
     run_made (later_steps outcomes) identity step.live events fine
     ∙ ap (made_of (run_of (later_steps outcomes) identity step.live events).accepted) (step_stored (first_step outcomes) identity live (heard_of identity event) still)
     ∙ sym (made_append step.accepted (run_of (later_steps outcomes) identity step.live events).accepted live.values.stored)
+
+room_then : (before between now : ℕ) (front back : List Accepted) → between + length front ≡ before → now + length back ≡ between → now + length (front ++ back) ≡ before
+room_then before between now front back one two = let e = length-append front back in omega (arith, one, two, e)
+
+-- while no commit failed, each accepted command takes one of the room for commits, and nothing else does
+pub run_room : (outcomes : List (List Outcome)) (identity : Identity) (live : Live) (events : List Event) → (run_of outcomes identity live events).live.values.has_failed ≡ false
+    → (run_of outcomes identity live events).live.values.room + length (run_of outcomes identity live events).accepted ≡ live.values.room
+run_room outcomes identity live [] fine = omega arith
+run_room outcomes identity live (event ∷ events) fine =
+    let step : Stepped = step_of (first_step outcomes) identity live event in
+    let still : step.live.values.has_failed ≡ false = still_fine _ _ (run_failed (later_steps outcomes) identity step.live events) fine in
+    room_then _ _ _ step.accepted (run_of (later_steps outcomes) identity step.live events).accepted
+    (step_room (first_step outcomes) identity live (heard_of identity event) still) (run_room (later_steps outcomes) identity step.live events fine)

@@ -1,5 +1,5 @@
 -- What a run does, from what its steps do.
-use Rattle.std.proofs.Common.{◌≡◌, ◌<◌, arith, ℕ, Bool, true, false, List, [], ◌∷◌, ◌++◌, if◌then◌else◌, refl, sym, ap, subst, ◌∙◌, inl, inr, append_assoc}
+use Rattle.std.proofs.Common.{◌≡◌, ◌+◌, ◌<◌, length, arith, ℕ, Bool, true, false, List, [], ◌∷◌, ◌++◌, if◌then◌else◌, refl, sym, ap, subst, ◌∙◌, inl, inr, append_assoc}
 use Rattle.std.proofs.lemmas.List.{append-nil}
 use Rattle.std.proofs.lemmas.Bool.{cond-true}
 use Rattle.flash_model.specs.Image.{Image}
@@ -7,12 +7,12 @@ use Rattle.settings_store.specs.Carries.{Holds, IsCaused}
 use Rattle.settings_store.specs.State.{Values}
 use Rattle.settings_store.specs.Legal.{made_of, CrashSafe}
 use Rattle.device_core.specs.declared.event.Event.{Event}
-use Rattle.device_core.specs.State.{State}
+use Rattle.device_core.specs.State.{State, Live}
 use Rattle.device_core.specs.Heard.{heard_of}
 use Rattle.device_core.specs.Machine.{Ran, Stepped, heard_step, step_of, run_of}
-use Rattle.device_core.specs.Steps.{HandsOn, Runs, IsExactRun}
-use Rattle.device_core.proofs.Machine.{then_step, joined, joined_quiet, run_joined, step_none, step_failed, run_failed, run_made}
-use Rattle.device_core.proofs.Store.{safe_then, caused_then}
+use Rattle.device_core.specs.Steps.{HandsOn, Runs, IsExactRun, TakesRoom}
+use Rattle.device_core.proofs.Machine.{then_step, joined, joined_quiet, run_joined, step_none, step_failed, run_failed, run_made, run_room}
+use Rattle.settings_store.proofs.Laws.{safe_then, caused_then}
 
 -- no event
 pub no_run : {F : Type 0} (image : F → Image) (failures : F → ℕ) (state : State F) (taken : List (List ℕ)) → Holds (image state.flash) state.live.values
@@ -96,3 +96,10 @@ pub run_finely : {F : Type 0} (image : F → Image) (failures : F → ℕ) (old 
     → Runs image failures old events before now new → new.live.values.has_failed ≡ false → IsExactRun old events before now new
 run_finely image failures old new events before now runs fine = exact_run image failures old new events before now runs
     (no_fault runs.outcomes (failures old.flash) (failures new.flash) old.live.values new.live.values runs.caused fine)
+
+pub run_takes_room : {F : Type 0} (image : F → Image) (failures : F → ℕ) (old new : State F) (events : List Event) (before now : List (List ℕ))
+    → Runs image failures old events before now new → new.live.values.has_failed ≡ false → TakesRoom old events new
+run_takes_room image failures old new events before now runs fine =
+    let exact = run_finely image failures old new events before now runs fine in
+    ap (λ (live : Live). live.values.room + length (run_of [] old.identity old.live events).accepted) exact.live
+    ∙ run_room [] old.identity old.live events (sym (ap (λ (live : Live). live.values.has_failed) exact.live) ∙ fine)

@@ -1,5 +1,5 @@
 -- What a step and a run do, whatever the flash does.
-use Rattle.std.specs.Prelude.{◌≡◌, ◌≢◌, ◌⊎◌, ℕ, Bool, true, false, List, [], ◌∷◌, ◌++◌, if◌then◌else◌}
+use Rattle.std.specs.Prelude.{◌≡◌, ◌≢◌, ◌⊎◌, ◌+◌, length, ℕ, Bool, true, false, List, [], ◌∷◌, ◌++◌, if◌then◌else◌}
 use Rattle.flash_model.specs.Image.{Image}
 use Rattle.pn_values.specs.declared.mac.Mac.{Mac}
 use Rattle.settings_store.specs.Machine.{Outcome}
@@ -72,3 +72,8 @@ pub record IsExactRun {F : Type 0} (old : State F) (events : List Event) (before
   pub same : IsSame old new
   pub live : new.live ≡ (run_of [] old.identity old.live events).live
   pub frames : now ≡ before ++ (run_of [] old.identity old.live events).frames
+
+-- With no commit failing, each command that was accepted took one of the room for commits, and nothing else did: a flash
+-- has room for as many more as its start reads.
+abbrev pub TakesRoom : {F : Type 0} → State F → List Event → State F → Type 0
+TakesRoom old events new = new.live.values.room + length (run_of [] old.identity old.live events).accepted ≡ old.live.values.room

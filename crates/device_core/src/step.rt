@@ -17,14 +17,14 @@ use dcp_core::{
     set_answer, set_plan,
 };
 use flash_model::Flash;
-use frame_codec::{DCP_GET_SET, DCP_IDENTIFY_RESPONSE, Frame, Layered, Outbox, Payload, write};
+use frame_codec::{DCP_GET_SET, DCP_IDENTIFY_RESPONSE, Layered, Outbox, Payload, put_alone};
 use pn_values::{Identity, Mac};
 
 /// For how many units of 31.25 microseconds the lamp flashes after a Signal: 3 seconds.
 const LAMP_UNITS: u32 = 96_000;
 
 impl<F: Flash<S>, const S: usize> Device<F, S> {
-    /// Takes an event, and puts the frames to be sent into the box, which it empties first.
+    /// Takes an event, and puts the frames to be sent into the box, which holds nothing else then.
     pub fn step(&mut self, event: &Event, outbox: &mut Outbox) -> Note
         ensures steps { Steps F.image F.failures self.old (heard_of self.old.identity event.now) (map (λ frame. frame.items) outbox.new.items) result self.new }
 
@@ -40,22 +40,29 @@ impl<F: Flash<S>, const S: usize> Device<F, S> {
         ensures identify { (asker : Mac) (request : Asked) → heard_of self.old.identity event.now ≡ Asks asker request → request.service ≡ Service.Identify →
             Identifies self.old asker request (map (λ frame. frame.items) outbox.new.items) result self.new }
     {
-        outbox.clear();
         let heard = hear(&self.identity, event);
         self.respond(heard, outbox)
     }
 
-    // What comes of what was heard. The box is empty.
+    // What comes of what was heard.
     fn respond(&mut self, heard: Heard<'_>, outbox: &mut Outbox) -> Note
-        requires empty { outbox.old.items ≡ [] }
         requires stored { Holds (F.image self.old.flash) self.old.live.values }
         ensures steps { Steps F.image F.failures self.old (meaning_of heard.entry) (map (λ frame. frame.items) outbox.new.items) result self.new }
         ensures reliable { F.is_reliable self.old.flash → F.is_reliable self.new.flash × (self.new.live.values.has_failed ≡ self.old.live.values.has_failed) }
     {
         match heard {
-            Heard::Tick => self.tick(),
-            Heard::Unreadable => Note::Fault,
-            Heard::Elsewhere => Note::NotMine,
+            Heard::Tick => {
+                outbox.clear();
+                self.tick()
+            }
+            Heard::Unreadable => {
+                outbox.clear();
+                Note::Fault
+            }
+            Heard::Elsewhere => {
+                outbox.clear();
+                Note::NotMine
+            }
             Heard::Request { source, request } => self.serve(source, &request, outbox),
         }
     }
@@ -69,9 +76,8 @@ impl<F: Flash<S>, const S: usize> Device<F, S> {
         Note::Done
     }
 
-    // A request of a station. The box is empty.
+    // A request of a station.
     fn serve(&mut self, asker: Mac, request: &Request<'_>, outbox: &mut Outbox) -> Note
-        requires empty { outbox.old.items ≡ [] }
         requires stored { Holds (F.image self.old.flash) self.old.live.values }
         ensures steps { Steps F.image F.failures self.old (Asks asker (asked request.now)) (map (λ frame. frame.items) outbox.new.items) result self.new }
         ensures reliable { F.is_reliable self.old.flash → F.is_reliable self.new.flash × (self.new.live.values.has_failed ≡ self.old.live.values.has_failed) }
@@ -85,35 +91,39 @@ impl<F: Flash<S>, const S: usize> Device<F, S> {
 
     // An Identify request (IEC 61158-6-10, 4.3.2.3).
     fn identify(&self, asker: Mac, request: &Request<'_>, outbox: &mut Outbox) -> Note
-        requires { outbox.old.items ≡ [] }
         ensures frames { map (λ frame. frame.items) outbox.new.items
             ≡ (identified self.now.identity self.now.live.values.running self.now.live.lamp asker (asked request.now)).frames }
         ensures note { result ≡ (identified self.now.identity self.now.live.values.running self.now.live.lamp asker (asked request.now)).note }
     {
         let running = self.store.running();
         if !identify_matches(&self.identity, running, request) {
+            outbox.clear();
             return Note::Filter;
         }
         let answer = identify_answer(&self.identity, running, request.xid);
-        outbox.push(frame_to(&self.identity, asker, DCP_IDENTIFY_RESPONSE, &answer));
+        send(
+            &self.identity,
+            asker,
+            DCP_IDENTIFY_RESPONSE,
+            &answer,
+            outbox,
+        );
         Note::Done
     }
 
     // A Get (4.3.2.4).
     fn get(&self, asker: Mac, request: &Request<'_>, outbox: &mut Outbox) -> Note
-        requires { outbox.old.items ≡ [] }
         ensures frames { map (λ frame. frame.items) outbox.new.items
             ≡ answer_frame self.now.identity asker 65277 (get_bytes self.now.identity self.now.live.values.running (asked request.now)) ∷ [] }
         ensures note { result ≡ Note.Done }
     {
         let answer = get_answer(&self.identity, self.store.running(), request);
-        outbox.push(frame_to(&self.identity, asker, DCP_GET_SET, &answer));
+        send(&self.identity, asker, DCP_GET_SET, &answer, outbox);
         Note::Done
     }
 
     // A Set (4.3.2.5): its blocks in order, each by itself. No application relation exists.
     fn set(&mut self, asker: Mac, request: &Request<'_>, outbox: &mut Outbox) -> Note
-        requires empty { outbox.old.items ≡ [] }
         requires service { request.now.service ≡ Service.Set }
         ensures steps { Steps F.image F.failures self.old (Asks asker (asked request.now)) (map (λ frame. frame.items) outbox.new.items) result self.new }
         ensures reliable { F.is_reliable self.old.flash → F.is_reliable self.new.flash × (self.new.live.values.has_failed ≡ self.old.live.values.has_failed) }
@@ -123,7 +133,7 @@ impl<F: Flash<S>, const S: usize> Device<F, S> {
         self.store.carry_out(items.as_slice(), &mut answers);
         self.lamp = lamp_after(self.lamp, request);
         let answer = set_answer(request, &answers);
-        outbox.push(frame_to(&self.identity, asker, DCP_GET_SET, &answer));
+        send(&self.identity, asker, DCP_GET_SET, &answer, outbox);
         Note::Done
     }
 }
@@ -139,11 +149,11 @@ fn lamp_after(lamp: u32, request: &Request<'_>) -> u32
     }
 }
 
-// A DCP answer to the station that asked.
-fn frame_to(identity: &Identity, asker: Mac, frame_id: u16, answer: &Answer) -> Frame
-    ensures { result.items ≡ answer_frame identity.now asker frame_id answer.now.items }
+// Puts a DCP answer to the station that asked into the box, alone.
+fn send(identity: &Identity, asker: Mac, frame_id: u16, answer: &Answer, outbox: &mut Outbox)
+    ensures { map (λ frame. frame.items) outbox.new.items ≡ answer_frame identity.now asker frame_id answer.now.items ∷ [] }
 {
-    write(&Layered {
+    let layered = Layered {
         destination: asker,
         source: identity.mac,
         tag: None,
@@ -151,5 +161,6 @@ fn frame_to(identity: &Identity, asker: Mac, frame_id: u16, answer: &Answer) -> 
             frame_id,
             body: answer.as_slice(),
         },
-    })
+    };
+    put_alone(&layered, outbox);
 }

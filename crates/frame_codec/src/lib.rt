@@ -17,7 +17,7 @@ pub use frame_id::{
 pub use layered::{Layered, Payload};
 pub use limits::{Bytes, Frame, Outbox};
 pub use reading::read;
-pub use writing::write;
+pub use writing::{put_alone, write};
 
 #[cfg(test)]
 mod tests;

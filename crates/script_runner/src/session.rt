@@ -1,9 +1,10 @@
 // What a run holds from line to line.
-ghost use Rattle.std.specs.Prelude.{◌≡◌, ◌⊎◌, ◌++◌, ℕ, List, [], IfErr, IfOk, OnOk, map};
+ghost use Rattle.std.specs.Prelude.{◌≡◌, ◌⊎◌, ◌++◌, ℕ, List, [], IfErr, IfOk, OnOk, map, take};
 ghost use Rattle.pn_values.specs.declared.settings.Settings.{Settings};
 ghost use Rattle.flash_model.specs.Image.{erased};
 ghost use Rattle.flash_model.specs.Memory.{image_of, IsReliable};
 ghost use Rattle.settings_journal.specs.Image.{StartsWith, LeftByDevice};
+ghost use Rattle.device_core.specs.declared.event.Event.TheVariants as event;
 ghost use Rattle.device_core.specs.State.{Live};
 ghost use Rattle.device_core.specs.Cycle.{started};
 ghost use Rattle.device_core.specs.Machine.{step_of};
@@ -96,10 +97,12 @@ impl Power {
     }
 }
 
-/// A run: the device, the frames that it sends at a time, and the text that a line prints.
+/// A run: the device, the last event that came from the network, the frames that the device sends at a time, and the text
+/// that a line prints.
 #[derive(Drop)]
 pub(crate) struct Session {
     power: Power,
+    received: Event,
     outbox: Outbox,
     text: Vec<u8>,
 }
@@ -116,6 +119,7 @@ impl Session {
     {
         Session {
             power: Power::start(MemoryFlash::blank()),
+            received: Event::Tick,
             outbox: Outbox::new(),
             text: Vec::new(alloc),
         }
@@ -188,8 +192,8 @@ impl Session {
     {
         match &mut self.power {
             Power::On(device) => {
-                let event = Event::Frame(copied(front(bytes, 1519)));
-                let note = step(device, &event, &mut self.outbox, &mut self.text)?;
+                receive(&mut self.received, bytes);
+                let note = step(device, &self.received, &mut self.outbox, &mut self.text)?;
                 if device.flash().is_lost() {
                     self.text.clear();
                     return self.text.extend_from_slice(b"power lost\n");
@@ -258,6 +262,20 @@ fn is_heard_without_power(line: &Line<'_>) -> bool {
         line,
         Line::Unfit | Line::Skipped | Line::Asks(Command::Restart)
     )
+}
+
+/// Makes the event of bytes that come from the network, in the room of the last one.
+fn receive(received: &mut Event, bytes: &[u8])
+    ensures { received.new ≡ event.Frame (record { items = take 1519 bytes.now }) }
+{
+    let bytes = front(bytes, 1519);
+    match received {
+        Event::Frame(room) => {
+            room.clear();
+            let _ = room.try_extend_from_slice(bytes);
+        }
+        Event::Tick => *received = Event::Frame(copied(bytes)),
+    }
 }
 
 /// Makes a step of the device, and renders the frames that it sends.

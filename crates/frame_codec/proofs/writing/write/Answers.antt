@@ -1,12 +1,10 @@
+use Rattle.std.proofs.Common.{refl}
 use Rattle.frame_codec.specs.Meaning.{meaning_of}
 use Rattle.frame_codec.proofs.Frames.{IsSent, is_sent, frame_again}
 use Rattle.frame_codec.proofs.writing.write.Goals as goal
 
-sent : (c : goal.After-pad) → IsSent (meaning_of c.args.layered.now) c.pad.new.frame.items
-sent c = is_sent (meaning_of c.args.layered.now) _ _ c.requires c.put_layers.ensures.fits c.put_layers.ensures.items c.pad.ensures
-
-pub returns-clause-exact : goal.returns-clause-exact
-returns-clause-exact c = (sent c).exact
+sent : (c : goal.After-fill) → IsSent (meaning_of c.args.layered.now) c.fill.new.frame.items
+sent c = is_sent (meaning_of c.args.layered.now) _ _ c.requires c.fill.ensures.fits refl c.fill.ensures.sent
 
 pub returns-clause-spelled : goal.returns-clause-spelled
 returns-clause-spelled c = (sent c).spelled

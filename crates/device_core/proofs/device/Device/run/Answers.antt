@@ -2,7 +2,7 @@
 use Rattle.std.proofs.Common.{◌≡◌, ◌+◌, take, ◌++◌, ◌∷◌, [], refl, sym, ap, subst, ◌∙◌}
 use Rattle.std.proofs.lemmas.List.{take_more, take_all}
 use Rattle.device_core.specs.Steps.{Runs}
-use Rattle.device_core.proofs.Runs.{no_run, run_more, run_quietly, run_finely}
+use Rattle.device_core.proofs.Runs.{no_run, run_more, run_quietly, run_finely, run_takes_room}
 use Rattle.device_core.proofs.device.Device.run.Goals as goal
 
 pub loop-event-init : goal.loop-event-init
@@ -35,3 +35,7 @@ pub returns-clause-reliable : goal.returns-clause-reliable
 returns-clause-reliable g c = λ reliable fine.
     let now = c.loop-event.invariant.reliable reliable fine in
     (now.0, now.1, run_finely g.F.Flash.image g.F.Flash.failures c.args.self.now c.loop-event.self c.args.events.now _ _ (returns-clause-runs g c) now.1)
+
+pub returns-clause-room : goal.returns-clause-room
+returns-clause-room g c = λ fine.
+    run_takes_room g.F.Flash.image g.F.Flash.failures c.args.self.now c.loop-event.self c.args.events.now _ _ (returns-clause-runs g c) fine
