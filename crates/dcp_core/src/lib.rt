@@ -16,7 +16,7 @@ pub use identify::{identify_answer, identify_matches};
 pub use kind::Kind;
 pub use reading::read_request;
 pub use request::{Block, DcpFault, Request, Service};
-pub use set::{has_signal, set_answer, set_plan};
+pub use set::{has_signal, plan_block, set_answer, set_plan};
 
 #[cfg(test)]
 mod tests;

@@ -25,7 +25,7 @@ pub fn set_plan(request: &Request<'_>, in_operation: bool) -> ArrayVec<SetItem, 
 
 /// What one block of a Set comes to. The first fault counts: option, suboption, value, and then whether the device
 /// operates.
-fn plan_block(block: &Block<'_>, in_operation: bool) -> SetItem
+pub fn plan_block(block: &Block<'_>, in_operation: bool) -> SetItem
     ensures { result ≡ item_of in_operation block.now.kind block.now.contents.now }
 {
     match block.kind {

@@ -1,6 +1,7 @@
 //! One step of a PROFINET IO device, runs of steps, and what a power failure leaves of them.
 #![tactic(auto)]
 
+mod carrying;
 mod device;
 mod event;
 mod headline;

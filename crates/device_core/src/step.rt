@@ -9,12 +9,11 @@ ghost use Rattle.device_core.specs.Hearing.{meaning_of};
 ghost use Rattle.device_core.specs.Machine.{answer_frame, identified, lamp_after as lamp_of};
 ghost use Rattle.device_core.specs.Steps.{Steps, Identifies, IsExactStep};
 
+use crate::carrying::carry_out;
 use crate::hearing::{Heard, hear};
 use crate::{Device, Event, Note};
-use arrayvec::ArrayVec;
 use dcp_core::{
-    Answer, Request, Service, get_answer, has_signal, identify_answer, identify_matches,
-    set_answer, set_plan,
+    Answer, Request, Service, get_answer, has_signal, identify_answer, identify_matches, set_answer,
 };
 use flash_model::Flash;
 use frame_codec::{DCP_GET_SET, DCP_IDENTIFY_RESPONSE, Layered, Outbox, Payload, put_alone};
@@ -128,9 +127,7 @@ impl<F: Flash<S>, const S: usize> Device<F, S> {
         ensures steps { Steps F.image F.failures self.old (Asks asker (asked request.now)) (map (λ frame. frame.items) outbox.new.items) result self.new }
         ensures reliable { F.is_reliable self.old.flash → F.is_reliable self.new.flash × (self.new.live.values.has_failed ≡ self.old.live.values.has_failed) }
     {
-        let items = set_plan(request, false);
-        let mut answers = ArrayVec::new();
-        self.store.carry_out(items.as_slice(), &mut answers);
+        let answers = carry_out(&mut self.store, request);
         self.lamp = lamp_after(self.lamp, request);
         let answer = set_answer(request, &answers);
         send(&self.identity, asker, DCP_GET_SET, &answer, outbox);

@@ -1,13 +1,12 @@
 // The store: what runs beside what is stored.
-ghost use Rattle.std.specs.Prelude.{◌≡◌, ◌≤◌, ℕ, true, false, length, IsErr, IfOk, IfErr, MatchResult, [], ◌∷◌};
+ghost use Rattle.std.specs.Prelude.{◌≡◌, ℕ, true, false, IsErr, IfOk, IfErr, MatchResult, [], ◌∷◌};
 ghost use Rattle.flash_model.specs.Image.{Image, erased};
 ghost use Rattle.pn_values.specs.Settings.{factory_settings};
 ghost use Rattle.pn_values.specs.declared.settings.Settings.{Settings};
 ghost use Rattle.settings_journal.specs.Commit.{HasBootCause};
 ghost use Rattle.settings_journal.specs.Image.{StartsWith, IsForeign, LeftByDevice};
-ghost use Rattle.settings_store.specs.Carries.{Carries, Holds};
+ghost use Rattle.settings_store.specs.Carries.{Carries};
 
-use arrayvec::ArrayVec;
 use flash_model::{Flash, Order};
 use pn_values::{BlockError, Command, SetItem, Settings};
 use settings_journal::{BootFault, CommitFault, Journal};
@@ -118,31 +117,14 @@ impl<F: Flash<S>, const S: usize> Store<F, S> {
         self.journal.into_flash()
     }
 
-    /// Carries the items out in order, each by itself, and says how each is answered. `answers` is emptied first.
-    pub fn carry_out<const N: usize>(
-        &mut self,
-        items: &[SetItem],
-        answers: &mut ArrayVec<BlockError, N>,
-    )
-        requires { length items.now ≤ N }
-        ensures carries { Carries F.image F.failures self.old items.now answers.new.items self.new }
-        ensures reliable { F.is_reliable self.old.flash → F.is_reliable self.new.flash × (self.new.values.has_failed ≡ self.old.values.has_failed) }
-    {
-        // What the journal keeps holds before the first item, too.
-        let _ = &self.journal;
-        answers.clear();
-        for item in items {
-            let answer = self.carry_one(item);
-            answers.push(answer);
-        }
-    }
-
-    /// Carries one item out, and says how it is answered.
-    fn carry_one(&mut self, item: &SetItem) -> BlockError
-        requires { Holds (F.image self.old.flash) self.old.values }
+    /// Carries one item of a Set out, and says how it is answered. Items are carried out one after the other, each by
+    /// itself.
+    pub fn carry(&mut self, item: &SetItem) -> BlockError
         ensures carries { Carries F.image F.failures self.old (item.now ∷ []) (result ∷ []) self.new }
         ensures reliable { F.is_reliable self.old.flash → F.is_reliable self.new.flash × (self.new.values.has_failed ≡ self.old.values.has_failed) }
     {
+        // What the journal keeps holds before the item, too.
+        let _ = &self.journal;
         match item {
             SetItem::Ask(command) => self.commit(command),
             SetItem::Answer(answer) => *answer,

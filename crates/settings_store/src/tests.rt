@@ -1,6 +1,5 @@
 // The store over a flash in memory: what no clause says is that `arm` reaches the flash.
 use crate::Store;
-use arrayvec::ArrayVec;
 use flash_model::{MemoryFlash, Order};
 use pn_values::{BlockError, Command, ImValue, Padded, SetItem};
 
@@ -16,13 +15,12 @@ fn what_is_done_is_shown_and_found_again(rt: HostRuntime) {
     let Ok(mut store) = Store::boot(MemoryFlash::<SIZE>::blank()) else {
         panic!(rt; "a blank flash starts");
     };
-    let mut answers: ArrayVec<BlockError, 4> = ArrayVec::new();
-    let items = [date(b'1'), SetItem::Answer(BlockError::Value), date(b'2')];
-    store.carry_out(&items, &mut answers);
+    assert_eq!(rt; store.carry(&date(b'1')), BlockError::Done);
     assert_eq!(rt;
-        answers.as_slice(),
-        [BlockError::Done, BlockError::Value, BlockError::Done].as_slice()
+        store.carry(&SetItem::Answer(BlockError::Value)),
+        BlockError::Value
     );
+    assert_eq!(rt; store.carry(&date(b'2')), BlockError::Done);
     assert_eq!(rt; store.running().im2.as_bytes(), [b'2'; 16].as_slice());
     let Ok(store) = Store::boot(store.into_flash()) else {
         panic!(rt; "what a commit left starts");
@@ -40,12 +38,8 @@ fn a_loss_of_power_that_was_armed_ends_it(rt: HostRuntime) {
         after: 0,
         mask: [0; 8],
     });
-    let mut answers: ArrayVec<BlockError, 2> = ArrayVec::new();
-    store.carry_out(&[date(b'1'), date(b'2')], &mut answers);
-    assert_eq!(rt;
-        answers.as_slice(),
-        [BlockError::Local, BlockError::Local].as_slice()
-    );
+    assert_eq!(rt; store.carry(&date(b'1')), BlockError::Local);
+    assert_eq!(rt; store.carry(&date(b'2')), BlockError::Local);
     assert!(rt; store.is_lost());
     assert_eq!(rt; store.running().im2.as_bytes(), [b' '; 16].as_slice());
     let mut flash = store.into_flash();

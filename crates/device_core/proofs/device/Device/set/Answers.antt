@@ -5,7 +5,7 @@ use Rattle.device_core.proofs.Steps.{set_steps}
 use Rattle.device_core.proofs.device.Device.set.Goals as goal
 
 pub returns-clause-steps : goal.returns-clause-steps
-returns-clause-steps g c = rw (← c.self.view_is) (set_steps g.F.Flash.image g.F.Flash.failures _ _ c.args.asker (asked c.args.request.now) c.carry_out.new.answers.items _ _ c.requires.service
-    (rw (c.as_slice.ensures.value, c.set_plan-items.ensures.items) at c.carry_out.ensures.carries)
+returns-clause-steps g c = rw (← c.self.view_is) (set_steps g.F.Flash.image g.F.Flash.failures _ _ c.args.asker (asked c.args.request.now) c.carry_out-answers.result.items _ _ c.requires.service
+    c.carry_out-answers.ensures.carries
     (record { identity = refl; real = refl }) c.lamp_after-self-inside.ensures
     (rw (c.send.ensures, c.set_answer-answer.ensures.items) refl) refl)
