@@ -29,7 +29,7 @@ module _ {F A B : Type 0} (to : A → B) (from : B → A) where
     sized = λ value rest. sound.sized (from value) rest;
   }
 
-  viewed_whole_sound : (whole : Whole F A) → IsSoundWhole whole → IsSoundWhole (viewed_whole to from whole)
+  pub viewed_whole_sound : (whole : Whole F A) → IsSoundWhole whole → IsSoundWhole (viewed_whole to from whole)
   viewed_whole_sound whole sound = record {
     takes = λ bytes value e.
         let a = bind_ok (whole.read bytes) (λ x. Ok (to x)) value e in
@@ -60,7 +60,7 @@ pair_sound : IsSound pair
 unfolding pair
 pair_sound = viewed_sound _ _ kind kind_sound
 
-block_sound : (contents : Whole DcpFault (List ℕ)) → IsSoundWhole contents → IsSound (block contents)
+pub block_sound : (contents : Whole DcpFault (List ℕ)) → IsSoundWhole contents → IsSound (block contents)
 unfolding block
 block_sound contents sound = seen_sound _ _ _ (λ _. refl) (then_by_sound _ _
     (seen_sound _ _ _ (λ _. refl) (then_by_sound _ _ kind_sound (λ _. framed_sound _ _ _ (number_sound fault.Block 2) sound)))

@@ -7,3 +7,8 @@ pub mod Identify
 pub mod Get
 pub mod Valid
 pub mod Set
+pub mod Every
+pub mod Response
+pub mod Answer
+pub mod Answered
+pub mod Told

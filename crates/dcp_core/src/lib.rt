@@ -1,21 +1,25 @@
 //! DCP, the Discovery and basic Configuration Protocol (IEC 61158-6-10, 4.3): its requests as values, the commands that
-//! a Set asks for, and the answers. A request or an answer is here what follows the FrameID.
+//! a Set asks for, and the answers, which are written and read. A request or an answer is here what follows the FrameID.
 #![tactic(auto)]
 
+mod answers;
 mod bytes;
 mod get;
 mod identify;
 mod kind;
 mod reading;
 mod request;
+mod response;
 mod set;
 
+pub use answers::read_answer;
 pub use bytes::Answer;
 pub use get::get_answer;
 pub use identify::{identify_answer, identify_matches};
 pub use kind::Kind;
 pub use reading::read_request;
 pub use request::{Block, DcpFault, Request, Service};
+pub use response::{Outcome, Response, ResponseBlock, ResponseBlocks};
 pub use set::{has_signal, plan_block, set_answer, set_plan};
 
 #[cfg(test)]

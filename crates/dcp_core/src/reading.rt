@@ -87,7 +87,7 @@ fn block_at(service: Service, bytes: &[u8]) -> Result<(Block<'_>, &[u8]), DcpFau
 
 /// A kind, and the bytes behind it.
 #[tactic(auto, unfolding(crate::specs::Format::kind))]
-fn kind_at(bytes: &[u8]) -> Result<(Kind, &[u8]), DcpFault>
+pub(crate) fn kind_at(bytes: &[u8]) -> Result<(Kind, &[u8]), DcpFault>
     ensures { Gives (λ x. (x.0, x.1.now)) result (kind.read bytes.now) }
 {
     let (option, rest) = u8_at(bytes, DcpFault::Block)?;

@@ -30,6 +30,11 @@ pub struct Block<'a> {
 }
 
 impl Default for Block<'_> {
+    ghost use Rattle.std.specs.Prelude.{◌≡◌, []};
+    ghost use Rattle.dcp_core.specs.declared.kind.Kind.TheVariants.{All};
+
+    ghost is_default = { λ block. (block.kind ≡ All) × (block.contents.now ≡ []) };
+
     fn default() -> Self {
         Block {
             kind: Kind::All,

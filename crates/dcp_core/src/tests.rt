@@ -1,7 +1,7 @@
 // Frames that other stations sent, and what this one answers. Each is given from behind its FrameID.
 use crate::{
-    DcpFault, Service, get_answer, identify_answer, identify_matches, read_request, set_answer,
-    set_plan,
+    DcpFault, Kind, Outcome, ResponseBlock, ResponseBlocks, Service, get_answer, identify_answer,
+    identify_matches, read_answer, read_request, set_answer, set_plan,
 };
 use arrayvec::ArrayVec;
 use pn_values::{BlockError, Command, Identity, Mac, SetItem, Settings};
@@ -9,6 +9,8 @@ use pn_values::{BlockError, Command, Identity, Mac, SetItem, Settings};
 const GET_SET: u16 = 0xFEFD;
 
 const IDENTIFY: u16 = 0xFEFE;
+
+const IDENTIFIED: u16 = 0xFEFF;
 
 /// Identify all, padded.
 const ALL: [u8; 16] = [5, 0, 0, 0, 0, 1, 0, 1, 0, 4, 255, 255, 0, 0, 0, 0];
@@ -131,5 +133,153 @@ fn tells_faults_apart(rt: HostRuntime) {
     assert_eq!(rt;
         fault(GET_SET, &[4, 5, 0, 0, 0, 2, 0, 0, 0, 4, 2, 2, 0, 0]),
         Some(DcpFault::Service)
+    );
+}
+
+/// The demo device with no name and no address, as it answers Identify.
+const DEMO: [u8; 104] = [
+    5, 1, 0, 0, 0, 1, 0, 0, 0, 0x5e, 2, 1, 0, 9, 0, 0, b'p', b'n', b'-', b'd', b'e', b'm', b'o', 0,
+    2, 2, 0, 2, 0, 0, 2, 3, 0, 6, 0, 0, 1, 0x23, 4, 0x56, 2, 4, 0, 4, 0, 0, 1, 0, 2, 5, 0, 26, 0,
+    0, 1, 1, 1, 2, 2, 1, 2, 2, 2, 3, 2, 4, 2, 5, 2, 7, 5, 3, 5, 4, 5, 5, 5, 6, 2, 7, 0, 4, 0, 0, 0,
+    1, 1, 2, 0, 14, 0, 0, 0, 0, 0, 0, 0, 0, 0, 0, 0, 0, 0, 0,
+];
+
+/// A name that was set, padded.
+const SET: [u8; 44] = [
+    4, 1, 0, 0, 0, 2, 0, 0, 0, 8, 5, 4, 0, 3, 2, 2, 0, 0, 0, 0, 0, 0, 0, 0, 0, 0, 0, 0, 0, 0, 0, 0,
+    0, 0, 0, 0, 0, 0, 0, 0, 0, 0, 0, 0,
+];
+
+/// No name, no address, and a pair whose option is not known, padded.
+const GOT: [u8; 44] = [
+    3, 1, 0, 0, 0, 3, 0, 0, 0, 32, 2, 2, 0, 2, 0, 0, 1, 2, 0, 14, 0, 0, 0, 0, 0, 0, 0, 0, 0, 0, 0,
+    0, 0, 0, 5, 4, 0, 3, 3, 1, 1, 0, 0, 0,
+];
+
+fn count_of(blocks: ResponseBlocks<'_>) -> usize {
+    let mut count: usize = 0;
+    for _ in blocks {
+        count = count.saturating_add(1);
+    }
+    count
+}
+
+fn answer_fault(frame_id: u16, bytes: &[u8]) -> Option<DcpFault> {
+    read_answer(frame_id, bytes).err()
+}
+
+#[test]
+fn reads_an_answer_to_identify(rt: HostRuntime) {
+    let answer = read_answer(IDENTIFIED, &DEMO).ok().expect(&rt, "an answer");
+    assert_eq!(rt; answer.service, Service::Identify);
+    assert!(rt; answer.is_supported);
+    assert_eq!(rt; answer.xid, 1);
+    assert_eq!(rt; count_of(answer.blocks), 7);
+    assert_eq!(rt;
+        answer.value(Kind::StationType),
+        Some(b"pn-demo".as_slice())
+    );
+    assert_eq!(rt; answer.value(Kind::NameOfStation), Some(b"".as_slice()));
+    assert_eq!(rt;
+        answer.value(Kind::DeviceId),
+        Some([1, 0x23, 4, 0x56].as_slice())
+    );
+    assert_eq!(rt; answer.value(Kind::IpSuite), Some([0; 12].as_slice()));
+    assert_eq!(rt; answer.value(Kind::MacAddress), None);
+    assert!(rt; answer.is_positive());
+}
+
+#[test]
+fn reads_an_answer_to_a_set(rt: HostRuntime) {
+    let answer = read_answer(GET_SET, &SET).ok().expect(&rt, "an answer");
+    assert_eq!(rt; answer.service, Service::Set);
+    assert_eq!(rt; answer.xid, 2);
+    let mut blocks = answer.blocks;
+    let is_name_done = match blocks.next() {
+        Some(ResponseBlock::Outcome { kind, outcome }) => {
+            kind == Kind::NameOfStation && outcome == Outcome::Known(BlockError::Done)
+        }
+        _ => false,
+    };
+    assert!(rt; is_name_done);
+    assert!(rt; answer.is_positive());
+    let mut refused = SET;
+    refused[16] = 3;
+    let answer = read_answer(GET_SET, &refused).ok().expect(&rt, "an answer");
+    assert!(rt; !answer.is_positive());
+    let mut unsupported = SET;
+    unsupported[1] = 5;
+    unsupported[9] = 0;
+    let answer = read_answer(GET_SET, &unsupported)
+        .ok()
+        .expect(&rt, "an answer");
+    assert!(rt; !answer.is_supported);
+    assert!(rt; !answer.is_positive());
+    assert_eq!(rt; count_of(answer.blocks), 0);
+}
+
+#[test]
+fn reads_an_answer_to_a_get(rt: HostRuntime) {
+    let answer = read_answer(GET_SET, &GOT).ok().expect(&rt, "an answer");
+    assert_eq!(rt; answer.service, Service::Get);
+    assert_eq!(rt; answer.value(Kind::NameOfStation), Some(b"".as_slice()));
+    assert_eq!(rt; answer.value(Kind::IpSuite), Some([0; 12].as_slice()));
+    assert!(rt; !answer.is_positive());
+    let mut blocks = answer.blocks;
+    let _name = blocks.next();
+    let _address = blocks.next();
+    let is_option_blamed = match blocks.next() {
+        Some(ResponseBlock::Outcome { kind, outcome }) => {
+            let asked = Kind::Other {
+                option: 3,
+                suboption: 1,
+            };
+            kind == asked && outcome == Outcome::Known(BlockError::Option)
+        }
+        _ => false,
+    };
+    assert!(rt; is_option_blamed);
+    assert!(rt; blocks.next().is_none());
+}
+
+#[test]
+fn reads_seventeen_blocks_of_an_answer(rt: HostRuntime) {
+    let mut bytes = [0; 112];
+    bytes[0] = 3;
+    bytes[1] = 1;
+    bytes[9] = 102;
+    for block in 0..17 {
+        bytes[10 + 6 * block] = 2;
+        bytes[11 + 6 * block] = 2;
+        bytes[13 + 6 * block] = 2;
+    }
+    let answer = read_answer(GET_SET, &bytes).ok().expect(&rt, "an answer");
+    assert_eq!(rt; count_of(answer.blocks), 17);
+}
+
+#[test]
+fn tells_faults_of_answers_apart(rt: HostRuntime) {
+    assert_eq!(rt;
+        answer_fault(IDENTIFIED, &DEMO[..103]),
+        Some(DcpFault::Length)
+    );
+    assert_eq!(rt;
+        answer_fault(IDENTIFIED, &DEMO[..9]),
+        Some(DcpFault::Length)
+    );
+    assert_eq!(rt; answer_fault(IDENTIFY, &DEMO), Some(DcpFault::Service));
+    assert_eq!(rt; answer_fault(GET_SET, &ALL), Some(DcpFault::Service));
+    let mut bytes = SET;
+    bytes[1] = 2;
+    bytes[13] = 4;
+    assert_eq!(rt; answer_fault(GET_SET, &bytes), Some(DcpFault::Service));
+    bytes[1] = 1;
+    assert_eq!(rt; answer_fault(GET_SET, &bytes), Some(DcpFault::Block));
+    bytes[9] = 9;
+    bytes[13] = 3;
+    assert_eq!(rt; answer_fault(GET_SET, &bytes), Some(DcpFault::Block));
+    assert_eq!(rt;
+        answer_fault(GET_SET, &[3, 1, 0, 0, 0, 3, 0, 0, 0, 6, 2, 2, 0, 1, 0, 0]),
+        Some(DcpFault::Block)
     );
 }

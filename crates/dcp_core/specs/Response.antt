@@ -1,0 +1,19 @@
+-- What a DCP answer says, as the standard names it.
+use Rattle.std.specs.Prelude.{ℕ, Bool, List}
+use Rattle.dcp_core.specs.declared.kind.Kind.{Kind}
+use Rattle.dcp_core.specs.declared.request.Service.{Service}
+use Rattle.dcp_core.specs.declared.response.Outcome.{Outcome}
+
+-- a block
+pub data AnsweredBlock : Type 0 where
+  -- a value of a kind, behind its BlockInfo
+  told : Kind → ℕ → List ℕ → AnsweredBlock
+  -- how a block of a Set, or a pair of a Get, came out
+  came_out : Kind → Outcome → AnsweredBlock
+
+-- an answer
+pub record Answered : Type 0 where
+  pub service : Service
+  pub is_supported : Bool
+  pub xid : ℕ
+  pub blocks : List AnsweredBlock
