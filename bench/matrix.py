@@ -1,0 +1,72 @@
+#!/usr/bin/env python3
+"""Power is lost in each flash call of forty Sets in turn, by the program itself: a script for each call and each mask.
+
+Each script arms the loss, sets the names n1 to n40 (permanent, one commit of three flash calls each), takes the power
+away and gives it back, and asks what the name is. It has to be that of the last Set answered or of the one that was
+stopped; and the new one exactly where the mask lets the last call of the commit open the gate, whose one byte goes from
+FF to 00: where the mask's first byte is FF.
+
+Use: bench/matrix.py [PROGRAM]   (./pnscript if left out). Prints how many runs are right; its status is 1 if one is not.
+"""
+
+import os
+import subprocess
+import sys
+
+SETS = 40
+CALLS = 3  # of a commit: erase the sector that does not count, write it, open its gate
+MASKS = ("00", "55", "ff", "0f0f", "00000000ffff0000")
+
+ANSWER = "out 0200000000020200000000018892fefd04010000000200000008" + "0504000302020000" + 52 * "0"
+SUITE = "0.0.0.0 0.0.0.0 0.0.0.0"
+
+
+def set_name(name):
+    """The line of a Set of this name, permanent."""
+    block = bytes([2, 2]) + (2 + len(name)).to_bytes(2, "big") + bytes([0, 1]) + name.encode()
+    block += bytes(len(block) % 2)
+    head = bytes.fromhex("020000000001 020000000002 8892 fefd 0400 00000002 0000")
+    return "frame " + (head + len(block).to_bytes(2, "big") + block).hex()
+
+
+def name(number):
+    """The name of the Set of this number; there is none before the first."""
+    return f"n{number}" if number else "-"
+
+
+def script_of(calls, mask):
+    sets = [set_name(name(number)) for number in range(1, SETS + 1)]
+    return "\n".join([f"cut {calls} {mask}", *sets, "restart", "show", ""])
+
+
+def front_of(answered):
+    """What is printed up to the restart, where so many Sets are answered."""
+    return ["boot ok", *[ANSWER, "note done"] * answered, "power lost", *["off"] * (SETS - answered - 1), "boot ok"]
+
+
+def is_right(lines, calls, mask):
+    answered = calls // CALLS
+    opens_gate = calls % CALLS == CALLS - 1 and mask.startswith("ff")
+    left = name(answered + 1) if opens_gate else name(answered)
+    wanted = front_of(answered) + [f"name {left}", f"ip {SUITE}", f"stored-name {left}", f"stored-ip {SUITE}"]
+    texts = ["im1 " + 54 * "20", "im2 " + 16 * "20", "im3 " + 54 * "20", "lamp 0"]
+    return lines == wanted + texts
+
+
+def main():
+    here = os.path.dirname(os.path.abspath(__file__))
+    program = sys.argv[1] if len(sys.argv) > 1 else os.path.join(here, "..", "pnscript")
+    runs, right = 0, 0
+    for mask in MASKS:
+        for calls in range(SETS * CALLS):
+            run = subprocess.run([program, "run"], input=script_of(calls, mask), capture_output=True, text=True)
+            runs += 1
+            if run.returncode == 0 and is_right(run.stdout.split("\n")[:-1], calls, mask):
+                right += 1
+            else:
+                print(f"cut {calls} {mask}: wrong (status {run.returncode})")
+    print(f"{runs} runs, {right} right")
+    return 0 if right == runs else 1
+
+
+sys.exit(main())

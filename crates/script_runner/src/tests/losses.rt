@@ -1,0 +1,126 @@
+// Power is lost in each flash call of forty Sets in turn.
+use super::{NO_SUITE, SET_DONE, TEXTS, output, request};
+use std::alloc::{AllocError, Global};
+use std::process::Abort;
+use std::test::Fail;
+
+/// How many names are set, `n1` to `n40`, each by one commit.
+const SETS: u32 = 40;
+
+/// How many flash calls a commit makes: it erases the sector that does not count, writes it, and opens its gate.
+const CALLS: u32 = 3;
+
+/// The lines that set the names, permanent.
+fn sets(alloc: Global) -> Result<String, AllocError> {
+    let mut script = String::new(alloc);
+    for number in 1..=SETS {
+        let name = name(alloc, number)?;
+        let digits = hex::encode(alloc, name.as_bytes())?;
+        let length = name.len().saturating_add(2);
+        let padding = if length % 2 == 1 { "00" } else { "" };
+        let block = format!(in alloc; "0202{length:04x}0001{digits}{padding}")?;
+        let line = request(alloc, "fefd0400", block.as_str())?;
+        script.push_str(line.as_str())?;
+    }
+    Ok(script)
+}
+
+/// What is printed up to the restart, where so many Sets are answered and power is lost in the next one.
+fn answers(alloc: Global, answered: u32) -> Result<String, AllocError> {
+    let mut text = String::from_str(alloc, "boot ok\n")?;
+    for number in 0..SETS {
+        if number < answered {
+            text.push_str(SET_DONE)?;
+            text.push_str("\nnote done\n")?;
+        } else if number == answered {
+            text.push_str("power lost\n")?;
+        } else {
+            text.push_str("off\n")?;
+        }
+    }
+    text.push_str("boot ok\n")?;
+    Ok(text)
+}
+
+/// The name of this number. There is none before the first.
+fn name(alloc: Global, number: u32) -> Result<String, AllocError> {
+    if number == 0 {
+        String::from_str(alloc, "-")
+    } else {
+        format!(in alloc; "n{number}")
+    }
+}
+
+/// What `show` prints where the name of this number runs and is stored.
+fn named(alloc: Global, number: u32) -> Result<String, AllocError> {
+    let name = name(alloc, number)?;
+    format!(in alloc;
+        "name {name}\nip {NO_SUITE}\nstored-name {name}\nstored-ip {NO_SUITE}\n{TEXTS} 0\n"
+    )
+}
+
+/// Runs the script with power lost after each number of flash calls, at this mask.
+///
+/// The name is that of the last Set answered or of the one that was stopped. It is the new one only where the last call
+/// of the commit opened the gate: its one byte was FF and is to be 00, so the mask's first byte has to be FF. An erase or
+/// a write that was cut short is in a sector that does not count, or counts as older than the other.
+fn lose(rt: &impl Abort, alloc: Global, mask: &str, opens_gate: bool) -> Result<(), Fail> {
+    let sets = sets(alloc)?;
+    for calls in 0..SETS * CALLS {
+        let answered = calls / CALLS;
+        let script = format!(in alloc; "cut {calls} {mask}\n{sets}restart\nshow\n")?;
+        let (result, text) = output(alloc, script.as_bytes());
+        assert_eq!(rt; result, Ok(()));
+        let answers = answers(alloc, answered)?;
+        let old = named(alloc, answered)?;
+        let new = named(alloc, answered + 1)?;
+        let left = text.as_slice().strip_prefix(answers.as_bytes());
+        assert!(rt;
+            left == Some(old.as_bytes()) || left == Some(new.as_bytes()),
+            "cut {calls} {mask}"
+        );
+        let is_new = opens_gate && calls % CALLS == 2;
+        assert_eq!(rt; left == Some(new.as_bytes()), is_new, "cut {calls} {mask}");
+    }
+    Ok(())
+}
+
+#[test]
+fn no_bit_is_changed(rt: HostRuntime) -> Result<(), Fail> {
+    lose(&rt, rt.alloc(), "00", false)
+}
+
+#[test]
+fn every_other_bit_is_changed(rt: HostRuntime) -> Result<(), Fail> {
+    lose(&rt, rt.alloc(), "55", false)
+}
+
+#[test]
+fn each_bit_is_changed(rt: HostRuntime) -> Result<(), Fail> {
+    lose(&rt, rt.alloc(), "ff", true)
+}
+
+#[test]
+fn half_of_the_first_byte_is_changed(rt: HostRuntime) -> Result<(), Fail> {
+    lose(&rt, rt.alloc(), "0F0F", false)
+}
+
+#[test]
+fn two_bytes_of_eight_are_changed(rt: HostRuntime) -> Result<(), Fail> {
+    lose(&rt, rt.alloc(), "00000000ffff0000", false)
+}
+
+// The forty commits make 120 calls: an order for one behind the last strikes none, not by the restart either.
+#[test]
+fn no_call_is_left_to_strike(rt: HostRuntime) -> Result<(), Fail> {
+    let alloc = rt.alloc();
+    let sets = sets(alloc)?;
+    let script = format!(in alloc; "cut 120 ff\n{sets}restart\nshow\n")?;
+    let answers = answers(alloc, SETS)?;
+    let left = named(alloc, SETS)?;
+    let wanted = format!(in alloc; "{answers}{left}")?;
+    let (result, text) = output(alloc, script.as_bytes());
+    assert_eq!(rt; result, Ok(()));
+    assert_eq!(rt; text.as_slice(), wanted.as_bytes());
+    Ok(())
+}

@@ -1,0 +1,161 @@
+// What a station is asked by DCP and answers, byte by byte.
+use super::{NO_SUITE, SET_DONE, SET_PUMP_1, answer, output, request, shown};
+use std::alloc::Global;
+use std::test::Fail;
+
+/// FrameID, ServiceID and ServiceType of a Get and a Set, and of their answers.
+const GET: &str = "fefd0300";
+
+const GOT: &str = "fefd0301";
+
+const SET: &str = "fefd0400";
+
+const HAS_SET: &str = "fefd0401";
+
+/// A block that sets the name `pump-1`, permanent.
+const PUMP_1: &str = "02020008000170756d702d31";
+
+/// A suite, and the block that sets it, permanent.
+const SUITE: &str = "192.168.0.2 255.255.255.0 0.0.0.0";
+
+const SET_SUITE: &str = "0102000e0001c0a80002ffffff0000000000";
+
+/// A Set of one block, and the answer with this BlockError.
+fn set_of_one(alloc: Global, block: &str, response: &str) -> Result<(String, String), Fail> {
+    Ok((
+        request(alloc, SET, block)?,
+        answer(alloc, HAS_SET, response)?,
+    ))
+}
+
+#[test]
+fn a_station_is_found_by_its_stored_name_alone(rt: HostRuntime) -> Result<(), Fail> {
+    let alloc = rt.alloc();
+    let identify = "frame 010ecf0000000200000000028892fefe0500000000010001000a0202000670756d702d";
+    let script = format!(in alloc; "{SET_PUMP_1}\nrestart\n{identify}31\n{identify}32\n")?;
+    let wanted = format!(in alloc;
+        "boot ok\n{SET_DONE}\nnote done\nboot ok\nout 0200000000020200000000018892feff05010000000100000064020100090000706e2d64656d6f0002020008000070756d702d310203000600000123045602040004000001000205001a000001010102020102020203020402050207050305040505050602070004000000010102000e0000000000000000000000000000\nnote done\nnote filter\n"
+    )?;
+    let (result, text) = output(alloc, script.as_bytes());
+    assert_eq!(rt; result, Ok(()));
+    assert_eq!(rt; text.as_slice(), wanted.as_bytes());
+    Ok(())
+}
+
+#[test]
+fn a_temporary_name_runs_until_the_restart_and_empties_the_stored_one(
+    rt: HostRuntime,
+) -> Result<(), Fail> {
+    let alloc = rt.alloc();
+    let set = request(alloc, SET, "02020006000074657374")?;
+    let get = request(alloc, GET, "0202")?;
+    let has_test = answer(alloc, GOT, "02020006000074657374")?;
+    let has_none = answer(alloc, GOT, "020200020000")?;
+    let script = format!(in alloc; "{SET_PUMP_1}\n{set}{get}show\nrestart\n{get}show\n")?;
+    let running = shown(alloc, ("test", NO_SUITE), ("-", NO_SUITE))?;
+    let restarted = shown(alloc, ("-", NO_SUITE), ("-", NO_SUITE))?;
+    let wanted = format!(in alloc;
+        "boot ok\n{SET_DONE}\nnote done\n{SET_DONE}\nnote done\n{has_test}{running}boot ok\n{has_none}{restarted}"
+    )?;
+    let (result, text) = output(alloc, script.as_bytes());
+    assert_eq!(rt; result, Ok(()));
+    assert_eq!(rt; text.as_slice(), wanted.as_bytes());
+    Ok(())
+}
+
+// A suite whose mask has a hole is refused beside a name that is taken.
+#[test]
+fn blocks_are_carried_out_each_by_itself(rt: HostRuntime) -> Result<(), Fail> {
+    let alloc = rt.alloc();
+    let mut data = String::from_str(alloc, PUMP_1)?;
+    data.push_str("0102000e0001c0a80002ff00ff0000000000")?;
+    let set = request(alloc, SET, data.as_str())?;
+    let has_set = answer(alloc, HAS_SET, "05040003020200000504000301020300")?;
+    let named = shown(alloc, ("pump-1", NO_SUITE), ("pump-1", NO_SUITE))?;
+    let script = format!(in alloc; "{set}show\nrestart\nshow\n")?;
+    let wanted = format!(in alloc; "boot ok\n{has_set}{named}boot ok\n{named}")?;
+    let (result, text) = output(alloc, script.as_bytes());
+    assert_eq!(rt; result, Ok(()));
+    assert_eq!(rt; text.as_slice(), wanted.as_bytes());
+    Ok(())
+}
+
+// A name and a suite in one frame are two commits of three flash calls. What is left is that of the commits whose last
+// call, the one that opens the gate, left no bit of the gate as it was.
+#[test]
+fn power_is_lost_in_each_call_of_a_name_and_a_suite(rt: HostRuntime) -> Result<(), Fail> {
+    let alloc = rt.alloc();
+    let mut data = String::from_str(alloc, PUMP_1)?;
+    data.push_str(SET_SUITE)?;
+    let set = request(alloc, SET, data.as_str())?;
+    let states = [("-", NO_SUITE), ("pump-1", NO_SUITE), ("pump-1", SUITE)];
+    for calls in 0..6 {
+        for (mask, opens) in [("00", false), ("55", false), ("ff", true)] {
+            let stored = match (calls, opens) {
+                (0 | 1, _) | (2, false) => states[0],
+                (2, true) | (3 | 4, _) | (5, false) => states[1],
+                _ => states[2],
+            };
+            let left = shown(alloc, stored, stored)?;
+            let script = format!(in alloc; "cut {calls} {mask}\n{set}show\nrestart\nshow\n")?;
+            let wanted = format!(in alloc; "boot ok\npower lost\noff\nboot ok\n{left}")?;
+            let (result, text) = output(alloc, script.as_bytes());
+            assert_eq!(rt; result, Ok(()));
+            assert_eq!(rt; text.as_slice(), wanted.as_bytes(), "at {calls} {mask}");
+        }
+    }
+    let done = answer(alloc, HAS_SET, "05040003020200000504000301020000")?;
+    let left = shown(alloc, states[2], states[2])?;
+    let script = format!(in alloc; "cut 6 ff\n{set}show\nrestart\nshow\n")?;
+    let wanted = format!(in alloc; "boot ok\n{done}{left}boot ok\n{left}")?;
+    let (result, text) = output(alloc, script.as_bytes());
+    assert_eq!(rt; result, Ok(()));
+    assert_eq!(rt; text.as_slice(), wanted.as_bytes());
+    Ok(())
+}
+
+#[test]
+fn a_get_is_answered_in_the_order_asked_for(rt: HostRuntime) -> Result<(), Fail> {
+    let script =
+        b"frame 0200000000010200000000028892fefd030000000003000000080202010202020301".as_slice();
+    let wanted =
+        b"boot ok\nout 0200000000020200000000018892fefd030100000003000000200202000200000102000e00000000000000000000000000000504000303010100\
+0000\nnote done\n"
+            .as_slice();
+    let (result, text) = output(rt.alloc(), script);
+    assert_eq!(rt; result, Ok(()));
+    assert_eq!(rt; text.as_slice(), wanted);
+    Ok(())
+}
+
+// ResetToFactory keeps the name in mode 1, empties it in mode 2 and has no mode 7; FactoryReset empties it.
+#[test]
+fn resets(rt: HostRuntime) -> Result<(), Fail> {
+    let alloc = rt.alloc();
+    let cases = [
+        (PUMP_1, "0504000302020000", "pump-1"),
+        ("050600020002", "0504000305060000", "pump-1"),
+        ("050600020004", "0504000305060000", "-"),
+        ("05060002000e", "0504000305060200", "-"),
+        (PUMP_1, "0504000302020000", "pump-1"),
+        ("05060002000e", "0504000305060200", "pump-1"),
+        ("050500020000", "0504000305050000", "-"),
+        (SET_SUITE, "0504000301020000", "-"),
+        ("050600020004", "0504000305060000", "-"),
+    ];
+    let mut script = String::new(alloc);
+    let mut wanted = String::from_str(alloc, "boot ok\n")?;
+    for (block, response, name) in cases {
+        let (set, has_set) = set_of_one(alloc, block, response)?;
+        let suite = if block == SET_SUITE { SUITE } else { NO_SUITE };
+        let left = shown(alloc, (name, suite), (name, suite))?;
+        script.push_str(set.as_str())?;
+        script.push_str("show\nrestart\nshow\n")?;
+        let printed = format!(in alloc; "{has_set}{left}boot ok\n{left}")?;
+        wanted.push_str(printed.as_str())?;
+    }
+    let (result, text) = output(alloc, script.as_bytes());
+    assert_eq!(rt; result, Ok(()));
+    assert_eq!(rt; text.as_slice(), wanted.as_bytes());
+    Ok(())
+}
