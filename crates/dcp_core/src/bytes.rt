@@ -20,10 +20,10 @@ pub(crate) fn put_block(blocks: &mut Blocks, kind: Kind, info: [u8; 2], value: &
     ensures items { blocks.new.items ≡ blocks.old.items ++ block_bytes kind (info ++ value.now) }
     ensures len { array_vec_len blocks.new ≤ array_vec_len blocks.old + length value.now + 7 }
 {
-    let length = (value.len() + 2) as u16;
-    let _ = blocks.try_extend_from_slice(&[kind.option(), kind.suboption()]);
-    let _ = blocks.try_extend_from_slice(&length.to_be_bytes());
-    let _ = blocks.try_extend_from_slice(&info);
+    let [high, low] = ((value.len() + 2) as u16).to_be_bytes();
+    let [first, second] = info;
+    let head = [kind.option(), kind.suboption(), high, low, first, second];
+    let _ = blocks.try_extend_from_slice(&head);
     let _ = blocks.try_extend_from_slice(value);
     if value.len() % 2 == 1 {
         blocks.push(0);

@@ -144,14 +144,11 @@ impl Session {
             put(writer, b"off\n")?;
             return Ok(true);
         }
-        match meaning {
-            Line::Skipped => Ok(true),
-            Line::Unfit | Line::Unknown => Ok(false),
-            Line::Asks(command) => {
-                self.obey(command, writer)?;
-                Ok(true)
-            }
-        }
+        let Line::Asks(command) = meaning else {
+            return Ok(matches!(meaning, Line::Skipped));
+        };
+        self.obey(command, writer)?;
+        Ok(true)
     }
 
     /// Does what a command asks for, and writes what it prints.

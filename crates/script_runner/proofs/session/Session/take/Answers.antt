@@ -12,10 +12,10 @@ returns-in-Skipped-clause-takes g c live running uncut = record {
   runs = running;
 }
 
-pub returns-in_ok-obey-in-Asks-clause-takes : goal.returns-in_ok-obey-in-Asks-clause-takes
-returns-in_ok-obey-in-Asks-clause-takes g c live running uncut =
+pub returns-clause-takes : goal.returns-clause-takes
+returns-clause-takes g c live running uncut =
     let meant = sym c.in-Ok.ensures ∙ ap line_read c.in-Asks.is in
-    let obeyed = c.in_ok-obey-in-Asks.ensures.obeys live running (subst IsUncut meant uncut) in
+    let obeyed = c.in_ok-obey.ensures.obeys live running (subst IsUncut meant uncut) in
     record {
       answer = said live (command_read c.in-Asks.command);
       is = ap (answer_of live) meant;
