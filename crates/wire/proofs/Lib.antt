@@ -3,3 +3,6 @@ pub mod Joined
 pub mod Wholes
 pub mod Lists
 pub mod Given
+pub mod Judged
+pub mod Counts
+pub mod Nesting

@@ -1,0 +1,27 @@
+-- Blocks, one behind the other.
+use Rattle.std.specs.Prelude.{◌≡◌, ℕ, Bool, true, false, List, [], ◌∷◌, Option, Some, None, Result, Ok, Err}
+use Rattle.block_fields.specs.declared.fault.BlockFault.{BlockFault}
+use Rattle.block_codec.specs.declared.block.Block.{Block}
+use Rattle.block_codec.specs.Block.{IsBlock, block_of, front}
+
+-- a reader: the octets behind the blocks that it gave, and whether it gave a fault
+pub record Reader : Type 0 where
+  pub rest : List ℕ
+  pub has_failed : Bool
+
+-- these octets are these blocks, one behind the other
+abbrev pub AreBlocks : List ℕ → List Block → Type 0
+AreBlocks bytes [] = bytes ≡ []
+AreBlocks bytes (block ∷ blocks) = (rest : List ℕ) × IsBlock bytes block rest × AreBlocks rest blocks
+
+-- what a reader gives next: nothing where octets are all given or a fault was, and nothing changes; the block at the front,
+-- and the octets behind it are left; or why there is none, and the octets stay
+abbrev pub Gave : Reader → Option (Result Block BlockFault) → Reader → Type 0
+Gave old None new = new ≡ old
+Gave old (Some (Ok value)) new = (block_of old.rest ≡ front value new.rest) × (new.has_failed ≡ false)
+Gave old (Some (Err fault)) new = (block_of old.rest ≡ Err fault) × (new.rest ≡ old.rest) × (new.has_failed ≡ true)
+
+-- the next of these blocks, and then those that are left
+abbrev pub GivesNext : List Block → Option (Result Block BlockFault) → Reader → Type 0
+GivesNext [] given new = given ≡ None
+GivesNext (block ∷ blocks) given new = (given ≡ Some (Ok block)) × AreBlocks new.rest blocks × (new.has_failed ≡ false)

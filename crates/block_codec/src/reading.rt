@@ -1,0 +1,90 @@
+//! From octets to a block.
+ghost use Rattle.std.specs.Prelude.{◌≡◌, ◌++◌, ℕ, List, [], IfOk};
+ghost use Rattle.wire.specs.Codec.{Gives};
+ghost use Rattle.block_codec.specs.Block.{IsBlock, block, block_of, body_of, fields_of, front};
+
+use crate::{Block, BlockFault, BlockType};
+use connect_blocks::{
+    alarm_cr_block_req_at, alarm_cr_block_res_at, ar_block_req_at, ar_block_res_at, control_at,
+    expected_at, iocr_block_req_at, iocr_block_res_at, module_diff_at,
+};
+use record_blocks::{
+    alarm_ack_at, filter_data_at, im0_at, im1_at, im2_at, im3_at, im4_at, iod_read_req_at,
+    iod_read_res_at, iod_write_req_at, iod_write_res_at,
+};
+use wire::{split, u16_at};
+
+/// Reads the block at the front: it, and the octets behind it. The first fault counts: Truncated, Kind, and then the
+/// fields of the kind in their order.
+pub fn read_block(bytes: &[u8]) -> Result<(Block, &[u8]), BlockFault>
+    // What is read is spelled so.
+    ensures found { IfOk result (λ x. IsBlock bytes.now x.0 x.1.now) }
+    // What is spelled so is read, and as nothing else.
+    ensures only { (value : Block) (rest : List ℕ) → IsBlock bytes.now value rest → Gives (λ x. (x.0, x.1.now)) result (front value rest) }
+    // No block begins another one: with anything behind it, it is read as itself.
+    ensures behind { (first more : List ℕ) (value : Block) → IsBlock first value [] → bytes.now ≡ first ++ more → Gives (λ x. (x.0, x.1.now)) result (front value more) }
+    // Which fault it is.
+    ensures exact { Gives (λ x. (x.0, x.1.now)) result (block_of bytes.now) }
+{
+    block_at(bytes)
+}
+
+/// A block, and what is behind it.
+#[tactic(auto, unfolding(crate::specs::Block::block_of, crate::specs::Block::block))]
+fn block_at(bytes: &[u8]) -> Result<(Block, &[u8]), BlockFault>
+    ensures { Gives (λ x. (x.0, x.1.now)) result (block_of bytes.now) }
+{
+    let (number, rest) = u16_at(bytes, BlockFault::Truncated)?;
+    let (length, rest) = u16_at(rest, BlockFault::Truncated)?;
+    let (body, behind) = split(rest, length as usize, BlockFault::Truncated)?;
+    let value = body_at(BlockType::of(number), body)?;
+    Ok((value, behind))
+}
+
+/// What BlockLength counts, if the type is one.
+#[tactic(auto, unfolding(crate::specs::Block::body_of))]
+fn body_at(kind: Option<BlockType>, body: &[u8]) -> Result<Block, BlockFault>
+    ensures { Gives (λ x. x) result ((body_of kind).read body.now) }
+{
+    match kind {
+        Some(kind) => fields_at(kind, body),
+        None => Err(BlockFault::Kind),
+    }
+}
+
+/// What BlockLength counts, of a known type.
+#[tactic(auto, unfolding(crate::specs::Block::fields_of))]
+fn fields_at(kind: BlockType, body: &[u8]) -> Result<Block, BlockFault>
+    ensures { Gives (λ x. x) result ((fields_of kind).read body.now) }
+{
+    Ok(match kind {
+        BlockType::ArBlockReq => Block::ArBlockReq(ar_block_req_at(body)?),
+        BlockType::ArBlockRes => Block::ArBlockRes(ar_block_res_at(body)?),
+        BlockType::IocrBlockReq => Block::IocrBlockReq(iocr_block_req_at(body)?),
+        BlockType::IocrBlockRes => Block::IocrBlockRes(iocr_block_res_at(body)?),
+        BlockType::AlarmCrBlockReq => Block::AlarmCrBlockReq(alarm_cr_block_req_at(body)?),
+        BlockType::AlarmCrBlockRes => Block::AlarmCrBlockRes(alarm_cr_block_res_at(body)?),
+        BlockType::ExpectedSubmoduleBlockReq => Block::ExpectedSubmoduleBlockReq(expected_at(
+            body,
+        )?),
+        BlockType::ModuleDiffBlock => Block::ModuleDiffBlock(module_diff_at(body)?),
+        BlockType::PrmEnd => Block::PrmEnd(control_at(body, None)?),
+        BlockType::PrmEndRes => Block::PrmEndRes(control_at(body, Some(8))?),
+        BlockType::ApplicationReady => Block::ApplicationReady(control_at(body, Some(2))?),
+        BlockType::ApplicationReadyRes => Block::ApplicationReadyRes(control_at(body, Some(8))?),
+        BlockType::Release => Block::Release(control_at(body, None)?),
+        BlockType::ReleaseRes => Block::ReleaseRes(control_at(body, Some(8))?),
+        BlockType::IodReadReq => Block::IodReadReq(iod_read_req_at(body)?),
+        BlockType::IodReadRes => Block::IodReadRes(iod_read_res_at(body)?),
+        BlockType::IodWriteReq => Block::IodWriteReq(iod_write_req_at(body)?),
+        BlockType::IodWriteRes => Block::IodWriteRes(iod_write_res_at(body)?),
+        BlockType::Im0 => Block::Im0(im0_at(body)?),
+        BlockType::Im1 => Block::Im1(im1_at(body)?),
+        BlockType::Im2 => Block::Im2(im2_at(body)?),
+        BlockType::Im3 => Block::Im3(im3_at(body)?),
+        BlockType::Im4 => Block::Im4(im4_at(body)?),
+        BlockType::ImFilterDataSubmodule => Block::ImFilterDataSubmodule(filter_data_at(body)?),
+        BlockType::ImFilterDataDevice => Block::ImFilterDataDevice(filter_data_at(body)?),
+        BlockType::AlarmAck => Block::AlarmAck(alarm_ack_at(body)?),
+    })
+}

@@ -1,0 +1,32 @@
+//! Why bytes are no block.
+
+/// Why bytes are no block. The first one counts: Truncated, then Kind, and then the fields in their order.
+#[derive(Clone, Copy, Debug, PartialEq, Eq)]
+pub enum BlockFault {
+    /// There are fewer than four octets, or fewer than BlockLength counts.
+    Truncated,
+    /// The BlockType is not known.
+    Kind,
+    /// A field runs past BlockLength, or octets are left behind the last field.
+    Length,
+    /// BlockVersionHigh, field 2, is not 1, or BlockVersionLow, field 3, is not 0.
+    Version(u8),
+    /// There is a 257th entry of one kind.
+    Count,
+    /// The field of this number has a value that is not accepted. Fields are counted from 4.
+    Field(u8),
+}
+
+impl BlockFault {
+    /// Its number, from 1.
+    pub fn number(self) -> u8 {
+        match self {
+            BlockFault::Truncated => 1,
+            BlockFault::Kind => 2,
+            BlockFault::Length => 3,
+            BlockFault::Version(_) => 4,
+            BlockFault::Count => 5,
+            BlockFault::Field(_) => 6,
+        }
+    }
+}

@@ -1,0 +1,48 @@
+//! What all kinds of PROFINET blocks are made of (IEC 61158-6-10, 5.2): the faults of a block, its version, and the fields
+//! from whose list a kind's reader, writer and length come.
+//!
+//! # A kind of blocks
+//!
+//! A kind is a struct, one list of fields by a macro, and one format in `specs/`. The list names the fields in the order
+//! in which they are sent; one with no name is in no struct.
+//!
+//! ```text
+//! macro_rules! control_fields {
+//!     ($with:ident $args:tt) => {
+//!         $with! { $args ControlBlock {
+//!             _: blank 2,
+//!             ar_uuid: uuid,
+//!             session_key: u16,
+//!         } }
+//!     };
+//! }
+//! ```
+//!
+//! `control_fields!(read_fields [bytes])` reads them, `control_fields!(put_fields [out, value])` appends them, and
+//! `control_fields!(len_fields [value])` is how many octets they take.
+//!
+//! | in the list | what it is |
+//! |---|---|
+//! | `name: u8`, `u16`, `u32` | a number |
+//! | `name: octets N` | N octets |
+//! | `name: uuid`, `mac` | 16 octets, 6 octets |
+//! | `name: ranged LEAST GREATEST FIELD` | a number of two octets, and the field's number where it is not accepted |
+//! | `_: fixed VALUE FIELD`, `fixed_one VALUE FIELD`, `fixed_four VALUE FIELD` | a number of two octets, one, or four, with one accepted value |
+//! | `_: unchecked VALUE` | a number of two octets that is read with any value |
+//! | `_: blank N` | N octets that are not looked at, and written 0 |
+//! | `name: KIND by READ(..)` | a field of that kind, which a function reads |
+//! | `name: (READ, PUT, LEN)` | what functions read, put and count |
+#![tactic(auto)]
+
+mod fault;
+mod fields;
+mod reading;
+mod writing;
+
+pub use fault::BlockFault;
+pub use reading::{
+    blank_at, ended, fixed_at, fixed_four_at, fixed_one_at, mac_at, octets_at, ranged_at, slice_at,
+    u8_at, u16_at, u32_at, unchecked_at, version_at,
+};
+pub use uuid::Uuid;
+pub use writing::{append, append_u8, append_u16, append_u32, append_zeros, len_of, put_version};

@@ -1,0 +1,4 @@
+pub mod Sound
+pub mod Objects
+pub mod Diff
+pub mod Wanted

@@ -1,0 +1,146 @@
+-- IOCRBlockReq and IOCRBlockRes (IEC 61158-6-10, 5.2.4.3 and 5.2.4.4).
+use Rattle.std.specs.Prelude.{◌≡◌, ◌%◌, ◌==◌, ◌≤◌, ◌&&◌, ◌||◌, ℕ, Bool, true, List, nat_le, Option, Some, None, if◌then◌else◌}
+use Rattle.arrayvec.specs.ArrayVec.{ArrayVec, array_vec_len}
+use Rattle.pn_values.specs.declared.mac.Mac.{Mac}
+use Rattle.wire.specs.Codec.{Codec}
+use Rattle.wire.specs.Formats.{◌⨾◌, then_by, seen}
+use Rattle.wire.specs.Checks.{checked, named}
+use Rattle.wire.specs.Counted.{counted, bounded}
+use Rattle.block_fields.specs.declared.fault.BlockFault.{BlockFault}
+use Rattle.block_fields.specs.declared.fault.BlockFault.TheVariants.{Count, Field}
+use Rattle.block_fields.specs.Fields.{two, four, ranged, fixed, fixed_four, mac}
+use Rattle.connect_blocks.specs.declared.io_object.IoObject.{IoObject}
+use Rattle.connect_blocks.specs.declared.iocr.IocrType.{IocrType}
+use Rattle.connect_blocks.specs.declared.iocr.IocrType.TheVariants.{Input, Output}
+use Rattle.connect_blocks.specs.declared.iocr.RtClass.{RtClass}
+use Rattle.connect_blocks.specs.declared.iocr.RtClass.TheVariants.{Class1, Class2}
+use Rattle.connect_blocks.specs.declared.iocr.IocrBlockReq.{IocrBlockReq}
+use Rattle.connect_blocks.specs.declared.iocr.IocrBlockRes.{IocrBlockRes}
+
+-- ---- lists of places in a frame
+
+-- SlotNumber, SubslotNumber, FrameOffset
+unfoldable pub io_object : Codec BlockFault IoObject
+io_object = seen (λ x. record { slot_number = x.0; subslot_number = x.1.0; frame_offset = x.1.1 })
+    (λ object. (object.slot_number, (object.subslot_number, object.frame_offset))) (two ⨾ two ⨾ two)
+
+-- one behind others, of at most 256
+unfoldable pub next_object : List IoObject → Codec BlockFault IoObject
+next_object before = bounded 256 Count (λ _. io_object) before
+
+-- a number of them, and they
+unfoldable pub io_objects : Codec BlockFault (ArrayVec IoObject)
+io_objects = seen (λ objects. record { items = objects }) (λ list. list.items) (counted two next_object)
+
+-- ---- fields
+
+-- IOCRType, which is field 4
+abbrev pub iocr_type_of : ℕ → Option IocrType
+iocr_type_of number = if number == 1 then Some Input else (if number == 2 then Some Output else None)
+
+abbrev pub number_of_iocr : IocrType → ℕ
+number_of_iocr Input = 1
+number_of_iocr Output = 2
+
+unfoldable pub iocr_type : Codec BlockFault IocrType
+iocr_type = named iocr_type_of number_of_iocr (Field 4) two
+
+-- the class in the low four bits of IOCRProperties, which is field 7
+abbrev pub rt_class_of : ℕ → Option RtClass
+rt_class_of number = if number % 16 == 1 then Some Class1 else (if number % 16 == 2 then Some Class2 else None)
+
+abbrev pub number_of_class : RtClass → ℕ
+number_of_class Class1 = 1
+number_of_class Class2 = 2
+
+unfoldable pub rt_class : Codec BlockFault RtClass
+rt_class = named rt_class_of number_of_class (Field 7) four
+
+-- whether a FrameID is one of cyclic frames, or of an output that leaves the choice to the device
+abbrev pub is_frame_id : IocrType → ℕ → Bool
+is_frame_id Input id = (nat_le 0x8000 id && nat_le id 0xBBFF) || (nat_le 0xC000 id && nat_le id 0xF7FF)
+is_frame_id Output id = (nat_le 0x8000 id && nat_le id 0xBBFF) || (nat_le 0xC000 id && nat_le id 0xF7FF) || id == 0xFFFF
+
+-- a FrameID, which is field 9
+unfoldable pub frame_id : IocrType → Codec BlockFault ℕ
+frame_id kind = checked (is_frame_id kind) (Field 9) two
+
+-- ---- the blocks
+
+-- from IOCRType to the IOCS, field by field
+unfoldable pub iocr_block_req : Codec BlockFault IocrBlockReq
+iocr_block_req = seen
+    (λ x. record {
+      iocr_type = x.0;
+      iocr_reference = x.1.0;
+      iocr_properties = x.1.1.1.0;
+      data_length = x.1.1.1.1.0;
+      frame_id = x.1.1.1.1.1.0;
+      send_clock_factor = x.1.1.1.1.1.1.0;
+      reduction_ratio = x.1.1.1.1.1.1.1.0;
+      phase = x.1.1.1.1.1.1.1.1.0;
+      sequence = x.1.1.1.1.1.1.1.1.1.0;
+      frame_send_offset = x.1.1.1.1.1.1.1.1.1.1.0;
+      watchdog_factor = x.1.1.1.1.1.1.1.1.1.1.1.0;
+      data_hold_factor = x.1.1.1.1.1.1.1.1.1.1.1.1.0;
+      iocr_tag_header = x.1.1.1.1.1.1.1.1.1.1.1.1.1.0;
+      iocr_multicast_mac_add = x.1.1.1.1.1.1.1.1.1.1.1.1.1.1.0;
+      io_data_objects = x.1.1.1.1.1.1.1.1.1.1.1.1.1.1.1.1.1.0;
+      iocs = x.1.1.1.1.1.1.1.1.1.1.1.1.1.1.1.1.1.1;
+    })
+    (λ block. (
+      block.iocr_type,
+      (
+        block.iocr_reference,
+        (
+          tt,
+          (
+            block.iocr_properties,
+            (
+              block.data_length,
+              (
+                block.frame_id,
+                (
+                  block.send_clock_factor,
+                  (
+                    block.reduction_ratio,
+                    (
+                      block.phase,
+                      (
+                        block.sequence,
+                        (
+                          block.frame_send_offset,
+                          (
+                            block.watchdog_factor,
+                            (block.data_hold_factor, (block.iocr_tag_header, (block.iocr_multicast_mac_add, (tt, (tt, (block.io_data_objects, block.iocs)))))),
+                          ),
+                        ),
+                      ),
+                    ),
+                  ),
+                ),
+              ),
+            ),
+          ),
+        ),
+      ),
+    ))
+    (then_by iocr_type (λ kind. two ⨾ fixed 6 0x8892 ⨾ rt_class ⨾ ranged 8 40 1440 ⨾ frame_id kind ⨾ ranged 10 1 128 ⨾ ranged 11 1 512
+    ⨾ two ⨾ two ⨾ four ⨾ two ⨾ ranged 16 1 7680 ⨾ two ⨾ mac ⨾ fixed 19 1 ⨾ fixed_four 20 0 ⨾ io_objects ⨾ io_objects))
+
+-- its fields are accepted
+pub record IsIocrBlockReq (block : IocrBlockReq) : Type 0 where
+  pub data_least : 40 ≤ block.data_length
+  pub data_greatest : block.data_length ≤ 1440
+  pub id : is_frame_id block.iocr_type block.frame_id ≡ true
+  pub clock_least : 1 ≤ block.send_clock_factor
+  pub clock_greatest : block.send_clock_factor ≤ 128
+  pub ratio_least : 1 ≤ block.reduction_ratio
+  pub ratio_greatest : block.reduction_ratio ≤ 512
+  pub hold_least : 1 ≤ block.data_hold_factor
+  pub hold_greatest : block.data_hold_factor ≤ 7680
+
+-- IOCRType, IOCRReference, FrameID
+unfoldable pub iocr_block_res : Codec BlockFault IocrBlockRes
+iocr_block_res = seen (λ x. record { iocr_type = x.0; iocr_reference = x.1.0; frame_id = x.1.1 })
+    (λ block. (block.iocr_type, (block.iocr_reference, block.frame_id))) (two ⨾ two ⨾ two)

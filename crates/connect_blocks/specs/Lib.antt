@@ -1,0 +1,6 @@
+pub mod Control
+pub mod ArBlock
+pub mod AlarmCr
+pub mod Iocr
+pub mod ModuleDiff
+pub mod Expected

@@ -1,0 +1,36 @@
+//! The blocks by which an application relation is made, controlled and ended (IEC 61158-6-10, 5.2.4): what each one means,
+//! and how its fields are read and written. Crate `block_codec` puts the header in front of them.
+#![tactic(auto)]
+
+mod alarm_cr;
+mod ar_block;
+mod control;
+mod expected;
+mod io_object;
+mod iocr;
+mod module_diff;
+mod submodule_data;
+
+pub use alarm_cr::{
+    AlarmCrBlockReq, AlarmCrBlockRes, alarm_cr_block_req_at, alarm_cr_block_req_len,
+    alarm_cr_block_res_at, alarm_cr_block_res_len, put_alarm_cr_block_req, put_alarm_cr_block_res,
+};
+pub use ar_block::{
+    ArBlockReq, ArBlockRes, ar_block_req_at, ar_block_req_len, ar_block_res_at, ar_block_res_len,
+    put_ar_block_req, put_ar_block_res,
+};
+pub use control::{ControlBlock, control_at, control_len, put_control};
+pub use expected::{
+    ExpectedModule, ExpectedModules, ExpectedSubmodule, ExpectedSubmoduleBlockReq, expected_at,
+    expected_len, put_expected,
+};
+pub use io_object::IoObject;
+pub use iocr::{
+    IocrBlockReq, IocrBlockRes, IocrType, RtClass, iocr_block_req_at, iocr_block_req_len,
+    iocr_block_res_at, iocr_block_res_len, put_iocr_block_req, put_iocr_block_res,
+};
+pub use module_diff::{
+    DiffModule, DiffModules, DiffSubmodule, ModuleDiffBlock, module_diff_at, module_diff_len,
+    put_module_diff,
+};
+pub use submodule_data::SubmoduleData;

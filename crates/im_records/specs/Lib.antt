@@ -1,0 +1,4 @@
+pub mod Headed
+pub mod Plugged
+pub mod Records
+pub mod Writes

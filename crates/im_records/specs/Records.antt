@@ -1,0 +1,73 @@
+-- The records of identification and maintenance (IEC 61158-6-10, 5.2.3.22).
+use Rattle.std.specs.Prelude.{◌==◌, ◌&&◌, ℕ, Bool, true, false, List, take, drop, Option, Some, None, if◌then◌else◌}
+use Rattle.pn_values.specs.declared.identity.Identity.{Identity}
+use Rattle.std.specs.List.{list_any}
+use Rattle.pn_values.specs.declared.real.Real.{Real}
+use Rattle.pn_values.specs.declared.real.RealModule.{RealModule}
+use Rattle.pn_values.specs.declared.settings.Settings.{Settings}
+use Rattle.im_records.specs.Headed.{block_with}
+use Rattle.record_blocks.specs.declared.im0.Im0.{Im0}
+use Rattle.record_blocks.specs.declared.im1.Im1.{Im1}
+use Rattle.record_blocks.specs.Im0.{im0}
+use Rattle.record_blocks.specs.Im1.{im1}
+use Rattle.record_blocks.specs.Im2.{im2}
+use Rattle.record_blocks.specs.Im3.{im3}
+use Rattle.im_records.specs.Plugged.{filter_record}
+
+-- I&M0 of a device
+abbrev pub im0_of : Identity → Im0
+im0_of identity = record {
+  vendor_id = identity.vendor_id;
+  order_id = identity.order_id;
+  im_serial_number = identity.serial_number;
+  im_hardware_revision = identity.hardware_revision;
+  im_software_revision = identity.software_revision;
+  im_profile_id = identity.profile_id;
+  im_profile_specific_type = identity.profile_specific_type;
+}
+
+-- I&M1 of a text: its function is the first 32 octets of it
+abbrev pub im1_of : List ℕ → Im1
+im1_of text = record { im_tag_function = take 32 text; im_tag_location = drop 32 text }
+
+-- ---- the records
+
+abbrev pub im0_record : Identity → List ℕ
+im0_record identity = block_with 0x0020 im0 (im0_of identity)
+
+abbrev pub im1_record : List ℕ → List ℕ
+im1_record text = block_with 0x0021 im1 (im1_of text)
+
+abbrev pub im2_record : List ℕ → List ℕ
+im2_record text = block_with 0x0022 im2 (record { im_date = text })
+
+abbrev pub im3_record : List ℕ → List ℕ
+im3_record text = block_with 0x0023 im3 (record { im_descriptor = text })
+
+-- whether this is the submodule that stands for the device: slot 0, subslot 1
+abbrev pub is_device : ℕ → ℕ → Bool
+is_device slot subslot = slot == 0 && subslot == 1
+
+-- whether a submodule is plugged in this subslot of a module
+abbrev pub has_subslot : ℕ → RealModule → Bool
+has_subslot subslot entry = list_any (λ part. part.subslot == subslot) entry.submodules.items
+
+-- whether a submodule is plugged in this slot and subslot
+abbrev pub is_real : Real → ℕ → ℕ → Bool
+is_real real slot subslot = list_any (λ entry. entry.slot == slot && has_subslot subslot entry) real.modules.items
+
+-- these octets, where the test holds
+abbrev pub where_holds : Bool → List ℕ → Option (List ℕ)
+where_holds true octets = Some octets
+where_holds false octets = None
+
+-- the record of this index at this submodule, if there is one: I&M0 at each real submodule, I&M1 to I&M3 at that of the
+-- device, and I&M0FilterData everywhere
+abbrev pub record_of : ℕ → ℕ → ℕ → Identity → Real → Settings → Option (List ℕ)
+record_of index slot subslot identity real settings =
+    if index == 0xAFF0 then where_holds (is_real real slot subslot) (im0_record identity)
+    else if index == 0xAFF1 then where_holds (is_device slot subslot) (im1_record settings.im1)
+    else if index == 0xAFF2 then where_holds (is_device slot subslot) (im2_record settings.im2)
+    else if index == 0xAFF3 then where_holds (is_device slot subslot) (im3_record settings.im3)
+    else if index == 0xF840 then Some (filter_record real)
+    else None

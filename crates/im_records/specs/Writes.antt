@@ -1,0 +1,34 @@
+-- What a written record asks for.
+use Rattle.std.specs.Prelude.{◌≡◌, ◌==◌, ◌+◌, ℕ, List, [], ◌∷◌, length, take, drop, nat_eq, Result, Ok, Err, if◌then◌else◌}
+use Rattle.std.specs.Cmp.Lexicographic.{pointwise}
+use Rattle.pn_values.specs.declared.im_value.ImValue.{ImValue}
+use Rattle.pn_values.specs.declared.im_value.ImValue.TheVariants as im
+use Rattle.pn_values.specs.declared.command.Command.{Command}
+use Rattle.pn_values.specs.declared.command.Command.TheVariants.{SetIm}
+use Rattle.wire.specs.Codec.{◌>>=◌}
+use Rattle.im_records.specs.declared.fault.RecordFault.{RecordFault}
+use Rattle.im_records.specs.declared.fault.RecordFault.TheVariants.{Index, Length, Block}
+use Rattle.im_records.specs.Records.{im1_record, im2_record, im3_record}
+
+-- these octets are the whole record of this index, and hold this value
+abbrev pub IsWritten : ℕ → List ℕ → ImValue → Type 0
+IsWritten index bytes (im.Im1 text) = (index ≡ 0xAFF1) × (length text ≡ 54) × (bytes ≡ im1_record text)
+IsWritten index bytes (im.Im2 text) = (index ≡ 0xAFF2) × (length text ≡ 16) × (bytes ≡ im2_record text)
+IsWritten index bytes (im.Im3 text) = (index ≡ 0xAFF3) × (length text ≡ 54) × (bytes ≡ im3_record text)
+
+-- what stands in front of a text of so many octets: BlockType, BlockLength, version 1.0
+abbrev pub header_of : ℕ → ℕ → List ℕ
+header_of kind size = 0 ∷ kind ∷ 0 ∷ (2 + size) ∷ 1 ∷ 0 ∷ []
+
+-- the text of so many octets behind the header of its kind, or why there is none: first its length is judged
+unfoldable pub text_of : ℕ → List ℕ → List ℕ → Result (List ℕ) RecordFault
+text_of size header bytes =
+    if length bytes == 6 + size then (if pointwise nat_eq (take 6 bytes) header then Ok (drop 6 bytes) else Err Block) else Err Length
+
+-- the command that a record asks for, or why there is none
+unfoldable pub command_of : ℕ → List ℕ → Result Command RecordFault
+command_of index bytes =
+    if index == 0xAFF1 then (text_of 54 (header_of 0x21 54) bytes >>= λ text. Ok (SetIm (im.Im1 text)))
+    else if index == 0xAFF2 then (text_of 16 (header_of 0x22 16) bytes >>= λ text. Ok (SetIm (im.Im2 text)))
+    else if index == 0xAFF3 then (text_of 54 (header_of 0x23 54) bytes >>= λ text. Ok (SetIm (im.Im3 text)))
+    else Err Index

@@ -1,0 +1,16 @@
+//! The records of identification and maintenance (IEC 61158-6-10, 5.2.3.22): what a device answers when one is read, and what
+//! one that is written asks for.
+#![tactic(auto)]
+
+mod fault;
+mod header;
+mod plugged;
+mod reading;
+mod writing;
+
+pub use fault::RecordFault;
+pub use reading::read_record;
+pub use writing::read_write;
+
+#[cfg(test)]
+mod tests;

@@ -1,0 +1,127 @@
+//! I&M0FilterData of a device.
+ghost use Rattle.std.specs.Prelude.{◌≡◌, ◌+◌, ◌≤◌, ◌++◌, length};
+ghost use Rattle.arrayvec.specs.ArrayVec.{array_vec_len};
+ghost use Rattle.record_blocks.specs.FilterData.{filter_data, modules_size};
+ghost use Rattle.im_records.specs.Headed.{block_with};
+ghost use Rattle.im_records.specs.Plugged.{device_entries, device_in, device_of, all_of, filter_record, ident_in, modules_in, parts_in, submodules_in};
+
+use crate::header::put_header;
+use arrayvec::ArrayVec;
+use pn_values::{Real, RealModule, RealSubmodule};
+use record_blocks::{
+    FilterModule, FilterModules, FilterSubmodule, ImFilterData, filter_data_len, put_filter_data,
+};
+
+/// Record 0xF840: all submodules that are plugged in, and then the one that stands for the device.
+#[tactic(auto, unfolding(crate::specs::Headed::block_with, record_blocks::specs::FilterData::filter_data, record_blocks::specs::FilterData::filter_modules))]
+pub(crate) fn filter_of(real: &Real) -> ArrayVec<u8, 1024>
+    ensures { result.items ≡ filter_record real.now }
+{
+    let all = ImFilterData {
+        api: 0,
+        modules: all_entries(real),
+    };
+    let device = ImFilterData {
+        api: 0,
+        modules: entries_of_device(device_of(real)),
+    };
+    let mut out = ArrayVec::new();
+    put_header(&mut out, 0x0030, filter_data_len(&all));
+    put_filter_data(&mut out, &all);
+    put_header(&mut out, 0x0032, filter_data_len(&device));
+    put_filter_data(&mut out, &device);
+    out
+}
+
+/// The entries of all modules that have a submodule, and of their submodules.
+#[tactic(auto, using(record_blocks::proofs::Entries::size_most))]
+fn all_entries(real: &Real) -> FilterModules
+    ensures modules { result.modules.items ≡ modules_in real.now.modules.items }
+    ensures submodules { result.submodules.items ≡ submodules_in real.now.modules.items }
+    ensures few { modules_size result.modules.items result.submodules.items ≤ 512 }
+{
+    let mut modules = ArrayVec::new();
+    let mut submodules = ArrayVec::new();
+    for entry in real.modules.as_slice() {
+        if !entry.submodules.is_empty() {
+            modules.push(FilterModule {
+                slot_number: entry.slot,
+                module_ident_number: entry.ident,
+                number_of_submodules: entry.submodules.len() as u16,
+            });
+        }
+        push_parts(&mut submodules, entry.submodules.as_slice());
+    }
+    FilterModules {
+        modules,
+        submodules,
+    }
+}
+
+/// Appends the entries of submodules. There must be room.
+fn push_parts(entries: &mut ArrayVec<FilterSubmodule, 256>, parts: &[RealSubmodule])
+    requires { array_vec_len entries.old + length parts.now ≤ 256 }
+    ensures items { entries.new.items ≡ entries.old.items ++ parts_in parts.now }
+    ensures len { array_vec_len entries.new ≡ array_vec_len entries.old + length parts.now }
+{
+    for part in parts {
+        entries.push(FilterSubmodule {
+            subslot_number: part.subslot,
+            submodule_ident_number: part.ident,
+        });
+    }
+}
+
+/// The ident numbers of the module in slot 0 and its submodule in subslot 1, which stands for the device.
+fn device_of(real: &Real) -> Option<(u32, u32)>
+    ensures { result ≡ device_in real.now.modules.items }
+{
+    for entry in real.modules.as_slice() {
+        if entry.slot == 0 {
+            if let Some(ident) = ident_of(entry, 1) {
+                return Some((entry.ident, ident));
+            }
+        }
+    }
+    None
+}
+
+/// The ident number of the submodule in this subslot of a module.
+fn ident_of(entry: &RealModule, subslot: u16) -> Option<u32>
+    ensures { result ≡ ident_in subslot entry.now.submodules.items }
+{
+    for part in entry.submodules.as_slice() {
+        if part.subslot == subslot {
+            return Some(part.ident);
+        }
+    }
+    None
+}
+
+/// The entries of the device alone.
+fn entries_of_device(idents: Option<(u32, u32)>) -> FilterModules
+    ensures value { result ≡ device_entries idents }
+    ensures few { modules_size result.modules.items result.submodules.items ≤ 14 }
+{
+    let mut modules = ArrayVec::new();
+    let mut submodules = ArrayVec::new();
+    let Some((module_ident, submodule_ident)) = idents else {
+        return FilterModules {
+            modules,
+            submodules,
+        };
+    };
+    modules.push(FilterModule {
+        slot_number: 0,
+        module_ident_number: module_ident,
+        number_of_submodules: 1,
+    });
+    submodules.push(FilterSubmodule {
+        subslot_number: 1,
+        submodule_ident_number: submodule_ident,
+    });
+    FilterModules {
+        modules,
+        submodules,
+    }
+}

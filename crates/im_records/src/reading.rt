@@ -1,0 +1,128 @@
+//! Records that are read.
+ghost use Rattle.std.specs.Prelude.{◌≡◌, ◌==◌};
+ghost use Rattle.std.specs.Option.{option_map};
+ghost use Rattle.im_records.specs.Records.{has_subslot, im0_record, im1_record, im2_record, im3_record, is_device, is_real, record_of};
+
+use crate::header::put_header;
+use crate::plugged::filter_of;
+use arrayvec::ArrayVec;
+use pn_values::{Identity, Padded, Real, RealModule, Settings};
+use record_blocks::{
+    Im0, Im1, Im2, Im3, im0_len, im1_len, im2_len, im3_len, put_im0, put_im1, put_im2, put_im3,
+};
+
+/// The record of this index at this slot and subslot of a device, if there is one to be read: I&M0 (0xAFF0) at each
+/// submodule that is plugged in, I&M1 to I&M3 (0xAFF1 to 0xAFF3) at slot 0, subslot 1, and I&M0FilterData (0xF840) at any.
+pub fn read_record(
+    index: u16,
+    slot: u16,
+    subslot: u16,
+    identity: &Identity,
+    real: &Real,
+    settings: &Settings,
+) -> Option<ArrayVec<u8, 1024>>
+    ensures { option_map (λ octets. octets.items) result ≡ record_of index slot subslot identity.now real.now settings.now }
+{
+    match index {
+        0xAFF0 if is_real(real, slot, subslot) => Some(im0_of(identity)),
+        0xAFF1 if is_device(slot, subslot) => Some(im1_of(&settings.im1)),
+        0xAFF2 if is_device(slot, subslot) => Some(im2_of(&settings.im2)),
+        0xAFF3 if is_device(slot, subslot) => Some(im3_of(&settings.im3)),
+        0xF840 => Some(filter_of(real)),
+        _ => None,
+    }
+}
+
+/// Whether a submodule is plugged in this slot and subslot.
+fn is_real(real: &Real, slot: u16, subslot: u16) -> bool
+    ensures { result ≡ is_real real.now slot subslot }
+{
+    real.modules
+        .as_slice()
+        .iter()
+        .any(|entry| entry.slot == slot && has_subslot(entry, subslot))
+}
+
+/// Whether a submodule is plugged in this subslot of a module.
+fn has_subslot(entry: &RealModule, subslot: u16) -> bool
+    ensures { result ≡ has_subslot subslot entry.now }
+{
+    entry
+        .submodules
+        .as_slice()
+        .iter()
+        .any(|part| part.subslot == subslot)
+}
+
+/// Whether this is the submodule that stands for the device.
+fn is_device(slot: u16, subslot: u16) -> bool
+    ensures { result ≡ is_device slot subslot }
+{
+    slot == 0 && subslot == 1
+}
+
+/// I&M0 of a device.
+#[tactic(auto, unfolding(crate::specs::Headed::block_with))]
+fn im0_of(identity: &Identity) -> ArrayVec<u8, 1024>
+    ensures { result.items ≡ im0_record identity.now }
+{
+    let im0 = Im0 {
+        vendor_id: identity.vendor_id,
+        order_id: identity.order_id,
+        im_serial_number: identity.serial_number,
+        im_hardware_revision: identity.hardware_revision,
+        im_software_revision: identity.software_revision,
+        im_profile_id: identity.profile_id,
+        im_profile_specific_type: identity.profile_specific_type,
+    };
+    let mut out = ArrayVec::new();
+    put_header(&mut out, 0x0020, im0_len(&im0));
+    put_im0(&mut out, &im0);
+    out
+}
+
+/// I&M1 with this text.
+#[tactic(auto, unfolding(crate::specs::Headed::block_with))]
+fn im1_of(text: &Padded<54>) -> ArrayVec<u8, 1024>
+    ensures { result.items ≡ im1_record text.now }
+{
+    let mut out = ArrayVec::new();
+    let (function, location) = text.as_bytes().split_at(32);
+    let mut im1 = Im1 {
+        im_tag_function: [0; 32],
+        im_tag_location: [0; 22],
+    };
+    im1.im_tag_function.copy_from_slice(function);
+    im1.im_tag_location.copy_from_slice(location);
+    put_header(&mut out, 0x0021, im1_len(&im1));
+    put_im1(&mut out, &im1);
+    out
+}
+
+/// I&M2 with this text.
+#[tactic(auto, unfolding(crate::specs::Headed::block_with))]
+fn im2_of(text: &Padded<16>) -> ArrayVec<u8, 1024>
+    ensures { result.items ≡ im2_record text.now }
+{
+    let mut im2 = Im2 { im_date: [0; 16] };
+    im2.im_date.copy_from_slice(text.as_bytes());
+    let mut out = ArrayVec::new();
+    put_header(&mut out, 0x0022, im2_len(&im2));
+    put_im2(&mut out, &im2);
+    out
+}
+
+/// I&M3 with this text.
+#[tactic(auto, unfolding(crate::specs::Headed::block_with))]
+fn im3_of(text: &Padded<54>) -> ArrayVec<u8, 1024>
+    ensures { result.items ≡ im3_record text.now }
+{
+    let mut im3 = Im3 {
+        im_descriptor: [0; 54],
+    };
+    im3.im_descriptor.copy_from_slice(text.as_bytes());
+    let mut out = ArrayVec::new();
+    put_header(&mut out, 0x0023, im3_len(&im3));
+    put_im3(&mut out, &im3);
+    out
+}

@@ -1,0 +1,13 @@
+-- I&M2 (IEC 61158-6-10, 5.2.3.22).
+use Rattle.wire.specs.Codec.{Codec}
+use Rattle.wire.specs.Formats.{seen}
+use Rattle.block_fields.specs.declared.fault.BlockFault.{BlockFault}
+use Rattle.block_fields.specs.Fields.{octets}
+use Rattle.record_blocks.specs.declared.im2.Im2.{Im2}
+
+-- I&M2's fields
+unfoldable pub im2 : Codec BlockFault Im2
+im2 = seen
+    (λ x. record { im_date = x })
+    (λ block. block.im_date)
+    (octets 16)

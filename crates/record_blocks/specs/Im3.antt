@@ -1,0 +1,13 @@
+-- I&M3 (IEC 61158-6-10, 5.2.3.22).
+use Rattle.wire.specs.Codec.{Codec}
+use Rattle.wire.specs.Formats.{seen}
+use Rattle.block_fields.specs.declared.fault.BlockFault.{BlockFault}
+use Rattle.block_fields.specs.Fields.{octets}
+use Rattle.record_blocks.specs.declared.im3.Im3.{Im3}
+
+-- I&M3's fields
+unfoldable pub im3 : Codec BlockFault Im3
+im3 = seen
+    (λ x. record { im_descriptor = x })
+    (λ block. block.im_descriptor)
+    (octets 54)

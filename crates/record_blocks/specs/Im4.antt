@@ -1,0 +1,13 @@
+-- I&M4 (IEC 61158-6-10, 5.2.3.22).
+use Rattle.wire.specs.Codec.{Codec}
+use Rattle.wire.specs.Formats.{seen}
+use Rattle.block_fields.specs.declared.fault.BlockFault.{BlockFault}
+use Rattle.block_fields.specs.Fields.{octets}
+use Rattle.record_blocks.specs.declared.im4.Im4.{Im4}
+
+-- I&M4's fields
+unfoldable pub im4 : Codec BlockFault Im4
+im4 = seen
+    (λ x. record { im_signature = x })
+    (λ block. block.im_signature)
+    (octets 54)

@@ -1,0 +1,9 @@
+pub mod Im0
+pub mod Im1
+pub mod Im2
+pub mod Im3
+pub mod Im4
+pub mod ReadRecord
+pub mod WriteRecord
+pub mod AlarmAck
+pub mod FilterData

@@ -1,0 +1,144 @@
+//! The reading of a record, and its answer.
+ghost use Rattle.std.specs.Prelude.{◌≡◌, ◌+◌, ◌≤◌, ◌++◌, List, ℕ};
+ghost use Rattle.arrayvec.specs.ArrayVec.{array_vec_len};
+ghost use Rattle.wire.specs.Codec.{Gives};
+ghost use Rattle.block_fields.specs.Fields.{body};
+ghost use Rattle.record_blocks.specs.ReadRecord.{iod_read_req, iod_read_res};
+
+use arrayvec::ArrayVec;
+use block_fields::{BlockFault, Uuid, len_fields, put_fields, read_body};
+
+/// 0x0009: IODReadReqHeader (IEC 61158-6-10, 5.2.3): a record is asked for.
+#[derive(Clone, Copy)]
+pub struct IodReadReq {
+    /// SeqNumber, which counts the calls.
+    pub seq_number: u16,
+    /// ARUUID.
+    pub ar_uuid: Uuid,
+    /// API.
+    pub api: u32,
+    /// SlotNumber.
+    pub slot_number: u16,
+    /// SubslotNumber.
+    pub subslot_number: u16,
+    /// Index of the record.
+    pub index: u16,
+    /// RecordDataLength, in octets.
+    pub record_data_length: u32,
+    /// TargetARUUID.
+    pub target_ar_uuid: Uuid,
+}
+
+macro_rules! iod_read_req_fields {
+    ($with:ident $args:tt) => {
+        $with! { $args IodReadReq {
+            seq_number: u16,
+            ar_uuid: uuid,
+            api: u32,
+            slot_number: u16,
+            subslot_number: u16,
+            _: blank 2,
+            index: u16,
+            record_data_length: u32,
+            target_ar_uuid: uuid,
+            _: blank 8,
+        } }
+    };
+}
+
+/// What BlockLength counts of an IODReadReqHeader, to the last octet.
+#[tactic(auto, unfolding(block_fields::specs::Fields::body, crate::specs::ReadRecord::iod_read_req))]
+pub fn iod_read_req_at(bytes: &[u8]) -> Result<IodReadReq, BlockFault>
+    ensures { Gives (λ x. x) result ((body iod_read_req).read bytes.now) }
+{
+    iod_read_req_fields!(read_body[bytes])
+}
+
+/// Appends the fields of an IODReadReqHeader. There must be room.
+#[tactic(auto, unfolding(crate::specs::ReadRecord::iod_read_req))]
+pub fn put_iod_read_req<const N: usize>(out: &mut ArrayVec<u8, N>, value: &IodReadReq)
+    requires { array_vec_len out.old + iod_read_req.size value.now ≤ N }
+    ensures items { (tail : List ℕ) → out.new.items ++ tail ≡ out.old.items ++ iod_read_req.write value.now tail }
+    ensures len { array_vec_len out.new ≡ array_vec_len out.old + iod_read_req.size value.now }
+    ensures fits { iod_read_req.Fits value.now }
+{
+    iod_read_req_fields!(put_fields [out, value]);
+}
+
+/// How many octets the fields of an IODReadReqHeader take.
+#[tactic(auto, unfolding(crate::specs::ReadRecord::iod_read_req))]
+pub fn iod_read_req_len(value: &IodReadReq) -> usize
+    ensures size { result ≡ iod_read_req.size value.now }
+    ensures few { result ≡ 58 }
+{
+    iod_read_req_fields!(len_fields[value])
+}
+
+/// 0x8009: IODReadResHeader (IEC 61158-6-10, 5.2.3): behind it comes the record.
+#[derive(Clone, Copy)]
+pub struct IodReadRes {
+    /// SeqNumber, which counts the calls.
+    pub seq_number: u16,
+    /// ARUUID.
+    pub ar_uuid: Uuid,
+    /// API.
+    pub api: u32,
+    /// SlotNumber.
+    pub slot_number: u16,
+    /// SubslotNumber.
+    pub subslot_number: u16,
+    /// Index of the record.
+    pub index: u16,
+    /// RecordDataLength, in octets.
+    pub record_data_length: u32,
+    /// AdditionalValue1.
+    pub additional_value_1: u16,
+    /// AdditionalValue2.
+    pub additional_value_2: u16,
+}
+
+macro_rules! iod_read_res_fields {
+    ($with:ident $args:tt) => {
+        $with! { $args IodReadRes {
+            seq_number: u16,
+            ar_uuid: uuid,
+            api: u32,
+            slot_number: u16,
+            subslot_number: u16,
+            _: blank 2,
+            index: u16,
+            record_data_length: u32,
+            additional_value_1: u16,
+            additional_value_2: u16,
+            _: blank 20,
+        } }
+    };
+}
+
+/// What BlockLength counts of an IODReadResHeader, to the last octet.
+#[tactic(auto, unfolding(block_fields::specs::Fields::body, crate::specs::ReadRecord::iod_read_res))]
+pub fn iod_read_res_at(bytes: &[u8]) -> Result<IodReadRes, BlockFault>
+    ensures { Gives (λ x. x) result ((body iod_read_res).read bytes.now) }
+{
+    iod_read_res_fields!(read_body[bytes])
+}
+
+/// Appends the fields of an IODReadResHeader. There must be room.
+#[tactic(auto, unfolding(crate::specs::ReadRecord::iod_read_res))]
+pub fn put_iod_read_res<const N: usize>(out: &mut ArrayVec<u8, N>, value: &IodReadRes)
+    requires { array_vec_len out.old + iod_read_res.size value.now ≤ N }
+    ensures items { (tail : List ℕ) → out.new.items ++ tail ≡ out.old.items ++ iod_read_res.write value.now tail }
+    ensures len { array_vec_len out.new ≡ array_vec_len out.old + iod_read_res.size value.now }
+    ensures fits { iod_read_res.Fits value.now }
+{
+    iod_read_res_fields!(put_fields [out, value]);
+}
+
+/// How many octets the fields of an IODReadResHeader take.
+#[tactic(auto, unfolding(crate::specs::ReadRecord::iod_read_res))]
+pub fn iod_read_res_len(value: &IodReadRes) -> usize
+    ensures size { result ≡ iod_read_res.size value.now }
+    ensures few { result ≡ 58 }
+{
+    iod_read_res_fields!(len_fields[value])
+}

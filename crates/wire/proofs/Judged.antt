@@ -1,0 +1,101 @@
+-- Formats that judge their values are sound.
+use Rattle.std.proofs.Common.{◌≡◌, ℕ, ◌==◌, Bool, true, false, cond, eqb, leb, ◌&&◌, List, [], ◌∷◌, ◌++◌, length, Option, Some, None, Result, Ok, Err, refl, sym, ap, subst, ◌∙◌, arith}
+use Rattle.std.specs.Prelude.{nat_le, IsSomeAnd}
+use Rattle.std.specs.Option.{option_map_or}
+use Rattle.std.proofs.lemmas.Bool.{eqb-true}
+use Rattle.std.proofs.lemmas.List.{append-nil, nil_from_length}
+use Rattle.wire.specs.Codec.{Codec, Whole, IsSound, IsSoundWhole, ◌>>=◌}
+use Rattle.wire.specs.Formats.{raw, number, seen}
+use Rattle.wire.specs.Checks.{or_fault, checked, named, viewed, within, constant, ignored, closed, variant}
+use Rattle.wire.proofs.Fields.{bind_ok, ok_is, raw_sound, number_sound}
+use Rattle.wire.proofs.Joined.{seen_sound}
+
+-- a test that was passed
+pub passed : {F A : Type 0} (b : Bool) (fault : F) (x y : A) → cond b (Ok x) (Err fault) ≡ Ok y → (b ≡ true) × (x ≡ y)
+passed true fault x y e = (refl, cc)
+passed false fault x y e = absurd cc
+
+pub checked_sound : {F A : Type 0} (test : A → Bool) (fault : F) (codec : Codec F A) → IsSound codec → IsSound (checked test fault codec)
+checked_sound {F = F} {A = A} test fault codec sound = record {
+  takes = λ bytes value rest e.
+      let a = bind_ok (codec.read bytes) (λ x. cond (test x.0) (Ok x) (Err fault)) (value, rest) e in
+      let g = passed (test a.0.0) fault a.0 (value, rest) a.2 in
+      subst (λ (y : A × List ℕ). (checked test fault codec).Spells bytes y.0 y.1) g.1 (g.0, sound.takes bytes a.0.0 a.0.1 a.1);
+  again = λ bytes value rest s. rw (sound.again bytes value rest s.1, s.0) refl;
+  written = λ value rest fits. (fits.0, sound.written value rest fits.1);
+  local = sound.local;
+  sized = sound.sized;
+}
+
+module _ {F A B : Type 0} (to : A → Option B) (from : B → A) (fault : F) (codec : Codec F A) where
+  has_name : (o : Option B) (value : B) → or_fault fault o ≡ Ok value → o ≡ Some value
+  has_name (Some x) value e = ap (λ v. Some v) (ok_is {F = F} x value e)
+  has_name None value e = absurd cc
+
+  pub named_sound : ((value : B) → to (from value) ≡ Some value) → IsSound codec → IsSound (named to from fault codec)
+  named_sound back sound = record {
+    takes = λ bytes value rest e.
+        let a = bind_ok (codec.read bytes) (λ x. or_fault fault (to x.0) >>= λ v. Ok (v, x.1)) (value, rest) e in
+        let b = bind_ok (or_fault fault (to a.0.0)) (λ v. Ok (v, a.0.1)) (value, rest) a.2 in
+        subst (λ (y : B × List ℕ). (named to from fault codec).Spells bytes y.0 y.1) (ok_is {F = F} (b.0, a.0.1) (value, rest) b.2)
+        (a.0.0, has_name (to a.0.0) b.0 b.1, sound.takes bytes a.0.0 a.0.1 a.1);
+    again = λ bytes value rest s. rw (sound.again bytes s.0 rest s.2, s.1) refl;
+    written = λ value rest fits. (from value, back value, sound.written (from value) rest fits);
+    local = λ value rest. sound.local (from value) rest;
+    sized = λ value rest. sound.sized (from value) rest;
+  }
+
+module _ {F A B : Type 0} (to : A → B) (from : B → A) (codec : Codec F A) where
+  pub viewed_sound : IsSound codec → IsSound (viewed to from codec)
+  viewed_sound sound = record {
+    takes = λ bytes value rest e.
+        let a = bind_ok (codec.read bytes) (λ x. Ok (to x.0, x.1)) (value, rest) e in
+        subst (λ (y : B × List ℕ). (viewed to from codec).Spells bytes y.0 y.1) (ok_is {F = F} (to a.0.0, a.0.1) (value, rest) a.2)
+        (a.0.0, refl, sound.takes bytes a.0.0 a.0.1 a.1);
+    again = λ bytes value rest s. rw (sound.again bytes s.0 rest s.2, s.1) refl;
+    written = λ value rest fits. (from value, fits.0, sound.written (from value) rest fits.1);
+    local = λ value rest. sound.local (from value) rest;
+    sized = λ value rest. sound.sized (from value) rest;
+  }
+
+pub within_sound : {F : Type 0} (short fault : F) (size least greatest : ℕ) → IsSound (within short fault size least greatest)
+within_sound short fault size least greatest = checked_sound (λ value. nat_le least value && nat_le value greatest) fault _ (number_sound short size)
+
+pub constant_sound : {F : Type 0} (short fault : F) (size value : ℕ) → IsSound (constant short fault size value)
+constant_sound short fault size value = seen_sound _ _ _ (λ _. refl) (checked_sound (λ n. n == value) fault _ (number_sound short size))
+
+pub ignored_sound : {F : Type 0} (short : F) (size : ℕ) → IsSound (ignored short size)
+ignored_sound short size = seen_sound _ _ _ (λ _. refl) (raw_sound short size)
+
+pub closed_sound : {F A : Type 0} (more : F) (codec : Codec F A) → IsSound codec → IsSoundWhole (closed more codec)
+closed_sound more codec sound = record {
+  takes = λ bytes value e.
+      let a = bind_ok (codec.read bytes) (λ x. cond (eqb (length x.1) 0) (Ok x.0) (Err more)) value e in
+      let g = passed (eqb (length a.0.1) 0) more a.0.0 value a.2 in
+      let ended : a.0.1 ≡ [] = nil_from_length a.0.1 (eqb-true _ _ g.0) in
+      subst (λ (rest : List ℕ). codec.Spells bytes value rest) ended (subst (λ (v : _). codec.Spells bytes v a.0.1) g.1 (sound.takes bytes a.0.0 a.0.1 a.1));
+  again = λ bytes value s. rw (sound.again bytes value [] s) refl;
+  written = λ value fits. sound.written value [] fits;
+  sized = λ value. omega (arith, sound.sized value []);
+}
+
+module _ {F A B : Type 0} (to : A → B) (from : B → Option A) (whole : Whole F A) where
+  -- what can be written in one variant is written so
+  of_variant : (back : (value : B) (inner : A) → from value ≡ Some inner → to inner ≡ value) (sound : IsSoundWhole whole) (value : B) (o : Option A)
+      → from value ≡ o → IsSomeAnd o whole.Fits → (variant to from whole).Spells (option_map_or whole.write o []) value
+  of_variant back sound value (Some inner) e fits = (inner, back value inner e, sound.written inner fits)
+  of_variant back sound value None e fits = absurd fits
+
+  size_of_variant : (sound : IsSoundWhole whole) (o : Option A) → length (option_map_or whole.write o []) ≡ option_map_or whole.size o 0
+  size_of_variant sound (Some inner) = sound.sized inner
+  size_of_variant sound None = refl
+
+  pub variant_sound : ((value : B) (inner : A) → from value ≡ Some inner → to inner ≡ value) → IsSoundWhole whole → IsSoundWhole (variant to from whole)
+  variant_sound back sound = record {
+    takes = λ bytes value e.
+        let a = bind_ok (whole.read bytes) (λ x. Ok (to x)) value e in
+        (a.0, ok_is {F = F} (to a.0) value a.2, sound.takes bytes a.0 a.1);
+    again = λ bytes value s. rw (sound.again bytes s.0 s.2, s.1) refl;
+    written = λ value fits. of_variant back sound value (from value) refl fits;
+    sized = λ value. size_of_variant sound (from value);
+  }

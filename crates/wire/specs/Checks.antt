@@ -1,0 +1,72 @@
+-- Fields whose values are judged, fields that are not looked at, and what ends a format.
+use Rattle.std.specs.Prelude.{◌≡◌, ◌==◌, ◌&&◌, ℕ, Bool, true, List, [], length, replicate, nat_le, Option, Some, None, IsSomeAnd, Result, Ok, Err, if◌then◌else◌}
+use Rattle.std.specs.Option.{option_map_or}
+use Rattle.wire.specs.Codec.{Codec, Whole, ◌>>=◌}
+use Rattle.wire.specs.Formats.{raw, number, seen}
+
+-- a format whose values pass a test, with a fault for those that do not
+abbrev pub checked : {F A : Type 0} → (A → Bool) → F → Codec F A → Codec F A
+checked test fault codec = record {
+  Spells = λ bytes value rest. (test value ≡ true) × codec.Spells bytes value rest;
+  write = codec.write;
+  size = codec.size;
+  Fits = λ value. (test value ≡ true) × codec.Fits value;
+  read = λ bytes. codec.read bytes >>= λ x. if test x.0 then Ok x else Err fault;
+}
+
+-- a value, or why there is none
+abbrev pub or_fault : {F A : Type 0} → F → Option A → Result A F
+or_fault fault (Some value) = Ok value
+or_fault fault None = Err fault
+
+-- a format under names for some of its values, with a fault for the others
+abbrev pub named : {F A B : Type 0} → (A → Option B) → (B → A) → F → Codec F A → Codec F B
+named {A = A} to from fault codec = record {
+  Spells = λ bytes value rest. (inner : A) × (to inner ≡ Some value) × codec.Spells bytes inner rest;
+  write = λ value rest. codec.write (from value) rest;
+  size = λ value. codec.size (from value);
+  Fits = λ value. codec.Fits (from value);
+  read = λ bytes. codec.read bytes >>= λ x. or_fault fault (to x.0) >>= λ value. Ok (value, x.1);
+}
+
+-- a format under another view of its values, which `to` makes of them; those that come back from `from` can be written
+abbrev pub viewed : {F A B : Type 0} → (A → B) → (B → A) → Codec F A → Codec F B
+viewed to from codec = record {
+  Spells = (seen to from codec).Spells;
+  write = (seen to from codec).write;
+  size = (seen to from codec).size;
+  Fits = λ value. (to (from value) ≡ value) × codec.Fits (from value);
+  read = (seen to from codec).read;
+}
+
+-- a number from the least to the greatest accepted one
+abbrev pub within : {F : Type 0} → F → F → ℕ → ℕ → ℕ → Codec F ℕ
+within short fault size least greatest = checked (λ value. nat_le least value && nat_le value greatest) fault (number short size)
+
+-- a number that has one accepted value
+abbrev pub constant : {F : Type 0} → F → F → ℕ → ℕ → Codec F (Unit {0})
+constant short fault size value = seen (λ _. tt) (λ _. value) (checked (λ n. n == value) fault (number short size))
+
+-- so many bytes of any value, written as zeros
+abbrev pub ignored : {F : Type 0} → F → ℕ → Codec F (Unit {0})
+ignored short size = seen (λ _. tt) (λ _. replicate size 0) (raw short size)
+
+-- a format and nothing behind it, with a fault where there is something
+abbrev pub closed : {F A : Type 0} → F → Codec F A → Whole F A
+closed more codec = record {
+  Spells = λ bytes value. codec.Spells bytes value [];
+  write = λ value. codec.write value [];
+  size = codec.size;
+  Fits = codec.Fits;
+  read = λ bytes. codec.read bytes >>= λ x. if length x.1 == 0 then Ok x.0 else Err more;
+}
+
+-- one variant of values that have several
+abbrev pub variant : {F A B : Type 0} → (A → B) → (B → Option A) → Whole F A → Whole F B
+variant {A = A} to from whole = record {
+  Spells = λ bytes value. (inner : A) × (to inner ≡ value) × whole.Spells bytes inner;
+  write = λ value. option_map_or whole.write (from value) [];
+  size = λ value. option_map_or whole.size (from value) 0;
+  Fits = λ value. IsSomeAnd (from value) whole.Fits;
+  read = λ bytes. whole.read bytes >>= λ x. Ok (to x);
+}
