@@ -98,10 +98,10 @@ own_read base own (suc count) bytes =
     let all : Read → Result Read BlockFault = λ y. Ok (base ++ (own ++ y.0), y.1) in
     joined r (λ x. read_each item count (own ++ x.0 ∷ []) x.1 >>= put x.0) all
     ∙ alike r (λ x. (read_each item count (own ++ x.0 ∷ []) x.1 >>= put x.0) >>= all) (λ x. submodules_read count ((base ++ own) ++ x.0 ∷ []) x.1) (λ x.
-        joined (read_each item count (own ++ x.0 ∷ []) x.1) (put x.0) all
-        ∙ alike (read_each item count (own ++ x.0 ∷ []) x.1) (λ y. put x.0 y >>= all) (λ y. Ok (base ++ ((own ++ x.0 ∷ []) ++ y.0), y.1)) (λ y. rw (append_assoc own (x.0 ∷ []) y.0) refl)
-        ∙ own_read base (own ++ x.0 ∷ []) count x.1
-        ∙ ap (λ (before : List FilterSubmodule). submodules_read count before x.1) (sym (append_assoc base own (x.0 ∷ []))))
+    joined (read_each item count (own ++ x.0 ∷ []) x.1) (put x.0) all
+    ∙ alike (read_each item count (own ++ x.0 ∷ []) x.1) (λ y. put x.0 y >>= all) (λ y. Ok (base ++ ((own ++ x.0 ∷ []) ++ y.0), y.1)) (λ y. rw (append_assoc own (x.0 ∷ []) y.0) refl)
+    ∙ own_read base (own ++ x.0 ∷ []) count x.1
+    ∙ ap (λ (before : List FilterSubmodule). submodules_read count before x.1) (sym (append_assoc base own (x.0 ∷ []))))
 
 modules_join : (one other : List Group) → modules_of (one ++ other) ≡ modules_of one ++ modules_of other
 modules_join [] other = refl
@@ -117,8 +117,13 @@ lists before y = Ok ((modules_of before ++ modules_of y.0, submodules_of before 
 
 lists_on : (before : List Group) (group : Group) (y : List Group × List ℕ) → lists before (group ∷ y.0, y.1) ≡ lists (before ++ group ∷ []) y
 lists_on before group y =
-    rw (modules_join before (group ∷ []), submodules_join before (group ∷ []), append_assoc (modules_of before) (group.0 ∷ []) (modules_of y.0),
-    append_assoc (submodules_of before) (group.1 ++ []) (submodules_of y.0), append-nil group.1) refl
+    rw (
+      modules_join before (group ∷ []),
+      submodules_join before (group ∷ []),
+      append_assoc (modules_of before) (group.0 ∷ []) (modules_of y.0),
+      append_assoc (submodules_of before) (group.1 ++ []) (submodules_of y.0),
+      append-nil group.1,
+    ) refl
 
 groups_read : (count : ℕ) (before : List Group) (bytes : List ℕ)
     → (read_each next_group count before bytes >>= lists before) ≡ modules_read count (modules_of before) (submodules_of before) bytes
@@ -129,25 +134,25 @@ groups_read (suc count) before bytes =
     let base = submodules_of before in
     let r = (next_module (modules_of before)).read bytes in
     let own : FilterModule × List ℕ → Result (List FilterSubmodule × List ℕ) BlockFault =
-        λ m. read_each (λ (inner : List FilterSubmodule). next_submodule (base ++ inner)) m.0.number_of_submodules [] m.1 in
+    λ m. read_each (λ (inner : List FilterSubmodule). next_submodule (base ++ inner)) m.0.number_of_submodules [] m.1 in
     let pair : FilterModule × List ℕ → List FilterSubmodule × List ℕ → Result (Group × List ℕ) BlockFault = λ m s. Ok ((m.0, s.0), s.1) in
     let put : Group → Read → Result Read BlockFault = λ x y. Ok (x ∷ y.0, y.1) in
     let next : Group × List ℕ → Result Read BlockFault = λ x. read_each next_group count (before ++ x.0 ∷ []) x.1 >>= put x.0 in
     let on : FilterModule × List ℕ → List FilterSubmodule × List ℕ → Result ((List FilterModule × List FilterSubmodule) × List ℕ) BlockFault =
-        λ m y. modules_read count (modules_of before ++ m.0 ∷ []) y.0 y.1 in
+    λ m y. modules_read count (modules_of before ++ m.0 ∷ []) y.0 y.1 in
     joined (r >>= λ m. own m >>= pair m) next (lists before)
     ∙ joined r (λ m. own m >>= pair m) (λ x. next x >>= lists before)
     ∙ alike r (λ m. (own m >>= pair m) >>= λ x. next x >>= lists before) (λ m. submodules_read m.0.number_of_submodules base m.1 >>= on m) (λ m.
-        joined (own m) (pair m) (λ x. next x >>= lists before)
-        ∙ alike (own m) (λ s. pair m s >>= λ x. next x >>= lists before) (λ s. on m (base ++ s.0, s.1)) (λ s.
-            let group : Group = (m.0, s.0) in
-            joined (read_each next_group count (before ++ group ∷ []) s.1) (put group) (lists before)
-            ∙ alike (read_each next_group count (before ++ group ∷ []) s.1) (λ y. put group y >>= lists before) (lists (before ++ group ∷ [])) (λ y. lists_on before group y)
-            ∙ groups_read count (before ++ group ∷ []) s.1
-            ∙ rw (modules_join before (group ∷ []), submodules_join before (group ∷ []), append-nil s.0) refl)
-        ∙ sym (joined (own m) (λ s. Ok (base ++ s.0, s.1)) (on m))
-        ∙ ap (λ (o : Result (List FilterSubmodule × List ℕ) BlockFault). o >>= on m) (own_read base [] m.0.number_of_submodules m.1
-            ∙ ap (λ (xs : List FilterSubmodule). submodules_read m.0.number_of_submodules xs m.1) (append-nil base)))
+    joined (own m) (pair m) (λ x. next x >>= lists before)
+    ∙ alike (own m) (λ s. pair m s >>= λ x. next x >>= lists before) (λ s. on m (base ++ s.0, s.1)) (λ s.
+    let group : Group = (m.0, s.0) in
+    joined (read_each next_group count (before ++ group ∷ []) s.1) (put group) (lists before)
+    ∙ alike (read_each next_group count (before ++ group ∷ []) s.1) (λ y. put group y >>= lists before) (lists (before ++ group ∷ [])) (λ y. lists_on before group y)
+    ∙ groups_read count (before ++ group ∷ []) s.1
+    ∙ rw (modules_join before (group ∷ []), submodules_join before (group ∷ []), append-nil s.0) refl)
+    ∙ sym (joined (own m) (λ s. Ok (base ++ s.0, s.1)) (on m))
+    ∙ ap (λ (o : Result (List FilterSubmodule × List ℕ) BlockFault). o >>= on m) (own_read base [] m.0.number_of_submodules m.1
+    ∙ ap (λ (xs : List FilterSubmodule). submodules_read m.0.number_of_submodules xs m.1) (append-nil base)))
 
 -- ---- both are one format
 
@@ -157,19 +162,19 @@ same_read bytes =
     let Read : Type 0 = List Group × List ℕ in
     let Flat : Type 0 = (List FilterModule × List FilterSubmodule) × List ℕ in
     let made : Flat → Result (FilterModules × List ℕ) BlockFault =
-        λ y. Ok (record { modules = record { items = y.0.0 }; submodules = record { items = y.0.1 } }, y.1) in
+    λ y. Ok (record { modules = record { items = y.0.0 }; submodules = record { items = y.0.1 } }, y.1) in
     let with_count : ℕ → Read → Result ((ℕ × List Group) × List ℕ) BlockFault = λ n y. Ok ((n, y.0), y.1) in
     let without : (ℕ × List Group) × List ℕ → Result Read BlockFault = λ x. Ok (x.0.1, x.1) in
     let whole : Read → Result (FilterModules × List ℕ) BlockFault =
-        λ x. Ok (record { modules = record { items = modules_of x.0 }; submodules = record { items = submodules_of x.0 } }, x.1) in
+    λ x. Ok (record { modules = record { items = modules_of x.0 }; submodules = record { items = submodules_of x.0 } }, x.1) in
     let each : ℕ × List ℕ → Result Read BlockFault = λ x. read_each next_group x.0 [] x.1 in
     let r = two.read bytes in
     joined (r >>= λ x. each x >>= with_count x.0) without whole
     ∙ joined r (λ x. each x >>= with_count x.0) (λ x. without x >>= whole)
     ∙ alike r (λ x. (each x >>= with_count x.0) >>= λ z. without z >>= whole) (λ x. modules_read x.0 [] [] x.1 >>= made) (λ x.
-        joined (each x) (with_count x.0) (λ z. without z >>= whole)
-        ∙ sym (joined (each x) (lists []) made)
-        ∙ ap (λ (o : Result Flat BlockFault). o >>= made) (groups_read x.0 [] x.1))
+    joined (each x) (with_count x.0) (λ z. without z >>= whole)
+    ∙ sym (joined (each x) (lists []) made)
+    ∙ ap (λ (o : Result Flat BlockFault). o >>= made) (groups_read x.0 [] x.1))
 
 same_write : (value : FilterModules) (rest : List ℕ) → groups.write value rest ≡ filter_modules.write value rest
 unfolding groups filter_modules
