@@ -14,7 +14,8 @@ use crate::carrying::carry_out;
 use crate::hearing::{Heard, hear};
 use crate::{Device, Event, Note};
 use dcp_core::{
-    Answer, Request, Service, get_answer, has_signal, identify_answer, identify_matches, read_request, set_answer,
+    Answer, Request, Service, get_answer, has_signal, identify_answer, identify_matches,
+    read_request, set_answer,
 };
 use flash_model::Flash;
 use frame_codec::{DCP_GET_SET, DCP_IDENTIFY_RESPONSE, Layered, Outbox, Payload, put_alone};

@@ -3,7 +3,6 @@ use Rattle.std.proofs.Common.{◌≡◌, ℕ, zero, suc, ◌<◌, ◌≤◌, nat
 use Rattle.std.specs.Prelude.{MatchBool}
 use Rattle.std.specs.List.{list_any}
 use Rattle.std.specs.Str.{IsAscii, IsNotAscii}
-
 use Rattle.std.proofs.lemmas.Bool.Decides.{nat_tests}
 
 pub all_ascii : (bytes : List ℕ) → IsAscii bytes → list_any (λ b. nat_lt 127 b) bytes ≡ false
