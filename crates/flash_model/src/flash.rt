@@ -53,7 +53,6 @@ pub trait Flash<const S: usize>: Drop {
         ensures torn { OnErr result (Torn sector place (place + length bytes.now) (programmed (sector_of (image self.old) sector) place bytes.now) (image self.old) (image self.new)) }
         ensures cause { HasCause (failures self.old) (failures self.new) result }
         ensures lost { StaysLost (is_lost self.old) (is_lost self.new) result }
-        ensures untouched { is_lost self.old ≡ true → image self.new ≡ image self.old }
         ensures reliable { is_reliable self.old → IsOk result × is_reliable self.new };
 
     /// Turns every bit of a sector to 1.
@@ -62,7 +61,6 @@ pub trait Flash<const S: usize>: Drop {
         ensures torn { OnErr result (Torn sector 0 S (erased S) (image self.old) (image self.new)) }
         ensures cause { HasCause (failures self.old) (failures self.new) result }
         ensures lost { StaysLost (is_lost self.old) (is_lost self.new) result }
-        ensures untouched { is_lost self.old ≡ true → image self.new ≡ image self.old }
         ensures reliable { is_reliable self.old → IsOk result × is_reliable self.new };
 
     /// How many calls have failed; at `u64::MAX` it stays there.

@@ -4,20 +4,9 @@
 #[derive(Clone, Copy, Debug, PartialEq, Eq)]
 pub enum RecordFault {
     /// No record that can be written has this index.
-    Index,
+    Index = 1,
     /// It is not as long as the record of this index.
-    Length,
+    Length = 2,
     /// It is not the block of this index: BlockType, BlockLength and version are others.
-    Block,
-}
-
-impl RecordFault {
-    /// Its number, from 1.
-    pub fn number(self) -> u8 {
-        match self {
-            RecordFault::Index => 1,
-            RecordFault::Length => 2,
-            RecordFault::Block => 3,
-        }
-    }
+    Block = 3,
 }
