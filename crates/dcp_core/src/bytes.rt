@@ -1,5 +1,5 @@
 // Appending blocks, and the header of an answer.
-ghost use Rattle.std.specs.Prelude.{◌≡◌, ◌+◌, ◌≤◌, ◌++◌, length};
+ghost use Rattle.std.specs.Prelude.{◌≡◌, ◌+◌, ◌≤◌, ◌++◌, [], length};
 ghost use Rattle.arrayvec.specs.ArrayVec.{array_vec_len};
 ghost use Rattle.dcp_core.specs.Bytes.{block_bytes, response_bytes, answer_bytes, error_number};
 
@@ -40,16 +40,15 @@ pub(crate) fn put_response(blocks: &mut Blocks, kind: Kind, error: BlockError)
     let _ = blocks.try_extend_from_slice(&response);
 }
 
-/// An answer with these blocks: ServiceID, success, the transaction, and DCPDataLength.
-pub(crate) fn answer(service: u8, xid: u32, blocks: &Blocks) -> Answer
-    ensures items { result.items ≡ answer_bytes service xid blocks.now.items }
-    ensures length { length result.items ≤ 737 }
+/// Puts together an answer with these blocks: ServiceID, success, the transaction, and DCPDataLength.
+pub(crate) fn put_answer(answer: &mut Answer, service: u8, xid: u32, blocks: &Blocks)
+    requires { answer.old.items ≡ [] }
+    ensures items { answer.new.items ≡ answer_bytes service xid blocks.now.items }
+    ensures length { length answer.new.items ≤ 737 }
 {
-    let mut answer = ArrayVec::new();
     let _ = answer.try_extend_from_slice(&[service, 1]);
     let _ = answer.try_extend_from_slice(&xid.to_be_bytes());
     let _ = answer.try_extend_from_slice(&[0, 0]);
     let _ = answer.try_extend_from_slice(&(blocks.len() as u16).to_be_bytes());
     let _ = answer.try_extend_from_slice(blocks.as_slice());
-    answer
 }

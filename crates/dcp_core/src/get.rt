@@ -7,7 +7,7 @@ ghost use Rattle.dcp_core.specs.Request.{asked};
 ghost use Rattle.dcp_core.specs.Identify.{most_of};
 ghost use Rattle.dcp_core.specs.Get.{get_bytes, got};
 
-use crate::bytes::{Answer, Blocks, answer, put_response};
+use crate::bytes::{Answer, Blocks, put_answer, put_response};
 use crate::identify::put_value;
 use crate::{Block, Kind, Request};
 use pn_values::{Identity, Settings};
@@ -24,7 +24,9 @@ pub fn get_answer(identity: &Identity, settings: &Settings, request: &Request<'_
             put_pair(&mut blocks, identity, settings, block.kind);
         }
     }
-    answer(3, request.xid, &blocks)
+    let mut answer = Answer::new();
+    put_answer(&mut answer, 3, request.xid, &blocks);
+    answer
 }
 
 /// Whether one of these blocks is about this kind.

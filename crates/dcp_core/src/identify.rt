@@ -6,7 +6,7 @@ ghost use Rattle.dcp_core.specs.Identify.{matches, kind_matches, value_of, value
 ghost use Rattle.dcp_core.specs.Bytes.{block_bytes};
 ghost use Rattle.std.specs.Int.{w16, to_be_bytes};
 
-use crate::bytes::{Answer, Blocks, answer, put_block};
+use crate::bytes::{Answer, Blocks, put_answer, put_block};
 use crate::{Block, Kind, Request};
 use arrayvec::ArrayVec;
 use pn_values::{Identity, IpSuite, Settings};
@@ -95,7 +95,9 @@ pub fn identify_answer(identity: &Identity, settings: &Settings, xid: u32) -> An
     put_value(&mut blocks, identity, settings, Kind::DeviceOptions);
     put_value(&mut blocks, identity, settings, Kind::DeviceInstance);
     put_value(&mut blocks, identity, settings, Kind::IpSuite);
-    answer(5, xid, &blocks)
+    let mut answer = Answer::new();
+    put_answer(&mut answer, 5, xid, &blocks);
+    answer
 }
 
 /// Appends the block of a kind's value, and says whether the station has one. There must be room.

@@ -1,5 +1,5 @@
 // Reading requests.
-ghost use Rattle.std.specs.Prelude.{◌≡◌, ◌++◌, ℕ, List, IfOk, Ok, map};
+ghost use Rattle.std.specs.Prelude.{◌≡◌, ◌++◌, ℕ, List, [], IfOk, Ok, map};
 ghost use Rattle.dcp_core.specs.Request.{Asked, asked, asked_block};
 ghost use Rattle.dcp_core.specs.Format.{kind, block, block_of, blocks_of, service_of};
 ghost use Rattle.dcp_core.specs.Reading.{Gives, IsRequest, request_of};
@@ -30,7 +30,8 @@ fn request_at<'a>(frame_id: u16, bytes: &'a [u8]) -> Result<Request<'a>, DcpFaul
     let (length, rest) = u16_at(rest, DcpFault::Length)?;
     let (data, _behind) = split(rest, length as usize, DcpFault::Length)?;
     let service = service_at(frame_id, id, service_type)?;
-    let blocks = blocks_at(service, data)?;
+    let mut blocks = ArrayVec::new();
+    read_blocks(service, data, &mut blocks)?;
     Ok(Request {
         service,
         xid,
@@ -50,11 +51,15 @@ fn service_at(frame_id: u16, id: u8, service_type: u8) -> Result<Service, DcpFau
     }
 }
 
-/// All blocks or pairs.
-fn blocks_at(service: Service, bytes: &[u8]) -> Result<ArrayVec<Block<'_>, 16>, DcpFault>
-    ensures { Gives (λ blocks. map asked_block blocks.items) result ((blocks_of service).read bytes.now) }
+/// Reads all blocks or pairs into an empty list.
+fn read_blocks<'a>(
+    service: Service,
+    bytes: &'a [u8],
+    found: &mut ArrayVec<Block<'a>, 16>,
+) -> Result<(), DcpFault>
+    requires { found.old.items ≡ [] }
+    ensures { Gives (λ _. map asked_block found.new.items) result ((blocks_of service).read bytes.now) }
 {
-    let mut found = ArrayVec::new();
     let mut rest = bytes;
     while !rest.is_empty() {
         if found.is_full() {
@@ -64,7 +69,7 @@ fn blocks_at(service: Service, bytes: &[u8]) -> Result<ArrayVec<Block<'_>, 16>, 
         found.push(block);
         rest = behind;
     }
-    Ok(found)
+    Ok(())
 }
 
 /// One block or pair, and the bytes behind it.

@@ -5,7 +5,7 @@ ghost use Rattle.dcp_core.specs.Request.{asked};
 ghost use Rattle.dcp_core.specs.Set.{plan_of, item_of, name_item, suite_item, suite_in, signal_item, is_flash, factory_item, reset_item, judged, set_bytes, signals, flashes};
 ghost use Rattle.dcp_core.specs.Valid.{is_suite};
 
-use crate::bytes::{Answer, Blocks, answer, put_response};
+use crate::bytes::{Answer, Blocks, put_answer, put_response};
 use crate::{Block, Kind, Request};
 use arrayvec::ArrayVec;
 use pn_values::{BlockError, Command, IpSuite, SetItem, StationName};
@@ -174,5 +174,7 @@ pub fn set_answer(request: &Request<'_>, answers: &ArrayVec<BlockError, 16>) -> 
     for (block, error) in request.blocks.as_slice().iter().zip(answers.as_slice()) {
         put_response(&mut responses, block.kind, *error);
     }
-    answer(4, request.xid, &responses)
+    let mut answer = Answer::new();
+    put_answer(&mut answer, 4, request.xid, &responses);
+    answer
 }

@@ -46,5 +46,5 @@ returns-clause-items c =
     let all = so_far_all values c.loop-index.blocks.items c.as_slice-asked_for.result.now c.loop-index.index c.loop-index-test.false c.loop-index.invariant.so_far in
     let kinds : kinds_in c.as_slice-asked_for.result.now ≡ map (λ (block : AskedBlock). block.kind) (map asked_block c.args.request.now.blocks.items) =
     ap kinds_in c.as_slice-asked_for.ensures.value ∙ sym (map-map (λ (block : AskedBlock). block.kind) asked_block c.args.request.now.blocks.items) in
-    c.answer.ensures.items
+    c.put_answer.ensures.items
     ∙ ap (λ (blocks : List ℕ). answer_bytes 3 c.args.request.now.xid blocks) (all ∙ ap (λ (k : List Kind). flat_map values (firsts_of [] k)) kinds)

@@ -20,5 +20,5 @@ returns-clause-items c =
     (either_empty_from_Zip c.loop-block.block-iterator c.next.new.self c.next.result c.in-None.is c.next.ensures.steps) in
     let all : c.loop-block.responses.items ≡ flat_map response (zip c.args.request.now.blocks.items c.args.answers.now.items) =
     sym (append-nil c.loop-block.responses.items) ∙ ap (λ (rest : List ℕ). c.loop-block.responses.items ++ rest) (sym none) ∙ c.loop-block.invariant.all in
-    c.answer.ensures.items ∙ ap (λ (blocks : List ℕ). answer_bytes 4 c.args.request.now.xid blocks)
+    c.put_answer.ensures.items ∙ ap (λ (blocks : List ℕ). answer_bytes 4 c.args.request.now.xid blocks)
     (all ∙ sym (flat_map-zip-map seen asked_block c.args.request.now.blocks.items c.args.answers.now.items))

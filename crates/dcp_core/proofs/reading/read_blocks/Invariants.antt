@@ -5,7 +5,7 @@ use Rattle.wire.proofs.Lists.{with_front}
 use Rattle.dcp_core.specs.declared.request.DcpFault.TheVariants as fault
 use Rattle.dcp_core.specs.Request.{asked_block}
 use Rattle.dcp_core.specs.Format.{block_of}
-use Rattle.dcp_core.proofs.reading.blocks_at.Given as goal
+use Rattle.dcp_core.proofs.reading.read_blocks.Given as goal
 
 abbrev pub invariant-loop-rest : goal.invariant-loop-rest
 invariant-loop-rest l =

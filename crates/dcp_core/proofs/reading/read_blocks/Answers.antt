@@ -8,7 +8,7 @@ use Rattle.wire.proofs.Lists.{list_goes_on, list_fails, list_is_full, list_ends}
 use Rattle.dcp_core.specs.declared.request.DcpFault.TheVariants as fault
 use Rattle.dcp_core.specs.Request.{asked_block}
 use Rattle.dcp_core.specs.Format.{block_of, blocks_of}
-use Rattle.dcp_core.proofs.reading.blocks_at.Goals as goal
+use Rattle.dcp_core.proofs.reading.read_blocks.Goals as goal
 
 pub returns-then-is_full : goal.returns-then-is_full
 unfolding blocks_of
