@@ -1,6 +1,6 @@
 // The lines of a script, and what each prints.
 use super::{IDENTIFIED, IDENTIFY, SET_DONE, SET_PUMP_1, SET_PUMP_2, SET_PUMP_3, TEXTS, output};
-use crate::RunFault;
+use script_runner::RunFault;
 use std::test::Fail;
 
 #[test]

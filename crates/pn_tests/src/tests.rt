@@ -1,5 +1,5 @@
 // Scripts and what they print. Here is what the tests share; they stand in the modules below by what they are about.
-use crate::{RunFault, run};
+use script_runner::{RunFault, run};
 use std::alloc::{AllocError, Global};
 
 mod cuts;

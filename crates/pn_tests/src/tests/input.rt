@@ -1,7 +1,7 @@
 // What is read and written: long and endless input, readers and writers that fail, and the texts of the faults.
 use super::IDENTIFY;
-use crate::{RunFault, run};
 use arrayvec::ArrayVec;
+use script_runner::{RunFault, run};
 use std::io::{self, ErrorKind, Read, Write};
 use std::test::Fail;
 
