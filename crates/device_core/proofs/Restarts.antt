@@ -7,14 +7,14 @@ use Rattle.pn_values.specs.declared.settings.Settings.{Settings}
 use Rattle.settings_journal.specs.declared.journal.BootFault.{BootFault}
 use Rattle.settings_journal.specs.declared.journal.BootFault.TheVariants.{FlashFault, Foreign}
 use Rattle.settings_journal.specs.Commit.{HasBootCause}
-use Rattle.settings_journal.specs.Image.{StartsWith, LeftByDevice}
-use Rattle.settings_store.specs.Legal.{LegalEnd}
+use Rattle.settings_journal.specs.Image.{StartsWith, IsForeign, LeftByDevice}
+use Rattle.settings_store.specs.Legal.{CrashSafe, LegalEnd}
 use Rattle.settings_store.specs.Machine.{Accepted}
 use Rattle.settings_store.specs.Carries.{IsCaused}
 use Rattle.device_core.specs.declared.event.Event.{Event}
 use Rattle.device_core.specs.State.{State, Live}
 use Rattle.device_core.specs.Steps.{Runs}
-use Rattle.device_core.specs.Cycle.{started, cycle_of, IsMadeOf, Restarts, IsRefused}
+use Rattle.device_core.specs.Cycle.{started, cycle_of, Cycled, IsMadeOf, Restarts, Refuses, IsRefused}
 use Rattle.device_core.proofs.Steps.{same_state}
 
 -- a start on a legal end has what its commands make of the first settings
@@ -24,6 +24,33 @@ ends_made image accepted first live known (inl boots) = inl (ap (λ l. l.values.
 ends_made image accepted first live known (inr less) =
     inr (less.front, less.last, less.parts, less.not_done, ap (λ l. l.values.stored) (known _ less.boots.0 less.boots.1))
 
+-- a device that started with these settings
+device_of : {F : Type 0} → F → Identity → Real → Settings → ℕ → State F
+device_of flash identity real first room = record { flash = flash; identity = identity; real = real; live = started first room }
+
+-- a run from a start is a cycle
+cycled_from : {F : Type 0} (image : F → Image) (failures : F → ℕ) (identity : Identity) (real : Real) (flash begun : F) (first : Settings) (room : ℕ)
+    (events : List Event) (before now : List (List ℕ)) (ran : State F) → image begun ≡ image flash → failures begun ≡ failures flash
+    → (runs : Runs image failures (device_of begun identity real first room) events before now ran)
+    → Cycled image failures identity flash first room events before now runs.outcomes ran.flash
+unfolding device_of
+cycled_from image failures identity real flash begun first room events before now ran same_image same_failures runs =
+    let end = cycle_of runs.outcomes identity first room events in
+    record {
+      caused = subst (λ n. IsCaused runs.outcomes n (failures ran.flash) (started first room).values end.live.values) same_failures
+          (subst (λ v. IsCaused runs.outcomes (failures begun) (failures ran.flash) (started first room).values v) (ap (λ l. l.values) runs.live) runs.caused);
+      handed_on = runs.frames;
+      safe = subst (λ i. CrashSafe false first end.accepted i (image ran.flash)) same_image runs.safe;
+    }
+
+-- the run of a device that started so
+run_from : {F : Type 0} (image : F → Image) (failures : F → ℕ) (identity : Identity) (real : Real) (first : Settings) (room : ℕ) (events : List Event)
+    (before now : List (List ℕ)) (begun ran : State F) → begun.live ≡ started first room → begun.identity ≡ identity → begun.real ≡ real
+    → Runs image failures begun events before now ran → Runs image failures (device_of begun.flash identity real first room) events before now ran
+unfolding device_of
+run_from image failures identity real first room events before now begun ran live is_identity is_real run =
+    subst (λ s. Runs image failures s events before now ran) (same_state begun (device_of begun.flash identity real first room) refl is_identity is_real live) run
+
 pub cycle_restarts : {F : Type 0} (image : F → Image) (failures : F → ℕ) (power_up : F → F → Type 0) (identity : Identity) (real : Real) (flash : F) (first : Settings) (room : ℕ)
     (events : List Event) (before now : List (List ℕ)) (begun ran : State F) (back : F) (again : State F)
     → begun.live ≡ started first room → begun.identity ≡ identity → begun.real ≡ real → image begun.flash ≡ image flash → failures begun.flash ≡ failures flash
@@ -32,30 +59,28 @@ pub cycle_restarts : {F : Type 0} (image : F → Image) (failures : F → ℕ) (
     → again.live ≡ started again.live.values.stored again.live.values.room → StartsWith (image back) again.live.values.stored again.live.values.room
     → again.identity ≡ ran.identity → again.real ≡ ran.real → image again.flash ≡ image back → failures again.flash ≡ failures back
     → Restarts image failures power_up identity real flash first room events before now again
-cycle_restarts {F} image failures power_up identity real flash first room events before now begun ran back again live is_identity is_real same_image same_failures left run powered kept known fresh starts same_identity same_real image_is failures_is =
-    let start : State F = record { flash = begun.flash; identity = identity; real = real; live = started first room } in
-    let runs = subst (λ s. Runs image failures s events before now ran) (same_state begun start refl is_identity is_real live) run in
-    let left_then = subst LeftByDevice (sym same_image) left in
+unfolding device_of
+cycle_restarts image failures power_up identity real flash first room events before now begun ran back again live is_identity is_real same_image same_failures left run powered kept known fresh starts same_identity same_real image_is failures_is =
+    let runs = run_from image failures identity real first room events before now begun ran live is_identity is_real run in
+    let cycled = cycled_from image failures identity real flash begun.flash first room events before now ran same_image same_failures runs in
+    let end = cycle_of runs.outcomes identity first room events in
     let values = ap (λ l. l.values) runs.live in
     record {
       outcomes = runs.outcomes;
       lost = ran.flash;
       back = back;
       powered = powered;
-      caused = subst (λ n. IsCaused runs.outcomes n (failures ran.flash) (started first room).values (cycle_of runs.outcomes identity first room events).live.values) same_failures
-          (subst (λ v. IsCaused runs.outcomes (failures begun.flash) (failures ran.flash) (started first room).values v) values runs.caused);
-      handed_on = runs.frames;
-      has = ends_made (image back) _ first again.live known
-          (subst (λ i. LegalEnd i (cycle_of runs.outcomes identity first room events).accepted first) (sym kept) (runs.safe.legal refl left_then));
+      cycled = cycled;
+      has = ends_made (image back) _ first again.live known (subst (λ i. LegalEnd i end.accepted first) (sym kept) (cycled.safe.legal refl left));
       clean = λ fine.
-          known (cycle_of runs.outcomes identity first room events).live.values.stored (cycle_of runs.outcomes identity first room events).live.values.room
-          (subst (λ i. StartsWith i (cycle_of runs.outcomes identity first room events).live.values.stored (cycle_of runs.outcomes identity first room events).live.values.room) (sym kept)
+          known end.live.values.stored end.live.values.room
+          (subst (λ i. StartsWith i end.live.values.stored end.live.values.room) (sym kept)
           (subst (λ v. StartsWith (image ran.flash) v.stored v.room) values (runs.holds (ap (λ v. v.has_failed) values ∙ fine))));
       nothing_else = fresh;
       starts = subst (λ i. StartsWith i again.live.values.stored again.live.values.room) (sym image_is) starts;
       identity_is = same_identity ∙ runs.same.identity;
       real_is = same_real ∙ runs.same.real;
-      left = subst LeftByDevice (sym (image_is ∙ kept)) (runs.safe.left left_then);
+      left = subst LeftByDevice (sym (image_is ∙ kept)) (cycled.safe.left left);
       same = (image_is ∙ kept, failures_is);
     }
 
@@ -76,14 +101,40 @@ restarts_if image failures power_up identity real flash first room events before
     known fresh starts same.0 same.1 image_is cause
 restarts_if image failures power_up identity real flash first room events before now begun ran back (Err refused) live is_identity is_real same_image same_failures left run powered kept known fresh starts same image_is cause = tt
 
+-- a start that is refused, from what the start says
+pub refuses_from : {F : Type 0} (image : F → Image) (failures : F → ℕ) (flash : F) (fault : BootFault) (left : F)
+    → HasBootCause fault (failures flash) (failures left) → image left ≡ image flash → (fault ≡ Foreign → IsForeign (image flash)) → Refuses image failures flash fault left
+refuses_from image failures flash fault left cause same foreign = record {
+  cause = cause;
+  same = same;
+  foreign = λ is. subst IsForeign (sym same) (foreign is);
+}
+
 -- a start after the cycle that is refused
-pub refused_if : {F : Type 0} (image : F → Image) (failures : F → ℕ) (power_up : F → F → Type 0) (flash lost back : F) (before now : List (List ℕ)) (again : Result (State F) (BootFault × F))
-    → power_up lost back → image back ≡ image lost
+pub refused_if : {F : Type 0} (image : F → Image) (failures : F → ℕ) (power_up : F → F → Type 0) (identity : Identity) (real : Real) (flash : F) (events : List Event)
+    (before now : List (List ℕ)) (begun ran : State F) (back : F) (again : Result (State F) (BootFault × F))
+    → begun.live ≡ started begun.live.values.stored begun.live.values.room → begun.identity ≡ identity → begun.real ≡ real
+    → StartsWith (image flash) begun.live.values.stored begun.live.values.room → image begun.flash ≡ image flash → failures begun.flash ≡ failures flash
+    → Runs image failures begun events before now ran → power_up ran.flash back → image back ≡ image ran.flash
+    → IfErr again (λ refused. refused.0 ≡ Foreign → IsForeign (image back))
     → MatchResult again (λ device. image device.flash ≡ image back) (λ refused. image refused.1 ≡ image back)
     → MatchResult again (λ device. failures device.flash ≡ failures back) (λ refused. HasBootCause refused.0 (failures back) (failures refused.1))
-    → IfErr again (λ refused. IsRefused image failures power_up flash before now refused.0 refused.1)
-refused_if image failures power_up flash lost back before now (Ok again) powered kept same cause = tt
-refused_if image failures power_up flash lost back before now (Err refused) powered kept same cause = inr (lost, back, powered, cause, same ∙ kept)
+    → IfErr again (λ refused. IsRefused image failures power_up identity flash events before now refused.0 refused.1)
+refused_if image failures power_up identity real flash events before now begun ran back (Ok again) live is_identity is_real starts same_image same_failures run powered kept foreign same cause = tt
+refused_if image failures power_up identity real flash events before now begun ran back (Err refused) live is_identity is_real starts same_image same_failures run powered kept foreign same cause =
+    let runs = run_from image failures identity real _ _ events before now begun ran live is_identity is_real run in
+    inr (record {
+      first = begun.live.values.stored;
+      room = begun.live.values.room;
+      outcomes = runs.outcomes;
+      lost = ran.flash;
+      back = back;
+      starts = starts;
+      cycled = cycled_from image failures identity real flash begun.flash _ _ events before now ran same_image same_failures runs;
+      powered = powered;
+      kept = kept;
+      refuses = refuses_from image failures back refused.0 refused.1 cause same foreign;
+    })
 
 pub never_refused : {F : Type 0} (is_reliable : F → Type 0) (again : Result (State F) (BootFault × F))
     → MatchResult again (λ device. is_reliable device.flash) (λ refused. is_reliable refused.1 × (refused.0 ≡ Foreign)) → IfErr again (λ refused. refused.0 ≡ FlashFault) → IsOk again

@@ -1,14 +1,15 @@
 -- A cycle of a device, from a start to the next one after a power failure.
-use Rattle.std.specs.Prelude.{◌≡◌, ◌⊎◌, ℕ, Bool, true, false, List, [], ◌∷◌, ◌++◌}
+use Rattle.std.specs.Prelude.{◌≡◌, ◌⊎◌, ℕ, false, List, [], ◌∷◌, ◌++◌}
 use Rattle.flash_model.specs.Image.{Image}
 use Rattle.pn_values.specs.declared.identity.Identity.{Identity}
 use Rattle.pn_values.specs.declared.real.Real.{Real}
 use Rattle.pn_values.specs.declared.settings.Settings.{Settings}
 use Rattle.settings_journal.specs.declared.journal.BootFault.{BootFault}
+use Rattle.settings_journal.specs.declared.journal.BootFault.TheVariants.{Foreign}
 use Rattle.settings_journal.specs.Commit.{HasBootCause}
-use Rattle.settings_journal.specs.Image.{StartsWith, LeftByDevice}
+use Rattle.settings_journal.specs.Image.{StartsWith, IsForeign, LeftByDevice}
 use Rattle.settings_store.specs.Machine.{Outcome, Accepted}
-use Rattle.settings_store.specs.Legal.{made_of}
+use Rattle.settings_store.specs.Legal.{CrashSafe, made_of}
 use Rattle.settings_store.specs.Carries.{IsCaused}
 use Rattle.device_core.specs.declared.event.Event.{Event}
 use Rattle.device_core.specs.State.{State, Live}
@@ -31,6 +32,13 @@ IsMadeOf accepted first settings =
     (settings ≡ made_of accepted first)
     ⊎ ((front : List Accepted) × (last : Accepted) × (accepted ≡ front ++ last ∷ []) × (last.is_done ≡ false) × (settings ≡ made_of front first))
 
+-- The events of a cycle were run, from a start on the flash that gave the first settings, with whatever outcomes the flash
+-- chose for the calls that store: these have their cause, what was sent was handed on, and what was left of the flash is safe.
+pub record Cycled {F : Type 0} (image : F → Image) (failures : F → ℕ) (identity : Identity) (flash : F) (first : Settings) (room : ℕ) (events : List Event) (before now : List (List ℕ)) (outcomes : List (List Outcome)) (lost : F) : Type 0 where
+  pub caused : IsCaused outcomes (failures flash) (failures lost) (started first room).values (cycle_of outcomes identity first room events).live.values
+  pub handed_on : now ≡ before ++ (cycle_of outcomes identity first room events).frames
+  pub safe : CrashSafe false first (cycle_of outcomes identity first room events).accepted (image flash) (image lost)
+
 -- The headline. The cycle went through the events, with whatever outcomes its flash chose for the calls that store. The
 -- restarted device has, running and stored, what all accepted commands of the cycle, or all but a last one that was not
 -- answered 'done', make of the first settings; where no commit failed, just what the cycle stored. Nothing else is left of
@@ -40,8 +48,7 @@ pub record Restarts {F : Type 0} (image : F → Image) (failures : F → ℕ) (p
   pub lost : F
   pub back : F
   pub powered : power_up lost back
-  pub caused : IsCaused outcomes (failures flash) (failures lost) (started first room).values (cycle_of outcomes identity first room events).live.values
-  pub handed_on : now ≡ before ++ (cycle_of outcomes identity first room events).frames
+  pub cycled : Cycled image failures identity flash first room events before now outcomes lost
   pub has : IsMadeOf (cycle_of outcomes identity first room events).accepted first restarted.live.values.stored
   pub clean : (cycle_of outcomes identity first room events).live.values.has_failed ≡ false →
       restarted.live ≡ started (cycle_of outcomes identity first room events).live.values.stored (cycle_of outcomes identity first room events).live.values.room
@@ -52,8 +59,27 @@ pub record Restarts {F : Type 0} (image : F → Image) (failures : F → ℕ) (p
   pub left : LeftByDevice (image restarted.flash)
   pub same : (image restarted.flash ≡ image lost) × (failures restarted.flash ≡ failures back)
 
--- A start was refused, the first one or the one after the cycle, for a cause of its own; no byte changed in it.
-abbrev pub IsRefused : {F : Type 0} → (F → Image) → (F → ℕ) → (F → F → Type 0) → F → List (List ℕ) → List (List ℕ) → BootFault → F → Type 0
-IsRefused {F} image failures power_up flash before now fault left =
-    ((now ≡ before) × HasBootCause fault (failures flash) (failures left) × (image left ≡ image flash))
-    ⊎ ((lost : F) × (back : F) × power_up lost back × HasBootCause fault (failures back) (failures left) × (image left ≡ image lost))
+-- A start was refused for a cause of its own, and no byte changed in it. A flash is foreign where it cannot be read.
+pub record Refuses {F : Type 0} (image : F → Image) (failures : F → ℕ) (flash : F) (fault : BootFault) (left : F) : Type 0 where
+  pub cause : HasBootCause fault (failures flash) (failures left)
+  pub same : image left ≡ image flash
+  pub foreign : fault ≡ Foreign → IsForeign (image left)
+
+-- The start after a cycle was refused: the first start gave settings, the events were run, and power came back.
+pub record RefusesAfter {F : Type 0} (image : F → Image) (failures : F → ℕ) (power_up : F → F → Type 0) (identity : Identity) (flash : F) (events : List Event) (before now : List (List ℕ)) (fault : BootFault) (left : F) : Type 0 where
+  pub first : Settings
+  pub room : ℕ
+  pub outcomes : List (List Outcome)
+  pub lost : F
+  pub back : F
+  pub starts : StartsWith (image flash) first room
+  pub cycled : Cycled image failures identity flash first room events before now outcomes lost
+  pub powered : power_up lost back
+  pub kept : image back ≡ image lost
+  pub refuses : Refuses image failures back fault left
+
+-- A start was refused: the first one, and nothing was handed on, or the one after the cycle.
+abbrev pub IsRefused : {F : Type 0} → (F → Image) → (F → ℕ) → (F → F → Type 0) → Identity → F → List Event → List (List ℕ) → List (List ℕ) → BootFault → F → Type 0
+IsRefused {F} image failures power_up identity flash events before now fault left =
+    ((now ≡ before) × Refuses image failures flash fault left)
+    ⊎ RefusesAfter image failures power_up identity flash events before now fault left

@@ -30,7 +30,7 @@ pub fn cycle<F: Flash<S>, const S: usize, K: Sink, P: FnOnce(F) -> F>(
 
     // What this device left is never foreign to it, and a start is refused where a read fails and only there.
     ensures left { LeftByDevice (F.image flash) → IfErr result (λ refused. refused.0 ≡ BootFault.FlashFault) }
-    ensures refused { IfErr result (λ refused. IsRefused F.image F.failures (P.post power_up) flash (K.taken sink.old) (K.taken sink.new) refused.0 refused.1) }
+    ensures refused { IfErr result (λ refused. IsRefused F.image F.failures (P.post power_up) identity flash events.now (K.taken sink.old) (K.taken sink.new) refused.0 refused.1) }
     ensures reliable { F.is_reliable flash → ((lost flash : F) → P.post power_up lost flash → F.is_reliable lost → F.is_reliable flash) →
         LeftByDevice (F.image flash) → IsOk result }
 {

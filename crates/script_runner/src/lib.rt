@@ -16,6 +16,3 @@ mod whole;
 
 pub use fault::RunFault;
 pub use whole::run;
-
-#[cfg(test)]
-mod tests;

@@ -1,7 +1,8 @@
 -- A start, a run, and a start on what they left.
-use Rattle.std.proofs.Common.{◌≡◌, false, sym, ap, subst}
+use Rattle.std.proofs.Common.{◌≡◌, false, refl, sym, ap, subst, inl}
+use Rattle.std.proofs.lemmas.Result.{err_from_is_err_and}
 use Rattle.settings_journal.specs.Image.{LeftByDevice}
-use Rattle.device_core.proofs.Restarts.{restarts_if, refused_if, never_refused}
+use Rattle.device_core.proofs.Restarts.{restarts_if, refuses_from, refused_if, never_refused}
 use Rattle.device_core.proofs.headline.cycle.Goals as goal
 
 pub returns-clause-headline : goal.returns-clause-headline
@@ -21,11 +22,21 @@ returns-clause-left g c = λ left.
     c.boot-2.ensures.left (subst LeftByDevice (sym (c.requires.keeps c.run.new.self.flash c.power_up.result powered))
     (c.run.ensures.runs.safe.left (subst LeftByDevice (sym c.in_ok-device.ensures.same) left)))
 
+pub returns-in_err-device-clause-refused : goal.returns-in_err-device-clause-refused
+returns-in_err-device-clause-refused g c =
+    let p = err_from_is_err_and c.from_residual.result c.from_residual.ensures.1 in
+    rw (p.1, p.2) (inl (
+      refl,
+      refuses_from g.F.Flash.image g.F.Flash.failures c.args.flash _ _ c.in_err-device.ensures.cause c.in_err-device.ensures.same c.in_err-device.ensures.foreign,
+    ))
+
 pub returns-clause-refused : goal.returns-clause-refused
 returns-clause-refused g c =
-    let powered = rw (ap (λ t. t.2) c.into_parts-identity.ensures) at c.power_up.ensures in
-    refused_if g.F.Flash.image g.F.Flash.failures _ c.args.flash c.run.new.self.flash c.power_up.result _ _ c.boot-2.result
-    powered (c.requires.keeps c.run.new.self.flash c.power_up.result powered) c.boot-2.ensures.same c.boot-2.ensures.cause
+    let parts = c.into_parts-identity.ensures in
+    let powered = rw (ap (λ t. t.2) parts) at c.power_up.ensures in
+    refused_if g.F.Flash.image g.F.Flash.failures _ c.args.identity c.args.real c.args.flash c.args.events.now _ _ c.in_ok-device.device c.run.new.self c.power_up.result c.boot-2.result
+    c.in_ok-device.ensures.fresh c.in_ok-device.ensures.identity.0 c.in_ok-device.ensures.identity.1 c.in_ok-device.ensures.starts c.in_ok-device.ensures.same c.in_ok-device.ensures.cause
+    c.run.ensures.runs powered (c.requires.keeps c.run.new.self.flash c.power_up.result powered) c.boot-2.ensures.foreign c.boot-2.ensures.same c.boot-2.ensures.cause
 
 pub returns-clause-reliable : goal.returns-clause-reliable
 returns-clause-reliable g c = λ reliable powers left.

@@ -1,0 +1,144 @@
+// What is read and written: long and endless input, readers and writers that fail, and the texts of the faults.
+use super::IDENTIFY;
+use arrayvec::ArrayVec;
+use script_runner::{RunFault, run};
+use std::io::{self, ErrorKind, Read, Write};
+use std::test::Fail;
+
+/// A reader of one byte, over and over.
+#[derive(Drop)]
+struct Repeated {
+    byte: u8,
+    left: u64,
+    at_once: usize,
+    reads: u64,
+}
+
+impl Read for Repeated {
+    fn read(&mut self, buf: &mut [u8]) -> io::Result<usize> {
+        self.reads = self.reads.saturating_add(1);
+        let most = self.at_once.min(buf.len());
+        let read = if self.left < most as u64 {
+            self.left as usize
+        } else {
+            most
+        };
+        for place in &mut buf[..read] {
+            *place = self.byte;
+        }
+        self.left -= read as u64;
+        Ok(read)
+    }
+}
+
+/// A reader that fails at its second read.
+#[derive(Drop)]
+struct Broken {
+    is_first: bool,
+}
+
+impl Read for Broken {
+    fn read(&mut self, buf: &mut [u8]) -> io::Result<usize> {
+        if !self.is_first || buf.is_empty() {
+            return Err(io::Error::from(ErrorKind::Interrupted));
+        }
+        self.is_first = false;
+        buf[0] = b'#';
+        Ok(1)
+    }
+}
+
+/// A writer with room for 10 bytes.
+#[derive(Drop)]
+struct Narrow {
+    taken: ArrayVec<u8, 10>,
+}
+
+impl Write for Narrow {
+    fn write(&mut self, buf: &[u8]) -> io::Result<usize> {
+        match buf {
+            [first, ..] => match self.taken.try_push(*first) {
+                Ok(()) => Ok(1),
+                Err(_) => Err(io::Error::from(ErrorKind::Other)),
+            },
+            [] => Ok(0),
+        }
+    }
+
+    fn flush(&mut self) -> io::Result<()> {
+        Ok(())
+    }
+}
+
+#[test]
+fn long_input(rt: HostRuntime) -> Result<(), Fail> {
+    let cases = [
+        (b'\n', 16_777_216, Ok(()), true),
+        (b'\n', 16_777_217, Err(RunFault::EndlessInput), false),
+        (b'#', 65_536, Ok(()), true),
+        (b'#', 65_537, Err(RunFault::Line(1)), true),
+    ];
+    for (byte, left, wanted, starts) in cases {
+        let mut reader = Repeated {
+            byte,
+            left,
+            at_once: 4096,
+            reads: 0,
+        };
+        let mut writer = Vec::new(rt.alloc());
+        let result = run(rt.alloc(), &mut reader, &mut writer);
+        assert_eq!(rt; result, wanted);
+        assert_eq!(rt; writer.as_slice() == b"boot ok\n".as_slice(), starts);
+    }
+    Ok(())
+}
+
+#[test]
+fn endless_input(rt: HostRuntime) -> Result<(), Fail> {
+    let mut reader = Repeated {
+        byte: b'\n',
+        left: u64::MAX,
+        at_once: 1,
+        reads: 0,
+    };
+    let mut writer = Vec::new(rt.alloc());
+    let result = run(rt.alloc(), &mut reader, &mut writer);
+    assert_eq!(rt; result, Err(RunFault::EndlessInput));
+    assert_eq!(rt; reader.reads, 16_777_217);
+    assert_eq!(rt; writer.len(), 0);
+    Ok(())
+}
+
+#[test]
+fn failing_ends(rt: HostRuntime) -> Result<(), Fail> {
+    let mut writer = Vec::new(rt.alloc());
+    let result = run(rt.alloc(), &mut Broken { is_first: true }, &mut writer);
+    assert_eq!(rt; result, Err(RunFault::Read));
+    assert_eq!(rt; writer.len(), 0);
+
+    let mut narrow = Narrow {
+        taken: ArrayVec::new(),
+    };
+    let mut reader = IDENTIFY.as_bytes();
+    let result = run(rt.alloc(), &mut reader, &mut narrow);
+    assert_eq!(rt; result, Err(RunFault::Write));
+    assert_eq!(rt; narrow.taken.as_slice(), b"boot ok\nou".as_slice());
+    Ok(())
+}
+
+#[test]
+fn texts(rt: HostRuntime) -> Result<(), Fail> {
+    let cases = [
+        (RunFault::Read, 1, "read"),
+        (RunFault::Write, 2, "write"),
+        (RunFault::Line(70_000), 3, "line 70000"),
+        (RunFault::OutOfMemory, 4, "out of memory"),
+        (RunFault::EndlessInput, 6, "endless input"),
+    ];
+    for (fault, number, text) in cases {
+        let shown = format!(in rt.alloc(); "{fault}")?;
+        assert_eq!(rt; shown.as_str(), text);
+        assert_eq!(rt; fault.number(), number);
+    }
+    Ok(())
+}
