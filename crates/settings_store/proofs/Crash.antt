@@ -11,6 +11,7 @@ use Rattle.settings_store.specs.State.{State, Values}
 use Rattle.settings_store.specs.Machine.{Accepted, followed_by, carried}
 use Rattle.settings_store.specs.Legal.{made_of, LegalEnd, CrashSafe}
 use Rattle.settings_store.specs.Carries.{IsCaused, Carries}
+use Rattle.settings_store.proofs.Placed.{placed_then, both_empty}
 use Rattle.settings_store.proofs.Machine.{failed_accepted, stays_failed, stored_made, made_append, joined, joined_quiet, joined_then}
 
 -- a legal end of what comes after is one of all
@@ -81,11 +82,15 @@ carries_then image failures old mid new items more front back one two =
       caused = caused_then one.outcomes two.outcomes (joined one.outcomes two.outcomes items) _ _ _ old.values mid.values new.values
           (joined_quiet one.outcomes two.outcomes items) failed
           (λ h. ap (λ v. v.has_failed) two.values ∙ stays_failed two.outcomes mid.values more h) one.caused two.caused;
+      placed = placed_then image failures one.outcomes two.outcomes old mid new items more one.placed two.placed;
       safe = subst (λ l. CrashSafe old.values.has_failed old.values.stored l (image old.flash) (image new.flash)) (sym (ap (λ r. r.accepted) all))
           (safe_then old.values.has_failed mid.values.has_failed old.values.stored mid.values.stored _ _ (image old.flash) (image mid.flash) (image new.flash) failed
           (failed_accepted two.outcomes mid.values more)
           (λ fine. ap (λ v. v.stored) one.values ∙ stored_made one.outcomes old.values items (ap (λ v. v.has_failed) m ∙ fine))
           one.safe two.safe);
       holds = two.holds;
+      untouched = λ none.
+          let neither = both_empty _ _ (sym (ap (λ r. r.accepted) all) ∙ none) in
+          two.untouched neither.1 ∙ one.untouched neither.0;
       stays_lost = λ lost. two.stays_lost (one.stays_lost lost);
     }

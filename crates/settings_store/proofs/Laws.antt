@@ -7,3 +7,5 @@ pub use Rattle.settings_store.proofs.Machine.{each_answered, only_answers, all_d
 -- No item, and two stretches, one after the other.
 pub use Rattle.settings_store.proofs.Steps.{nothing}
 pub use Rattle.settings_store.proofs.Crash.{safe_then, caused_then, carries_then}
+-- Items one by one, and then more of them.
+pub use Rattle.settings_store.proofs.Placed.{placed_then, both_empty}

@@ -143,7 +143,7 @@ after outcomes [] = outcomes
 after outcomes (item ∷ items) = after (rest_of outcomes) items
 
 -- one outcome for each item, written out
-padded : List Outcome → List SetItem → List Outcome
+unfoldable pub padded : List Outcome → List SetItem → List Outcome
 padded outcomes [] = []
 padded outcomes (item ∷ items) = first_of outcomes ∷ padded (rest_of outcomes) items
 
@@ -177,7 +177,7 @@ after_quiet [] = refl
 after_quiet (item ∷ items) = after_quiet items
 
 -- the outcomes over some items and then more: none where neither has any
-pub joined : List Outcome → List Outcome → List SetItem → List Outcome
+unfoldable pub joined : List Outcome → List Outcome → List SetItem → List Outcome
 joined [] [] items = []
 joined [] (outcome ∷ outcomes) items = padded [] items ++ outcome ∷ outcomes
 joined (outcome ∷ outcomes) back items = padded (outcome ∷ outcomes) items ++ back

@@ -17,7 +17,7 @@ use Rattle.std.proofs.lemmas.Bool.Decides.{nat_tests}
 use Rattle.settings_store.specs.State.{State, Values}
 use Rattle.settings_store.specs.Machine.{Outcome, Pass, Fault, Carried, answered, accepted, committed, carried_one, first_of}
 use Rattle.settings_store.specs.Legal.{CrashSafe}
-use Rattle.settings_store.specs.Carries.{IsCaused, Holds, Carries}
+use Rattle.settings_store.specs.Carries.{IsCaused, IsCausedAlone, Holds, CarriesOne, Carries}
 
 committed_failed : (outcome : Outcome) (values : Values) (command : Command) → values.has_failed ≡ true → committed outcome values command ≡ answered Local values
 committed_failed outcome values command failed = cond-true _ _ _ failed
@@ -30,20 +30,38 @@ committed_taken : (outcome : Outcome) (values : Values) (command : Command) → 
     → committed outcome values command ≡ accepted outcome values command
 committed_taken outcome values command fine room = cond-false _ _ _ fine ∙ cond-false _ _ _ room
 
+-- one item by itself, by what becomes of it
+one_item : {F : Type 0} (image : F → Image) (failures : F → ℕ) (old new : State F) (item : SetItem) (outcome : Outcome) (one : Carried)
+    → carried_one outcome old.values item ≡ one → new.values ≡ one.values
+    → IsCausedAlone (failures old.flash) (failures new.flash) old.values new.values
+    → CrashSafe old.values.has_failed old.values.stored one.accepted (image old.flash) (image new.flash)
+    → Holds (image new.flash) new.values → (one.accepted ≡ [] → new.flash ≡ old.flash) → CarriesOne image failures outcome old item new
+one_item image failures old new item outcome one is values caused safe holds untouched = record {
+  values = values ∙ sym (ap (λ r. r.values) is);
+  caused = caused;
+  safe = subst (λ l. CrashSafe old.values.has_failed old.values.stored l (image old.flash) (image new.flash)) (sym (ap (λ r. r.accepted) is)) safe;
+  holds = holds;
+  untouched = λ none. untouched (sym (ap (λ r. r.accepted) is) ∙ none);
+}
+
 -- one item, by what becomes of it
 of_one : {F : Type 0} (image : F → Image) (failures : F → ℕ) (old new : State F) (item : SetItem) (answer : BlockError) (outcomes : List Outcome) (one : Carried)
     → carried_one (first_of outcomes) old.values item ≡ one → new.values ≡ one.values → one.answers ≡ answer ∷ []
     → IsCaused outcomes (failures old.flash) (failures new.flash) old.values new.values
+    → IsCausedAlone (failures old.flash) (failures new.flash) old.values new.values
     → CrashSafe old.values.has_failed old.values.stored one.accepted (image old.flash) (image new.flash)
-    → Holds (image new.flash) new.values → (old.values.is_lost ≡ true → new.values.is_lost ≡ true) → Carries image failures old (item ∷ []) (answer ∷ []) new
-of_one image failures old new item answer outcomes one is values answers caused safe holds lost = record {
+    → Holds (image new.flash) new.values → (one.accepted ≡ [] → new.flash ≡ old.flash) → (old.values.is_lost ≡ true → new.values.is_lost ≡ true)
+    → Carries image failures old (item ∷ []) (answer ∷ []) new
+of_one image failures old new item answer outcomes one is values answers caused caused_alone safe holds untouched lost = record {
   outcomes = outcomes;
   values = values ∙ sym (ap (λ r. r.values) is);
   answers_are = sym (append-nil _ ∙ ap (λ r. r.answers) is ∙ answers);
   caused = caused;
+  placed = (new, one_item image failures old new item (first_of outcomes) one is values caused_alone safe holds untouched, refl);
   safe = subst (λ l. CrashSafe old.values.has_failed old.values.stored l (image old.flash) (image new.flash))
       (sym (append-nil _ ∙ ap (λ r. r.accepted) is)) safe;
   holds = holds;
+  untouched = λ none. untouched (sym (append-nil _ ∙ ap (λ r. r.accepted) is) ∙ none);
   stays_lost = lost;
 }
 
@@ -51,8 +69,8 @@ of_one image failures old new item answer outcomes one is values answers caused 
 alone : {F : Type 0} (image : F → Image) (failures : F → ℕ) (state : State F) (item : SetItem) (answer : BlockError)
     → carried_one Pass state.values item ≡ answered answer state.values → Holds (image state.flash) state.values → Carries image failures state (item ∷ []) (answer ∷ []) state
 alone image failures state item answer is holds =
-    of_one image failures state state item answer [] (answered answer state.values) is refl refl (inl (refl, refl))
-    (record { left = λ left. left; legal = λ fine left. inl (state.values.room, holds fine); untouched = λ failed. refl }) holds (λ lost. lost)
+    of_one image failures state state item answer [] (answered answer state.values) is refl refl (inl (refl, refl)) (inl (refl, refl))
+    (record { left = λ left. left; legal = λ fine left. inl (state.values.room, holds fine); untouched = λ failed. refl }) holds (λ _. refl) (λ lost. lost)
 
 -- what a clause sees of a store, by its parts
 abbrev pub seen : {F : Type 0} → (F → Bool) → journal.State F → Settings → State F
@@ -91,13 +109,13 @@ passed image failures is_lost old new before now command fine still settings roo
     let made : Values = (accepted Pass (seen is_lost old before).values command).values in
     let values : (seen is_lost new now).values ≡ made = cc in
     of_one image failures (seen is_lost old before) (seen is_lost new now) (Ask command) Done [] (accepted Pass (seen is_lost old before).values command)
-    (committed_taken Pass (seen is_lost old before).values command fine some) values refl (inl (refl, quiet))
+    (committed_taken Pass (seen is_lost old before).values command fine some) values refl (inl (refl, quiet)) (inl (quiet, still ∙ sym fine))
     (record {
       left = left;
       legal = λ _ _. inl (new.room, subst (λ s. StartsWith (image new.flash) s new.room) settings (stored still));
       untouched = λ failed. absurd (cc);
     })
-    stored lost
+    stored (λ none. absurd (cc)) lost
 
 -- a call of the flash failed, and the settings from before or those after are stored
 pub faulted : {F : Type 0} (image : F → Image) (failures : F → ℕ) (is_lost : F → Bool) (old new : journal.State F) (running : Settings) (command : Command)
@@ -111,7 +129,7 @@ faulted image failures is_lost old new running command fine failed some settings
     let values : (seen is_lost new running).values ≡ (accepted outcome (seen is_lost old running).values command).values = cc in
     of_one image failures (seen is_lost old running) (seen is_lost new running) (Ask command) Local (outcome ∷ [])
     (accepted outcome (seen is_lost old running).values command)
-    (committed_taken outcome (seen is_lost old running).values command fine (no_room old.room some)) values refl (inr (fault, fine, failed))
+    (committed_taken outcome (seen is_lost old running).values command fine (no_room old.room some)) values refl (inr (fault, fine, failed)) (inr (fault, fine, failed))
     (record {
       left = left;
       legal = λ _ was. elim (kept was).boots [
@@ -120,7 +138,7 @@ faulted image failures is_lost old new running command fine failed some settings
       ];
       untouched = λ h. absurd (cc);
     })
-    (λ h. absurd (cc)) lost
+    (λ h. absurd (cc)) (λ none. absurd (cc)) lost
 
 -- refused, since a commit failed earlier
 pub refused : {F : Type 0} (image : F → Image) (failures : F → ℕ) (is_lost : F → Bool) (old new : journal.State F) (running : Settings) (command : Command)
@@ -151,7 +169,9 @@ nothing image failures state holds = record {
   values = refl;
   answers_are = refl;
   caused = inl (refl, refl);
+  placed = refl;
   safe = record { left = λ left. left; legal = λ fine left. inl (state.values.room, holds fine); untouched = λ failed. refl };
   holds = holds;
+  untouched = λ _. refl;
   stays_lost = λ lost. lost;
 }

@@ -1,12 +1,12 @@
 -- What carrying out some items does, whatever the flash does.
-use Rattle.std.specs.Prelude.{◌≡◌, ◌⊎◌, ℕ, true, false, List, []}
+use Rattle.std.specs.Prelude.{◌≡◌, ◌⊎◌, ℕ, true, false, List, [], ◌∷◌}
 use Rattle.pn_values.specs.declared.set_item.SetItem.{SetItem}
 use Rattle.pn_values.specs.declared.set_item.BlockError.{BlockError}
 use Rattle.flash_model.specs.Image.{Image}
 use Rattle.settings_journal.specs.Commit.{IsFault}
 use Rattle.settings_journal.specs.Image.{StartsWith}
 use Rattle.settings_store.specs.State.{State, Values}
-use Rattle.settings_store.specs.Machine.{Outcome, carried}
+use Rattle.settings_store.specs.Machine.{Outcome, first_of, rest_of, carried_one, carried}
 use Rattle.settings_store.specs.Legal.{CrashSafe}
 
 -- Every call passed and no call of the flash failed; or one failed, and a commit failed with it, the first since the
@@ -19,13 +19,37 @@ IsCaused outcomes before now old new =
 abbrev pub Holds : Image → Values → Type 0
 Holds image values = values.has_failed ≡ false → StartsWith image values.stored values.room
 
+-- The same of one item, by itself: no call of the flash failed, and no commit did; or one failed, and a commit failed with
+-- it, the first since the start.
+abbrev pub IsCausedAlone : ℕ → ℕ → Values → Values → Type 0
+IsCausedAlone before now old new =
+    ((now ≡ before) × (new.has_failed ≡ old.has_failed)) ⊎ (IsFault before now × (old.has_failed ≡ false) × (new.has_failed ≡ true))
+
+-- One item, for an outcome of its call: the values are those that it makes, the outcome has its cause in this item, the
+-- image is safe and holds what is stored, and where no command is accepted the flash is left alone.
+pub record CarriesOne {F : Type 0} (image : F → Image) (failures : F → ℕ) (outcome : Outcome) (old : State F) (item : SetItem) (new : State F) : Type 0 where
+  pub values : new.values ≡ (carried_one outcome old.values item).values
+  pub caused : IsCausedAlone (failures old.flash) (failures new.flash) old.values new.values
+  pub safe : CrashSafe old.values.has_failed old.values.stored (carried_one outcome old.values item).accepted (image old.flash) (image new.flash)
+  pub holds : Holds (image new.flash) new.values
+  pub untouched : (carried_one outcome old.values item).accepted ≡ [] → new.flash ≡ old.flash
+
+-- The items one by one: each begins with the flash and the values that the one before it left.
+abbrev pub OneByOne : {F : Type 0} → (F → Image) → (F → ℕ) → List Outcome → State F → List SetItem → State F → Type 0
+OneByOne image failures outcomes old [] new = new ≡ old
+OneByOne {F} image failures outcomes old (item ∷ items) new =
+    (between : State F) × CarriesOne image failures (first_of outcomes) old item between × OneByOne image failures (rest_of outcomes) between items new
+
 -- For some outcomes of the calls, which the flash chose: the values and the answers are those of the items in order,
--- the outcomes have their cause, the image is safe, and power that is lost stays lost.
+-- the outcomes have their cause, each in its own item, the image is safe, where no command is accepted the flash is left
+-- alone, and power that is lost stays lost.
 pub record Carries {F : Type 0} (image : F → Image) (failures : F → ℕ) (old : State F) (items : List SetItem) (answers : List BlockError) (new : State F) : Type 0 where
   pub outcomes : List Outcome
   pub values : new.values ≡ (carried outcomes old.values items).values
   pub answers_are : answers ≡ (carried outcomes old.values items).answers
   pub caused : IsCaused outcomes (failures old.flash) (failures new.flash) old.values new.values
+  pub placed : OneByOne image failures outcomes old items new
   pub safe : CrashSafe old.values.has_failed old.values.stored (carried outcomes old.values items).accepted (image old.flash) (image new.flash)
   pub holds : Holds (image new.flash) new.values
+  pub untouched : (carried outcomes old.values items).accepted ≡ [] → new.flash ≡ old.flash
   pub stays_lost : old.values.is_lost ≡ true → new.values.is_lost ≡ true
