@@ -8,13 +8,13 @@ use connect_blocks::{
     ExpectedSubmoduleBlockReq, IocrBlockReq, IocrBlockRes, ModuleDiffBlock,
 };
 use record_blocks::{
-    AlarmAck, Im0, Im1, Im2, Im3, Im4, ImFilterData, IodReadReq, IodReadRes, IodWriteReq,
-    IodWriteRes,
+    AlarmAck, AlarmNotification, Im0, Im1, Im2, Im3, Im4, ImFilterData, IodReadReq, IodReadRes,
+    IodWriteReq, IodWriteRes,
 };
 
 /// A block, with the fields of its kind.
 #[derive(Drop)]
-pub enum Block {
+pub enum Block<'a> {
     /// 0x0101
     ArBlockReq(ArBlockReq),
     /// 0x8101
@@ -65,11 +65,13 @@ pub enum Block {
     ImFilterDataSubmodule(ImFilterData),
     /// 0x0032
     ImFilterDataDevice(ImFilterData),
+    /// 0x0001
+    AlarmNotification(AlarmNotification<'a>),
     /// 0x8001
     AlarmAck(AlarmAck),
 }
 
-impl Block {
+impl Block<'_> {
     /// Its BlockType.
     pub fn block_type(&self) -> BlockType
         ensures { result ≡ kind_of self.now }
@@ -100,6 +102,7 @@ impl Block {
             Block::Im4(_) => BlockType::Im4,
             Block::ImFilterDataSubmodule(_) => BlockType::ImFilterDataSubmodule,
             Block::ImFilterDataDevice(_) => BlockType::ImFilterDataDevice,
+            Block::AlarmNotification(_) => BlockType::AlarmNotification,
             Block::AlarmAck(_) => BlockType::AlarmAck,
         }
     }

@@ -20,8 +20,8 @@ pub use connect_blocks::{
 };
 pub use reading::read_block;
 pub use record_blocks::{
-    AlarmAck, FilterModule, FilterModules, FilterSubmodule, Im0, Im1, Im2, Im3, Im4, ImFilterData,
-    IodReadReq, IodReadRes, IodWriteReq, IodWriteRes,
+    AlarmAck, AlarmData, AlarmNotification, FilterModule, FilterModules, FilterSubmodule, Im0, Im1,
+    Im2, Im3, Im4, ImFilterData, IodReadReq, IodReadRes, IodWriteReq, IodWriteRes,
 };
 pub use writing::{block_len, write_block};
 
