@@ -8,10 +8,11 @@ use arrayvec::ArrayVec;
 use block_fields::put_version;
 use connect_blocks::{
     alarm_cr_block_req_len, alarm_cr_block_res_len, ar_block_req_len, ar_block_res_len,
-    control_len, expected_len, iocr_block_req_len, iocr_block_res_len, module_diff_len,
-    put_alarm_cr_block_req, put_alarm_cr_block_res, put_ar_block_req, put_ar_block_res,
-    put_control, put_expected, put_iocr_block_req, put_iocr_block_res, put_module_diff,
+    control_len, iocr_block_req_len, iocr_block_res_len, put_alarm_cr_block_req,
+    put_alarm_cr_block_res, put_ar_block_req, put_ar_block_res, put_control, put_iocr_block_req,
+    put_iocr_block_res,
 };
+use module_blocks::{expected_len, module_diff_len, put_expected, put_module_diff};
 use record_blocks::{
     alarm_ack_len, alarm_notification_len, filter_data_len, im0_len, im1_len, im2_len, im3_len,
     im4_len, iod_read_req_len, iod_read_res_len, iod_write_req_len, iod_write_res_len,
