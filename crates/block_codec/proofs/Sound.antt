@@ -34,7 +34,7 @@ use Rattle.connect_blocks.proofs.Sound.{ar_block_req_sound, ar_block_res_sound, 
 use Rattle.module_blocks.proofs.Wanted.{expected_sound}
 use Rattle.module_blocks.proofs.Diff.{module_diff_sound}
 use Rattle.record_blocks.proofs.Sound.{iod_read_req_sound, iod_read_res_sound, iod_write_req_sound, iod_write_res_sound, im0_sound, im1_sound, im2_sound, im3_sound, im4_sound, alarm_notification_sound, alarm_ack_sound}
-use Rattle.record_blocks.proofs.FilterSound.{filter_data_sound}
+use Rattle.record_blocks.proofs.Filter.{filter_data_sound}
 use Rattle.block_codec.specs.declared.block_type.BlockType.{BlockType}
 use Rattle.block_codec.specs.declared.block_type.BlockType.TheVariants as kind
 use Rattle.block_codec.specs.declared.block.Block.{Block}
