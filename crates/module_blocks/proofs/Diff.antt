@@ -1,9 +1,9 @@
 -- The modules of a ModuleDiffBlock, one after another.
-use Rattle.std.proofs.Common.{◌≡◌, ℕ, zero, suc, ◌+◌, ◌*◌, ◌<◌, ◌≤◌, List, [], ◌∷◌, ◌++◌, length, drop, Ok, Err, refl, ap, arith}
+use Rattle.std.proofs.Common.{◌≡◌, ℕ, ◌+◌, ◌*◌, ◌<◌, ◌≤◌, List, [], ◌∷◌, ◌++◌, length, drop, Ok, Err, refl, ap}
 use Rattle.wire.specs.Codec.{IsSound}
 use Rattle.wire.proofs.Joined.{then_by_sound, seen_sound}
 use Rattle.wire.proofs.Counts.{bounded_sound}
-use Rattle.wire.proofs.Nesting.{nested_sound, inner_goes_on, inner_fails, inner_ends, outer_goes_on, outer_fails, outer_fails_inside, outer_ends, outer_flat, outer_flat_size}
+use Rattle.wire.proofs.Nesting.{nested_sound, inner_goes_on, inner_fails, inner_ends, outer_goes_on, outer_fails, outer_fails_inside, outer_ends, outer_flat, outer_flat_size, one_left, flat_left, flat_sized}
 use Rattle.block_fields.specs.declared.fault.BlockFault.{BlockFault}
 use Rattle.block_fields.specs.declared.fault.BlockFault.TheVariants.{Count}
 use Rattle.block_fields.specs.Fields.{two, number_bytes}
@@ -114,17 +114,12 @@ modules_sized value =
 
 -- a submodule that is left takes its eight octets at least
 pub one_inner : (submodules : List DiffSubmodule) (i : ℕ) → i < length submodules → 8 ≤ submodules_size (drop i submodules)
-one_inner [] i h = absurd (omega (arith, h))
-one_inner (entry ∷ submodules) zero h = omega arith
-one_inner (entry ∷ submodules) (suc i) h = one_inner submodules i (omega (arith, h))
+one_inner submodules i h = flat_left 8 submodules i h
 
 -- 8 octets a submodule
 pub submodules_sized : (submodules : List DiffSubmodule) → submodules_size submodules ≡ 8 * length submodules
-submodules_sized [] = omega arith
-submodules_sized (submodule ∷ submodules) = omega (arith, submodules_sized submodules)
+submodules_sized submodules = flat_sized 8 submodules
 
 -- a module that is left takes its ten octets at least
 pub one_more : (modules : List DiffModule) (submodules : List DiffSubmodule) (i : ℕ) → i < length modules → 10 ≤ modules_size (drop i modules) submodules
-one_more [] submodules i h = absurd (omega (arith, h))
-one_more (entry ∷ modules) submodules zero h = omega arith
-one_more (entry ∷ modules) submodules (suc i) h = one_more modules submodules i (omega (arith, h))
+one_more modules submodules i h = one_left 10 own_of (λ _. 8) modules submodules i h

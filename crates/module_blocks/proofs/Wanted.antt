@@ -1,11 +1,11 @@
 -- The modules of an ExpectedSubmoduleBlockReq, one after another.
-use Rattle.std.proofs.Common.{◌≡◌, ℕ, zero, suc, ◌+◌, ◌<◌, ◌≤◌, ◌%◌, ◌==◌, Bool, ◌||◌, List, [], ◌∷◌, ◌++◌, length, drop, get_or, Option, Some, None, Ok, Err, refl, ap, arith}
+use Rattle.std.proofs.Common.{◌≡◌, ℕ, ◌+◌, ◌<◌, ◌≤◌, ◌%◌, ◌==◌, Bool, ◌||◌, List, [], ◌∷◌, ◌++◌, length, drop, get_or, Option, Some, None, Ok, Err, refl, ap, arith}
 use Rattle.std.proofs.lemmas.List.{drop_more}
 use Rattle.wire.specs.Codec.{IsSound}
 use Rattle.wire.proofs.Joined.{then_by_sound, seen_sound, when_sound}
 use Rattle.wire.proofs.Judged.{checked_sound}
 use Rattle.wire.proofs.Counts.{bounded_sound}
-use Rattle.wire.proofs.Nesting.{nested_sound, inner_goes_on, inner_fails, inner_ends, outer_goes_on, outer_fails, outer_fails_inside, outer_ends, outer_flat, outer_flat_size}
+use Rattle.wire.proofs.Nesting.{nested_sound, inner_goes_on, inner_fails, inner_ends, outer_goes_on, outer_fails, outer_fails_inside, outer_ends, outer_flat, outer_flat_size, one_left}
 use Rattle.block_fields.specs.declared.fault.BlockFault.{BlockFault}
 use Rattle.block_fields.specs.declared.fault.BlockFault.TheVariants.{Count, Field}
 use Rattle.block_fields.specs.Fields.{two, number_bytes}
@@ -160,6 +160,4 @@ first_inner submodules i d below = ap submodules_size (drop_more submodules i d 
 
 -- a module that is left takes its fourteen octets at least
 pub one_more : (modules : List ExpectedModule) (submodules : List ExpectedSubmodule) (i : ℕ) → i < length modules → 14 ≤ modules_size (drop i modules) submodules
-one_more [] submodules i h = absurd (omega (arith, h))
-one_more (entry ∷ modules) submodules zero h = omega arith
-one_more (entry ∷ modules) submodules (suc i) h = one_more modules submodules i (omega (arith, h))
+one_more modules submodules i h = one_left 14 own_of submodule_size modules submodules i h

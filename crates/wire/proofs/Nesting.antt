@@ -1,11 +1,11 @@
 -- Entries that count others are sound.
-use Rattle.std.proofs.Common.{◌≡◌, ℕ, zero, suc, ◌-◌, ◌+◌, ◌<◌, ◌≤◌, List, [], ◌∷◌, ◌++◌, length, take, drop, Result, Ok, Err, refl, sym, ap, subst, ◌∙◌, append_assoc, arith}
+use Rattle.std.proofs.Common.{◌≡◌, ℕ, zero, suc, ◌-◌, ◌+◌, ◌*◌, ◌<◌, ◌≤◌, List, [], ◌∷◌, ◌++◌, length, take, drop, Ok, Err, refl, sym, ap, subst, ◌∙◌, append_assoc, arith}
 use Rattle.std.proofs.lemmas.List.{append-nil, length-append, take_at, drop_at, length-take, take-append-drop}
 use Rattle.wire.specs.Codec.{Codec, IsSound, ◌>>=◌}
-use Rattle.wire.specs.Counted.{SpellEach, write_each, size_each, FitsEach, read_each}
+use Rattle.wire.specs.Counted.{SpellEach, write_each, size_each}
 use Rattle.wire.specs.Nested.{read_inner, SpellOuter, write_outer, size_outer, FitsOuter, read_outer, nested, flat_bytes, flat_size, nested_bytes, nested_size}
 use Rattle.wire.proofs.Fields.{bind_ok, ok_is}
-use Rattle.wire.proofs.Counts.{each_takes, each_again, each_written, each_local, each_sized}
+use Rattle.wire.proofs.Counts.{each_written, each_local, each_sized}
 
 -- ---- the inner entries: reading behind others is reading them, and putting them behind those
 
@@ -248,3 +248,14 @@ pub one_left : {H S : Type 0} (head_takes : ℕ) (count_of : H → ℕ) (takes :
 one_left head_takes count_of takes [] inner i h = absurd (omega (arith, h))
 one_left head_takes count_of takes (entry ∷ entries) inner zero h = omega arith
 one_left head_takes count_of takes (entry ∷ entries) inner (suc i) h = one_left head_takes count_of takes entries inner i (omega (arith, h))
+
+-- a value that is left takes its own bytes at least, where all take as many
+pub flat_left : {S : Type 0} (n : ℕ) (values : List S) (i : ℕ) → i < length values → n ≤ flat_size (λ (_ : S). n) (drop i values)
+flat_left n [] i h = absurd (omega (arith, h))
+flat_left n (value ∷ values) zero h = omega arith
+flat_left n (value ∷ values) (suc i) h = flat_left n values i (omega (arith, h))
+
+-- values that take as many bytes each
+pub flat_sized : {S : Type 0} (n : ℕ) (values : List S) → flat_size (λ (_ : S). n) values ≡ n * length values
+flat_sized n [] = omega arith
+flat_sized n (value ∷ values) = omega (arith, flat_sized n values)
