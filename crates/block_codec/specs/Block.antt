@@ -32,7 +32,7 @@ use Rattle.connect_blocks.specs.ArBlock.{ar_block_req, ar_block_res, IsArBlockRe
 use Rattle.connect_blocks.specs.Iocr.{iocr_block_req, iocr_block_res, IsIocrBlockReq}
 use Rattle.connect_blocks.specs.AlarmCr.{alarm_cr_block_req, alarm_cr_block_res, IsAlarmCrBlockReq}
 use Rattle.module_blocks.specs.Expected.{expected}
-use Rattle.module_blocks.specs.ModuleDiff.{module_diff}
+use Rattle.module_blocks.specs.ModuleDiff.{module_diff, IsModuleDiff}
 use Rattle.connect_blocks.specs.Control.{control}
 use Rattle.record_blocks.specs.ReadRecord.{iod_read_req, iod_read_res}
 use Rattle.record_blocks.specs.WriteRecord.{iod_write_req, iod_write_res}
@@ -41,7 +41,7 @@ use Rattle.record_blocks.specs.Im1.{im1}
 use Rattle.record_blocks.specs.Im2.{im2}
 use Rattle.record_blocks.specs.Im3.{im3}
 use Rattle.record_blocks.specs.Im4.{im4}
-use Rattle.record_blocks.specs.FilterData.{filter_data}
+use Rattle.record_blocks.specs.FilterData.{filter_data, IsFilterData}
 use Rattle.record_blocks.specs.AlarmNotification.{alarm_notification}
 use Rattle.record_blocks.specs.AlarmAck.{alarm_ack}
 use Rattle.block_codec.specs.declared.block_type.BlockType.{BlockType}
@@ -250,13 +250,13 @@ IsAccepted (is.ArBlockReq value) = IsArBlockReq value
 IsAccepted (is.IocrBlockReq value) = IsIocrBlockReq value
 IsAccepted (is.AlarmCrBlockReq value) = IsAlarmCrBlockReq value
 IsAccepted (is.ExpectedSubmoduleBlockReq value) = expected.Fits value
-IsAccepted (is.ModuleDiffBlock value) = module_diff.Fits value
+IsAccepted (is.ModuleDiffBlock value) = IsModuleDiff value
 IsAccepted (is.PrmEndRes value) = value.control_command ≡ 8
 IsAccepted (is.ApplicationReady value) = value.control_command ≡ 2
 IsAccepted (is.ApplicationReadyRes value) = value.control_command ≡ 8
 IsAccepted (is.ReleaseRes value) = value.control_command ≡ 8
-IsAccepted (is.ImFilterDataSubmodule value) = filter_data.Fits value
-IsAccepted (is.ImFilterDataDevice value) = filter_data.Fits value
+IsAccepted (is.ImFilterDataSubmodule value) = IsFilterData value
+IsAccepted (is.ImFilterDataDevice value) = IsFilterData value
 IsAccepted _ = Unit {0}
 
 -- how many octets are written

@@ -1,9 +1,9 @@
 -- The modules of a ModuleDiffBlock, one after another.
-use Rattle.std.proofs.Common.{◌≡◌, ℕ, ◌+◌, ◌*◌, ◌<◌, ◌≤◌, List, [], ◌∷◌, ◌++◌, length, drop, Ok, Err, refl, ap}
+use Rattle.std.proofs.Common.{◌≡◌, ℕ, ◌+◌, ◌*◌, ◌<◌, ◌≤◌, List, [], ◌∷◌, ◌++◌, length, drop, Ok, Err, refl, ap, arith}
 use Rattle.wire.specs.Codec.{IsSound}
 use Rattle.wire.proofs.Joined.{then_by_sound, seen_sound}
 use Rattle.wire.proofs.Counts.{bounded_sound}
-use Rattle.wire.proofs.Nesting.{nested_sound, inner_goes_on, inner_fails, inner_ends, outer_goes_on, outer_fails, outer_fails_inside, outer_ends, outer_flat, outer_flat_size, one_left, flat_left, flat_sized}
+use Rattle.wire.proofs.Nesting.{nested_sound, inner_goes_on, inner_fails, inner_ends, outer_goes_on, outer_fails, outer_fails_inside, outer_ends, outer_flat, outer_flat_size, one_left, flat_left, flat_sized, outer_bounded}
 use Rattle.block_fields.specs.declared.fault.BlockFault.{BlockFault}
 use Rattle.block_fields.specs.declared.fault.BlockFault.TheVariants.{Count}
 use Rattle.block_fields.specs.Fields.{two, number_bytes}
@@ -11,7 +11,7 @@ use Rattle.block_fields.proofs.Sound.{numeral_sound, fixed_sound}
 use Rattle.module_blocks.specs.declared.module_diff.DiffModule.{DiffModule}
 use Rattle.module_blocks.specs.declared.module_diff.DiffSubmodule.{DiffSubmodule}
 use Rattle.module_blocks.specs.declared.module_diff.DiffModules.{DiffModules}
-use Rattle.module_blocks.specs.ModuleDiff.{diff_module, diff_submodule, own_of, next_module, next_submodule, diff_modules, module_diff, submodules_read, modules_read, modules_bytes, modules_size, submodules_size}
+use Rattle.module_blocks.specs.ModuleDiff.{diff_module, diff_submodule, own_of, next_module, next_submodule, diff_modules, module_diff, submodules_read, modules_read, modules_bytes, modules_size, submodules_size, IsCounted, ModulesFit}
 
 -- ---- the law
 
@@ -123,3 +123,12 @@ submodules_sized submodules = flat_sized 8 submodules
 -- a module that is left takes its ten octets at least
 pub one_more : (modules : List DiffModule) (submodules : List DiffSubmodule) (i : ℕ) → i < length modules → 10 ≤ modules_size (drop i modules) submodules
 one_more modules submodules i h = one_left 10 own_of (λ _. 8) modules submodules i h
+
+-- modules that count the submodules that there are, and whose fields fit, can be written
+pub modules_fit : (value : DiffModules) → length value.modules.items ≤ 256 → length value.submodules.items ≤ 256 → IsCounted value
+    → ModulesFit value.modules.items value.submodules.items → diff_modules.Fits value
+unfolding diff_modules next_module next_submodule
+modules_fit value few places counted fits = (
+  omega (arith, few),
+  outer_bounded diff_module own_of diff_submodule 256 Count [] [] value.modules.items value.submodules.items (omega (arith, few)) (omega (arith, places)) counted fits,
+)

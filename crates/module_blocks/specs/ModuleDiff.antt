@@ -1,10 +1,11 @@
 -- ModuleDiffBlock (IEC 61158-6-10, 5.2.4.11): which modules are not as they were asked for. The submodules of all modules
 -- stand in one list, those of the first module first.
-use Rattle.std.specs.Prelude.{ℕ, List, Result}
+use Rattle.std.specs.Prelude.{◌≡◌, ℕ, List, length, sum_by, Result}
+use Rattle.std.specs.List.{AllByRecursion}
 use Rattle.wire.specs.Codec.{Codec}
 use Rattle.wire.specs.Formats.{◌⨾◌, seen}
 use Rattle.wire.specs.Counted.{bounded}
-use Rattle.wire.specs.Nested.{nested, read_inner, read_outer, flat_bytes, flat_size, nested_bytes, nested_size}
+use Rattle.wire.specs.Nested.{nested, read_inner, read_outer, flat_bytes, flat_size, nested_bytes, nested_size, FitsNested}
 use Rattle.block_fields.specs.declared.fault.BlockFault.{BlockFault}
 use Rattle.block_fields.specs.declared.fault.BlockFault.TheVariants.{Count}
 use Rattle.block_fields.specs.Fields.{two, four, fixed}
@@ -54,6 +55,14 @@ unfoldable pub module_diff : Codec BlockFault ModuleDiffBlock
 module_diff = seen (λ x. record { api = x.1.0; modules = x.1.1 }) (λ block. (tt, (block.api, block.modules)))
     (fixed 4 1 ⨾ four ⨾ diff_modules)
 
+-- the modules count the submodules that there are
+abbrev pub IsCounted : DiffModules → Type 0
+IsCounted value = sum_by own_of value.modules.items ≡ length value.submodules.items
+
+-- its fields are accepted
+abbrev pub IsModuleDiff : ModuleDiffBlock → Type 0
+IsModuleDiff block = IsCounted block.modules
+
 -- ---- as the code goes over the lists
 
 -- so many submodules, and so many modules with theirs, behind those before them
@@ -76,3 +85,10 @@ submodules_size submodules = flat_size (λ _. 8) submodules
 
 abbrev pub modules_size : List DiffModule → List DiffSubmodule → ℕ
 modules_size modules submodules = nested_size 10 own_of (λ _. 8) modules submodules
+
+-- the fields of submodules, and of modules with theirs, fit
+abbrev pub SubmodulesFit : List DiffSubmodule → Type 0
+SubmodulesFit submodules = AllByRecursion diff_submodule.Fits submodules
+
+abbrev pub ModulesFit : List DiffModule → List DiffSubmodule → Type 0
+ModulesFit modules submodules = FitsNested diff_module.Fits own_of diff_submodule.Fits modules submodules

@@ -3,7 +3,7 @@ ghost use Rattle.std.specs.Prelude.{◌≡◌, ◌+◌, ◌*◌, ◌<◌, ◌≤
 ghost use Rattle.arrayvec.specs.ArrayVec.{array_vec_len};
 ghost use Rattle.wire.specs.Codec.{Gives};
 ghost use Rattle.block_fields.specs.Fields.{body};
-ghost use Rattle.module_blocks.specs.ModuleDiff.{module_diff, diff_module, diff_modules, diff_submodule, next_module, next_submodule, modules_bytes, modules_read, modules_size, submodules_bytes, submodules_read, submodules_size};
+ghost use Rattle.module_blocks.specs.ModuleDiff.{module_diff, diff_module, diff_modules, diff_submodule, next_module, next_submodule, modules_bytes, modules_read, modules_size, submodules_bytes, submodules_read, submodules_size, IsCounted, IsModuleDiff, ModulesFit, SubmodulesFit};
 
 use arrayvec::ArrayVec;
 use block_fields::{
@@ -197,6 +197,7 @@ fn put_diff_module<const N: usize>(out: &mut ArrayVec<u8, N>, value: &DiffModule
     requires { array_vec_len out.old + 10 ≤ N }
     ensures items { (tail : List ℕ) → out.new.items ++ tail ≡ out.old.items ++ diff_module.write value.now tail }
     ensures len { array_vec_len out.new ≡ array_vec_len out.old + 10 }
+    ensures fits { diff_module.Fits value.now }
 {
     diff_module_fields!(put_fields [out, value]);
 }
@@ -207,16 +208,18 @@ fn put_diff_submodule<const N: usize>(out: &mut ArrayVec<u8, N>, value: &DiffSub
     requires { array_vec_len out.old + 8 ≤ N }
     ensures items { (tail : List ℕ) → out.new.items ++ tail ≡ out.old.items ++ diff_submodule.write value.now tail }
     ensures len { array_vec_len out.new ≡ array_vec_len out.old + 8 }
+    ensures fits { diff_submodule.Fits value.now }
 {
     diff_submodule_fields!(put_fields [out, value]);
 }
 
 /// Appends the entries of submodules. There must be room.
-#[tactic(auto, using(crate::proofs::Diff::one_inner))]
+#[tactic(auto, using(crate::proofs::Diff::one_inner, wire::proofs::Nesting::fits_on))]
 fn put_submodules<const N: usize>(out: &mut ArrayVec<u8, N>, submodules: &[DiffSubmodule])
     requires { array_vec_len out.old + submodules_size submodules.now ≤ N }
     ensures items { (tail : List ℕ) → out.new.items ++ tail ≡ out.old.items ++ submodules_bytes submodules.now tail }
     ensures len { array_vec_len out.new ≡ array_vec_len out.old + submodules_size submodules.now }
+    ensures fits { SubmodulesFit submodules.now }
 {
     for submodule in submodules {
         put_diff_submodule(out, submodule);
@@ -224,7 +227,7 @@ fn put_submodules<const N: usize>(out: &mut ArrayVec<u8, N>, submodules: &[DiffS
 }
 
 /// Appends the entries of modules, each with as many of the submodules as it counts. There must be room.
-#[tactic(auto, using(crate::proofs::Diff::one_more))]
+#[tactic(auto, using(crate::proofs::Diff::one_more, wire::proofs::Nesting::nested_fits_on))]
 fn put_modules<const N: usize>(
     out: &mut ArrayVec<u8, N>,
     modules: &[DiffModule],
@@ -233,6 +236,7 @@ fn put_modules<const N: usize>(
     requires { array_vec_len out.old + modules_size modules.now submodules.now ≤ N }
     ensures items { (tail : List ℕ) → out.new.items ++ tail ≡ out.old.items ++ modules_bytes modules.now submodules.now tail }
     ensures len { array_vec_len out.new ≡ array_vec_len out.old + modules_size modules.now submodules.now }
+    ensures fits { ModulesFit modules.now submodules.now }
 {
     let mut left = submodules;
     for entry in modules {
@@ -244,11 +248,12 @@ fn put_modules<const N: usize>(
 }
 
 /// Appends NumberOfModules and the entries of modules and submodules. There must be room.
-#[tactic(auto, using(crate::proofs::Diff::modules_written, crate::proofs::Diff::modules_sized))]
+#[tactic(auto, using(crate::proofs::Diff::modules_written, crate::proofs::Diff::modules_sized, crate::proofs::Diff::modules_fit))]
 fn put_diff_modules<const N: usize>(out: &mut ArrayVec<u8, N>, value: &DiffModules)
     requires { array_vec_len out.old + diff_modules.size value.now ≤ N }
     ensures items { (tail : List ℕ) → out.new.items ++ tail ≡ out.old.items ++ diff_modules.write value.now tail }
     ensures len { array_vec_len out.new ≡ array_vec_len out.old + diff_modules.size value.now }
+    ensures fits { IsCounted value.now → diff_modules.Fits value.now }
 {
     append_u16(out, value.modules.len() as u16);
     put_modules(out, value.modules.as_slice(), value.submodules.as_slice());
@@ -296,6 +301,7 @@ pub fn put_module_diff<const N: usize>(out: &mut ArrayVec<u8, N>, value: &Module
     requires { array_vec_len out.old + module_diff.size value.now ≤ N }
     ensures items { (tail : List ℕ) → out.new.items ++ tail ≡ out.old.items ++ module_diff.write value.now tail }
     ensures len { array_vec_len out.new ≡ array_vec_len out.old + module_diff.size value.now }
+    ensures fits { IsModuleDiff value.now → module_diff.Fits value.now }
 {
     module_diff_fields!(put_fields [out, value]);
 }

@@ -3,7 +3,7 @@ ghost use Rattle.std.specs.Prelude.{◌≡◌, ◌+◌, ◌*◌, ◌<◌, ◌≤
 ghost use Rattle.arrayvec.specs.ArrayVec.{array_vec_len};
 ghost use Rattle.wire.specs.Codec.{Gives};
 ghost use Rattle.block_fields.specs.Fields.{body};
-ghost use Rattle.record_blocks.specs.FilterData.{filter_data, filter_module, filter_modules, filter_submodule, next_module, next_submodule, modules_bytes, modules_read, modules_size, submodules_bytes, submodules_read, submodules_size};
+ghost use Rattle.record_blocks.specs.FilterData.{filter_data, filter_module, filter_modules, filter_submodule, next_module, next_submodule, modules_bytes, modules_read, modules_size, submodules_bytes, submodules_read, submodules_size, IsCounted, IsFilterData, ModulesFit, SubmodulesFit};
 
 use arrayvec::ArrayVec;
 use block_fields::{
@@ -191,6 +191,7 @@ fn put_filter_module<const N: usize>(out: &mut ArrayVec<u8, N>, value: &FilterMo
     requires { array_vec_len out.old + 8 ≤ N }
     ensures items { (tail : List ℕ) → out.new.items ++ tail ≡ out.old.items ++ filter_module.write value.now tail }
     ensures len { array_vec_len out.new ≡ array_vec_len out.old + 8 }
+    ensures fits { filter_module.Fits value.now }
 {
     filter_module_fields!(put_fields [out, value]);
 }
@@ -201,16 +202,18 @@ fn put_filter_submodule<const N: usize>(out: &mut ArrayVec<u8, N>, value: &Filte
     requires { array_vec_len out.old + 6 ≤ N }
     ensures items { (tail : List ℕ) → out.new.items ++ tail ≡ out.old.items ++ filter_submodule.write value.now tail }
     ensures len { array_vec_len out.new ≡ array_vec_len out.old + 6 }
+    ensures fits { filter_submodule.Fits value.now }
 {
     filter_submodule_fields!(put_fields [out, value]);
 }
 
 /// Appends the entries of submodules. There must be room.
-#[tactic(auto, using(crate::proofs::Filter::one_inner))]
+#[tactic(auto, using(crate::proofs::Filter::one_inner, wire::proofs::Nesting::fits_on))]
 fn put_submodules<const N: usize>(out: &mut ArrayVec<u8, N>, submodules: &[FilterSubmodule])
     requires { array_vec_len out.old + submodules_size submodules.now ≤ N }
     ensures items { (tail : List ℕ) → out.new.items ++ tail ≡ out.old.items ++ submodules_bytes submodules.now tail }
     ensures len { array_vec_len out.new ≡ array_vec_len out.old + submodules_size submodules.now }
+    ensures fits { SubmodulesFit submodules.now }
 {
     for submodule in submodules {
         put_filter_submodule(out, submodule);
@@ -218,7 +221,7 @@ fn put_submodules<const N: usize>(out: &mut ArrayVec<u8, N>, submodules: &[Filte
 }
 
 /// Appends the entries of modules, each with as many of the submodules as it counts. There must be room.
-#[tactic(auto, using(crate::proofs::Filter::one_more))]
+#[tactic(auto, using(crate::proofs::Filter::one_more, wire::proofs::Nesting::nested_fits_on))]
 fn put_modules<const N: usize>(
     out: &mut ArrayVec<u8, N>,
     modules: &[FilterModule],
@@ -227,6 +230,7 @@ fn put_modules<const N: usize>(
     requires { array_vec_len out.old + modules_size modules.now submodules.now ≤ N }
     ensures items { (tail : List ℕ) → out.new.items ++ tail ≡ out.old.items ++ modules_bytes modules.now submodules.now tail }
     ensures len { array_vec_len out.new ≡ array_vec_len out.old + modules_size modules.now submodules.now }
+    ensures fits { ModulesFit modules.now submodules.now }
 {
     let mut left = submodules;
     for entry in modules {
@@ -238,11 +242,12 @@ fn put_modules<const N: usize>(
 }
 
 /// Appends NumberOfModules and the entries of modules and submodules. There must be room.
-#[tactic(auto, using(crate::proofs::Filter::modules_written, crate::proofs::Filter::modules_sized))]
+#[tactic(auto, using(crate::proofs::Filter::modules_written, crate::proofs::Filter::modules_sized, crate::proofs::Filter::modules_fit))]
 fn put_filter_modules<const N: usize>(out: &mut ArrayVec<u8, N>, value: &FilterModules)
     requires { array_vec_len out.old + filter_modules.size value.now ≤ N }
     ensures items { (tail : List ℕ) → out.new.items ++ tail ≡ out.old.items ++ filter_modules.write value.now tail }
     ensures len { array_vec_len out.new ≡ array_vec_len out.old + filter_modules.size value.now }
+    ensures fits { IsCounted value.now → filter_modules.Fits value.now }
 {
     append_u16(out, value.modules.len() as u16);
     put_modules(out, value.modules.as_slice(), value.submodules.as_slice());
@@ -291,6 +296,7 @@ pub fn put_filter_data<const N: usize>(out: &mut ArrayVec<u8, N>, value: &ImFilt
     requires { array_vec_len out.old + filter_data.size value.now ≤ N }
     ensures items { (tail : List ℕ) → out.new.items ++ tail ≡ out.old.items ++ filter_data.write value.now tail }
     ensures len { array_vec_len out.new ≡ array_vec_len out.old + filter_data.size value.now }
+    ensures fits { IsFilterData value.now → filter_data.Fits value.now }
 {
     filter_data_fields!(put_fields [out, value]);
 }
