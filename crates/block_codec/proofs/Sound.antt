@@ -8,15 +8,15 @@ use Rattle.wire.proofs.Joined.{then_by_sound, then_by_onward, seen_sound, seen_o
 use Rattle.wire.proofs.Wholes.{refused_sound}
 use Rattle.wire.proofs.Judged.{variant_sound}
 use Rattle.block_fields.specs.declared.fault.BlockFault.TheVariants.{Truncated, Kind}
-use Rattle.block_fields.proofs.Sound.{body_sound}
+use Rattle.block_fields.proofs.Sound.{body_sound, open_body_sound}
 use Rattle.connect_blocks.specs.declared.ar_block.ArBlockReq.{ArBlockReq}
 use Rattle.connect_blocks.specs.declared.ar_block.ArBlockRes.{ArBlockRes}
 use Rattle.connect_blocks.specs.declared.iocr.IocrBlockReq.{IocrBlockReq}
 use Rattle.connect_blocks.specs.declared.iocr.IocrBlockRes.{IocrBlockRes}
 use Rattle.connect_blocks.specs.declared.alarm_cr.AlarmCrBlockReq.{AlarmCrBlockReq}
 use Rattle.connect_blocks.specs.declared.alarm_cr.AlarmCrBlockRes.{AlarmCrBlockRes}
-use Rattle.connect_blocks.specs.declared.expected.ExpectedSubmoduleBlockReq.{ExpectedSubmoduleBlockReq}
-use Rattle.connect_blocks.specs.declared.module_diff.ModuleDiffBlock.{ModuleDiffBlock}
+use Rattle.module_blocks.specs.declared.expected.ExpectedSubmoduleBlockReq.{ExpectedSubmoduleBlockReq}
+use Rattle.module_blocks.specs.declared.module_diff.ModuleDiffBlock.{ModuleDiffBlock}
 use Rattle.connect_blocks.specs.declared.control.ControlBlock.{ControlBlock}
 use Rattle.record_blocks.specs.declared.read_record.IodReadReq.{IodReadReq}
 use Rattle.record_blocks.specs.declared.read_record.IodReadRes.{IodReadRes}
@@ -28,18 +28,19 @@ use Rattle.record_blocks.specs.declared.im2.Im2.{Im2}
 use Rattle.record_blocks.specs.declared.im3.Im3.{Im3}
 use Rattle.record_blocks.specs.declared.im4.Im4.{Im4}
 use Rattle.record_blocks.specs.declared.filter_data.ImFilterData.{ImFilterData}
+use Rattle.record_blocks.specs.declared.alarm_notification.AlarmNotification.{AlarmNotification}
 use Rattle.record_blocks.specs.declared.alarm_ack.AlarmAck.{AlarmAck}
 use Rattle.connect_blocks.proofs.Sound.{ar_block_req_sound, ar_block_res_sound, iocr_block_req_sound, iocr_block_res_sound, alarm_cr_block_req_sound, alarm_cr_block_res_sound, control_sound}
-use Rattle.connect_blocks.proofs.Wanted.{expected_sound}
-use Rattle.connect_blocks.proofs.Diff.{module_diff_sound}
-use Rattle.record_blocks.proofs.Sound.{iod_read_req_sound, iod_read_res_sound, iod_write_req_sound, iod_write_res_sound, im0_sound, im1_sound, im2_sound, im3_sound, im4_sound, alarm_ack_sound}
-use Rattle.record_blocks.proofs.FilterSound.{filter_data_sound}
+use Rattle.module_blocks.proofs.Wanted.{expected_sound}
+use Rattle.module_blocks.proofs.Diff.{module_diff_sound}
+use Rattle.record_blocks.proofs.Sound.{iod_read_req_sound, iod_read_res_sound, iod_write_req_sound, iod_write_res_sound, im0_sound, im1_sound, im2_sound, im3_sound, im4_sound, alarm_notification_sound, alarm_ack_sound}
+use Rattle.record_blocks.proofs.Filter.{filter_data_sound}
 use Rattle.block_codec.specs.declared.block_type.BlockType.{BlockType}
 use Rattle.block_codec.specs.declared.block_type.BlockType.TheVariants as kind
 use Rattle.block_codec.specs.declared.block.Block.{Block}
 use Rattle.block_codec.specs.declared.block.Block.TheVariants as is
 use Rattle.block_codec.specs.Kinds.{number_of, type_of}
-use Rattle.block_codec.specs.Block.{kind_of, in_ar_block_req, in_ar_block_res, in_iocr_block_req, in_iocr_block_res, in_alarm_cr_block_req, in_alarm_cr_block_res, in_expected_submodule_block_req, in_module_diff_block, in_prm_end, in_prm_end_res, in_application_ready, in_application_ready_res, in_release, in_release_res, in_iod_read_req, in_iod_read_res, in_iod_write_req, in_iod_write_res, in_im0, in_im1, in_im2, in_im3, in_im4, in_im_filter_data_submodule, in_im_filter_data_device, in_alarm_ack, fields_of, body_of, block, IsBlock, block_of, block_bytes}
+use Rattle.block_codec.specs.Block.{kind_of, in_ar_block_req, in_ar_block_res, in_iocr_block_req, in_iocr_block_res, in_alarm_cr_block_req, in_alarm_cr_block_res, in_expected_submodule_block_req, in_module_diff_block, in_prm_end, in_prm_end_res, in_application_ready, in_application_ready_res, in_release, in_release_res, in_iod_read_req, in_iod_read_res, in_iod_write_req, in_iod_write_res, in_im0, in_im1, in_im2, in_im3, in_im4, in_im_filter_data_submodule, in_im_filter_data_device, in_alarm_notification, in_alarm_ack, fields_of, body_of, block, IsBlock, block_of, block_bytes}
 
 -- ---- a block of a kind is made of its fields
 
@@ -143,6 +144,10 @@ is_im_filter_data_device : (value : Block) (inner : ImFilterData) → in_im_filt
 is_im_filter_data_device (is.ImFilterDataDevice x) inner e = cc
 is_im_filter_data_device _ inner e = absurd cc
 
+is_alarm_notification : (value : Block) (inner : AlarmNotification) → in_alarm_notification value ≡ Some inner → is.AlarmNotification inner ≡ value
+is_alarm_notification (is.AlarmNotification x) inner e = cc
+is_alarm_notification _ inner e = absurd cc
+
 is_alarm_ack : (value : Block) (inner : AlarmAck) → in_alarm_ack value ≡ Some inner → is.AlarmAck inner ≡ value
 is_alarm_ack (is.AlarmAck x) inner e = cc
 is_alarm_ack _ inner e = absurd cc
@@ -176,6 +181,7 @@ fields_sound kind.Im3 = variant_sound is.Im3 in_im3 _ is_im3 (body_sound _ im3_s
 fields_sound kind.Im4 = variant_sound is.Im4 in_im4 _ is_im4 (body_sound _ im4_sound)
 fields_sound kind.ImFilterDataSubmodule = variant_sound is.ImFilterDataSubmodule in_im_filter_data_submodule _ is_im_filter_data_submodule (body_sound _ filter_data_sound)
 fields_sound kind.ImFilterDataDevice = variant_sound is.ImFilterDataDevice in_im_filter_data_device _ is_im_filter_data_device (body_sound _ filter_data_sound)
+fields_sound kind.AlarmNotification = variant_sound is.AlarmNotification in_alarm_notification _ is_alarm_notification (open_body_sound _ alarm_notification_sound)
 fields_sound kind.AlarmAck = variant_sound is.AlarmAck in_alarm_ack _ is_alarm_ack (body_sound _ alarm_ack_sound)
 
 body_of_sound : (k : Option BlockType) → IsSoundWhole (body_of k)
@@ -221,6 +227,7 @@ type_of_number kind.Im3 = refl
 type_of_number kind.Im4 = refl
 type_of_number kind.ImFilterDataSubmodule = refl
 type_of_number kind.ImFilterDataDevice = refl
+type_of_number kind.AlarmNotification = refl
 type_of_number kind.AlarmAck = refl
 
 -- octets that are read as a block spell it
@@ -266,6 +273,7 @@ number_short kind.Im3 = lit< tt
 number_short kind.Im4 = lit< tt
 number_short kind.ImFilterDataSubmodule = lit< tt
 number_short kind.ImFilterDataDevice = lit< tt
+number_short kind.AlarmNotification = lit< tt
 number_short kind.AlarmAck = lit< tt
 
 -- a block whose fields fit is one that can be written

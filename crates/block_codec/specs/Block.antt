@@ -6,15 +6,15 @@ use Rattle.wire.specs.Whole.{refused}
 use Rattle.wire.specs.Checks.{variant}
 use Rattle.block_fields.specs.declared.fault.BlockFault.{BlockFault}
 use Rattle.block_fields.specs.declared.fault.BlockFault.TheVariants.{Truncated, Kind}
-use Rattle.block_fields.specs.Fields.{body}
+use Rattle.block_fields.specs.Fields.{body, open_body}
 use Rattle.connect_blocks.specs.declared.ar_block.ArBlockReq.{ArBlockReq}
 use Rattle.connect_blocks.specs.declared.ar_block.ArBlockRes.{ArBlockRes}
 use Rattle.connect_blocks.specs.declared.iocr.IocrBlockReq.{IocrBlockReq}
 use Rattle.connect_blocks.specs.declared.iocr.IocrBlockRes.{IocrBlockRes}
 use Rattle.connect_blocks.specs.declared.alarm_cr.AlarmCrBlockReq.{AlarmCrBlockReq}
 use Rattle.connect_blocks.specs.declared.alarm_cr.AlarmCrBlockRes.{AlarmCrBlockRes}
-use Rattle.connect_blocks.specs.declared.expected.ExpectedSubmoduleBlockReq.{ExpectedSubmoduleBlockReq}
-use Rattle.connect_blocks.specs.declared.module_diff.ModuleDiffBlock.{ModuleDiffBlock}
+use Rattle.module_blocks.specs.declared.expected.ExpectedSubmoduleBlockReq.{ExpectedSubmoduleBlockReq}
+use Rattle.module_blocks.specs.declared.module_diff.ModuleDiffBlock.{ModuleDiffBlock}
 use Rattle.connect_blocks.specs.declared.control.ControlBlock.{ControlBlock}
 use Rattle.record_blocks.specs.declared.read_record.IodReadReq.{IodReadReq}
 use Rattle.record_blocks.specs.declared.read_record.IodReadRes.{IodReadRes}
@@ -26,12 +26,13 @@ use Rattle.record_blocks.specs.declared.im2.Im2.{Im2}
 use Rattle.record_blocks.specs.declared.im3.Im3.{Im3}
 use Rattle.record_blocks.specs.declared.im4.Im4.{Im4}
 use Rattle.record_blocks.specs.declared.filter_data.ImFilterData.{ImFilterData}
+use Rattle.record_blocks.specs.declared.alarm_notification.AlarmNotification.{AlarmNotification}
 use Rattle.record_blocks.specs.declared.alarm_ack.AlarmAck.{AlarmAck}
 use Rattle.connect_blocks.specs.ArBlock.{ar_block_req, ar_block_res, IsArBlockReq}
 use Rattle.connect_blocks.specs.Iocr.{iocr_block_req, iocr_block_res, IsIocrBlockReq}
 use Rattle.connect_blocks.specs.AlarmCr.{alarm_cr_block_req, alarm_cr_block_res, IsAlarmCrBlockReq}
-use Rattle.connect_blocks.specs.Expected.{expected}
-use Rattle.connect_blocks.specs.ModuleDiff.{module_diff}
+use Rattle.module_blocks.specs.Expected.{expected}
+use Rattle.module_blocks.specs.ModuleDiff.{module_diff, IsModuleDiff}
 use Rattle.connect_blocks.specs.Control.{control}
 use Rattle.record_blocks.specs.ReadRecord.{iod_read_req, iod_read_res}
 use Rattle.record_blocks.specs.WriteRecord.{iod_write_req, iod_write_res}
@@ -40,7 +41,8 @@ use Rattle.record_blocks.specs.Im1.{im1}
 use Rattle.record_blocks.specs.Im2.{im2}
 use Rattle.record_blocks.specs.Im3.{im3}
 use Rattle.record_blocks.specs.Im4.{im4}
-use Rattle.record_blocks.specs.FilterData.{filter_data}
+use Rattle.record_blocks.specs.FilterData.{filter_data, IsFilterData}
+use Rattle.record_blocks.specs.AlarmNotification.{alarm_notification}
 use Rattle.record_blocks.specs.AlarmAck.{alarm_ack}
 use Rattle.block_codec.specs.declared.block_type.BlockType.{BlockType}
 use Rattle.block_codec.specs.declared.block_type.BlockType.TheVariants as kind
@@ -75,6 +77,7 @@ kind_of (is.Im3 value) = kind.Im3
 kind_of (is.Im4 value) = kind.Im4
 kind_of (is.ImFilterDataSubmodule value) = kind.ImFilterDataSubmodule
 kind_of (is.ImFilterDataDevice value) = kind.ImFilterDataDevice
+kind_of (is.AlarmNotification value) = kind.AlarmNotification
 kind_of (is.AlarmAck value) = kind.AlarmAck
 
 -- ---- the fields of a block of a kind
@@ -179,6 +182,10 @@ abbrev pub in_im_filter_data_device : Block → Option ImFilterData
 in_im_filter_data_device (is.ImFilterDataDevice value) = Some value
 in_im_filter_data_device _ = None
 
+abbrev pub in_alarm_notification : Block → Option AlarmNotification
+in_alarm_notification (is.AlarmNotification value) = Some value
+in_alarm_notification _ = None
+
 abbrev pub in_alarm_ack : Block → Option AlarmAck
 in_alarm_ack (is.AlarmAck value) = Some value
 in_alarm_ack _ = None
@@ -210,6 +217,7 @@ fields_of kind.Im3 = variant is.Im3 in_im3 (body im3)
 fields_of kind.Im4 = variant is.Im4 in_im4 (body im4)
 fields_of kind.ImFilterDataSubmodule = variant is.ImFilterDataSubmodule in_im_filter_data_submodule (body filter_data)
 fields_of kind.ImFilterDataDevice = variant is.ImFilterDataDevice in_im_filter_data_device (body filter_data)
+fields_of kind.AlarmNotification = variant is.AlarmNotification in_alarm_notification (open_body alarm_notification)
 fields_of kind.AlarmAck = variant is.AlarmAck in_alarm_ack (body alarm_ack)
 
 -- the same, if the type is one
@@ -242,13 +250,13 @@ IsAccepted (is.ArBlockReq value) = IsArBlockReq value
 IsAccepted (is.IocrBlockReq value) = IsIocrBlockReq value
 IsAccepted (is.AlarmCrBlockReq value) = IsAlarmCrBlockReq value
 IsAccepted (is.ExpectedSubmoduleBlockReq value) = expected.Fits value
-IsAccepted (is.ModuleDiffBlock value) = module_diff.Fits value
+IsAccepted (is.ModuleDiffBlock value) = IsModuleDiff value
 IsAccepted (is.PrmEndRes value) = value.control_command ≡ 8
 IsAccepted (is.ApplicationReady value) = value.control_command ≡ 2
 IsAccepted (is.ApplicationReadyRes value) = value.control_command ≡ 8
 IsAccepted (is.ReleaseRes value) = value.control_command ≡ 8
-IsAccepted (is.ImFilterDataSubmodule value) = filter_data.Fits value
-IsAccepted (is.ImFilterDataDevice value) = filter_data.Fits value
+IsAccepted (is.ImFilterDataSubmodule value) = IsFilterData value
+IsAccepted (is.ImFilterDataDevice value) = IsFilterData value
 IsAccepted _ = Unit {0}
 
 -- how many octets are written

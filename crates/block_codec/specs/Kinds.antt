@@ -30,6 +30,7 @@ number_of kind.Im3 = 0x0023
 number_of kind.Im4 = 0x0024
 number_of kind.ImFilterDataSubmodule = 0x0030
 number_of kind.ImFilterDataDevice = 0x0032
+number_of kind.AlarmNotification = 0x0001
 number_of kind.AlarmAck = 0x8001
 
 -- the type of a number, if there is one
@@ -60,5 +61,6 @@ type_of number =
     else (if number == 0x0024 then Some kind.Im4
     else (if number == 0x0030 then Some kind.ImFilterDataSubmodule
     else (if number == 0x0032 then Some kind.ImFilterDataDevice
+    else (if number == 0x0001 then Some kind.AlarmNotification
     else (if number == 0x8001 then Some kind.AlarmAck
-    else None)))))))))))))))))))))))))
+    else None))))))))))))))))))))))))))

@@ -4,17 +4,18 @@ ghost use Rattle.block_codec.specs.Block.{kind_of};
 
 use crate::BlockType;
 use connect_blocks::{
-    AlarmCrBlockReq, AlarmCrBlockRes, ArBlockReq, ArBlockRes, ControlBlock,
-    ExpectedSubmoduleBlockReq, IocrBlockReq, IocrBlockRes, ModuleDiffBlock,
+    AlarmCrBlockReq, AlarmCrBlockRes, ArBlockReq, ArBlockRes, ControlBlock, IocrBlockReq,
+    IocrBlockRes,
 };
+use module_blocks::{ExpectedSubmoduleBlockReq, ModuleDiffBlock};
 use record_blocks::{
-    AlarmAck, Im0, Im1, Im2, Im3, Im4, ImFilterData, IodReadReq, IodReadRes, IodWriteReq,
-    IodWriteRes,
+    AlarmAck, AlarmNotification, Im0, Im1, Im2, Im3, Im4, ImFilterData, IodReadReq, IodReadRes,
+    IodWriteReq, IodWriteRes,
 };
 
 /// A block, with the fields of its kind.
 #[derive(Drop)]
-pub enum Block {
+pub enum Block<'a> {
     /// 0x0101
     ArBlockReq(ArBlockReq),
     /// 0x8101
@@ -65,11 +66,13 @@ pub enum Block {
     ImFilterDataSubmodule(ImFilterData),
     /// 0x0032
     ImFilterDataDevice(ImFilterData),
+    /// 0x0001
+    AlarmNotification(AlarmNotification<'a>),
     /// 0x8001
     AlarmAck(AlarmAck),
 }
 
-impl Block {
+impl Block<'_> {
     /// Its BlockType.
     pub fn block_type(&self) -> BlockType
         ensures { result ≡ kind_of self.now }
@@ -100,6 +103,7 @@ impl Block {
             Block::Im4(_) => BlockType::Im4,
             Block::ImFilterDataSubmodule(_) => BlockType::ImFilterDataSubmodule,
             Block::ImFilterDataDevice(_) => BlockType::ImFilterDataDevice,
+            Block::AlarmNotification(_) => BlockType::AlarmNotification,
             Block::AlarmAck(_) => BlockType::AlarmAck,
         }
     }

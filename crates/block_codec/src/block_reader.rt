@@ -32,7 +32,7 @@ impl<'a> BlockReader<'a> {
     }
 
     /// The next block, or why there is none; None at the end and after a fault.
-    pub fn next(&mut self) -> Option<Result<Block, BlockFault>>
+    pub fn next(&mut self) -> Option<Result<Block<'a>, BlockFault>>
         // At the end and after a fault there is none.
         ensures ends { IsNone result ↔ ((self.old.rest ≡ []) ⊎ (self.old.has_failed ≡ true)) }
         // A block is what the octets at the front are; at a fault it stays.

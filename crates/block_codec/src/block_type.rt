@@ -30,6 +30,7 @@ pub enum BlockType {
     Im4,
     ImFilterDataSubmodule,
     ImFilterDataDevice,
+    AlarmNotification,
     AlarmAck,
 }
 
@@ -65,6 +66,7 @@ impl BlockType {
             0x0024 => Some(BlockType::Im4),
             0x0030 => Some(BlockType::ImFilterDataSubmodule),
             0x0032 => Some(BlockType::ImFilterDataDevice),
+            0x0001 => Some(BlockType::AlarmNotification),
             0x8001 => Some(BlockType::AlarmAck),
             _ => None,
         }
@@ -101,6 +103,7 @@ impl BlockType {
             BlockType::Im4 => 0x0024,
             BlockType::ImFilterDataSubmodule => 0x0030,
             BlockType::ImFilterDataDevice => 0x0032,
+            BlockType::AlarmNotification => 0x0001,
             BlockType::AlarmAck => 0x8001,
         }
     }

@@ -13,15 +13,17 @@ pub use block_fields::BlockFault;
 pub use block_reader::BlockReader;
 pub use block_type::BlockType;
 pub use connect_blocks::{
-    AlarmCrBlockReq, AlarmCrBlockRes, ArBlockReq, ArBlockRes, ControlBlock, DiffModule,
-    DiffModules, DiffSubmodule, ExpectedModule, ExpectedModules, ExpectedSubmodule,
-    ExpectedSubmoduleBlockReq, IoObject, IocrBlockReq, IocrBlockRes, IocrType, ModuleDiffBlock,
-    RtClass, SubmoduleData,
+    AlarmCrBlockReq, AlarmCrBlockRes, ArBlockReq, ArBlockRes, ControlBlock, IoObject, IocrBlockReq,
+    IocrBlockRes, IocrType, RtClass,
+};
+pub use module_blocks::{
+    DiffModule, DiffModules, DiffSubmodule, ExpectedModule, ExpectedModules, ExpectedSubmodule,
+    ExpectedSubmoduleBlockReq, ModuleDiffBlock, SubmoduleData,
 };
 pub use reading::read_block;
 pub use record_blocks::{
-    AlarmAck, FilterModule, FilterModules, FilterSubmodule, Im0, Im1, Im2, Im3, Im4, ImFilterData,
-    IodReadReq, IodReadRes, IodWriteReq, IodWriteRes,
+    AlarmAck, AlarmData, AlarmNotification, FilterModule, FilterModules, FilterSubmodule, Im0, Im1,
+    Im2, Im3, Im4, ImFilterData, IodReadReq, IodReadRes, IodWriteReq, IodWriteRes,
 };
 pub use writing::{block_len, write_block};
 

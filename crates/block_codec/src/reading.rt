@@ -1,22 +1,23 @@
 //! From octets to a block.
-ghost use Rattle.std.specs.Prelude.{◌≡◌, ◌++◌, ℕ, List, [], IfOk};
+ghost use Rattle.std.specs.Prelude.{◌≡◌, ◌≤◌, ◌++◌, ℕ, List, [], length, IfOk};
 ghost use Rattle.wire.specs.Codec.{Gives};
 ghost use Rattle.block_codec.specs.Block.{IsBlock, block, block_of, body_of, fields_of, front};
 
 use crate::{Block, BlockFault, BlockType};
 use connect_blocks::{
     alarm_cr_block_req_at, alarm_cr_block_res_at, ar_block_req_at, ar_block_res_at, control_at,
-    expected_at, iocr_block_req_at, iocr_block_res_at, module_diff_at,
+    iocr_block_req_at, iocr_block_res_at,
 };
+use module_blocks::{expected_at, module_diff_at};
 use record_blocks::{
-    alarm_ack_at, filter_data_at, im0_at, im1_at, im2_at, im3_at, im4_at, iod_read_req_at,
-    iod_read_res_at, iod_write_req_at, iod_write_res_at,
+    alarm_ack_at, alarm_notification_at, filter_data_at, im0_at, im1_at, im2_at, im3_at, im4_at,
+    iod_read_req_at, iod_read_res_at, iod_write_req_at, iod_write_res_at,
 };
 use wire::{split, u16_at};
 
 /// Reads the block at the front: it, and the octets behind it. The first fault counts: Truncated, Kind, and then the
 /// fields of the kind in their order.
-pub fn read_block(bytes: &[u8]) -> Result<(Block, &[u8]), BlockFault>
+pub fn read_block(bytes: &[u8]) -> Result<(Block<'_>, &[u8]), BlockFault>
     // What is read is spelled so.
     ensures found { IfOk result (λ x. IsBlock bytes.now x.0 x.1.now) }
     // What is spelled so is read, and as nothing else.
@@ -31,7 +32,7 @@ pub fn read_block(bytes: &[u8]) -> Result<(Block, &[u8]), BlockFault>
 
 /// A block, and what is behind it.
 #[tactic(auto, unfolding(crate::specs::Block::block_of, crate::specs::Block::block))]
-fn block_at(bytes: &[u8]) -> Result<(Block, &[u8]), BlockFault>
+fn block_at(bytes: &[u8]) -> Result<(Block<'_>, &[u8]), BlockFault>
     ensures { Gives (λ x. (x.0, x.1.now)) result (block_of bytes.now) }
 {
     let (number, rest) = u16_at(bytes, BlockFault::Truncated)?;
@@ -43,7 +44,8 @@ fn block_at(bytes: &[u8]) -> Result<(Block, &[u8]), BlockFault>
 
 /// What BlockLength counts, if the type is one.
 #[tactic(auto, unfolding(crate::specs::Block::body_of))]
-fn body_at(kind: Option<BlockType>, body: &[u8]) -> Result<Block, BlockFault>
+fn body_at(kind: Option<BlockType>, body: &[u8]) -> Result<Block<'_>, BlockFault>
+    requires { length body.now ≤ 65535 }
     ensures { Gives (λ x. x) result ((body_of kind).read body.now) }
 {
     match kind {
@@ -54,7 +56,8 @@ fn body_at(kind: Option<BlockType>, body: &[u8]) -> Result<Block, BlockFault>
 
 /// What BlockLength counts, of a known type.
 #[tactic(auto, unfolding(crate::specs::Block::fields_of))]
-fn fields_at(kind: BlockType, body: &[u8]) -> Result<Block, BlockFault>
+fn fields_at(kind: BlockType, body: &[u8]) -> Result<Block<'_>, BlockFault>
+    requires { length body.now ≤ 65535 }
     ensures { Gives (λ x. x) result ((fields_of kind).read body.now) }
 {
     Ok(match kind {
@@ -85,6 +88,7 @@ fn fields_at(kind: BlockType, body: &[u8]) -> Result<Block, BlockFault>
         BlockType::Im4 => Block::Im4(im4_at(body)?),
         BlockType::ImFilterDataSubmodule => Block::ImFilterDataSubmodule(filter_data_at(body)?),
         BlockType::ImFilterDataDevice => Block::ImFilterDataDevice(filter_data_at(body)?),
+        BlockType::AlarmNotification => Block::AlarmNotification(alarm_notification_at(body)?),
         BlockType::AlarmAck => Block::AlarmAck(alarm_ack_at(body)?),
     })
 }

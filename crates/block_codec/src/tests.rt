@@ -1,5 +1,8 @@
 // Blocks of each kind, written by hand from the tables of IEC 61158-6-10, 5.2.
-use crate::{Block, BlockFault, BlockReader, BlockType, block_len, read_block, write_block};
+use crate::{
+    AlarmData, AlarmNotification, Block, BlockFault, BlockReader, BlockType, block_len, read_block,
+    write_block,
+};
 use arrayvec::ArrayVec;
 
 /// Room for a block of these tests.
@@ -183,13 +186,19 @@ const FILTER_DEVICE: [u8; 28] = [
     0x00, 0x00, 0x00, 0x01, 0x00, 0x01, 0x00, 0x01, 0x00, 0x00, 0x00, 0x01,
 ];
 
+/// A process alarm with four octets of data.
+const ALARM_NOTIFICATION: [u8; 32] = [
+    0x00, 0x01, 0x00, 0x1c, 0x01, 0x00, 0x00, 0x02, 0x00, 0x00, 0x00, 0x00, 0x00, 0x01, 0x00, 0x02,
+    0x00, 0x00, 0x00, 0x10, 0x00, 0x00, 0x00, 0x30, 0x00, 0x07, 0x00, 0x01, 0xde, 0xad, 0xbe, 0xef,
+];
+
 /// The answer to an alarm.
 const ALARM_ACK: [u8; 22] = [
     0x80, 0x01, 0x00, 0x12, 0x01, 0x00, 0x00, 0x02, 0x00, 0x00, 0x00, 0x00, 0x00, 0x01, 0x00, 0x01,
     0x00, 0x00, 0x00, 0x00, 0x00, 0x00,
 ];
 
-/// One of each kind.
+/// One of each kind whose length its fields tell: all but the alarm notification.
 const BLOCKS: [&[u8]; 26] = [
     &AR_BLOCK_REQ,
     &AR_BLOCK_RES,
@@ -409,4 +418,109 @@ fn blocks_are_read_one_behind_the_other(rt: HostRuntime) {
         None => {}
         Some(_) => assert!(rt; false, "none behind a fault"),
     }
+}
+
+/// An alarm with so many octets of data.
+fn alarm_of(octets: usize) -> Octets {
+    let mut body = Octets::new();
+    if let Some((front, _)) = body_of(&ALARM_NOTIFICATION).split_first_chunk::<24>() {
+        let _ = body.try_extend_from_slice(front);
+    }
+    for place in 0..octets {
+        let _ = body.try_push((place % 251) as u8);
+    }
+    with_length(&ALARM_NOTIFICATION, body.as_slice())
+}
+
+#[test]
+fn an_alarm_is_read_field_by_field(rt: HostRuntime) {
+    match read_block(&ALARM_NOTIFICATION) {
+        Ok((Block::AlarmNotification(alarm), _)) => {
+            assert_eq!(rt; alarm.alarm_type, 2);
+            assert_eq!(rt; alarm.api, 0);
+            assert_eq!(rt; alarm.slot_number, 1);
+            assert_eq!(rt; alarm.subslot_number, 2);
+            assert_eq!(rt; alarm.module_ident_number, 0x10);
+            assert_eq!(rt; alarm.submodule_ident_number, 0x30);
+            assert_eq!(rt; alarm.alarm_specifier, 7);
+            assert_eq!(rt;
+                alarm.alarm_data.octets(),
+                [0xde, 0xad, 0xbe, 0xef].as_slice()
+            );
+        }
+        _ => assert!(rt; false, "an alarm"),
+    }
+}
+
+#[test]
+fn an_alarm_has_any_number_of_octets_of_data(rt: HostRuntime) {
+    for octets in [0, 1, 4, 200, 2017] {
+        let bytes = alarm_of(octets);
+        let mut more = Octets::new();
+        let _ = more.try_extend_from_slice(bytes.as_slice());
+        let _ = more.try_extend_from_slice(&[1, 2, 3]);
+        match read_block(more.as_slice()) {
+            Ok((block, rest)) => {
+                assert_eq!(rt; rest, [1, 2, 3].as_slice());
+                assert_eq!(rt; block.block_type(), BlockType::AlarmNotification);
+                assert_eq!(rt; block_len(&block), 28 + octets);
+                assert_eq!(rt; written(&block).as_slice(), bytes.as_slice());
+            }
+            Err(fault) => assert!(rt; false, "{fault:?} at {octets} octets"),
+        }
+    }
+}
+
+#[test]
+fn a_broken_alarm_has_its_fault(rt: HostRuntime) {
+    let alarm = alarm_of(0);
+    for short in 2..24 {
+        let body = body_of(alarm.as_slice());
+        let body = &body[..short.min(body.len())];
+        assert_eq!(rt;
+            fault_of(with_length(&ALARM_NOTIFICATION, body).as_slice()),
+            Some(BlockFault::Length),
+            "{short} octets"
+        );
+    }
+    for cut in 4..ALARM_NOTIFICATION.len() {
+        assert_eq!(rt;
+            fault_of(&ALARM_NOTIFICATION[..cut]),
+            Some(BlockFault::Truncated)
+        );
+    }
+    let cases = [
+        (4, 2, BlockFault::Version(2)),
+        (5, 1, BlockFault::Version(3)),
+        (27, 2, BlockFault::Field(11)),
+    ];
+    for (place, octet, fault) in cases {
+        assert_eq!(rt;
+            fault_of(with_octet(&ALARM_NOTIFICATION, place, octet).as_slice()),
+            Some(fault)
+        );
+    }
+}
+
+#[test]
+fn an_alarm_has_at_most_65511_octets_of_data(rt: HostRuntime) {
+    let octets = [0xa5; 65511];
+    let alarm = AlarmNotification {
+        alarm_type: 2,
+        api: 0,
+        slot_number: 1,
+        subslot_number: 2,
+        module_ident_number: 0x10,
+        submodule_ident_number: 0x30,
+        alarm_specifier: 7,
+        alarm_data: AlarmData::new(&octets),
+    };
+    let block = Block::AlarmNotification(alarm);
+    let mut out: ArrayVec<u8, 65539> = ArrayVec::new();
+    if block_len(&block) <= 65539 {
+        write_block(&mut out, &block);
+    }
+    assert_eq!(rt; out.len(), 65539);
+    assert_eq!(rt; &out.as_slice()[..4], [0, 1, 0xff, 0xff].as_slice());
+    assert_eq!(rt; fault_of(out.as_slice()), None);
 }

@@ -2,13 +2,14 @@
 use Rattle.std.proofs.Common.{◌≡◌, ◌==◌, ◌&&◌, ℕ, length, refl}
 use Rattle.std.specs.Prelude.{nat_le}
 use Rattle.std.proofs.lemmas.List.{length-replicate}
-use Rattle.wire.specs.Codec.{Codec, IsSound, IsSoundWhole}
+use Rattle.wire.specs.Codec.{Codec, Whole, IsSound, IsSoundWhole}
 use Rattle.wire.proofs.Fields.{raw_sound, number_sound}
 use Rattle.wire.proofs.Joined.{then_by_sound, seen_sound}
 use Rattle.wire.proofs.Judged.{checked_sound, closed_sound}
+use Rattle.wire.proofs.Wholes.{ends_by_sound, seen_whole_sound}
 use Rattle.block_fields.specs.declared.fault.BlockFault.{BlockFault}
 use Rattle.block_fields.specs.declared.fault.BlockFault.TheVariants.{Length, Version, Field}
-use Rattle.block_fields.specs.Fields.{number_bytes, number_at, numeral, one, two, four, ranged, fixed, fixed_one, fixed_four, unchecked_two, octet_bytes, octets_read, octets, zeros, blank, mac, version, body}
+use Rattle.block_fields.specs.Fields.{number_bytes, number_at, numeral, one, two, four, ranged, fixed, fixed_one, fixed_four, unchecked_two, octet_bytes, octets_read, octets, zeros, blank, mac, version, body, open_body}
 
 pub numeral_sound : (size : ℕ) → IsSound (numeral size)
 unfolding number_bytes number_at
@@ -69,3 +70,7 @@ version_sound = seen_sound _ _ _ (λ _. refl) (then_by_sound _ _ (checked_sound 
 pub body_sound : {A : Type 0} (fields : Codec BlockFault A) → IsSound fields → IsSoundWhole (body fields)
 unfolding body
 body_sound fields sound = closed_sound Length _ (seen_sound _ _ _ (λ _. refl) (then_by_sound _ _ version_sound (λ _. sound)))
+
+pub open_body_sound : {A : Type 0} (fields : Whole BlockFault A) → IsSoundWhole fields → IsSoundWhole (open_body fields)
+unfolding open_body
+open_body_sound fields sound = seen_whole_sound _ _ _ (λ _. refl) (ends_by_sound _ _ version_sound (λ _. sound))

@@ -5,6 +5,7 @@ use Rattle.pn_values.specs.declared.mac.Mac.{Mac}
 use Rattle.wire.specs.Codec.{Codec, Whole}
 use Rattle.wire.specs.Formats.{raw, number, ◌⨾◌, seen}
 use Rattle.wire.specs.Checks.{checked, closed}
+use Rattle.wire.specs.Whole.{ends_by, seen_whole}
 use Rattle.block_fields.specs.declared.fault.BlockFault.{BlockFault}
 use Rattle.block_fields.specs.declared.fault.BlockFault.TheVariants.{Length, Version, Field}
 
@@ -103,6 +104,10 @@ version = seen (λ _. tt) (λ _. (1, 0)) (checked (λ n. n == 1) (Version 2) one
 -- what BlockLength counts: the version, the fields of a kind, and nothing behind them
 unfoldable pub body : {A : Type 0} → Codec BlockFault A → Whole BlockFault A
 body fields = closed Length (seen (λ x. x.1) (λ value. (tt, value)) (version ⨾ fields))
+
+-- the same of a kind whose last field takes all that is left
+unfoldable pub open_body : {A : Type 0} → Whole BlockFault A → Whole BlockFault A
+open_body fields = seen_whole (λ x. x.1) (λ value. (tt, value)) (ends_by version (λ _. fields))
 
 -- nothing, or the fault where there is something
 abbrev pub nothing : List ℕ → Result (Unit {0}) BlockFault

@@ -1,4 +1,2 @@
 pub mod Sound
 pub mod Objects
-pub mod Diff
-pub mod Wanted

@@ -2,5 +2,3 @@ pub mod Control
 pub mod ArBlock
 pub mod AlarmCr
 pub mod Iocr
-pub mod ModuleDiff
-pub mod Expected

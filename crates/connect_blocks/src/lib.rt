@@ -5,11 +5,8 @@
 mod alarm_cr;
 mod ar_block;
 mod control;
-mod expected;
 mod io_object;
 mod iocr;
-mod module_diff;
-mod submodule_data;
 
 pub use alarm_cr::{
     AlarmCrBlockReq, AlarmCrBlockRes, alarm_cr_block_req_at, alarm_cr_block_req_len,
@@ -20,17 +17,8 @@ pub use ar_block::{
     put_ar_block_req, put_ar_block_res,
 };
 pub use control::{ControlBlock, control_at, control_len, put_control};
-pub use expected::{
-    ExpectedModule, ExpectedModules, ExpectedSubmodule, ExpectedSubmoduleBlockReq, expected_at,
-    expected_len, put_expected,
-};
 pub use io_object::IoObject;
 pub use iocr::{
     IocrBlockReq, IocrBlockRes, IocrType, RtClass, iocr_block_req_at, iocr_block_req_len,
     iocr_block_res_at, iocr_block_res_len, put_iocr_block_req, put_iocr_block_res,
 };
-pub use module_diff::{
-    DiffModule, DiffModules, DiffSubmodule, ModuleDiffBlock, module_diff_at, module_diff_len,
-    put_module_diff,
-};
-pub use submodule_data::SubmoduleData;

@@ -1,7 +1,7 @@
 //! I&M0FilterData of a device.
 ghost use Rattle.std.specs.Prelude.{◌≡◌, ◌+◌, ◌≤◌, ◌++◌, length};
 ghost use Rattle.arrayvec.specs.ArrayVec.{array_vec_len};
-ghost use Rattle.record_blocks.specs.FilterData.{filter_data, modules_size};
+ghost use Rattle.record_blocks.specs.FilterData.{filter_data};
 ghost use Rattle.im_records.specs.Headed.{block_with};
 ghost use Rattle.im_records.specs.Plugged.{device_entries, device_in, device_of, all_of, filter_record, ident_in, modules_in, parts_in, submodules_in};
 
@@ -13,7 +13,7 @@ use record_blocks::{
 };
 
 /// Record 0xF840: all submodules that are plugged in, and then the one that stands for the device.
-#[tactic(auto, unfolding(crate::specs::Headed::block_with, record_blocks::specs::FilterData::filter_data, record_blocks::specs::FilterData::filter_modules))]
+#[tactic(auto, unfolding(crate::specs::Headed::block_with))]
 pub(crate) fn filter_of(real: &Real) -> ArrayVec<u8, 1024>
     ensures { result.items ≡ filter_record real.now }
 {
@@ -34,11 +34,11 @@ pub(crate) fn filter_of(real: &Real) -> ArrayVec<u8, 1024>
 }
 
 /// The entries of all modules that have a submodule, and of their submodules.
-#[tactic(auto, using(record_blocks::proofs::Entries::size_most))]
 fn all_entries(real: &Real) -> FilterModules
     ensures modules { result.modules.items ≡ modules_in real.now.modules.items }
     ensures submodules { result.submodules.items ≡ submodules_in real.now.modules.items }
-    ensures few { modules_size result.modules.items result.submodules.items ≤ 512 }
+    ensures few_modules { length result.modules.items ≤ 16 }
+    ensures few_submodules { length result.submodules.items ≤ 64 }
 {
     let mut modules = ArrayVec::new();
     let mut submodules = ArrayVec::new();
@@ -101,7 +101,8 @@ fn ident_of(entry: &RealModule, subslot: u16) -> Option<u32>
 /// The entries of the device alone.
 fn entries_of_device(idents: Option<(u32, u32)>) -> FilterModules
     ensures value { result ≡ device_entries idents }
-    ensures few { modules_size result.modules.items result.submodules.items ≤ 14 }
+    ensures few_modules { length result.modules.items ≤ 1 }
+    ensures few_submodules { length result.submodules.items ≤ 1 }
 {
     let mut modules = ArrayVec::new();
     let mut submodules = ArrayVec::new();

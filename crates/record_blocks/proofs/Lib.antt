@@ -1,3 +1,2 @@
 pub mod Sound
-pub mod Entries
-pub mod FilterSound
+pub mod Filter

@@ -1,7 +1,8 @@
 -- The formats of the blocks are sound.
 use Rattle.std.proofs.Common.{refl}
-use Rattle.wire.specs.Codec.{IsSound}
+use Rattle.wire.specs.Codec.{IsSound, IsSoundWhole}
 use Rattle.wire.proofs.Joined.{then_by_sound, seen_sound}
+use Rattle.wire.proofs.Wholes.{everything_sound, ends_by_sound, seen_whole_sound}
 use Rattle.block_fields.proofs.Sound.{numeral_sound, octets_sound, blank_sound, fixed_sound}
 use Rattle.record_blocks.specs.Im0.{im0}
 use Rattle.record_blocks.specs.Im1.{im1}
@@ -11,6 +12,7 @@ use Rattle.record_blocks.specs.Im4.{im4}
 use Rattle.record_blocks.specs.ReadRecord.{iod_read_req, iod_read_res}
 use Rattle.record_blocks.specs.WriteRecord.{iod_write_req, iod_write_res}
 use Rattle.record_blocks.specs.AlarmAck.{alarm_ack}
+use Rattle.record_blocks.specs.AlarmNotification.{alarm_notification}
 
 pub im0_sound : IsSound im0
 unfolding im0
@@ -69,3 +71,10 @@ unfolding alarm_ack
 alarm_ack_sound = seen_sound _ _ _ (λ _. refl) (then_by_sound _ _ (numeral_sound 2) (λ _. then_by_sound _ _ (numeral_sound 4)
     (λ _. then_by_sound _ _ (numeral_sound 2) (λ _. then_by_sound _ _ (numeral_sound 2) (λ _. then_by_sound _ _ (numeral_sound 2)
     (λ _. numeral_sound 4))))))
+
+pub alarm_notification_sound : IsSoundWhole alarm_notification
+unfolding alarm_notification
+alarm_notification_sound = seen_whole_sound _ _ _ (λ _. refl) (ends_by_sound _ _ (then_by_sound _ _ (numeral_sound 2) (λ _. then_by_sound _ _ (numeral_sound 4)
+    (λ _. then_by_sound _ _ (numeral_sound 2) (λ _. then_by_sound _ _ (numeral_sound 2) (λ _. then_by_sound _ _ (numeral_sound 4)
+    (λ _. then_by_sound _ _ (numeral_sound 4) (λ _. then_by_sound _ _ (numeral_sound 2) (λ _. fixed_sound 11 1))))))))
+    (λ _. everything_sound))

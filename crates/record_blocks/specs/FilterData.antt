@@ -1,14 +1,14 @@
 -- I&M0FilterData (IEC 61158-6-10, 5.2.3.22): which modules and submodules there are. The submodules of all modules stand in
 -- one list, those of the first module first.
-use Rattle.std.specs.Prelude.{◌≡◌, ◌+◌, ◌*◌, ◌≤◌, ℕ, zero, suc, List, [], ◌∷◌, ◌++◌, length, take, drop, All, Result, Ok}
-use Rattle.arrayvec.specs.ArrayVec.{ArrayVec}
-use Rattle.wire.specs.Codec.{Codec, ◌>>=◌}
-use Rattle.wire.specs.Formats.{◌⨾◌, seen, then_by}
-use Rattle.wire.specs.Checks.{viewed}
-use Rattle.wire.specs.Counted.{bounded, listed, counted}
+use Rattle.std.specs.Prelude.{◌≡◌, ℕ, List, length, sum_by, Result}
+use Rattle.std.specs.List.{AllByRecursion}
+use Rattle.wire.specs.Codec.{Codec}
+use Rattle.wire.specs.Formats.{◌⨾◌, seen}
+use Rattle.wire.specs.Counted.{bounded}
+use Rattle.wire.specs.Nested.{nested, read_inner, read_outer, flat_bytes, flat_size, nested_bytes, nested_size, FitsNested}
 use Rattle.block_fields.specs.declared.fault.BlockFault.{BlockFault}
 use Rattle.block_fields.specs.declared.fault.BlockFault.TheVariants.{Count}
-use Rattle.block_fields.specs.Fields.{number_bytes, two, four, fixed}
+use Rattle.block_fields.specs.Fields.{two, four, fixed}
 use Rattle.record_blocks.specs.declared.filter_data.FilterModule.{FilterModule}
 use Rattle.record_blocks.specs.declared.filter_data.FilterSubmodule.{FilterSubmodule}
 use Rattle.record_blocks.specs.declared.filter_data.FilterModules.{FilterModules}
@@ -30,95 +30,65 @@ filter_submodule = seen
     (λ entry. (entry.subslot_number, entry.submodule_ident_number))
     (two ⨾ four)
 
--- ---- what is spelled: modules, each with its submodules behind it
+-- how many submodules stand behind a module
+abbrev pub own_of : FilterModule → ℕ
+own_of entry = entry.number_of_submodules
 
--- a module with its submodules
-abbrev pub Group : Type 0
-Group = FilterModule × List FilterSubmodule
-
--- the modules alone
-abbrev pub modules_of : List Group → List FilterModule
-modules_of [] = []
-modules_of (group ∷ groups) = group.0 ∷ modules_of groups
-
--- the submodules alone
-abbrev pub submodules_of : List Group → List FilterSubmodule
-submodules_of [] = []
-submodules_of (group ∷ groups) = group.1 ++ submodules_of groups
-
--- each module with as many submodules as it counts
-abbrev pub groups_of : List FilterModule → List FilterSubmodule → List Group
-groups_of [] submodules = []
-groups_of (entry ∷ modules) submodules =
-    (entry, take entry.number_of_submodules submodules) ∷ groups_of modules (drop entry.number_of_submodules submodules)
-
--- one more module behind these, of which there are at most 256
+-- one more of each behind these, of which there are at most 256
 unfoldable pub next_module : List FilterModule → Codec BlockFault FilterModule
 next_module before = bounded 256 Count (λ _. filter_module) before
 
--- one more submodule behind these, of which there are at most 256
 unfoldable pub next_submodule : List FilterSubmodule → Codec BlockFault FilterSubmodule
 next_submodule before = bounded 256 Count (λ _. filter_submodule) before
 
--- one more module with its submodules
-unfoldable pub next_group : List Group → Codec BlockFault Group
-next_group before = then_by (next_module (modules_of before))
-    (λ entry. listed (λ own. next_submodule (submodules_of before ++ own)) entry.number_of_submodules)
+-- ---- the block
 
 -- NumberOfModules, and each module with its submodules
-unfoldable pub groups : Codec BlockFault FilterModules
-groups = viewed
-    (λ groups. record { modules = record { items = modules_of groups }; submodules = record { items = submodules_of groups } })
-    (λ value. groups_of value.modules.items value.submodules.items)
-    (counted two next_group)
-
--- ---- what is written
-
--- submodules, in front of what follows
-abbrev pub submodules_bytes : List FilterSubmodule → List ℕ → List ℕ
-submodules_bytes [] rest = rest
-submodules_bytes (submodule ∷ submodules) rest = filter_submodule.write submodule (submodules_bytes submodules rest)
-
--- modules, each with as many submodules as it counts, in front of what follows
-abbrev pub modules_bytes : List FilterModule → List FilterSubmodule → List ℕ → List ℕ
-modules_bytes [] submodules rest = rest
-modules_bytes (entry ∷ modules) submodules rest =
-    filter_module.write entry (submodules_bytes (take entry.number_of_submodules submodules)
-    (modules_bytes modules (drop entry.number_of_submodules submodules) rest))
-
--- how many octets modules take with their submodules
-abbrev pub modules_size : List FilterModule → List FilterSubmodule → ℕ
-modules_size [] submodules = 0
-modules_size (entry ∷ modules) submodules =
-    8 + 6 * length (take entry.number_of_submodules submodules) + modules_size modules (drop entry.number_of_submodules submodules)
-
--- ---- what is read
-
--- so many submodules behind those before them, or the first fault
-unfoldable pub submodules_read : ℕ → List FilterSubmodule → List ℕ → Result (List FilterSubmodule × List ℕ) BlockFault
-submodules_read zero before bytes = Ok (before, bytes)
-submodules_read (suc count) before bytes = (next_submodule before).read bytes >>= λ x. submodules_read count (before ++ x.0 ∷ []) x.1
-
--- so many modules with their submodules behind those before them, or the first fault
-unfoldable pub modules_read : ℕ → List FilterModule → List FilterSubmodule → List ℕ → Result ((List FilterModule × List FilterSubmodule) × List ℕ) BlockFault
-modules_read zero modules submodules bytes = Ok ((modules, submodules), bytes)
-modules_read (suc count) modules submodules bytes =
-    (next_module modules).read bytes >>= λ x. submodules_read x.0.number_of_submodules submodules x.1 >>= λ y. modules_read count (modules ++ x.0 ∷ []) y.0 y.1
-
--- NumberOfModules, and each module with its submodules, read and written list by list
 unfoldable pub filter_modules : Codec BlockFault FilterModules
-filter_modules = record {
-  Spells = groups.Spells;
-  write = λ value rest. number_bytes 2 (length value.modules.items) (modules_bytes value.modules.items value.submodules.items rest);
-  size = λ value. 2 + modules_size value.modules.items value.submodules.items;
-  Fits = groups.Fits;
-  read = λ bytes. two.read bytes >>= λ x. modules_read x.0 [] [] x.1
-      >>= λ y. Ok (record { modules = record { items = y.0.0 }; submodules = record { items = y.0.1 } }, y.1);
-}
+filter_modules = seen
+    (λ x. record { modules = record { items = x.0 }; submodules = record { items = x.1 } })
+    (λ value. (value.modules.items, value.submodules.items))
+    (nested next_module own_of (λ _. next_submodule) two)
 
 -- NumberOfAPIs 1, API and the modules
 unfoldable pub filter_data : Codec BlockFault ImFilterData
-filter_data = seen
-    (λ x. record { api = x.1.0; modules = x.1.1 })
-    (λ block. (tt, (block.api, block.modules)))
+filter_data = seen (λ x. record { api = x.1.0; modules = x.1.1 }) (λ block. (tt, (block.api, block.modules)))
     (fixed 4 1 ⨾ four ⨾ filter_modules)
+
+-- the modules count the submodules that there are
+abbrev pub IsCounted : FilterModules → Type 0
+IsCounted value = sum_by own_of value.modules.items ≡ length value.submodules.items
+
+-- its fields are accepted
+abbrev pub IsFilterData : ImFilterData → Type 0
+IsFilterData block = IsCounted block.modules
+
+-- ---- as the code goes over the lists
+
+-- so many submodules, and so many modules with theirs, behind those before them
+unfoldable pub submodules_read : ℕ → List FilterSubmodule → List ℕ → Result (List FilterSubmodule × List ℕ) BlockFault
+submodules_read count before bytes = read_inner next_submodule count before bytes
+
+unfoldable pub modules_read : ℕ → List FilterModule → List FilterSubmodule → List ℕ → Result ((List FilterModule × List FilterSubmodule) × List ℕ) BlockFault
+modules_read count modules submodules bytes = read_outer next_module own_of (λ _. next_submodule) count modules submodules bytes
+
+-- submodules, and modules with theirs, in front of what follows
+abbrev pub submodules_bytes : List FilterSubmodule → List ℕ → List ℕ
+submodules_bytes submodules rest = flat_bytes filter_submodule.write submodules rest
+
+abbrev pub modules_bytes : List FilterModule → List FilterSubmodule → List ℕ → List ℕ
+modules_bytes modules submodules rest = nested_bytes filter_module.write own_of filter_submodule.write modules submodules rest
+
+-- how many octets they take: 6 a submodule, 8 a module
+abbrev pub submodules_size : List FilterSubmodule → ℕ
+submodules_size submodules = flat_size (λ _. 6) submodules
+
+abbrev pub modules_size : List FilterModule → List FilterSubmodule → ℕ
+modules_size modules submodules = nested_size 8 own_of (λ _. 6) modules submodules
+
+-- the fields of submodules, and of modules with theirs, fit
+abbrev pub SubmodulesFit : List FilterSubmodule → Type 0
+SubmodulesFit submodules = AllByRecursion filter_submodule.Fits submodules
+
+abbrev pub ModulesFit : List FilterModule → List FilterSubmodule → Type 0
+ModulesFit modules submodules = FitsNested filter_module.Fits own_of filter_submodule.Fits modules submodules

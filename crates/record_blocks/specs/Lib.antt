@@ -6,4 +6,5 @@ pub mod Im4
 pub mod ReadRecord
 pub mod WriteRecord
 pub mod AlarmAck
+pub mod AlarmNotification
 pub mod FilterData

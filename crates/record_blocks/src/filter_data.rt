@@ -3,7 +3,7 @@ ghost use Rattle.std.specs.Prelude.{◌≡◌, ◌+◌, ◌*◌, ◌<◌, ◌≤
 ghost use Rattle.arrayvec.specs.ArrayVec.{array_vec_len};
 ghost use Rattle.wire.specs.Codec.{Gives};
 ghost use Rattle.block_fields.specs.Fields.{body};
-ghost use Rattle.record_blocks.specs.FilterData.{filter_data, filter_module, filter_modules, filter_submodule, next_module, next_submodule, modules_bytes, modules_read, modules_size, submodules_bytes, submodules_read};
+ghost use Rattle.record_blocks.specs.FilterData.{filter_data, filter_module, filter_modules, filter_submodule, next_module, next_submodule, modules_bytes, modules_read, modules_size, submodules_bytes, submodules_read, submodules_size, IsCounted, IsFilterData, ModulesFit, SubmodulesFit};
 
 use arrayvec::ArrayVec;
 use block_fields::{
@@ -128,7 +128,7 @@ fn next_submodule_at<'a>(
 }
 
 /// So many submodules, which come to those before them, and what is behind them.
-#[tactic(auto, using(crate::proofs::Entries::submodules_go_on, crate::proofs::Entries::submodules_fail, crate::proofs::Entries::submodules_end))]
+#[tactic(auto, using(crate::proofs::Filter::submodules_go_on, crate::proofs::Filter::submodules_fail, crate::proofs::Filter::submodules_end))]
 fn submodules_at<'a>(
     bytes: &'a [u8],
     count: u16,
@@ -146,7 +146,7 @@ fn submodules_at<'a>(
 }
 
 /// So many modules with their submodules, which come to those before them, and what is behind them.
-#[tactic(auto, using(crate::proofs::Entries::modules_go_on, crate::proofs::Entries::modules_fail, crate::proofs::Entries::modules_fail_inside, crate::proofs::Entries::modules_end))]
+#[tactic(auto, using(crate::proofs::Filter::modules_go_on, crate::proofs::Filter::modules_fail, crate::proofs::Filter::modules_fail_inside, crate::proofs::Filter::modules_end))]
 fn modules_at<'a>(
     bytes: &'a [u8],
     count: u16,
@@ -164,7 +164,7 @@ fn modules_at<'a>(
 }
 
 /// NumberOfModules and the entries of modules and submodules, and what is behind them.
-#[tactic(auto, unfolding(crate::specs::FilterData::filter_modules))]
+#[tactic(auto, unfolding(crate::specs::FilterData::filter_modules, crate::specs::FilterData::modules_read))]
 fn filter_modules_at(bytes: &[u8]) -> Result<(FilterModules, &[u8]), BlockFault>
     ensures { Gives (λ x. (x.0, x.1.now)) result (filter_modules.read bytes.now) }
 {
@@ -208,10 +208,12 @@ fn put_filter_submodule<const N: usize>(out: &mut ArrayVec<u8, N>, value: &Filte
 }
 
 /// Appends the entries of submodules. There must be room.
+#[tactic(auto, using(crate::proofs::Filter::one_inner, wire::proofs::Nesting::fits_on))]
 fn put_submodules<const N: usize>(out: &mut ArrayVec<u8, N>, submodules: &[FilterSubmodule])
-    requires { array_vec_len out.old + 6 * length submodules.now ≤ N }
+    requires { array_vec_len out.old + submodules_size submodules.now ≤ N }
     ensures items { (tail : List ℕ) → out.new.items ++ tail ≡ out.old.items ++ submodules_bytes submodules.now tail }
-    ensures len { array_vec_len out.new ≡ array_vec_len out.old + 6 * length submodules.now }
+    ensures len { array_vec_len out.new ≡ array_vec_len out.old + submodules_size submodules.now }
+    ensures fits { SubmodulesFit submodules.now }
 {
     for submodule in submodules {
         put_filter_submodule(out, submodule);
@@ -219,7 +221,7 @@ fn put_submodules<const N: usize>(out: &mut ArrayVec<u8, N>, submodules: &[Filte
 }
 
 /// Appends the entries of modules, each with as many of the submodules as it counts. There must be room.
-#[tactic(auto, using(crate::proofs::Entries::one_more))]
+#[tactic(auto, using(crate::proofs::Filter::one_more, wire::proofs::Nesting::nested_fits_on))]
 fn put_modules<const N: usize>(
     out: &mut ArrayVec<u8, N>,
     modules: &[FilterModule],
@@ -228,6 +230,7 @@ fn put_modules<const N: usize>(
     requires { array_vec_len out.old + modules_size modules.now submodules.now ≤ N }
     ensures items { (tail : List ℕ) → out.new.items ++ tail ≡ out.old.items ++ modules_bytes modules.now submodules.now tail }
     ensures len { array_vec_len out.new ≡ array_vec_len out.old + modules_size modules.now submodules.now }
+    ensures fits { ModulesFit modules.now submodules.now }
 {
     let mut left = submodules;
     for entry in modules {
@@ -239,30 +242,52 @@ fn put_modules<const N: usize>(
 }
 
 /// Appends NumberOfModules and the entries of modules and submodules. There must be room.
-#[tactic(auto, unfolding(crate::specs::FilterData::filter_modules))]
+#[tactic(auto, using(crate::proofs::Filter::modules_written, crate::proofs::Filter::modules_sized, crate::proofs::Filter::modules_fit))]
 fn put_filter_modules<const N: usize>(out: &mut ArrayVec<u8, N>, value: &FilterModules)
     requires { array_vec_len out.old + filter_modules.size value.now ≤ N }
     ensures items { (tail : List ℕ) → out.new.items ++ tail ≡ out.old.items ++ filter_modules.write value.now tail }
     ensures len { array_vec_len out.new ≡ array_vec_len out.old + filter_modules.size value.now }
+    ensures fits { IsCounted value.now → filter_modules.Fits value.now }
 {
     append_u16(out, value.modules.len() as u16);
     put_modules(out, value.modules.as_slice(), value.submodules.as_slice());
 }
 
-/// How many octets the entries of modules and submodules take.
-#[tactic(auto, unfolding(crate::specs::FilterData::filter_modules))]
-fn filter_modules_len(value: &FilterModules) -> usize
-    ensures size { result ≡ filter_modules.size value.now }
-    ensures few { result ≤ 3586 }
+/// How many octets the entries of submodules take.
+#[tactic(auto, using(crate::proofs::Filter::submodules_sized))]
+fn submodules_len(submodules: &[FilterSubmodule]) -> usize
+    requires { length submodules.now ≤ 256 }
+    ensures size { result ≡ submodules_size submodules.now }
+    ensures few { result ≡ 6 * length submodules.now }
 {
-    let mut left = value.submodules.as_slice();
-    let mut size = 2;
-    for entry in value.modules.as_slice() {
+    6 * submodules.len()
+}
+
+/// How many octets the entries of modules take with their submodules.
+fn modules_len(modules: &[FilterModule], submodules: &[FilterSubmodule]) -> usize
+    requires modules { length modules.now ≤ 256 }
+    requires submodules { length submodules.now ≤ 256 }
+    ensures size { result ≡ modules_size modules.now submodules.now }
+    ensures few { result ≤ 8 * length modules.now + 6 * length submodules.now }
+{
+    let mut left = submodules;
+    let mut size = 0;
+    for entry in modules {
         let count = left.len().min(entry.number_of_submodules as usize);
-        size += 8 + 6 * count;
+        size += 8 + submodules_len(&left[..count]);
         left = &left[count..];
     }
     size
+}
+
+/// How many octets NumberOfModules and the entries of modules and submodules take.
+#[tactic(auto, using(crate::proofs::Filter::modules_sized))]
+fn filter_modules_len(value: &FilterModules) -> usize
+    ensures size { result ≡ filter_modules.size value.now }
+    ensures few { result ≤ 3586 }
+    ensures most { result ≤ 2 + 8 * length value.now.modules.items + 6 * length value.now.submodules.items }
+{
+    2 + modules_len(value.modules.as_slice(), value.submodules.as_slice())
 }
 
 /// Appends the fields of an I&M0FilterData. There must be room.
@@ -271,6 +296,7 @@ pub fn put_filter_data<const N: usize>(out: &mut ArrayVec<u8, N>, value: &ImFilt
     requires { array_vec_len out.old + filter_data.size value.now ≤ N }
     ensures items { (tail : List ℕ) → out.new.items ++ tail ≡ out.old.items ++ filter_data.write value.now tail }
     ensures len { array_vec_len out.new ≡ array_vec_len out.old + filter_data.size value.now }
+    ensures fits { IsFilterData value.now → filter_data.Fits value.now }
 {
     filter_data_fields!(put_fields [out, value]);
 }
@@ -280,6 +306,7 @@ pub fn put_filter_data<const N: usize>(out: &mut ArrayVec<u8, N>, value: &ImFilt
 pub fn filter_data_len(value: &ImFilterData) -> usize
     ensures size { result ≡ filter_data.size value.now }
     ensures few { result ≤ 3592 }
+    ensures most { result ≤ 8 + 8 * length value.now.modules.modules.items + 6 * length value.now.modules.submodules.items }
 {
     filter_data_fields!(len_fields[value])
 }

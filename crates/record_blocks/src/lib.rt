@@ -3,6 +3,8 @@
 #![tactic(auto)]
 
 mod alarm_ack;
+mod alarm_data;
+mod alarm_notification;
 mod filter_data;
 mod im0;
 mod im1;
@@ -13,6 +15,10 @@ mod read_record;
 mod write_record;
 
 pub use alarm_ack::{AlarmAck, alarm_ack_at, alarm_ack_len, put_alarm_ack};
+pub use alarm_data::AlarmData;
+pub use alarm_notification::{
+    AlarmNotification, alarm_notification_at, alarm_notification_len, put_alarm_notification,
+};
 pub use filter_data::{
     FilterModule, FilterModules, FilterSubmodule, ImFilterData, filter_data_at, filter_data_len,
     put_filter_data,

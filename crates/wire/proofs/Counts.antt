@@ -3,7 +3,6 @@ use Rattle.std.proofs.Common.{◌≡◌, ℕ, zero, suc, ◌-◌, ◌+◌, ◌<�
 use Rattle.std.specs.Prelude.{nat_lt}
 use Rattle.std.proofs.lemmas.List.{append-nil, length-append, take_more, drop_more, drop_all}
 use Rattle.wire.specs.Codec.{Codec, IsSound, ◌>>=◌}
-use Rattle.wire.specs.Checks.{checked}
 use Rattle.wire.specs.Counted.{SpellEach, write_each, size_each, FitsEach, read_each, listed, counted, bounded}
 use Rattle.wire.proofs.Fields.{bind_ok, ok_is}
 use Rattle.wire.proofs.Joined.{then_by_sound, seen_sound}

@@ -1,12 +1,11 @@
 -- Formats that judge their values are sound.
-use Rattle.std.proofs.Common.{◌≡◌, ℕ, ◌==◌, Bool, true, false, cond, eqb, leb, ◌&&◌, List, [], ◌∷◌, ◌++◌, length, Option, Some, None, Result, Ok, Err, refl, sym, ap, subst, ◌∙◌, arith}
+use Rattle.std.proofs.Common.{◌≡◌, ℕ, ◌==◌, Bool, true, false, cond, eqb, ◌&&◌, List, [], length, Option, Some, None, Ok, Err, refl, ap, subst, arith}
 use Rattle.std.specs.Prelude.{nat_le, IsSomeAnd}
 use Rattle.std.specs.Option.{option_map_or}
 use Rattle.std.proofs.lemmas.Bool.{eqb-true}
-use Rattle.std.proofs.lemmas.List.{append-nil, nil_from_length}
+use Rattle.std.proofs.lemmas.List.{nil_from_length}
 use Rattle.wire.specs.Codec.{Codec, Whole, IsSound, IsSoundWhole, ◌>>=◌}
-use Rattle.wire.specs.Formats.{raw, number, seen}
-use Rattle.wire.specs.Checks.{or_fault, checked, named, viewed, within, constant, ignored, closed, variant}
+use Rattle.wire.specs.Checks.{or_fault, checked, named, within, constant, ignored, closed, variant}
 use Rattle.wire.proofs.Fields.{bind_ok, ok_is, raw_sound, number_sound}
 use Rattle.wire.proofs.Joined.{seen_sound}
 
@@ -41,19 +40,6 @@ module _ {F A B : Type 0} (to : A → Option B) (from : B → A) (fault : F) (co
         (a.0.0, has_name (to a.0.0) b.0 b.1, sound.takes bytes a.0.0 a.0.1 a.1);
     again = λ bytes value rest s. rw (sound.again bytes s.0 rest s.2, s.1) refl;
     written = λ value rest fits. (from value, back value, sound.written (from value) rest fits);
-    local = λ value rest. sound.local (from value) rest;
-    sized = λ value rest. sound.sized (from value) rest;
-  }
-
-module _ {F A B : Type 0} (to : A → B) (from : B → A) (codec : Codec F A) where
-  pub viewed_sound : IsSound codec → IsSound (viewed to from codec)
-  viewed_sound sound = record {
-    takes = λ bytes value rest e.
-        let a = bind_ok (codec.read bytes) (λ x. Ok (to x.0, x.1)) (value, rest) e in
-        subst (λ (y : B × List ℕ). (viewed to from codec).Spells bytes y.0 y.1) (ok_is {F = F} (to a.0.0, a.0.1) (value, rest) a.2)
-        (a.0.0, refl, sound.takes bytes a.0.0 a.0.1 a.1);
-    again = λ bytes value rest s. rw (sound.again bytes s.0 rest s.2, s.1) refl;
-    written = λ value rest fits. (from value, fits.0, sound.written (from value) rest fits.1);
     local = λ value rest. sound.local (from value) rest;
     sized = λ value rest. sound.sized (from value) rest;
   }

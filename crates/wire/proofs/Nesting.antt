@@ -1,11 +1,14 @@
 -- Entries that count others are sound.
-use Rattle.std.proofs.Common.{◌≡◌, ℕ, zero, suc, ◌-◌, ◌+◌, ◌<◌, ◌≤◌, List, [], ◌∷◌, ◌++◌, length, take, drop, Result, Ok, Err, refl, sym, ap, subst, ◌∙◌, append_assoc, arith}
-use Rattle.std.proofs.lemmas.List.{append-nil, length-append, take_at, drop_at, length-take, take-append-drop}
+use Rattle.std.proofs.Common.{◌≡◌, ℕ, zero, suc, ◌-◌, ◌+◌, ◌*◌, ◌<◌, ◌≤◌, List, [], ◌∷◌, ◌++◌, length, take, drop, Ok, Err, refl, sym, ap, subst, ◌∙◌, append_assoc, get_or, sum_by, arith}
+use Rattle.std.specs.List.{AllByRecursion}
+use Rattle.std.proofs.lemmas.Bool.{lt-ltb}
+use Rattle.std.proofs.lemmas.List.{append-nil, length-append, take_at, drop_at, length-take, take-append-drop, drop_more, nil_from_length}
+use Rattle.std.proofs.lemmas.List.Sums.{sum_by-cons}
 use Rattle.wire.specs.Codec.{Codec, IsSound, ◌>>=◌}
-use Rattle.wire.specs.Counted.{SpellEach, write_each, size_each, FitsEach, read_each}
-use Rattle.wire.specs.Nested.{read_inner, SpellOuter, write_outer, size_outer, FitsOuter, read_outer, nested, flat_bytes, flat_size, nested_bytes, nested_size}
+use Rattle.wire.specs.Counted.{SpellEach, write_each, size_each, FitsEach, bounded}
+use Rattle.wire.specs.Nested.{read_inner, SpellOuter, write_outer, size_outer, FitsOuter, read_outer, nested, flat_bytes, flat_size, nested_bytes, nested_size, FitsNested}
 use Rattle.wire.proofs.Fields.{bind_ok, ok_is}
-use Rattle.wire.proofs.Counts.{each_takes, each_again, each_written, each_local, each_sized}
+use Rattle.wire.proofs.Counts.{each_written, each_local, each_sized}
 
 -- ---- the inner entries: reading behind others is reading them, and putting them behind those
 
@@ -248,3 +251,54 @@ pub one_left : {H S : Type 0} (head_takes : ℕ) (count_of : H → ℕ) (takes :
 one_left head_takes count_of takes [] inner i h = absurd (omega (arith, h))
 one_left head_takes count_of takes (entry ∷ entries) inner zero h = omega arith
 one_left head_takes count_of takes (entry ∷ entries) inner (suc i) h = one_left head_takes count_of takes entries inner i (omega (arith, h))
+
+-- a value that is left takes its own bytes at least, where all take as many
+pub flat_left : {S : Type 0} (n : ℕ) (values : List S) (i : ℕ) → i < length values → n ≤ flat_size (λ (_ : S). n) (drop i values)
+flat_left n [] i h = absurd (omega (arith, h))
+flat_left n (value ∷ values) zero h = omega arith
+flat_left n (value ∷ values) (suc i) h = flat_left n values i (omega (arith, h))
+
+-- values that take as many bytes each
+pub flat_sized : {S : Type 0} (n : ℕ) (values : List S) → flat_size (λ (_ : S). n) values ≡ n * length values
+flat_sized n [] = omega arith
+flat_sized n (value ∷ values) = omega (arith, flat_sized n values)
+
+-- ---- what can be written, where it does not hang on what was before
+
+-- a value fits, and so do those behind it
+pub fits_on : {S : Type 0} (Fit : S → Type 0) (values : List S) (i : ℕ) (d : S) → i < length values → Fit (get_or values i d)
+    → AllByRecursion Fit (drop (i + 1) values) → AllByRecursion Fit (drop i values)
+fits_on Fit values i d below one rest = subst (λ (xs : List _). AllByRecursion Fit xs) (sym (drop_more values i d below)) (one, rest)
+
+-- an entry fits with its own behind it, and so do those behind them
+pub nested_fits_on : {H S : Type 0} (Head : H → Type 0) (count_of : H → ℕ) (Inner : S → Type 0) (entries : List H) (inner : List S) (i : ℕ) (d : H) → i < length entries
+    → Head (get_or entries i d) → AllByRecursion Inner (take (count_of (get_or entries i d)) inner)
+    → FitsNested Head count_of Inner (drop (i + 1) entries) (drop (count_of (get_or entries i d)) inner) → FitsNested Head count_of Inner (drop i entries) inner
+nested_fits_on Head count_of Inner entries inner i d below one own rest =
+    subst (λ (xs : List _). FitsNested Head count_of Inner xs inner) (sym (drop_more entries i d below)) (one, own, rest)
+
+module _ {F H S : Type 0} (head : Codec F H) (count_of : H → ℕ) (item : Codec F S) (most : ℕ) (full : F) where
+  each_bounded : (before values : List S) → length before + length values ≤ most → AllByRecursion item.Fits values
+      → FitsEach (λ (all : List S). bounded most full (λ _. item) all) before values
+  each_bounded before [] room fits = tt
+  each_bounded before (value ∷ values) room fits =
+      ((lt-ltb _ _ (omega (arith, room)), fits.0), each_bounded (before ++ value ∷ []) values (omega (arith, room, length-append before (value ∷ []))) fits.1)
+
+  -- entries that fit, and as many of the second kind as they count
+  pub outer_bounded : (first : List H) (second : List S) (entries : List H) (inner : List S) → length first + length entries ≤ most → length second + length inner ≤ most
+      → sum_by count_of entries ≡ length inner → FitsNested head.Fits count_of item.Fits entries inner
+      → FitsOuter (λ (all : List H). bounded most full (λ _. head) all) count_of (λ _ (all : List S). bounded most full (λ _. item) all) first second entries inner
+  outer_bounded first second [] inner room places all fits = nil_from_length inner (sym all)
+  outer_bounded first second (entry ∷ entries) inner room places all fits =
+      let n = count_of entry in
+      let counted : sum_by count_of (entry ∷ entries) ≡ n + sum_by count_of entries = sum_by-cons count_of entry entries in
+      let few : n ≤ length inner = omega (arith, all, counted) in
+      let own : length (take n inner) ≡ n = omega (arith, length-take n inner, few) in
+      let left : length (take n inner) + length (drop n inner) ≡ length inner =
+      rw (← length-append (take n inner) (drop n inner), take-append-drop n inner) refl in (
+        (lt-ltb _ _ (omega (arith, room)), fits.0),
+        few,
+        each_bounded second (take n inner) (omega (arith, places, own, few)) fits.1,
+        outer_bounded (first ++ entry ∷ []) (second ++ take n inner) entries (drop n inner) (omega (arith, room, length-append first (entry ∷ [])))
+            (omega (arith, places, left, length-append second (take n inner))) (omega (arith, all, counted, own, left)) fits.2,
+      )

@@ -1,5 +1,5 @@
 -- Fields whose values are judged, fields that are not looked at, and what ends a format.
-use Rattle.std.specs.Prelude.{◌≡◌, ◌==◌, ◌&&◌, ℕ, Bool, true, List, [], length, replicate, nat_le, Option, Some, None, IsSomeAnd, Result, Ok, Err, if◌then◌else◌}
+use Rattle.std.specs.Prelude.{◌≡◌, ◌==◌, ◌&&◌, ℕ, Bool, true, [], length, replicate, nat_le, Option, Some, None, IsSomeAnd, Result, Ok, Err, if◌then◌else◌}
 use Rattle.std.specs.Option.{option_map_or}
 use Rattle.wire.specs.Codec.{Codec, Whole, ◌>>=◌}
 use Rattle.wire.specs.Formats.{raw, number, seen}
@@ -27,16 +27,6 @@ named {A = A} to from fault codec = record {
   size = λ value. codec.size (from value);
   Fits = λ value. codec.Fits (from value);
   read = λ bytes. codec.read bytes >>= λ x. or_fault fault (to x.0) >>= λ value. Ok (value, x.1);
-}
-
--- a format under another view of its values, which `to` makes of them; those that come back from `from` can be written
-abbrev pub viewed : {F A B : Type 0} → (A → B) → (B → A) → Codec F A → Codec F B
-viewed to from codec = record {
-  Spells = (seen to from codec).Spells;
-  write = (seen to from codec).write;
-  size = (seen to from codec).size;
-  Fits = λ value. (to (from value) ≡ value) × codec.Fits (from value);
-  read = (seen to from codec).read;
 }
 
 -- a number from the least to the greatest accepted one

@@ -1,5 +1,5 @@
 -- So many values, one behind the other, where each may be judged by those before it.
-use Rattle.std.specs.Prelude.{◌≡◌, ◌+◌, ℕ, zero, suc, Bool, List, [], ◌∷◌, ◌++◌, length, nat_lt, Result, Ok, Err}
+use Rattle.std.specs.Prelude.{◌≡◌, ◌+◌, ℕ, zero, suc, List, [], ◌∷◌, ◌++◌, length, nat_lt, Result, Ok}
 use Rattle.wire.specs.Codec.{Codec, ◌>>=◌}
 use Rattle.wire.specs.Formats.{then_by, seen}
 use Rattle.wire.specs.Checks.{checked}

@@ -1,6 +1,7 @@
 -- Entries that each count entries of a second kind behind them. The second ones of all the first stand in one list, those of
 -- the first entry first.
-use Rattle.std.specs.Prelude.{◌≡◌, ◌+◌, ◌≤◌, ℕ, zero, suc, List, [], ◌∷◌, ◌++◌, length, take, drop, Result, Ok, Err}
+use Rattle.std.specs.Prelude.{◌≡◌, ◌+◌, ◌≤◌, ℕ, zero, suc, List, [], ◌∷◌, ◌++◌, length, take, drop, Result, Ok}
+use Rattle.std.specs.List.{AllByRecursion}
 use Rattle.wire.specs.Codec.{Codec, ◌>>=◌}
 use Rattle.wire.specs.Counted.{SpellEach, write_each, size_each, FitsEach}
 
@@ -55,6 +56,14 @@ module _ {F H S : Type 0} (header : List H → Codec F H) (count_of : H → ℕ)
     Fits = λ value. counts.Fits (length value.0) × FitsOuter [] [] value.0 value.1;
     read = λ bytes. counts.read bytes >>= λ x. read_outer x.0 [] [] x.1;
   }
+
+-- ---- what can be written, where it does not hang on what was before
+
+-- each entry fits, and so does each of its own behind it
+abbrev pub FitsNested : {H S : Type 0} → (H → Type 0) → (H → ℕ) → (S → Type 0) → List H → List S → Type 0
+FitsNested Head count_of Inner [] inner = Unit {0}
+FitsNested Head count_of Inner (entry ∷ entries) inner =
+    Head entry × AllByRecursion Inner (take (count_of entry) inner) × FitsNested Head count_of Inner entries (drop (count_of entry) inner)
 
 -- ---- what is written, where it does not hang on what was before
 

@@ -50,7 +50,6 @@
 //! | `framed lengths short whole` | a length, and that many bytes, which a `Whole` takes to the last |
 //! | `checked test fault codec`, `within short fault n least greatest`, `constant short fault n v` | values that pass a test; the fault where they do not |
 //! | `named to from fault codec` | names for some of the values; the fault for the others |
-//! | `viewed to from codec` | as `seen`; those that come back from `from` can be written |
 //! | `ignored short n` | n bytes of any value, written as zeros |
 //! | `listed item n`, `counted counts item` | n values, each of a format that may hang on those before it; the same behind their count |
 //! | `bounded most fault item` | the items of a list of at most so many |

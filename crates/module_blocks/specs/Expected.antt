@@ -1,0 +1,140 @@
+-- ExpectedSubmoduleBlockReq (IEC 61158-6-10, 5.2.4.5): the modules and submodules that a controller expects. The submodules of
+-- all modules stand in one list, those of the first module first.
+use Rattle.std.specs.Prelude.{◌+◌, ◌%◌, ◌==◌, ◌||◌, ℕ, Bool, true, false, not, List, [], drop, Option, Some, None, Result}
+use Rattle.std.specs.List.{list_any}
+use Rattle.wire.specs.Codec.{Codec}
+use Rattle.wire.specs.Formats.{◌⨾◌, seen, then_by, when}
+use Rattle.wire.specs.Checks.{checked}
+use Rattle.wire.specs.Counted.{bounded}
+use Rattle.wire.specs.Nested.{nested, read_inner, read_outer, flat_bytes, flat_size, nested_bytes, nested_size}
+use Rattle.block_fields.specs.declared.fault.BlockFault.{BlockFault}
+use Rattle.block_fields.specs.declared.fault.BlockFault.TheVariants.{Count, Field}
+use Rattle.block_fields.specs.Fields.{two, four, ranged, fixed_one, fixed_four}
+use Rattle.module_blocks.specs.declared.expected.ExpectedModule.{ExpectedModule}
+use Rattle.module_blocks.specs.declared.submodule_data.SubmoduleData.{SubmoduleData}
+use Rattle.module_blocks.specs.declared.expected.ExpectedSubmodule.{ExpectedSubmodule}
+use Rattle.module_blocks.specs.declared.expected.ExpectedModules.{ExpectedModules}
+use Rattle.module_blocks.specs.declared.expected.ExpectedSubmoduleBlockReq.{ExpectedSubmoduleBlockReq}
+
+-- ---- what a submodule has in cyclic frames
+
+-- a DataDescription, field 13, whose low two bits are these
+unfoldable pub description_kind : ℕ → Codec BlockFault (Unit {0})
+description_kind kind = seen (λ _. tt) (λ _. kind) (checked (λ n. n % 4 == kind) (Field 13) two)
+
+-- DataDescription, SubmoduleDataLength, LengthIOCS 1 and LengthIOPS 1: the length, which is at most so much
+unfoldable pub description : ℕ → ℕ → Codec BlockFault ℕ
+description kind most = seen (λ x. x.1.0) (λ size. (tt, (size, (tt, tt))))
+    (description_kind kind ⨾ ranged 14 0 most ⨾ fixed_one 15 1 ⨾ fixed_one 16 1)
+
+-- the description of no data, where there is one: an input of no bytes
+unfoldable pub no_data : Bool → Codec BlockFault (Unit {0})
+no_data there = seen (λ _. tt) (λ _. none there) (when there (description 1 0))
+  where
+    none : Bool → Option ℕ
+    none true = Some 0
+    none false = None
+
+-- the description of an input or an output, where there is one
+unfoldable pub data_of : Bool → ℕ → Codec BlockFault (Option ℕ)
+data_of there kind = when there (description kind 1440)
+
+-- the low two bits of SubmoduleProperties
+abbrev pub properties_of : Option ℕ → Option ℕ → ℕ
+properties_of None None = 0
+properties_of (Some input) None = 1
+properties_of None (Some output) = 2
+properties_of (Some input) (Some output) = 3
+
+-- SubmoduleProperties, and the descriptions: of no data, or of an input, an output or both, the input first
+unfoldable pub submodule_data : Codec BlockFault SubmoduleData
+submodule_data = seen
+    (λ x. record { input = x.1.1.0; output = x.1.1.1 })
+    (λ value. (properties_of value.input value.output, (tt, (value.input, value.output))))
+    (then_by two (λ n. no_data (n % 4 == 0) ⨾ data_of (n % 4 == 1 || n % 4 == 3) 1 ⨾ data_of (n % 4 == 2 || n % 4 == 3) 2))
+
+-- how many octets they take
+abbrev pub data_size : Option ℕ → Option ℕ → ℕ
+data_size None None = 8
+data_size (Some input) None = 8
+data_size None (Some output) = 8
+data_size (Some input) (Some output) = 14
+
+-- ---- one entry
+
+-- a SlotNumber, field 6, which none of these has, and a SubslotNumber, field 10
+unfoldable pub new_slot : List ExpectedModule → Codec BlockFault ℕ
+new_slot before = checked (λ number. not (list_any (λ entry. entry.slot_number == number) before)) (Field 6) two
+
+unfoldable pub new_subslot : List ExpectedSubmodule → Codec BlockFault ℕ
+new_subslot before = checked (λ number. not (list_any (λ entry. entry.subslot_number == number) before)) (Field 10) two
+
+-- API 0, SlotNumber, ModuleIdentNumber, ModuleProperties and NumberOfSubmodules, behind these
+unfoldable pub expected_module : List ExpectedModule → Codec BlockFault ExpectedModule
+expected_module before = seen
+    (λ x. record { slot_number = x.1.0; module_ident_number = x.1.1.0; module_properties = x.1.1.1.0; number_of_submodules = x.1.1.1.1 })
+    (λ entry. (tt, (entry.slot_number, (entry.module_ident_number, (entry.module_properties, entry.number_of_submodules)))))
+    (fixed_four 5 0 ⨾ new_slot before ⨾ four ⨾ two ⨾ two)
+
+-- SubslotNumber, SubmoduleIdentNumber and what the submodule has, behind these of its slot
+unfoldable pub expected_submodule : List ExpectedSubmodule → Codec BlockFault ExpectedSubmodule
+expected_submodule before = seen
+    (λ x. record { subslot_number = x.0; submodule_ident_number = x.1.0; io_data = x.1.1 })
+    (λ entry. (entry.subslot_number, (entry.submodule_ident_number, entry.io_data)))
+    (new_subslot before ⨾ four ⨾ submodule_data)
+
+-- how many submodules stand behind a module
+abbrev pub own_of : ExpectedModule → ℕ
+own_of entry = entry.number_of_submodules
+
+-- one more of each behind these, of which there are at most 256; those of its slot begin at a place
+unfoldable pub next_module : List ExpectedModule → Codec BlockFault ExpectedModule
+next_module before = bounded 256 Count expected_module before
+
+unfoldable pub next_submodule : ℕ → List ExpectedSubmodule → Codec BlockFault ExpectedSubmodule
+next_submodule start before = bounded 256 Count (λ all. expected_submodule (drop start all)) before
+
+-- ---- the block
+
+-- NumberOfAPIs, and each module with its submodules
+unfoldable pub expected_modules : Codec BlockFault ExpectedModules
+expected_modules = seen
+    (λ x. record { modules = record { items = x.0 }; submodules = record { items = x.1 } })
+    (λ value. (value.modules.items, value.submodules.items))
+    (nested next_module own_of next_submodule two)
+
+unfoldable pub expected : Codec BlockFault ExpectedSubmoduleBlockReq
+expected = seen (λ x. record { modules = x }) (λ block. block.modules) expected_modules
+
+-- ---- as the code goes over the lists
+
+-- so many submodules behind those before them, of which their slot's begin at a place, and so many modules with theirs
+unfoldable pub submodules_read : ℕ → ℕ → List ExpectedSubmodule → List ℕ → Result (List ExpectedSubmodule × List ℕ) BlockFault
+submodules_read start count before bytes = read_inner (next_submodule start) count before bytes
+
+unfoldable pub modules_read : ℕ → List ExpectedModule → List ExpectedSubmodule → List ℕ → Result ((List ExpectedModule × List ExpectedSubmodule) × List ℕ) BlockFault
+modules_read count modules submodules bytes = read_outer next_module own_of next_submodule count modules submodules bytes
+
+-- the octets of an entry, which do not hang on those before it
+abbrev pub module_bytes : ExpectedModule → List ℕ → List ℕ
+module_bytes entry rest = (expected_module []).write entry rest
+
+abbrev pub submodule_bytes : ExpectedSubmodule → List ℕ → List ℕ
+submodule_bytes entry rest = (expected_submodule []).write entry rest
+
+abbrev pub submodule_size : ExpectedSubmodule → ℕ
+submodule_size entry = 6 + data_size entry.io_data.input entry.io_data.output
+
+-- submodules, and modules with theirs, in front of what follows
+abbrev pub submodules_bytes : List ExpectedSubmodule → List ℕ → List ℕ
+submodules_bytes submodules rest = flat_bytes submodule_bytes submodules rest
+
+abbrev pub modules_bytes : List ExpectedModule → List ExpectedSubmodule → List ℕ → List ℕ
+modules_bytes modules submodules rest = nested_bytes module_bytes own_of submodule_bytes modules submodules rest
+
+-- how many octets they take: 14 a module
+abbrev pub submodules_size : List ExpectedSubmodule → ℕ
+submodules_size submodules = flat_size submodule_size submodules
+
+abbrev pub modules_size : List ExpectedModule → List ExpectedSubmodule → ℕ
+modules_size modules submodules = nested_size 14 own_of submodule_size modules submodules

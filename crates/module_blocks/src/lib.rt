@@ -1,0 +1,18 @@
+//! The blocks that list modules with their submodules: those that a controller expects, and in what the real ones differ
+//! (IEC 61158-6-10, 5.2.4). What each one means, and how its fields are read and written. Crate `block_codec` puts the
+//! header in front of them.
+#![tactic(auto)]
+
+mod expected;
+mod module_diff;
+mod submodule_data;
+
+pub use expected::{
+    ExpectedModule, ExpectedModules, ExpectedSubmodule, ExpectedSubmoduleBlockReq, expected_at,
+    expected_len, put_expected,
+};
+pub use module_diff::{
+    DiffModule, DiffModules, DiffSubmodule, ModuleDiffBlock, module_diff_at, module_diff_len,
+    put_module_diff,
+};
+pub use submodule_data::SubmoduleData;
