@@ -31,7 +31,7 @@ use Rattle.record_blocks.specs.declared.alarm_ack.AlarmAck.{AlarmAck}
 use Rattle.connect_blocks.specs.ArBlock.{ar_block_req, ar_block_res, IsArBlockReq}
 use Rattle.connect_blocks.specs.Iocr.{iocr_block_req, iocr_block_res, IsIocrBlockReq}
 use Rattle.connect_blocks.specs.AlarmCr.{alarm_cr_block_req, alarm_cr_block_res, IsAlarmCrBlockReq}
-use Rattle.module_blocks.specs.Expected.{expected}
+use Rattle.module_blocks.specs.Expected.{expected, IsExpectedSubmoduleBlockReq}
 use Rattle.module_blocks.specs.ModuleDiff.{module_diff, IsModuleDiff}
 use Rattle.connect_blocks.specs.Control.{control}
 use Rattle.record_blocks.specs.ReadRecord.{iod_read_req, iod_read_res}
@@ -249,7 +249,7 @@ abbrev pub IsAccepted : Block → Type 0
 IsAccepted (is.ArBlockReq value) = IsArBlockReq value
 IsAccepted (is.IocrBlockReq value) = IsIocrBlockReq value
 IsAccepted (is.AlarmCrBlockReq value) = IsAlarmCrBlockReq value
-IsAccepted (is.ExpectedSubmoduleBlockReq value) = expected.Fits value
+IsAccepted (is.ExpectedSubmoduleBlockReq value) = IsExpectedSubmoduleBlockReq value
 IsAccepted (is.ModuleDiffBlock value) = IsModuleDiff value
 IsAccepted (is.PrmEndRes value) = value.control_command ≡ 8
 IsAccepted (is.ApplicationReady value) = value.control_command ≡ 2

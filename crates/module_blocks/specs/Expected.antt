@@ -1,12 +1,12 @@
 -- ExpectedSubmoduleBlockReq (IEC 61158-6-10, 5.2.4.5): the modules and submodules that a controller expects. The submodules of
 -- all modules stand in one list, those of the first module first.
-use Rattle.std.specs.Prelude.{◌+◌, ◌%◌, ◌==◌, ◌||◌, ℕ, Bool, true, false, not, List, [], drop, Option, Some, None, Result}
-use Rattle.std.specs.List.{list_any}
+use Rattle.std.specs.Prelude.{◌≡◌, ◌≤◌, ◌+◌, ◌%◌, ◌==◌, ◌||◌, ℕ, Bool, true, false, not, List, [], ◌∷◌, length, take, drop, sum_by, Option, Some, None, IfSome, Result}
+use Rattle.std.specs.List.{list_any, AllByRecursion, IsDistinct}
 use Rattle.wire.specs.Codec.{Codec}
 use Rattle.wire.specs.Formats.{◌⨾◌, seen, then_by, when}
 use Rattle.wire.specs.Checks.{checked}
 use Rattle.wire.specs.Counted.{bounded}
-use Rattle.wire.specs.Nested.{nested, read_inner, read_outer, flat_bytes, flat_size, nested_bytes, nested_size}
+use Rattle.wire.specs.Nested.{nested, read_inner, read_outer, flat_bytes, flat_size, nested_bytes, nested_size, FitsNested}
 use Rattle.block_fields.specs.declared.fault.BlockFault.{BlockFault}
 use Rattle.block_fields.specs.declared.fault.BlockFault.TheVariants.{Count, Field}
 use Rattle.block_fields.specs.Fields.{two, four, ranged, fixed_one, fixed_four}
@@ -106,6 +106,29 @@ expected_modules = seen
 unfoldable pub expected : Codec BlockFault ExpectedSubmoduleBlockReq
 expected = seen (λ x. record { modules = x }) (λ block. block.modules) expected_modules
 
+-- ---- what is accepted
+
+-- an input and an output have at most 1,440 octets
+abbrev pub IsShort : SubmoduleData → Type 0
+IsShort value = IfSome value.input (λ octets. octets ≤ 1440) × IfSome value.output (λ octets. octets ≤ 1440)
+
+-- no SubslotNumber stands twice in a slot
+abbrev pub SubslotsDiffer : List ExpectedModule → List ExpectedSubmodule → Type 0
+SubslotsDiffer [] submodules = Unit {0}
+SubslotsDiffer (entry ∷ modules) submodules =
+    IsDistinct (λ one other. one.subslot_number == other.subslot_number) (take (own_of entry) submodules) × SubslotsDiffer modules (drop (own_of entry) submodules)
+
+-- the modules count the submodules that there are, no SlotNumber stands twice, and none of the data is too long
+pub record IsExpected (value : ExpectedModules) : Type 0 where
+  pub counted : sum_by own_of value.modules.items ≡ length value.submodules.items
+  pub slots : IsDistinct (λ one other. one.slot_number == other.slot_number) value.modules.items
+  pub subslots : SubslotsDiffer value.modules.items value.submodules.items
+  pub short : AllByRecursion (λ entry. IsShort entry.io_data) value.submodules.items
+
+-- its fields are accepted
+abbrev pub IsExpectedSubmoduleBlockReq : ExpectedSubmoduleBlockReq → Type 0
+IsExpectedSubmoduleBlockReq block = IsExpected block.modules
+
 -- ---- as the code goes over the lists
 
 -- so many submodules behind those before them, of which their slot's begin at a place, and so many modules with theirs
@@ -138,3 +161,13 @@ submodules_size submodules = flat_size submodule_size submodules
 
 abbrev pub modules_size : List ExpectedModule → List ExpectedSubmodule → ℕ
 modules_size modules submodules = nested_size 14 own_of submodule_size modules submodules
+
+-- the fields of a submodule fit where its data is not too long, and those of modules with theirs
+abbrev pub SubmoduleFits : ExpectedSubmodule → Type 0
+SubmoduleFits entry = IsShort entry.io_data → (expected_submodule []).Fits entry
+
+abbrev pub SubmodulesFit : List ExpectedSubmodule → Type 0
+SubmodulesFit submodules = AllByRecursion SubmoduleFits submodules
+
+abbrev pub ModulesFit : List ExpectedModule → List ExpectedSubmodule → Type 0
+ModulesFit modules submodules = FitsNested (expected_module []).Fits own_of SubmoduleFits modules submodules

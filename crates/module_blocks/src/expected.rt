@@ -4,7 +4,7 @@ ghost use Rattle.std.specs.Prelude.{◌≡◌, ◌==◌, ◌+◌, [], drop, ◌*
 ghost use Rattle.arrayvec.specs.ArrayVec.{array_vec_len};
 ghost use Rattle.wire.specs.Codec.{Gives};
 ghost use Rattle.block_fields.specs.Fields.{body};
-ghost use Rattle.module_blocks.specs.Expected.{expected, expected_module, expected_modules, expected_submodule, new_slot, new_subslot, next_module, next_submodule, module_bytes, modules_bytes, modules_read, modules_size, submodule_bytes, submodule_size, submodules_bytes, submodules_read, submodules_size};
+ghost use Rattle.module_blocks.specs.Expected.{expected, expected_module, expected_modules, expected_submodule, new_slot, new_subslot, next_module, next_submodule, module_bytes, modules_bytes, modules_read, modules_size, submodule_bytes, submodule_size, submodules_bytes, submodules_read, submodules_size, IsExpected, IsExpectedSubmoduleBlockReq, ModulesFit, SubmoduleFits, SubmodulesFit};
 
 use crate::submodule_data::{
     SubmoduleData, put_submodule_data, submodule_data_at, submodule_data_len,
@@ -252,6 +252,7 @@ fn put_expected_module<const N: usize>(out: &mut ArrayVec<u8, N>, value: &Expect
     requires { array_vec_len out.old + 14 ≤ N }
     ensures items { (tail : List ℕ) → out.new.items ++ tail ≡ out.old.items ++ module_bytes value.now tail }
     ensures len { array_vec_len out.new ≡ array_vec_len out.old + 14 }
+    ensures fits { (expected_module []).Fits value.now }
 {
     expected_module_fields!(put_fields [out, value] none);
 }
@@ -262,16 +263,18 @@ fn put_expected_submodule<const N: usize>(out: &mut ArrayVec<u8, N>, value: &Exp
     requires { array_vec_len out.old + submodule_size value.now ≤ N }
     ensures items { (tail : List ℕ) → out.new.items ++ tail ≡ out.old.items ++ submodule_bytes value.now tail }
     ensures len { array_vec_len out.new ≡ array_vec_len out.old + submodule_size value.now }
+    ensures fits { SubmoduleFits value.now }
 {
     expected_submodule_fields!(put_fields [out, value] none);
 }
 
 /// Appends the entries of submodules. There must be room.
-#[tactic(auto, using(crate::proofs::Wanted::first_inner))]
+#[tactic(auto, using(crate::proofs::Wanted::first_inner, wire::proofs::Nesting::fits_on))]
 fn put_submodules<const N: usize>(out: &mut ArrayVec<u8, N>, submodules: &[ExpectedSubmodule])
     requires { array_vec_len out.old + submodules_size submodules.now ≤ N }
     ensures items { (tail : List ℕ) → out.new.items ++ tail ≡ out.old.items ++ submodules_bytes submodules.now tail }
     ensures len { array_vec_len out.new ≡ array_vec_len out.old + submodules_size submodules.now }
+    ensures fits { SubmodulesFit submodules.now }
 {
     for submodule in submodules {
         put_expected_submodule(out, submodule);
@@ -279,7 +282,7 @@ fn put_submodules<const N: usize>(out: &mut ArrayVec<u8, N>, submodules: &[Expec
 }
 
 /// Appends the entries of modules, each with as many of the submodules as it counts. There must be room.
-#[tactic(auto, using(crate::proofs::Wanted::one_more))]
+#[tactic(auto, using(crate::proofs::Wanted::one_more, wire::proofs::Nesting::nested_fits_on))]
 fn put_modules<const N: usize>(
     out: &mut ArrayVec<u8, N>,
     modules: &[ExpectedModule],
@@ -288,6 +291,7 @@ fn put_modules<const N: usize>(
     requires { array_vec_len out.old + modules_size modules.now submodules.now ≤ N }
     ensures items { (tail : List ℕ) → out.new.items ++ tail ≡ out.old.items ++ modules_bytes modules.now submodules.now tail }
     ensures len { array_vec_len out.new ≡ array_vec_len out.old + modules_size modules.now submodules.now }
+    ensures fits { ModulesFit modules.now submodules.now }
 {
     let mut left = submodules;
     for entry in modules {
@@ -299,11 +303,12 @@ fn put_modules<const N: usize>(
 }
 
 /// Appends NumberOfAPIs and the entries of modules and submodules. There must be room.
-#[tactic(auto, using(crate::proofs::Wanted::modules_written, crate::proofs::Wanted::modules_sized))]
+#[tactic(auto, using(crate::proofs::Wanted::modules_written, crate::proofs::Wanted::modules_sized, crate::proofs::Accepted::modules_fit))]
 fn put_expected_modules<const N: usize>(out: &mut ArrayVec<u8, N>, value: &ExpectedModules)
     requires { array_vec_len out.old + expected_modules.size value.now ≤ N }
     ensures items { (tail : List ℕ) → out.new.items ++ tail ≡ out.old.items ++ expected_modules.write value.now tail }
     ensures len { array_vec_len out.new ≡ array_vec_len out.old + expected_modules.size value.now }
+    ensures fits { IsExpected value.now → expected_modules.Fits value.now }
 {
     append_u16(out, value.modules.len() as u16);
     put_modules(out, value.modules.as_slice(), value.submodules.as_slice());
@@ -355,6 +360,7 @@ pub fn put_expected<const N: usize>(out: &mut ArrayVec<u8, N>, value: &ExpectedS
     requires { array_vec_len out.old + expected.size value.now ≤ N }
     ensures items { (tail : List ℕ) → out.new.items ++ tail ≡ out.old.items ++ expected.write value.now tail }
     ensures len { array_vec_len out.new ≡ array_vec_len out.old + expected.size value.now }
+    ensures fits { IsExpectedSubmoduleBlockReq value.now → expected.Fits value.now }
 {
     expected_fields!(put_fields [out, value]);
 }

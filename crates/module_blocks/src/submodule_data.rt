@@ -2,7 +2,7 @@
 ghost use Rattle.std.specs.Prelude.{◌≡◌, ◌==◌, ◌||◌, ◌+◌, ◌≤◌, ◌++◌, List, ℕ};
 ghost use Rattle.arrayvec.specs.ArrayVec.{array_vec_len};
 ghost use Rattle.wire.specs.Codec.{Gives};
-ghost use Rattle.module_blocks.specs.Expected.{description, description_kind, data_of, data_size, no_data, submodule_data};
+ghost use Rattle.module_blocks.specs.Expected.{description, description_kind, data_of, data_size, no_data, submodule_data, IsShort};
 
 use arrayvec::ArrayVec;
 use block_fields::{BlockFault, append_u8, append_u16, fixed_one_at, ranged_at, u16_at};
@@ -103,11 +103,12 @@ fn put_description<const N: usize>(out: &mut ArrayVec<u8, N>, kind: u16, length:
 }
 
 /// Appends SubmoduleProperties and the descriptions. There must be room.
-#[tactic(auto, unfolding(crate::specs::Expected::submodule_data, crate::specs::Expected::no_data, crate::specs::Expected::data_of))]
+#[tactic(auto, using(crate::proofs::Accepted::data_fits), unfolding(crate::specs::Expected::submodule_data, crate::specs::Expected::no_data, crate::specs::Expected::data_of))]
 pub(crate) fn put_submodule_data<const N: usize>(out: &mut ArrayVec<u8, N>, value: &SubmoduleData)
     requires { array_vec_len out.old + data_size value.now.input value.now.output ≤ N }
     ensures items { (tail : List ℕ) → out.new.items ++ tail ≡ out.old.items ++ submodule_data.write value.now tail }
     ensures len { array_vec_len out.new ≡ array_vec_len out.old + data_size value.now.input value.now.output }
+    ensures fits { IsShort value.now → submodule_data.Fits value.now }
 {
     match (value.input, value.output) {
         (None, None) => {

@@ -1,13 +1,12 @@
 -- Formats that judge their values are sound.
-use Rattle.std.proofs.Common.{◌≡◌, ℕ, ◌==◌, Bool, true, false, cond, eqb, ◌&&◌, List, [], length, Option, Some, None, Ok, Err, refl, ap, subst, arith}
-use Rattle.std.specs.Prelude.{nat_le, IsSomeAnd}
+use Rattle.std.proofs.Common.{◌≡◌, ℕ, Bool, true, false, cond, eqb, List, [], length, Option, Some, None, Ok, Err, refl, ap, subst, arith}
+use Rattle.std.specs.Prelude.{IsSomeAnd}
 use Rattle.std.specs.Option.{option_map_or}
 use Rattle.std.proofs.lemmas.Bool.{eqb-true}
 use Rattle.std.proofs.lemmas.List.{nil_from_length}
 use Rattle.wire.specs.Codec.{Codec, Whole, IsSound, IsSoundWhole, ◌>>=◌}
-use Rattle.wire.specs.Checks.{or_fault, checked, named, within, constant, ignored, closed, variant}
-use Rattle.wire.proofs.Fields.{bind_ok, ok_is, raw_sound, number_sound}
-use Rattle.wire.proofs.Joined.{seen_sound}
+use Rattle.wire.specs.Checks.{or_fault, checked, named, closed, variant}
+use Rattle.wire.proofs.Fields.{bind_ok, ok_is}
 
 -- a test that was passed
 pub passed : {F A : Type 0} (b : Bool) (fault : F) (x y : A) → cond b (Ok x) (Err fault) ≡ Ok y → (b ≡ true) × (x ≡ y)
@@ -43,15 +42,6 @@ module _ {F A B : Type 0} (to : A → Option B) (from : B → A) (fault : F) (co
     local = λ value rest. sound.local (from value) rest;
     sized = λ value rest. sound.sized (from value) rest;
   }
-
-pub within_sound : {F : Type 0} (short fault : F) (size least greatest : ℕ) → IsSound (within short fault size least greatest)
-within_sound short fault size least greatest = checked_sound (λ value. nat_le least value && nat_le value greatest) fault _ (number_sound short size)
-
-pub constant_sound : {F : Type 0} (short fault : F) (size value : ℕ) → IsSound (constant short fault size value)
-constant_sound short fault size value = seen_sound _ _ _ (λ _. refl) (checked_sound (λ n. n == value) fault _ (number_sound short size))
-
-pub ignored_sound : {F : Type 0} (short : F) (size : ℕ) → IsSound (ignored short size)
-ignored_sound short size = seen_sound _ _ _ (λ _. refl) (raw_sound short size)
 
 pub closed_sound : {F A : Type 0} (more : F) (codec : Codec F A) → IsSound codec → IsSoundWhole (closed more codec)
 closed_sound more codec sound = record {

@@ -1,8 +1,7 @@
--- Fields whose values are judged, fields that are not looked at, and what ends a format.
-use Rattle.std.specs.Prelude.{◌≡◌, ◌==◌, ◌&&◌, ℕ, Bool, true, [], length, replicate, nat_le, Option, Some, None, IsSomeAnd, Result, Ok, Err, if◌then◌else◌}
+-- Fields whose values are judged, and what ends a format.
+use Rattle.std.specs.Prelude.{◌≡◌, ◌==◌, Bool, true, [], length, Option, Some, None, IsSomeAnd, Result, Ok, Err, if◌then◌else◌}
 use Rattle.std.specs.Option.{option_map_or}
 use Rattle.wire.specs.Codec.{Codec, Whole, ◌>>=◌}
-use Rattle.wire.specs.Formats.{raw, number, seen}
 
 -- a format whose values pass a test, with a fault for those that do not
 abbrev pub checked : {F A : Type 0} → (A → Bool) → F → Codec F A → Codec F A
@@ -28,18 +27,6 @@ named {A = A} to from fault codec = record {
   Fits = λ value. codec.Fits (from value);
   read = λ bytes. codec.read bytes >>= λ x. or_fault fault (to x.0) >>= λ value. Ok (value, x.1);
 }
-
--- a number from the least to the greatest accepted one
-abbrev pub within : {F : Type 0} → F → F → ℕ → ℕ → ℕ → Codec F ℕ
-within short fault size least greatest = checked (λ value. nat_le least value && nat_le value greatest) fault (number short size)
-
--- a number that has one accepted value
-abbrev pub constant : {F : Type 0} → F → F → ℕ → ℕ → Codec F (Unit {0})
-constant short fault size value = seen (λ _. tt) (λ _. value) (checked (λ n. n == value) fault (number short size))
-
--- so many bytes of any value, written as zeros
-abbrev pub ignored : {F : Type 0} → F → ℕ → Codec F (Unit {0})
-ignored short size = seen (λ _. tt) (λ _. replicate size 0) (raw short size)
 
 -- a format and nothing behind it, with a fault where there is something
 abbrev pub closed : {F A : Type 0} → F → Codec F A → Whole F A

@@ -48,9 +48,8 @@
 //! | `seen to from codec` | the same bytes, and another view of the value |
 //! | `when test codec` | an option: there where the test holds |
 //! | `framed lengths short whole` | a length, and that many bytes, which a `Whole` takes to the last |
-//! | `checked test fault codec`, `within short fault n least greatest`, `constant short fault n v` | values that pass a test; the fault where they do not |
+//! | `checked test fault codec` | values that pass a test; the fault where they do not |
 //! | `named to from fault codec` | names for some of the values; the fault for the others |
-//! | `ignored short n` | n bytes of any value, written as zeros |
 //! | `listed item n`, `counted counts item` | n values, each of a format that may hang on those before it; the same behind their count |
 //! | `bounded most fault item` | the items of a list of at most so many |
 //! | `nested header count_of item counts` | a count and entries, each with as many of a second kind behind it as it counts, stored as two flat lists |
@@ -102,11 +101,9 @@
 //! writers appended, and `written` says that it is spelled.
 #![tactic(auto)]
 
-mod judging;
 mod reading;
 mod writing;
 
-pub use judging::{constant_u8_at, constant_u16_at, ignored_at, within_u16_at};
 pub use reading::{octets_at, skip, split, u8_at, u16_at, u32_at};
 pub use writing::{append, append_u8, append_u16, append_u32};
 
