@@ -14,8 +14,20 @@ use Rattle.dcp_core.specs.Request.{Asked}
 use Rattle.dcp_core.specs.Set.{plan_of, set_bytes}
 use Rattle.device_core.specs.declared.event.Note.TheVariants as note
 use Rattle.device_core.specs.Heard.{Heard, Ticks, Unreadable, Elsewhere, Asks, heard_of}
-use Rattle.device_core.specs.Machine.{Finished, Stepped, Ran, items_of, is_set, lamp_after, answer_frame, finished, heard_step, step_of, handed, first_step, later_steps, then_run, run_of}
+use Rattle.device_core.specs.Machine.{Finished, Stepped, Ran, items_of, lamp_after, answer_frame, finished, heard_step, step_of, handed, first_step, later_steps, then_run, run_of}
 use Rattle.settings_store.proofs.Laws.{failed_accepted, stays_failed, stored_made, made_append, room_left}
+
+-- whether a Set was heard, which alone asks the flash for something
+abbrev pub is_set : Heard → Bool
+is_set (Asks asker request) = sets request.service
+  where
+    sets : Service → Bool
+    sets service.Set = true
+    sets service.Get = false
+    sets service.Identify = false
+is_set Ticks = false
+is_set Unreadable = false
+is_set Elsewhere = false
 
 -- a step that asks nothing of the flash
 unfoldable pub quiet_step : Identity → Live → Heard → Stepped
@@ -28,7 +40,7 @@ nothing_for service.Set asker request is none = let e = rw is at none in cc
 nothing_for service.Get asker request is none = rw is refl
 nothing_for service.Identify asker request is none = rw is refl
 
-nothing_asked : (heard : Heard) → is_set heard ≡ false → items_of heard ≡ []
+pub nothing_asked : (heard : Heard) → is_set heard ≡ false → items_of heard ≡ []
 nothing_asked (Asks asker request) none = nothing_for request.service asker request refl none
 nothing_asked Ticks none = refl
 nothing_asked Unreadable none = refl
@@ -80,12 +92,12 @@ unfoldable pub then_step : Ran → Stepped → Ran
 then_step ran step = record { live = step.live; frames = ran.frames ++ handed step; accepted = ran.accepted ++ step.accepted }
 
 -- outcomes of some events, and those of one more
-snoc : List (List Outcome) → List Event → List Outcome → List (List Outcome)
+unfoldable pub snoc : List (List Outcome) → List Event → List Outcome → List (List Outcome)
 snoc front [] last = last ∷ []
 snoc front (event ∷ events) last = first_step front ∷ snoc (later_steps front) events last
 
 -- the same, none where there are none
-pub joined : List (List Outcome) → List Event → List Outcome → List (List Outcome)
+unfoldable pub joined : List (List Outcome) → List Event → List Outcome → List (List Outcome)
 joined [] events [] = []
 joined [] events (outcome ∷ outcomes) = snoc [] events (outcome ∷ outcomes)
 joined (one ∷ front) events last = snoc (one ∷ front) events last

@@ -13,7 +13,7 @@ use Rattle.settings_store.specs.Machine.{Accepted}
 use Rattle.settings_store.specs.Carries.{IsCaused}
 use Rattle.device_core.specs.declared.event.Event.{Event}
 use Rattle.device_core.specs.State.{State, Live}
-use Rattle.device_core.specs.Steps.{Runs}
+use Rattle.device_core.specs.Steps.{EventByEvent, Runs}
 use Rattle.device_core.specs.Cycle.{started, cycle_of, Cycled, IsMadeOf, Restarts, Refuses, IsRefused}
 use Rattle.device_core.proofs.Steps.{same_state}
 
@@ -36,11 +36,17 @@ cycled_from : {F : Type 0} (image : F → Image) (failures : F → ℕ) (identit
 unfolding device_of
 cycled_from image failures identity real flash begun first room events before now ran same_image same_failures runs =
     let end = cycle_of runs.outcomes identity first room events in
+    let values : ran.live.values ≡ end.live.values = ap (λ l. l.values) runs.live in
     record {
+      begun = begun;
+      begins = (same_image, same_failures);
       caused = subst (λ n. IsCaused runs.outcomes n (failures ran.flash) (started first room).values end.live.values) same_failures
-          (subst (λ v. IsCaused runs.outcomes (failures begun) (failures ran.flash) (started first room).values v) (ap (λ l. l.values) runs.live) runs.caused);
+          (subst (λ v. IsCaused runs.outcomes (failures begun) (failures ran.flash) (started first room).values v) values runs.caused);
+      placed = subst (λ v. EventByEvent image failures runs.outcomes identity (record { flash = begun; values = (started first room).values }) events (record { flash = ran.flash; values = v }))
+          values runs.placed;
       handed_on = runs.frames;
       safe = subst (λ i. CrashSafe false first end.accepted i (image ran.flash)) same_image runs.safe;
+      untouched = runs.untouched;
     }
 
 -- the run of a device that started so

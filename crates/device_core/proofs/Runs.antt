@@ -3,16 +3,17 @@ use Rattle.std.proofs.Common.{◌≡◌, ◌+◌, ◌<◌, length, arith, ℕ, B
 use Rattle.std.proofs.lemmas.List.{append-nil}
 use Rattle.std.proofs.lemmas.Bool.{cond-true}
 use Rattle.flash_model.specs.Image.{Image}
-use Rattle.settings_store.specs.Carries.{Holds, IsCaused}
+use Rattle.settings_store.specs.Carries.{OneByOne, Holds, IsCaused}
 use Rattle.settings_store.specs.State.{Values}
 use Rattle.settings_store.specs.Legal.{made_of, CrashSafe}
 use Rattle.device_core.specs.declared.event.Event.{Event}
-use Rattle.device_core.specs.State.{State, Live}
+use Rattle.device_core.specs.State.{State, Live, store_of}
 use Rattle.device_core.specs.Heard.{heard_of}
-use Rattle.device_core.specs.Machine.{Ran, Stepped, heard_step, step_of, run_of}
+use Rattle.device_core.specs.Machine.{Ran, Stepped, items_of, heard_step, step_of, run_of}
 use Rattle.device_core.specs.Steps.{HandsOn, Runs, IsExactRun, TakesRoom}
 use Rattle.device_core.proofs.Machine.{then_step, joined, joined_quiet, run_joined, step_none, step_failed, run_failed, run_made, run_room}
-use Rattle.settings_store.proofs.Laws.{safe_then, caused_then}
+use Rattle.device_core.proofs.Placed.{placed_more}
+use Rattle.settings_store.proofs.Laws.{safe_then, caused_then, both_empty}
 
 -- no event
 pub no_run : {F : Type 0} (image : F → Image) (failures : F → ℕ) (state : State F) (taken : List (List ℕ)) → Holds (image state.flash) state.live.values
@@ -23,8 +24,10 @@ no_run image failures state taken holds = record {
   live = refl;
   frames = sym (append-nil taken);
   caused = inl (refl, refl);
+  placed = refl;
   safe = record { left = λ left. left; legal = λ fine left. inl (state.live.values.room, holds fine); untouched = λ failed. refl };
   holds = holds;
+  untouched = λ _. refl;
   stays_lost = λ lost. (lost, refl);
 }
 
@@ -58,11 +61,16 @@ run_more image failures old mid new events event before between now run on =
           ∙ append_assoc before ran.frames _ ∙ ap (λ f. before ++ f) (sym (ap (λ r. r.frames) all));
       caused = caused_then run.outcomes step.outcomes (joined run.outcomes events step.outcomes) _ _ _ old.live.values mid.live.values new.live.values
           (joined_quiet run.outcomes events step.outcomes) run_fails failed run.caused step.caused;
+      placed = placed_more image failures run.outcomes step.outcomes old.identity (store_of old) (store_of mid) (store_of new) events event run.placed
+          (subst (λ i. OneByOne image failures step.outcomes (store_of mid) (items_of (heard_of i event)) (store_of new)) run.same.identity step.placed);
       safe = subst (λ a. CrashSafe old.live.values.has_failed old.live.values.stored a (image old.flash) (image new.flash)) (sym (ap (λ r. r.accepted) all))
           (safe_then old.live.values.has_failed mid.live.values.has_failed old.live.values.stored mid.live.values.stored ran.accepted one.accepted
           (image old.flash) (image mid.flash) (image new.flash) run_fails none made run.safe
           (subst (λ a. CrashSafe mid.live.values.has_failed mid.live.values.stored a (image mid.flash) (image new.flash)) accepted step.safe));
       holds = step.holds;
+      untouched = λ nothing.
+          let neither = both_empty _ _ (sym (ap (λ r. r.accepted) all) ∙ nothing) in
+          step.untouched (accepted ∙ neither.1) ∙ run.untouched neither.0;
       stays_lost = λ lost.
           let so_far = run.stays_lost lost in
           let now_lost = step.stays_lost so_far.0 in

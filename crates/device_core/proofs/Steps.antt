@@ -7,7 +7,7 @@ use Rattle.pn_values.specs.declared.identity.Identity.{Identity}
 use Rattle.pn_values.specs.declared.set_item.BlockError.{BlockError}
 use Rattle.settings_store.specs.Machine.{Outcome, carried}
 use Rattle.settings_store.specs.State as store
-use Rattle.settings_store.specs.Carries.{Carries, Holds, IsCaused}
+use Rattle.settings_store.specs.Carries.{Carries, OneByOne, Holds, IsCaused}
 use Rattle.dcp_core.specs.declared.request.Service.{Service}
 use Rattle.dcp_core.specs.declared.request.Service.TheVariants as service
 use Rattle.dcp_core.specs.Request.{Asked}
@@ -19,11 +19,11 @@ use Rattle.device_core.specs.declared.event.Note.{Note}
 use Rattle.device_core.specs.declared.event.Note.TheVariants as note
 use Rattle.pn_values.specs.declared.settings.Settings.{Settings}
 use Rattle.device_core.specs.Cycle.{started}
-use Rattle.device_core.specs.State.{State, Live}
+use Rattle.device_core.specs.State.{State, Live, store_of}
 use Rattle.device_core.specs.Heard.{Heard, Ticks, Unreadable, Elsewhere, Asks, heard_of}
-use Rattle.device_core.specs.Machine.{Finished, is_set, finished, identified, answered, lamp_after, answer_frame, heard_step, step_of}
+use Rattle.device_core.specs.Machine.{Finished, items_for, finished, identified, answered, lamp_after, answer_frame, heard_step, step_of}
 use Rattle.device_core.specs.Steps.{Steps, Identifies, IsSame, IsExactStep}
-use Rattle.device_core.proofs.Machine.{quiet_step, is_quiet, set_step, is_set_step}
+use Rattle.device_core.proofs.Machine.{is_set, nothing_asked, quiet_step, is_quiet, set_step, is_set_step}
 
 -- a state by its parts
 pub same_state : {F : Type 0} (a b : State F) → a.flash ≡ b.flash → a.identity ≡ b.identity → a.real ≡ b.real → a.live ≡ b.live → a ≡ b
@@ -52,13 +52,16 @@ pub quiet_steps : {F : Type 0} (image : F → Image) (failures : F → ℕ) (old
     → Steps image failures old heard sent said new
 unfolding quiet_step
 quiet_steps image failures old new heard sent said holds none flash same live frames note =
-    let quiet = is_quiet [] old.identity old.live heard none in record {
+    let quiet = is_quiet [] old.identity old.live heard none in
+    let same_store : store_of new ≡ store_of old = ap (λ f. record { flash = f; values = new.live.values }) flash ∙ ap (λ l. record { flash = old.flash; values = l.values }) live in
+    record {
       outcomes = [];
       same = same;
       live = rw quiet live;
       frames = rw quiet frames;
       note = rw quiet note;
       caused = inl (refl, ap failures flash);
+      placed = subst (λ items. OneByOne image failures [] (store_of old) items (store_of new)) (sym (nothing_asked heard none)) same_store;
       safe = rw (quiet, flash) (record { left = λ left. left; legal = λ fine left. inl (old.live.values.room, holds fine); untouched = λ failed. refl });
       holds = λ fine. rw (flash, ap (λ l. l.values) live) (holds (sym (ap (λ l. l.values.has_failed) live) ∙ fine));
       untouched = λ _. flash;
@@ -81,9 +84,10 @@ set_steps image failures old new asker request answers sent said set carries sam
       frames = rw is (frames ∙ ap (λ a. answer_frame old.identity asker 65277 (set_bytes request a) ∷ []) carries.answers_are);
       note = rw is done;
       caused = carries.caused;
+      placed = subst (λ s. OneByOne image failures carries.outcomes (store_of old) (items_for s request) (store_of new)) (sym set) carries.placed;
       safe = rw is carries.safe;
       holds = carries.holds;
-      untouched = λ none. let e = rw set at none in cc;
+      untouched = rw is carries.untouched;
       stays_lost = carries.stays_lost;
     }
 
@@ -162,7 +166,7 @@ refused_step image failures old new heard sent said steps refused =
     let quiet = is_quiet steps.outcomes old.identity old.live heard none in
     let nothing = finished_refused old.identity old.live.values.running old.live.lamp heard (λ done. refused (steps.note ∙ ap (λ s. s.note) quiet ∙ done)) in
     let live : new.live ≡ old.live = steps.live ∙ ap (λ s. s.live) quiet ∙ ap (λ l. record { values = old.live.values; lamp = l }) nothing.0 in
-    (same_state new old (steps.untouched none) steps.same.identity steps.same.real live, steps.frames ∙ ap (λ s. s.frames) quiet ∙ nothing.1)
+    (same_state new old (steps.untouched (ap (λ s. s.accepted) quiet)) steps.same.identity steps.same.real live, steps.frames ∙ ap (λ s. s.frames) quiet ∙ nothing.1)
 
 pub none_sent : {A B : Type 0} (f : A → B) (xs : List A) → map f xs ≡ [] → xs ≡ []
 none_sent f [] none = refl
@@ -180,7 +184,7 @@ identify_asked image failures old new asker request sent said identify steps =
     ∙ ap (λ e. record { values = old.live.values; lamp = e.lamp }) end
     ∙ ap (λ l. record { values = old.live.values; lamp = l }) (identified_lamp old.identity old.live.values.running old.live.lamp asker request) in
     record {
-      unchanged = same_state new old (steps.untouched none) steps.same.identity steps.same.real live;
+      unchanged = same_state new old (steps.untouched (ap (λ s. s.accepted) quiet)) steps.same.identity steps.same.real live;
       answered = λ match.
           let one : identified old.identity old.live.values.running old.live.lamp asker request ≡ _ = cond-true _ _ _ match in
           (steps.note ∙ ap (λ s. s.note) quiet ∙ ap (λ e. e.note) (end ∙ one), steps.frames ∙ ap (λ s. s.frames) quiet ∙ ap (λ e. e.frames) (end ∙ one));

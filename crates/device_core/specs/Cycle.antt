@@ -14,6 +14,7 @@ use Rattle.settings_store.specs.Carries.{IsCaused}
 use Rattle.device_core.specs.declared.event.Event.{Event}
 use Rattle.device_core.specs.State.{State, Live}
 use Rattle.device_core.specs.Machine.{Ran, run_of}
+use Rattle.device_core.specs.Steps.{EventByEvent}
 
 -- a device as it starts: what is stored runs, no commit failed, power is there and the lamp is off
 abbrev pub started : Settings → ℕ → Live
@@ -33,11 +34,17 @@ IsMadeOf accepted first settings =
     ⊎ ((front : List Accepted) × (last : Accepted) × (accepted ≡ front ++ last ∷ []) × (last.is_done ≡ false) × (settings ≡ made_of front first))
 
 -- The events of a cycle were run, from a start on the flash that gave the first settings, with whatever outcomes the flash
--- chose for the calls that store: these have their cause, what was sent was handed on, and what was left of the flash is safe.
+-- chose for the calls that store: these have their cause, each in its own item, what was sent was handed on, what was left
+-- of the flash is safe, and where no command was accepted it was left as the start left it.
 pub record Cycled {F : Type 0} (image : F → Image) (failures : F → ℕ) (identity : Identity) (flash : F) (first : Settings) (room : ℕ) (events : List Event) (before now : List (List ℕ)) (outcomes : List (List Outcome)) (lost : F) : Type 0 where
+  pub begun : F
+  pub begins : (image begun ≡ image flash) × (failures begun ≡ failures flash)
   pub caused : IsCaused outcomes (failures flash) (failures lost) (started first room).values (cycle_of outcomes identity first room events).live.values
+  pub placed : EventByEvent image failures outcomes identity (record { flash = begun; values = (started first room).values }) events
+      (record { flash = lost; values = (cycle_of outcomes identity first room events).live.values })
   pub handed_on : now ≡ before ++ (cycle_of outcomes identity first room events).frames
   pub safe : CrashSafe false first (cycle_of outcomes identity first room events).accepted (image flash) (image lost)
+  pub untouched : (cycle_of outcomes identity first room events).accepted ≡ [] → lost ≡ begun
 
 -- The headline. The cycle went through the events, with whatever outcomes its flash chose for the calls that store. The
 -- restarted device has, running and stored, what all accepted commands of the cycle, or all but a last one that was not

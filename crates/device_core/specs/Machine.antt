@@ -38,18 +38,6 @@ items_of Ticks = []
 items_of Unreadable = []
 items_of Elsewhere = []
 
--- whether a Set was heard, which alone asks the flash for something
-abbrev pub is_set : Heard → Bool
-is_set (Asks asker request) = sets request.service
-  where
-    sets : Service → Bool
-    sets service.Set = true
-    sets service.Get = false
-    sets service.Identify = false
-is_set Ticks = false
-is_set Unreadable = false
-is_set Elsewhere = false
-
 -- what a device sends after an event, what it says of it, and the lamp
 pub record Finished : Type 0 where
   pub frames : List (List ℕ)

@@ -2,6 +2,7 @@
 use Rattle.std.specs.Prelude.{ℕ}
 use Rattle.pn_values.specs.declared.identity.Identity.{Identity}
 use Rattle.pn_values.specs.declared.real.Real.{Real}
+use Rattle.settings_store.specs.State as store
 use Rattle.settings_store.specs.State.{Values}
 
 -- what changes from event to event: the settings, and for how many units the lamp still flashes
@@ -15,3 +16,7 @@ pub record State (F : Type 0) : Type 0 where
   pub identity : Identity
   pub real : Real
   pub live : Live
+
+-- what its store is: the flash, and the values over it
+abbrev pub store_of : {F : Type 0} → State F → store.State F
+store_of device = record { flash = device.flash; values = device.live.values }

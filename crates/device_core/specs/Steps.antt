@@ -2,17 +2,19 @@
 use Rattle.std.specs.Prelude.{◌≡◌, ◌≢◌, ◌⊎◌, ◌+◌, length, ℕ, Bool, true, false, List, [], ◌∷◌, ◌++◌, if◌then◌else◌}
 use Rattle.flash_model.specs.Image.{Image}
 use Rattle.pn_values.specs.declared.mac.Mac.{Mac}
+use Rattle.pn_values.specs.declared.identity.Identity.{Identity}
+use Rattle.settings_store.specs.State as store
 use Rattle.settings_store.specs.Machine.{Outcome}
 use Rattle.settings_store.specs.Legal.{CrashSafe}
-use Rattle.settings_store.specs.Carries.{IsCaused, Holds}
+use Rattle.settings_store.specs.Carries.{IsCaused, OneByOne, Holds}
 use Rattle.dcp_core.specs.Request.{Asked}
 use Rattle.dcp_core.specs.Identify.{matches, identify_bytes}
 use Rattle.device_core.specs.declared.event.Event.{Event}
 use Rattle.device_core.specs.declared.event.Note.{Note}
 use Rattle.device_core.specs.declared.event.Note.TheVariants.{Done, Filter}
-use Rattle.device_core.specs.State.{State, Live}
-use Rattle.device_core.specs.Heard.{Heard}
-use Rattle.device_core.specs.Machine.{heard_step, step_of, run_of, is_set, answer_frame}
+use Rattle.device_core.specs.State.{State, Live, store_of}
+use Rattle.device_core.specs.Heard.{Heard, heard_of}
+use Rattle.device_core.specs.Machine.{items_of, heard_step, step_of, first_step, later_steps, run_of, answer_frame}
 
 -- what a device is does not change
 pub record IsSame {F : Type 0} (old new : State F) : Type 0 where
@@ -20,8 +22,8 @@ pub record IsSame {F : Type 0} (old new : State F) : Type 0 where
   pub real : new.real ≡ old.real
 
 -- What was heard is carried out, for some outcomes of the calls that store, which the flash chose: what changes, the frames
--- and the note are those of the step, the outcomes have their cause, the image is safe and holds what is stored, all but
--- a Set leaves the flash alone, and power that is lost stays lost.
+-- and the note are those of the step, the outcomes have their cause, each in its own item, the image is safe and holds what
+-- is stored, where no command is accepted the flash is left alone, and power that is lost stays lost.
 pub record Steps {F : Type 0} (image : F → Image) (failures : F → ℕ) (old : State F) (heard : Heard) (sent : List (List ℕ)) (said : Note) (new : State F) : Type 0 where
   pub outcomes : List Outcome
   pub same : IsSame old new
@@ -29,9 +31,10 @@ pub record Steps {F : Type 0} (image : F → Image) (failures : F → ℕ) (old 
   pub frames : sent ≡ (heard_step outcomes old.identity old.live heard).frames
   pub note : said ≡ (heard_step outcomes old.identity old.live heard).note
   pub caused : IsCaused outcomes (failures old.flash) (failures new.flash) old.live.values new.live.values
+  pub placed : OneByOne image failures outcomes (store_of old) (items_of heard) (store_of new)
   pub safe : CrashSafe old.live.values.has_failed old.live.values.stored (heard_step outcomes old.identity old.live heard).accepted (image old.flash) (image new.flash)
   pub holds : Holds (image new.flash) new.live.values
-  pub untouched : is_set heard ≡ false → new.flash ≡ old.flash
+  pub untouched : (heard_step outcomes old.identity old.live heard).accepted ≡ [] → new.flash ≡ old.flash
   pub stays_lost : old.live.values.is_lost ≡ true → new.live.values.is_lost ≡ true
 
 -- An Identify request changes nothing. It is answered, by identity and running settings alone, where it matches them.
@@ -48,16 +51,25 @@ pub record HandsOn {F : Type 0} (image : F → Image) (failures : F → ℕ) (ol
   pub steps : Steps image failures old heard sent said new
   pub handed_on : now ≡ before ++ (if new.live.values.is_lost then [] else sent)
 
--- Steps after one another, for some outcomes of each. Before and now are what the sink has taken; once power is lost it
--- takes no more.
+-- The events one by one: the items of each begin with the flash and the values that the event before it left.
+abbrev pub EventByEvent : {F : Type 0} → (F → Image) → (F → ℕ) → List (List Outcome) → Identity → store.State F → List Event → store.State F → Type 0
+EventByEvent image failures outcomes identity old [] new = new ≡ old
+EventByEvent {F} image failures outcomes identity old (event ∷ events) new =
+    (between : store.State F) × OneByOne image failures (first_step outcomes) old (items_of (heard_of identity event)) between
+    × EventByEvent image failures (later_steps outcomes) identity between events new
+
+-- Steps after one another, for some outcomes of each, which have their cause, each in its own item of its own event. Before
+-- and now are what the sink has taken; once power is lost it takes no more.
 pub record Runs {F : Type 0} (image : F → Image) (failures : F → ℕ) (old : State F) (events : List Event) (before now : List (List ℕ)) (new : State F) : Type 0 where
   pub outcomes : List (List Outcome)
   pub same : IsSame old new
   pub live : new.live ≡ (run_of outcomes old.identity old.live events).live
   pub frames : now ≡ before ++ (run_of outcomes old.identity old.live events).frames
   pub caused : IsCaused outcomes (failures old.flash) (failures new.flash) old.live.values new.live.values
+  pub placed : EventByEvent image failures outcomes old.identity (store_of old) events (store_of new)
   pub safe : CrashSafe old.live.values.has_failed old.live.values.stored (run_of outcomes old.identity old.live events).accepted (image old.flash) (image new.flash)
   pub holds : Holds (image new.flash) new.live.values
+  pub untouched : (run_of outcomes old.identity old.live events).accepted ≡ [] → new.flash ≡ old.flash
   pub stays_lost : old.live.values.is_lost ≡ true → (new.live.values.is_lost ≡ true) × (now ≡ before)
 
 -- the step with no flash call failing
