@@ -1,0 +1,134 @@
+#!/usr/bin/env python3
+"""Counts the instructions of reading and of writing the blocks of a Connect, and the room that a block takes on the stack.
+
+The blocks are made here from the tables of IEC 61158-6-10, 5.2, and not by the writer that is measured: the Connect to a
+station whose access point has three submodules, with a module of two octets of input and one of two octets of output.
+Needs python3, valgrind and objdump; `blocks.py --octets` prints the octets in hex, and needs nothing.
+
+Callgrind counts an octet that `rep stosb` clears as an instruction, and so a block that is cleared as thousands. Which
+room is cleared so, and which by vectors, glibc chooses by the processor; it is told to use vectors, so that the figures
+are the same on each machine. The other count is printed beside it.
+"""
+import os
+import pathlib
+import re
+import struct
+import subprocess
+import sys
+
+ROOT = pathlib.Path(__file__).parent.parent
+PROGRAM = ROOT / "crates/block_bench/out/block_bench"
+MOST_INSTRUCTIONS = 60_000
+MOST_ON_THE_STACK = 16 * 1024
+TURNS = 100
+# Room is cleared and copied by vectors, of whatever size it is.
+VECTORS = "glibc.cpu.x86_rep_stosb_threshold=100000000:glibc.cpu.x86_rep_movsb_threshold=100000000"
+
+AR_UUID = bytes.fromhex("11111111111111111111111111111122")
+OBJECT = bytes.fromhex("dea000006c9711d18271000100000000")
+MAC = bytes.fromhex("020000000002")
+# slot, ident number, and its submodules: subslot, ident number, octets of input and of output
+MODULES = (
+    (0, 1, ((1, 1, 0, 0), (0x8000, 2, 0, 0), (0x8001, 3, 0, 0))),
+    (1, 16, ((1, 16, 2, 0),)),
+    (2, 32, ((1, 32, 0, 2),)),
+)
+CYCLIC = 0x8892
+
+
+def block(kind, *fields):
+    """A block of this type: its length counts the version 1.0 and the fields."""
+    body = b"\1\0" + b"".join(fields)
+    return struct.pack(">HH", kind, len(body)) + body
+
+
+def ar_block():
+    """ARType 1, ARProperties 0x11, a timeout factor of 600."""
+    return block(0x0101, struct.pack(">H16sH6s16sIHHH", 1, AR_UUID, 1, MAC, OBJECT, 0x11, 600, CYCLIC, 3), b"plc")
+
+
+def places(entries, first):
+    """A count and the places of entries (slot, subslot, octets), packed from the first octet on; and what is behind them."""
+    out = struct.pack(">H", len(entries))
+    for slot, subslot, size in entries:
+        out += struct.pack(">HHH", slot, subslot, first)
+        first += size
+    return out, first
+
+
+def iocr_block(kind, reference, frame_id, objects, statuses):
+    """The data objects, each with a provider status behind it, and then the consumer statuses."""
+    data, behind = places([(slot, subslot, size + 1) for slot, subslot, size in objects], 0)
+    status, end = places([(slot, subslot, 1) for slot, subslot, _ in statuses], behind)
+    head = struct.pack(">HHHIHH", kind, reference, CYCLIC, 1, max(40, end), frame_id)
+    times = struct.pack(">HHHHIHH", 32, 1, 1, 0, 0xFFFFFFFF, 3, 3)
+    return block(0x0102, head, times, struct.pack(">H6sHI", 0xC000, bytes(6), 1, 0), data, status)
+
+
+def alarm_block():
+    """Reference 1, 200 octets of alarm data."""
+    return block(0x0103, struct.pack(">HHIHHHHHH", 1, CYCLIC, 0, 1, 3, 1, 200, 0xC000, 0xA000))
+
+
+def expected_block(slot, ident, submodules):
+    """One API with one module."""
+    out = struct.pack(">HIHIHH", 1, 0, slot, ident, 0, len(submodules))
+    for subslot, part, ingoing, outgoing in submodules:
+        properties = (1 if ingoing else 0) + (2 if outgoing else 0)
+        out += struct.pack(">HIH", subslot, part, properties)
+        out += struct.pack(">HHBB", 2 if outgoing else 1, ingoing or outgoing, 1, 1)
+    return block(0x0104, out)
+
+
+def connect():
+    """ARBlockReq, the input's and the output's IOCRBlockReq, AlarmCRBlockReq, and an ExpectedSubmoduleBlockReq a slot."""
+    parts = [(slot, *part) for slot, _, submodules in MODULES for part in submodules]
+    inputs = [(slot, subslot, ingoing) for slot, subslot, _, ingoing, outgoing in parts if not outgoing]
+    outputs = [(slot, subslot, outgoing) for slot, subslot, _, _, outgoing in parts if outgoing]
+    blocks = [ar_block(), iocr_block(1, 1, 0xC001, inputs, outputs), iocr_block(2, 2, 0xFFFF, outputs, inputs), alarm_block()]
+    return b"".join(blocks + [expected_block(*module) for module in MODULES])
+
+
+def instructions(reads, writes, tunables):
+    """The instructions of a run that reads the blocks and writes them so many times."""
+    ran = subprocess.run(
+        ["valgrind", "--tool=callgrind", "--callgrind-out-file=/dev/null", PROGRAM, str(reads), str(writes)],
+        input=connect(), capture_output=True, check=True, env={**os.environ, "GLIBC_TUNABLES": tunables})
+    return int(re.search(rb"Collected : (\d+)", ran.stderr)[1])
+
+
+def each(reads, writes, tunables):
+    """The instructions of one turn: what twice as many take beyond what half of them take."""
+    once, twice = (instructions(1 + reads * n * TURNS, 1 + writes * n * TURNS, tunables) for n in (1, 2))
+    return (twice - once) / TURNS
+
+
+def largest_frame():
+    """The octets of the largest frame of a function that reads or writes blocks, as the program was built."""
+    listing = subprocess.run(["objdump", "-d", "--no-show-raw-insn", PROGRAM], capture_output=True, text=True, check=True).stdout
+    frames = []
+    for name, body in re.findall(r"<((?:block_codec|connect_blocks|record_blocks)::[^\n]*)>:\n(.*?)\n\n", listing, re.DOTALL):
+        # a large frame is probed page by page, down to what r11 holds
+        probed = [int(size, 16) for size in re.findall(r"sub +\$0x([0-9a-f]+),%r11", body)]
+        rest = [int(size, 16) for size in re.findall(r"sub +\$0x([0-9a-f]+),%rsp", body)]
+        frames.append((probed[0] + rest[-1] if probed else max(rest, default=0), name))
+    return max(frames)
+
+
+def main():
+    if sys.argv[1:] == ["--octets"]:
+        print(connect().hex())
+        return
+    size = len(connect())
+    for name, turns in (("read", (1, 0)), ("write", (0, 1))):
+        counted, plain = each(*turns, VECTORS), each(*turns, "")
+        print(f"to {name} the blocks of a Connect, {size} octets: {counted:.0f} instructions (at most {MOST_INSTRUCTIONS}); "
+              f"{plain:.0f} where callgrind counts each octet of `rep stosb`")
+    said = subprocess.run([PROGRAM, "1", "1"], input=connect(), capture_output=True, check=True).stdout.decode()
+    block = int(re.search(r"in memory: (\d+)", said)[1])
+    frame, name = largest_frame()
+    print(f"the largest value on the stack, a block: {block} octets (at most {MOST_ON_THE_STACK}); "
+          f"the largest frame, of {name}: {frame} octets")
+
+
+main()
