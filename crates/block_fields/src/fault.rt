@@ -1,4 +1,6 @@
 //! Why bytes are no block.
+ghost use Rattle.std.specs.Prelude.{◌≡◌};
+ghost use Rattle.block_fields.specs.Faults.{number_of};
 
 /// Why bytes are no block. The first one counts: Truncated, then Kind, and then the fields in their order.
 #[derive(Clone, Copy, Debug, PartialEq, Eq)]
@@ -19,7 +21,9 @@ pub enum BlockFault {
 
 impl BlockFault {
     /// Its number, from 1.
-    pub fn number(self) -> u8 {
+    pub fn number(self) -> u8
+        ensures { result ≡ number_of self }
+    {
         match self {
             BlockFault::Truncated => 1,
             BlockFault::Kind => 2,
