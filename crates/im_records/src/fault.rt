@@ -1,4 +1,6 @@
 //! Why a record is not taken.
+ghost use Rattle.std.specs.Prelude.{◌≡◌};
+ghost use Rattle.im_records.specs.Faults.{number_of};
 
 /// Why a record is not taken. The first one counts.
 #[derive(Clone, Copy, Debug, PartialEq, Eq)]
@@ -13,7 +15,9 @@ pub enum RecordFault {
 
 impl RecordFault {
     /// Its number, from 1.
-    pub fn number(self) -> u8 {
+    pub fn number(self) -> u8
+        ensures { result ≡ number_of self }
+    {
         match self {
             RecordFault::Index => 1,
             RecordFault::Length => 2,
