@@ -131,4 +131,5 @@ def main():
           f"the largest frame, of {name}: {frame} octets")
 
 
-main()
+if __name__ == "__main__":
+    main()

@@ -1,7 +1,8 @@
 #!/usr/bin/env python3
-"""Puts one block of each kind into a frame of its own and prints tshark's line for it.
+"""Puts one block of each kind into a frame of its own, and the blocks of a Connect into one, and prints tshark's line for it.
 
-The blocks are those of crates/block_codec/src/tests.rs, of which a test says that `write_block` writes exactly them.
+The blocks are those of crates/block_codec/src/tests.rt, of which a test says that `write_block` writes exactly them, and
+those that bench/blocks.py measures.
 Needs Debian's package `tshark`. Fails where a frame is dissected as malformed.
 """
 import pathlib
@@ -10,6 +11,8 @@ import struct
 import subprocess
 import sys
 import tempfile
+
+from blocks import connect
 
 TESTS = pathlib.Path(__file__).parent.parent / "crates/block_codec/src/tests.rt"
 DEVICE = bytes.fromhex("dea000016c9711d1827100a02442df7d")
@@ -56,7 +59,7 @@ def frame_of(number, kind, block, records):
 
 
 def main():
-    found = list(blocks())
+    found = [*blocks(), ("CONNECT", connect())]
     named = dict(found)
     records = {0x8009: named["IM0"], 0x0008: named["IM2"]}
     with tempfile.TemporaryDirectory() as folder:
@@ -73,7 +76,7 @@ def main():
         malformed = "Malformed" in tree
         bad += malformed
         print(f"{block[:2].hex()} {name}: {line.strip()}{'  MALFORMED' if malformed else ''}")
-    print(f"{len(found)} blocks, {bad} malformed")
+    print(f"{len(found)} frames, {bad} malformed")
     return 1 if bad or len(lines) != len(found) else 0
 
 

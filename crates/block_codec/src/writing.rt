@@ -71,6 +71,7 @@ pub fn block_len(block: &Block) -> usize
 fn put_body<const N: usize>(out: &mut ArrayVec<u8, N>, block: &Block)
     requires { array_vec_len out.old + (fields_of (kind_of block.now)).size block.now ≤ N }
     ensures items { out.new.items ++ [] ≡ out.old.items ++ (fields_of (kind_of block.now)).write block.now }
+    ensures len { array_vec_len out.new ≡ array_vec_len out.old + (fields_of (kind_of block.now)).size block.now }
     ensures fits { IsAccepted block.now → (fields_of (kind_of block.now)).Fits block.now }
 {
     put_version(out);
@@ -111,6 +112,8 @@ pub fn write_block<const N: usize>(out: &mut ArrayVec<u8, N>, block: &Block)
     requires { array_vec_len out.old + block_size block.now ≤ N }
     // The octets, each of them.
     ensures exact { out.new.items ≡ out.old.items ++ block_bytes block.now }
+    // How many they are.
+    ensures len { array_vec_len out.new ≡ array_vec_len out.old + block_size block.now }
     // They spell the block, whatever is behind them, if each of its fields is accepted.
     ensures spelled { IsAccepted block.now → (rest : List ℕ) → IsBlock (block_bytes block.now ++ rest) block.now rest }
     // And so they are read as it.

@@ -1,2 +1,2 @@
 pub mod Fields
-pub mod Fault
+pub mod Faults

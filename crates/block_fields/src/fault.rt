@@ -1,6 +1,6 @@
 //! Why bytes are no block.
 ghost use Rattle.std.specs.Prelude.{◌≡◌};
-ghost use Rattle.block_fields.specs.Fault.{number_of};
+ghost use Rattle.block_fields.specs.Faults.{number_of};
 
 /// Why bytes are no block. The first one counts: Truncated, then Kind, and then the fields in their order.
 #[derive(Clone, Copy, Debug, PartialEq, Eq)]

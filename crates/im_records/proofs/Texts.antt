@@ -9,29 +9,30 @@ use Rattle.pn_values.specs.declared.im_value.ImValue.TheVariants as im
 use Rattle.pn_values.specs.declared.command.Command.{Command}
 use Rattle.pn_values.specs.declared.command.Command.TheVariants.{SetIm}
 use Rattle.wire.proofs.Fields.{bind_ok, ok_is}
-use Rattle.block_fields.specs.Fields.{number_bytes, octet_bytes, version}
+use Rattle.block_fields.specs.Fields.{number_bytes, octet_bytes, version, body}
+use Rattle.block_codec.specs.Block.{block_bytes, block, body_of, fields_of}
+use Rattle.block_codec.specs.Kinds.{number_of, type_of}
 use Rattle.record_blocks.specs.Im1.{im1}
 use Rattle.record_blocks.specs.Im2.{im2}
 use Rattle.record_blocks.specs.Im3.{im3}
 use Rattle.im_records.specs.declared.fault.RecordFault.{RecordFault}
 use Rattle.im_records.specs.declared.fault.RecordFault.TheVariants.{Length, Block}
-use Rattle.im_records.specs.Headed.{block_with}
 use Rattle.im_records.specs.Records.{im1_record, im2_record, im3_record}
 use Rattle.im_records.specs.Writes.{IsWritten, header_of, text_of, command_of}
 
 pub im1_bytes : (text : List ℕ) → length text ≡ 54 → im1_record text ≡ header_of 0x21 54 ++ text
-unfolding block_with im1 number_bytes octet_bytes version
+unfolding block_bytes block body_of fields_of number_of type_of body im1 number_bytes octet_bytes version
 im1_bytes text long =
     let both : length (take 32 text) + length (drop 32 text) ≡ 54 = rw (← length-append (take 32 text) (drop 32 text), take-append-drop 32 text) long in
-    rw (both, append-nil (drop 32 text), take-append-drop 32 text) refl
+    rw (both, append-nil (drop 32 text), take-append-drop 32 text, append-nil text) refl
 
 pub im2_bytes : (text : List ℕ) → length text ≡ 16 → im2_record text ≡ header_of 0x22 16 ++ text
-unfolding block_with im2 number_bytes octet_bytes version
-im2_bytes text long = rw (long, append-nil text) refl
+unfolding block_bytes block body_of fields_of number_of type_of body im2 number_bytes octet_bytes version
+im2_bytes text long = rw (long, append-nil text, append-nil text) refl
 
 pub im3_bytes : (text : List ℕ) → length text ≡ 54 → im3_record text ≡ header_of 0x23 54 ++ text
-unfolding block_with im3 number_bytes octet_bytes version
-im3_bytes text long = rw (long, append-nil text) refl
+unfolding block_bytes block body_of fields_of number_of type_of body im3 number_bytes octet_bytes version
+im3_bytes text long = rw (long, append-nil text, append-nil text) refl
 
 -- ---- whole records are taken
 

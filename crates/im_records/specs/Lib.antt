@@ -1,4 +1,4 @@
-pub mod Headed
 pub mod Plugged
 pub mod Records
 pub mod Writes
+pub mod Faults

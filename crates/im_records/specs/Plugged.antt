@@ -7,8 +7,8 @@ use Rattle.record_blocks.specs.declared.filter_data.FilterModule.{FilterModule}
 use Rattle.record_blocks.specs.declared.filter_data.FilterSubmodule.{FilterSubmodule}
 use Rattle.record_blocks.specs.declared.filter_data.FilterModules.{FilterModules}
 use Rattle.record_blocks.specs.declared.filter_data.ImFilterData.{ImFilterData}
-use Rattle.record_blocks.specs.FilterData.{filter_data}
-use Rattle.im_records.specs.Headed.{block_with}
+use Rattle.block_codec.specs.declared.block.Block.TheVariants as is
+use Rattle.block_codec.specs.Block.{block_bytes}
 
 -- the entry of a submodule
 abbrev pub part_of : RealSubmodule → FilterSubmodule
@@ -70,4 +70,4 @@ device_of real = record { api = 0; modules = device_entries (device_in real.modu
 
 -- the record: 0x0030 with all real submodules, and then 0x0032 with the one that stands for the device
 abbrev pub filter_record : Real → List ℕ
-filter_record real = block_with 0x0030 filter_data (all_of real) ++ block_with 0x0032 filter_data (device_of real)
+filter_record real = block_bytes (is.ImFilterDataSubmodule (all_of real)) ++ block_bytes (is.ImFilterDataDevice (device_of real))

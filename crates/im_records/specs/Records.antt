@@ -5,13 +5,10 @@ use Rattle.std.specs.List.{list_any}
 use Rattle.pn_values.specs.declared.real.Real.{Real}
 use Rattle.pn_values.specs.declared.real.RealModule.{RealModule}
 use Rattle.pn_values.specs.declared.settings.Settings.{Settings}
-use Rattle.im_records.specs.Headed.{block_with}
+use Rattle.block_codec.specs.declared.block.Block.TheVariants as is
+use Rattle.block_codec.specs.Block.{block_bytes}
 use Rattle.record_blocks.specs.declared.im0.Im0.{Im0}
 use Rattle.record_blocks.specs.declared.im1.Im1.{Im1}
-use Rattle.record_blocks.specs.Im0.{im0}
-use Rattle.record_blocks.specs.Im1.{im1}
-use Rattle.record_blocks.specs.Im2.{im2}
-use Rattle.record_blocks.specs.Im3.{im3}
 use Rattle.im_records.specs.Plugged.{filter_record}
 
 -- I&M0 of a device
@@ -33,16 +30,16 @@ im1_of text = record { im_tag_function = take 32 text; im_tag_location = drop 32
 -- ---- the records
 
 abbrev pub im0_record : Identity → List ℕ
-im0_record identity = block_with 0x0020 im0 (im0_of identity)
+im0_record identity = block_bytes (is.Im0 (im0_of identity))
 
 abbrev pub im1_record : List ℕ → List ℕ
-im1_record text = block_with 0x0021 im1 (im1_of text)
+im1_record text = block_bytes (is.Im1 (im1_of text))
 
 abbrev pub im2_record : List ℕ → List ℕ
-im2_record text = block_with 0x0022 im2 (record { im_date = text })
+im2_record text = block_bytes (is.Im2 (record { im_date = text }))
 
 abbrev pub im3_record : List ℕ → List ℕ
-im3_record text = block_with 0x0023 im3 (record { im_descriptor = text })
+im3_record text = block_bytes (is.Im3 (record { im_descriptor = text }))
 
 -- whether this is the submodule that stands for the device: slot 0, subslot 1
 abbrev pub is_device : ℕ → ℕ → Bool

@@ -3,7 +3,6 @@
 #![tactic(auto)]
 
 mod fault;
-mod header;
 mod plugged;
 mod reading;
 mod writing;

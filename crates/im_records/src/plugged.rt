@@ -2,18 +2,15 @@
 ghost use Rattle.std.specs.Prelude.{◌≡◌, ◌+◌, ◌≤◌, ◌++◌, length};
 ghost use Rattle.arrayvec.specs.ArrayVec.{array_vec_len};
 ghost use Rattle.record_blocks.specs.FilterData.{filter_data};
-ghost use Rattle.im_records.specs.Headed.{block_with};
 ghost use Rattle.im_records.specs.Plugged.{device_entries, device_in, device_of, all_of, filter_record, ident_in, modules_in, parts_in, submodules_in};
 
-use crate::header::put_header;
 use arrayvec::ArrayVec;
+use block_codec::{Block, FilterModule, FilterModules, FilterSubmodule, ImFilterData, write_block};
 use pn_values::{Real, RealModule, RealSubmodule};
-use record_blocks::{
-    FilterModule, FilterModules, FilterSubmodule, ImFilterData, filter_data_len, put_filter_data,
-};
+use record_blocks::filter_data_len;
 
 /// Record 0xF840: all submodules that are plugged in, and then the one that stands for the device.
-#[tactic(auto, unfolding(crate::specs::Headed::block_with))]
+#[tactic(auto, unfolding(block_codec::specs::Block::block_size, block_codec::specs::Block::fields_of, block_fields::specs::Fields::body, block_fields::specs::Fields::version))]
 pub(crate) fn filter_of(real: &Real) -> ArrayVec<u8, 1024>
     ensures { result.items ≡ filter_record real.now }
 {
@@ -25,11 +22,12 @@ pub(crate) fn filter_of(real: &Real) -> ArrayVec<u8, 1024>
         api: 0,
         modules: entries_of_device(device_of(real)),
     };
+    // what counts their octets says that there is room for them
+    let _all_size = filter_data_len(&all);
+    let _device_size = filter_data_len(&device);
     let mut out = ArrayVec::new();
-    put_header(&mut out, 0x0030, filter_data_len(&all));
-    put_filter_data(&mut out, &all);
-    put_header(&mut out, 0x0032, filter_data_len(&device));
-    put_filter_data(&mut out, &device);
+    write_block(&mut out, &Block::ImFilterDataSubmodule(all));
+    write_block(&mut out, &Block::ImFilterDataDevice(device));
     out
 }
 

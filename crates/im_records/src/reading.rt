@@ -1,15 +1,14 @@
 //! Records that are read.
-ghost use Rattle.std.specs.Prelude.{◌≡◌, ◌==◌};
+ghost use Rattle.std.specs.Prelude.{◌≡◌, ◌≤◌};
 ghost use Rattle.std.specs.Option.{option_map};
+ghost use Rattle.block_codec.specs.Block.{block_bytes, block_size};
 ghost use Rattle.im_records.specs.Records.{has_subslot, im0_record, im1_record, im2_record, im3_record, is_device, is_real, record_of};
 
-use crate::header::put_header;
 use crate::plugged::filter_of;
 use arrayvec::ArrayVec;
+use block_codec::{Block, Im0, Im1, Im2, Im3, write_block};
 use pn_values::{Identity, Padded, Real, RealModule, Settings};
-use record_blocks::{
-    Im0, Im1, Im2, Im3, im0_len, im1_len, im2_len, im3_len, put_im0, put_im1, put_im2, put_im3,
-};
+use record_blocks::im0_len;
 
 /// The record of this index at this slot and subslot of a device, if there is one to be read: I&M0 (0xAFF0) at each
 /// submodule that is plugged in, I&M1 to I&M3 (0xAFF1 to 0xAFF3) at slot 0, subslot 1, and I&M0FilterData (0xF840) at any.
@@ -62,7 +61,7 @@ fn is_device(slot: u16, subslot: u16) -> bool
 }
 
 /// I&M0 of a device.
-#[tactic(auto, unfolding(crate::specs::Headed::block_with))]
+#[tactic(auto, unfolding(block_codec::specs::Block::block_size, block_codec::specs::Block::fields_of, block_fields::specs::Fields::body, block_fields::specs::Fields::version, record_blocks::specs::Im0::im0))]
 fn im0_of(identity: &Identity) -> ArrayVec<u8, 1024>
     ensures { result.items ≡ im0_record identity.now }
 {
@@ -75,18 +74,16 @@ fn im0_of(identity: &Identity) -> ArrayVec<u8, 1024>
         im_profile_id: identity.profile_id,
         im_profile_specific_type: identity.profile_specific_type,
     };
-    let mut out = ArrayVec::new();
-    put_header(&mut out, 0x0020, im0_len(&im0));
-    put_im0(&mut out, &im0);
-    out
+    // what counts its octets says that there is room for them
+    let _size = im0_len(&im0);
+    block_record(&Block::Im0(im0))
 }
 
 /// I&M1 with this text.
-#[tactic(auto, unfolding(crate::specs::Headed::block_with))]
+#[tactic(auto, unfolding(block_codec::specs::Block::block_size, block_codec::specs::Block::fields_of, block_fields::specs::Fields::body, block_fields::specs::Fields::version, record_blocks::specs::Im1::im1))]
 fn im1_of(text: &Padded<54>) -> ArrayVec<u8, 1024>
     ensures { result.items ≡ im1_record text.now }
 {
-    let mut out = ArrayVec::new();
     let (function, location) = text.as_bytes().split_at(32);
     let mut im1 = Im1 {
         im_tag_function: [0; 32],
@@ -94,26 +91,21 @@ fn im1_of(text: &Padded<54>) -> ArrayVec<u8, 1024>
     };
     im1.im_tag_function.copy_from_slice(function);
     im1.im_tag_location.copy_from_slice(location);
-    put_header(&mut out, 0x0021, im1_len(&im1));
-    put_im1(&mut out, &im1);
-    out
+    block_record(&Block::Im1(im1))
 }
 
 /// I&M2 with this text.
-#[tactic(auto, unfolding(crate::specs::Headed::block_with))]
+#[tactic(auto, unfolding(block_codec::specs::Block::block_size, block_codec::specs::Block::fields_of, block_fields::specs::Fields::body, block_fields::specs::Fields::version, record_blocks::specs::Im2::im2))]
 fn im2_of(text: &Padded<16>) -> ArrayVec<u8, 1024>
     ensures { result.items ≡ im2_record text.now }
 {
     let mut im2 = Im2 { im_date: [0; 16] };
     im2.im_date.copy_from_slice(text.as_bytes());
-    let mut out = ArrayVec::new();
-    put_header(&mut out, 0x0022, im2_len(&im2));
-    put_im2(&mut out, &im2);
-    out
+    block_record(&Block::Im2(im2))
 }
 
 /// I&M3 with this text.
-#[tactic(auto, unfolding(crate::specs::Headed::block_with))]
+#[tactic(auto, unfolding(block_codec::specs::Block::block_size, block_codec::specs::Block::fields_of, block_fields::specs::Fields::body, block_fields::specs::Fields::version, record_blocks::specs::Im3::im3))]
 fn im3_of(text: &Padded<54>) -> ArrayVec<u8, 1024>
     ensures { result.items ≡ im3_record text.now }
 {
@@ -121,8 +113,15 @@ fn im3_of(text: &Padded<54>) -> ArrayVec<u8, 1024>
         im_descriptor: [0; 54],
     };
     im3.im_descriptor.copy_from_slice(text.as_bytes());
+    block_record(&Block::Im3(im3))
+}
+
+/// A record that is this block.
+fn block_record(block: &Block) -> ArrayVec<u8, 1024>
+    requires { block_size block.now ≤ 1024 }
+    ensures { result.items ≡ block_bytes block.now }
+{
     let mut out = ArrayVec::new();
-    put_header(&mut out, 0x0023, im3_len(&im3));
-    put_im3(&mut out, &im3);
+    write_block(&mut out, block);
     out
 }

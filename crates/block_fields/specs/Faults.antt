@@ -3,10 +3,11 @@ use Rattle.std.specs.Prelude.{ℕ}
 use Rattle.block_fields.specs.declared.fault.BlockFault.{BlockFault}
 use Rattle.block_fields.specs.declared.fault.BlockFault.TheVariants.{Truncated, Kind, Length, Version, Count, Field}
 
+-- the number of a fault
 abbrev pub number_of : BlockFault → ℕ
 number_of Truncated = 1
 number_of Kind = 2
 number_of Length = 3
-number_of (Version field) = 4
+number_of (Version _) = 4
 number_of Count = 5
-number_of (Field field) = 6
+number_of (Field _) = 6
