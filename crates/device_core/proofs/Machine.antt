@@ -2,7 +2,6 @@
 use Rattle.std.proofs.Common.{◌≡◌, ◌+◌, ℕ, Bool, true, false, List, [], ◌∷◌, ◌++◌, length, length-append, refl, sym, ap, ◌∙◌, append_assoc, arith}
 use Rattle.std.proofs.lemmas.List.{append-nil}
 use Rattle.pn_values.specs.declared.identity.Identity.{Identity}
-use Rattle.settings_store.specs.State.{Values}
 use Rattle.settings_store.specs.Machine.{Outcome, Accepted, carried}
 use Rattle.settings_store.specs.Legal.{made_of}
 use Rattle.device_core.specs.declared.event.Event.{Event}
@@ -14,7 +13,7 @@ use Rattle.dcp_core.specs.Request.{Asked}
 use Rattle.dcp_core.specs.Set.{plan_of, set_bytes}
 use Rattle.device_core.specs.declared.event.Note.TheVariants as note
 use Rattle.device_core.specs.Heard.{Heard, Ticks, Unreadable, Elsewhere, Asks, heard_of}
-use Rattle.device_core.specs.Machine.{Finished, Stepped, Ran, items_of, lamp_after, answer_frame, finished, heard_step, step_of, handed, first_step, later_steps, then_run, run_of}
+use Rattle.device_core.specs.Machine.{Stepped, Ran, items_of, lamp_after, answer_frame, finished, heard_step, step_of, handed, first_step, later_steps, then_run, run_of}
 use Rattle.settings_store.proofs.Laws.{failed_accepted, stays_failed, stored_made, made_append, room_left}
 
 -- whether a Set was heard, which alone asks the flash for something

@@ -1,28 +1,27 @@
 -- What a step does, from what its parts do.
 use Rattle.std.proofs.lemmas.Bool.{cond_both, cond-true, cond-false}
-use Rattle.std.proofs.Common.{◌≡◌, ◌≢◌, ℕ, ◌<◌, ◌-◌, ◌^◌, Bool, true, false, List, [], ◌∷◌, ◌++◌, map, refl, sym, ap, subst, ◌∙◌, inl, inr, arith}
+use Rattle.std.proofs.Common.{◌≡◌, ◌≢◌, ℕ, ◌-◌, false, List, [], ◌∷◌, map, refl, sym, ap, subst, ◌∙◌, inl}
 use Rattle.flash_model.specs.Image.{Image}
 use Rattle.pn_values.specs.declared.mac.Mac.{Mac}
 use Rattle.pn_values.specs.declared.identity.Identity.{Identity}
 use Rattle.pn_values.specs.declared.set_item.BlockError.{BlockError}
-use Rattle.settings_store.specs.Machine.{Outcome, carried}
+use Rattle.settings_store.specs.Machine.{Outcome}
 use Rattle.settings_store.specs.State as store
-use Rattle.settings_store.specs.Carries.{Carries, OneByOne, Holds, IsCaused}
+use Rattle.settings_store.specs.Carries.{Carries, OneByOne, Holds}
 use Rattle.dcp_core.specs.declared.request.Service.{Service}
 use Rattle.dcp_core.specs.declared.request.Service.TheVariants as service
 use Rattle.dcp_core.specs.Request.{Asked}
 use Rattle.dcp_core.specs.Identify.{matches}
 use Rattle.dcp_core.specs.Get.{get_bytes}
 use Rattle.dcp_core.specs.Set.{plan_of, set_bytes}
-use Rattle.device_core.specs.declared.event.Event.{Event}
 use Rattle.device_core.specs.declared.event.Note.{Note}
 use Rattle.device_core.specs.declared.event.Note.TheVariants as note
 use Rattle.pn_values.specs.declared.settings.Settings.{Settings}
 use Rattle.device_core.specs.Cycle.{started}
 use Rattle.device_core.specs.State.{State, Live, store_of}
-use Rattle.device_core.specs.Heard.{Heard, Ticks, Unreadable, Elsewhere, Asks, heard_of}
-use Rattle.device_core.specs.Machine.{Finished, items_for, finished, identified, answered, lamp_after, answer_frame, heard_step, step_of}
-use Rattle.device_core.specs.Steps.{Steps, Identifies, IsSame, IsExactStep}
+use Rattle.device_core.specs.Heard.{Heard, Ticks, Unreadable, Elsewhere, Asks}
+use Rattle.device_core.specs.Machine.{Finished, items_for, finished, identified, answered, lamp_after, answer_frame, heard_step}
+use Rattle.device_core.specs.Steps.{Steps, Identifies, IsSame}
 use Rattle.device_core.proofs.Machine.{is_set, nothing_asked, quiet_step, is_quiet, set_step, is_set_step}
 
 -- a state by its parts

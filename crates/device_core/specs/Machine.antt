@@ -1,11 +1,10 @@
 -- One step of a device, and a run of steps, given what becomes of each call that stores a command.
-use Rattle.std.specs.Prelude.{◌≡◌, ◌-◌, ℕ, Bool, true, false, List, [], ◌∷◌, ◌++◌, if◌then◌else◌, None}
+use Rattle.std.specs.Prelude.{◌-◌, ℕ, false, List, [], ◌∷◌, ◌++◌, if◌then◌else◌, None}
 use Rattle.pn_values.specs.declared.mac.Mac.{Mac}
 use Rattle.pn_values.specs.declared.identity.Identity.{Identity}
 use Rattle.pn_values.specs.declared.settings.Settings.{Settings}
 use Rattle.pn_values.specs.declared.set_item.SetItem.{SetItem}
 use Rattle.pn_values.specs.declared.set_item.BlockError.{BlockError}
-use Rattle.settings_store.specs.State.{Values}
 use Rattle.settings_store.specs.Machine.{Outcome, Accepted, carried}
 use Rattle.frame_codec.specs.Meaning.{RealTime}
 use Rattle.frame_codec.specs.Frame.{frame_bytes}

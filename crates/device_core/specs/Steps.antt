@@ -1,5 +1,5 @@
 -- What a step and a run do, whatever the flash does.
-use Rattle.std.specs.Prelude.{◌≡◌, ◌≢◌, ◌⊎◌, ◌+◌, length, ℕ, Bool, true, false, List, [], ◌∷◌, ◌++◌, if◌then◌else◌}
+use Rattle.std.specs.Prelude.{◌≡◌, ◌+◌, length, ℕ, true, false, List, [], ◌∷◌, ◌++◌, if◌then◌else◌}
 use Rattle.flash_model.specs.Image.{Image}
 use Rattle.pn_values.specs.declared.mac.Mac.{Mac}
 use Rattle.pn_values.specs.declared.identity.Identity.{Identity}
@@ -12,7 +12,7 @@ use Rattle.dcp_core.specs.Identify.{matches, identify_bytes}
 use Rattle.device_core.specs.declared.event.Event.{Event}
 use Rattle.device_core.specs.declared.event.Note.{Note}
 use Rattle.device_core.specs.declared.event.Note.TheVariants.{Done, Filter}
-use Rattle.device_core.specs.State.{State, Live, store_of}
+use Rattle.device_core.specs.State.{State, store_of}
 use Rattle.device_core.specs.Heard.{Heard, heard_of}
 use Rattle.device_core.specs.Machine.{items_of, heard_step, step_of, first_step, later_steps, run_of, answer_frame}
 
@@ -58,8 +58,9 @@ EventByEvent {F} image failures outcomes identity old (event ∷ events) new =
     (between : store.State F) × OneByOne image failures (first_step outcomes) old (items_of (heard_of identity event)) between
     × EventByEvent image failures (later_steps outcomes) identity between events new
 
--- Steps after one another, for some outcomes of each, which have their cause, each in its own item of its own event. Before
--- and now are what the sink has taken; once power is lost it takes no more.
+-- Steps after one another, for some outcomes of each, which have their cause, each in its own item of its own event; where
+-- no command is accepted the flash is left alone. Before and now are what the sink has taken; once power is lost it takes no
+-- more.
 pub record Runs {F : Type 0} (image : F → Image) (failures : F → ℕ) (old : State F) (events : List Event) (before now : List (List ℕ)) (new : State F) : Type 0 where
   pub outcomes : List (List Outcome)
   pub same : IsSame old new

@@ -1,5 +1,4 @@
 -- What the store starts with is what the device starts with.
-use Rattle.std.proofs.Common.{◌≡◌, ℕ, false, refl, ap}
 use Rattle.std.proofs.lemmas.Result.{err_from_is_err_and}
 use Rattle.device_core.proofs.Steps.{as_started}
 use Rattle.device_core.proofs.device.Device.boot.Goals as goal

@@ -1,5 +1,5 @@
 -- One event after another.
-use Rattle.std.proofs.Common.{◌≡◌, ◌+◌, take, ◌++◌, ◌∷◌, [], refl, sym, ap, subst, ◌∙◌}
+use Rattle.std.proofs.Common.{◌≡◌, ◌+◌, take, ◌++◌, ◌∷◌, [], sym, ap, subst, ◌∙◌}
 use Rattle.std.proofs.lemmas.List.{take_more, take_all}
 use Rattle.device_core.specs.Steps.{Runs}
 use Rattle.device_core.proofs.Runs.{no_run, run_more, run_quietly, run_finely, run_takes_room}
