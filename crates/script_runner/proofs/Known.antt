@@ -1,7 +1,13 @@
 -- What a writer has got, and what a reader has given, where those are known.
 use Rattle.std.proofs.Common.{◌≡◌, ℕ, ◌+◌, ◌<◌, ◌≤◌, List, [], ◌∷◌, ◌++◌, Option, Some, None, IfSome, length, append_assoc, append-nil, arith, refl, ap, sym, ◌∙◌, length-append}
 use Rattle.std.specs.Io.KnownBytes.{Appends, Keeps, Consumes, IsAtEnd}
-use Rattle.script_runner.specs.Output.{AppendsFront, IsSoFar}
+use Rattle.script_runner.specs.Output.{AppendsFront}
+
+-- the writer got a front of the whole text, and this is the rest of it
+pub record IsSoFar (old new : Option (List ℕ)) (rest whole : List ℕ) : Type 0 where
+  pub front : List ℕ
+  pub parts : whole ≡ front ++ rest
+  pub appended : Appends old new front
 
 pub appends_none : (old : Option (List ℕ)) → Appends old old []
 appends_none None = tt

@@ -9,11 +9,11 @@ use Rattle.script_runner.specs.declared.fault.RunFault.TheVariants.{Write, OutOf
 use Rattle.script_runner.specs.declared.session.Power.{Power}
 use Rattle.script_runner.specs.declared.session.Power.TheVariants.{On, Off}
 use Rattle.script_runner.specs.Line.{Line, Unfit, Skipped, Asks, Unknown, meaning_of}
-use Rattle.script_runner.specs.Output.{AppendsFront, Puts, IsSoFar}
+use Rattle.script_runner.specs.Output.{AppendsFront, Puts}
 use Rattle.script_runner.specs.Script.{Answer, answer_of, then_told, told, number_or, refused_from, output_of, refused_line}
 use Rattle.script_runner.specs.Session.{IsRunning, IsAnswered, IsObeyed, Obeys, is_off, refusal_of, text_of}
 use Rattle.script_runner.specs.Told.{IsPlayed, IsPlayFault}
-use Rattle.script_runner.proofs.Known.{so_far_on, so_far_all, so_far_front, front_longer}
+use Rattle.script_runner.proofs.Known.{IsSoFar, so_far_on, so_far_all, so_far_front, front_longer}
 
 -- a device that runs was not refused its start
 pub unrefused : (live : Live) (power : Power) → IsRunning live power → refusal_of power ≡ None

@@ -15,9 +15,3 @@ pub record AppendsFront (old new : Option (List ℕ)) (text : List ℕ) : Type 0
 abbrev pub Puts : Option (List ℕ) → Option (List ℕ) → List ℕ → Result (Unit {0}) RunFault → Type 0
 Puts old new text (Ok done) = Appends old new text
 Puts old new text (Err fault) = ((fault ≡ Write) ⊎ (fault ≡ OutOfMemory)) × AppendsFront old new text
-
--- the writer got a front of the whole text, and this is the rest of it
-pub record IsSoFar (old new : Option (List ℕ)) (rest whole : List ℕ) : Type 0 where
-  pub front : List ℕ
-  pub parts : whole ≡ front ++ rest
-  pub appended : Appends old new front

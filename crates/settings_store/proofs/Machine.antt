@@ -1,5 +1,6 @@
 -- What the machine does over more items than one.
 use Rattle.std.proofs.Common.{◌≡◌, ◌==◌, ℕ, Bool, true, false, List, [], ◌∷◌, ◌++◌, map, refl, ap, ◌∙◌, append_assoc, length, suc, ◌+◌, ◌-◌, arith}
+use Rattle.std.specs.Prelude.{All}
 use Rattle.std.proofs.lemmas.Bool.{cond_both}
 use Rattle.std.proofs.lemmas.Bool.Decides.{nat_tests}
 use Rattle.std.proofs.lemmas.List.Elements.{All-nil, All-cons}
@@ -11,7 +12,19 @@ use Rattle.pn_values.specs.declared.set_item.BlockError.{BlockError}
 use Rattle.pn_values.specs.declared.set_item.BlockError.TheVariants.{Exhausted, Local}
 use Rattle.settings_store.specs.State.{Values}
 use Rattle.settings_store.specs.Machine.{Outcome, Pass, Fault, Accepted, Carried, answered, accepted, carried_one, first_of, rest_of, followed_by, carried}
-use Rattle.settings_store.specs.Legal.{made_of, AreDone, DoneButLast}
+use Rattle.settings_store.specs.Legal.{made_of}
+
+-- each of them was answered 'done'
+abbrev pub AreDone : List Accepted → Type 0
+AreDone accepted = All (λ a. a.is_done ≡ true) accepted
+
+-- each was answered 'done' but a last one, which was not
+pub record DoneButLast (accepted : List Accepted) : Type 0 where
+  pub front : List Accepted
+  pub last : Accepted
+  pub parts : accepted ≡ front ++ last ∷ []
+  pub done : AreDone front
+  pub not_done : last.is_done ≡ false
 
 -- a command that is accepted passes, or has its fault
 accepted_is : (P : Carried → Type 0) (outcome : Outcome) (values : Values) (command : Command)

@@ -1,5 +1,5 @@
 -- What a power failure may leave of the settings.
-use Rattle.std.specs.Prelude.{◌≡◌, ◌⊎◌, Bool, true, false, List, [], ◌∷◌, ◌++◌, All}
+use Rattle.std.specs.Prelude.{◌≡◌, ◌⊎◌, Bool, true, false, List, [], ◌∷◌, ◌++◌}
 use Rattle.pn_values.specs.Command.{fold_of}
 use Rattle.pn_values.specs.declared.settings.Settings.{Settings}
 use Rattle.flash_model.specs.Image.{Image}
@@ -29,15 +29,3 @@ pub record CrashSafe (has_failed : Bool) (first : Settings) (accepted : List Acc
   pub left : LeftByDevice old → LeftByDevice new
   pub legal : has_failed ≡ false → LeftByDevice old → LegalEnd new accepted first
   pub untouched : has_failed ≡ true → new ≡ old
-
--- each of them was answered 'done'
-abbrev pub AreDone : List Accepted → Type 0
-AreDone accepted = All (λ a. a.is_done ≡ true) accepted
-
--- each was answered 'done' but a last one, which was not
-pub record DoneButLast (accepted : List Accepted) : Type 0 where
-  pub front : List Accepted
-  pub last : Accepted
-  pub parts : accepted ≡ front ++ last ∷ []
-  pub done : AreDone front
-  pub not_done : last.is_done ≡ false

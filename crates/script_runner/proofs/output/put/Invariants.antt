@@ -1,5 +1,5 @@
 use Rattle.std.proofs.Common.{length}
-use Rattle.script_runner.specs.Output.{IsSoFar}
+use Rattle.script_runner.proofs.Known.{IsSoFar}
 use Rattle.script_runner.proofs.output.put.Given as goal
 
 abbrev pub invariant-loop-rest : goal.invariant-loop-rest
