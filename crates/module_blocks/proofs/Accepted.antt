@@ -122,3 +122,32 @@ modules_fit value few places is fits = (
   all_fit [] [] value.modules.items value.submodules.items (omega (arith, few)) (omega (arith, places)) is.counted
       (new_first (λ entry. entry.slot_number) value.modules.items) is.slots is.subslots is.short fits,
 )
+
+-- ---- two modules, one with an input of two octets and one without data
+
+two_modules : (slot : ℕ) → ExpectedModules
+two_modules slot = record {
+  modules = record {
+    items = record { slot_number = 1; module_ident_number = 0x10; module_properties = 0; number_of_submodules = 1 }
+        ∷ record { slot_number = slot; module_ident_number = 0x30; module_properties = 0; number_of_submodules = 1 } ∷ [];
+  };
+  submodules = record {
+    items = record { subslot_number = 1; submodule_ident_number = 0x10; io_data = record { input = Some 2; output = None } }
+        ∷ record { subslot_number = 1; submodule_ident_number = 0x30; io_data = record { input = None; output = None } } ∷ [];
+  };
+}
+
+-- in slots 1 and 2 they are accepted
+in_two_slots : IsExpected (two_modules 2)
+unfolding two_modules IsDistinct
+in_two_slots = record {
+  counted = refl;
+  slots = ((refl, tt), (tt, tt));
+  subslots = ((tt, tt), ((tt, tt), tt));
+  short = ((omega arith, tt), ((tt, tt), tt));
+}
+
+-- in one slot they are not
+in_one_slot : IsExpected (two_modules 1) → ⊥
+unfolding two_modules IsDistinct
+in_one_slot is = let same : true ≡ false = is.slots.0.0 in absurd cc
