@@ -1,11 +1,11 @@
 -- What the device's code hears, without where it lies in memory.
 use Rattle.device_core.specs.declared.hearing.Heard.{Heard as Code}
 use Rattle.device_core.specs.declared.hearing.Heard.TheVariants as code
-use Rattle.dcp_core.specs.Request.{asked}
-use Rattle.device_core.specs.Heard.{Heard, Ticks, Unreadable, Elsewhere, Asks}
+use Rattle.dcp_core.specs.Reading.{request_of}
+use Rattle.device_core.specs.Heard.{Heard, Ticks, Unreadable, Elsewhere, heard_request}
 
 abbrev pub meaning_of : Code → Heard
 meaning_of code.Tick = Ticks
 meaning_of code.Unreadable = Unreadable
 meaning_of code.Elsewhere = Elsewhere
-meaning_of (code.Request source request) = Asks source (asked request)
+meaning_of (code.Asked source frame_id body) = heard_request source (request_of frame_id body.now)

@@ -5,7 +5,6 @@ ghost use Rattle.device_core.specs.Hearing.{meaning_of};
 ghost use Rattle.frame_codec.specs.Meaning.{content_of};
 
 use crate::Event;
-use dcp_core::{Request, read_request};
 use frame_codec::{DCP_GET_SET, DCP_IDENTIFY_REQUEST, Layered, Payload, read};
 use pn_values::{Identity, Mac};
 
@@ -19,12 +18,16 @@ const IDENTIFY_MULTICAST: Mac = Mac {
 pub(crate) enum Heard<'a> {
     /// A unit of time is over.
     Tick,
-    /// A frame, or the request in it, that cannot be read.
+    /// A frame that cannot be read.
     Unreadable,
     /// A frame for another station, or of a kind that a device does not take.
     Elsewhere,
-    /// A DCP request, and the station that asks.
-    Request { source: Mac, request: Request<'a> },
+    /// What a station asks: what follows a FrameID that the device takes. It is read where it lies.
+    Asked {
+        source: Mac,
+        frame_id: u16,
+        body: &'a [u8],
+    },
 }
 
 /// Reads an event. A frame is read first, and then its destination is looked at.
@@ -49,12 +52,10 @@ fn hear_frame<'a>(identity: &Identity, layered: Layered<'a>) -> Heard<'a>
     if !is_taken(identity, layered.destination, frame_id) {
         return Heard::Elsewhere;
     }
-    match read_request(frame_id, body) {
-        Ok(request) => Heard::Request {
-            source: layered.source,
-            request,
-        },
-        Err(_) => Heard::Unreadable,
+    Heard::Asked {
+        source: layered.source,
+        frame_id,
+        body,
     }
 }
 

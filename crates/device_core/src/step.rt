@@ -2,9 +2,10 @@
 ghost use Rattle.std.specs.Prelude.{◌≡◌, ◌≢◌, ◌<◌, ◌-◌, ◌^◌, [], ◌∷◌, true, false, map};
 ghost use Rattle.pn_values.specs.declared.mac.Mac.{Mac};
 ghost use Rattle.settings_store.specs.Carries.{Holds};
+ghost use Rattle.dcp_core.specs.Reading.{request_of};
 ghost use Rattle.dcp_core.specs.Request.{Asked, asked};
 ghost use Rattle.dcp_core.specs.Get.{get_bytes};
-ghost use Rattle.device_core.specs.Heard.{Asks, heard_of};
+ghost use Rattle.device_core.specs.Heard.{Asks, heard_of, heard_request};
 ghost use Rattle.device_core.specs.Hearing.{meaning_of};
 ghost use Rattle.device_core.specs.Machine.{answer_frame, identified, lamp_after as lamp_of};
 ghost use Rattle.device_core.specs.Steps.{Steps, Identifies, IsExactStep};
@@ -13,7 +14,8 @@ use crate::carrying::carry_out;
 use crate::hearing::{Heard, hear};
 use crate::{Device, Event, Note};
 use dcp_core::{
-    Answer, Request, Service, get_answer, has_signal, identify_answer, identify_matches, set_answer,
+    Answer, Request, Service, get_answer, has_signal, identify_answer, identify_matches,
+    read_request, set_answer,
 };
 use flash_model::Flash;
 use frame_codec::{DCP_GET_SET, DCP_IDENTIFY_RESPONSE, Layered, Outbox, Payload, put_alone};
@@ -62,7 +64,32 @@ impl<F: Flash<S>, const S: usize> Device<F, S> {
                 outbox.clear();
                 Note::NotMine
             }
-            Heard::Request { source, request } => self.serve(source, &request, outbox),
+            Heard::Asked {
+                source,
+                frame_id,
+                body,
+            } => self.read_and_serve(source, frame_id, body, outbox),
+        }
+    }
+
+    // What a station asks behind a FrameID.
+    fn read_and_serve(
+        &mut self,
+        asker: Mac,
+        frame_id: u16,
+        body: &[u8],
+        outbox: &mut Outbox,
+    ) -> Note
+        requires stored { Holds (F.image self.old.flash) self.old.live.values }
+        ensures steps { Steps F.image F.failures self.old (heard_request asker (request_of frame_id body.now)) (map (λ frame. frame.items) outbox.new.items) result self.new }
+        ensures reliable { F.is_reliable self.old.flash → F.is_reliable self.new.flash × (self.new.live.values.has_failed ≡ self.old.live.values.has_failed) }
+    {
+        match &read_request(frame_id, body) {
+            Ok(request) => self.serve(asker, request, outbox),
+            Err(_) => {
+                outbox.clear();
+                Note::Fault
+            }
         }
     }
 

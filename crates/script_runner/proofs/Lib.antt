@@ -1,4 +1,6 @@
-pub mod Cut
+pub mod Ascii
+mod Cut
+mod Places
 pub mod Hex
 pub mod Known
 pub mod Playing

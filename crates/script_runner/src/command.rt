@@ -10,6 +10,7 @@ ghost use Rattle.script_runner.specs.Read.{command_read, line_read};
 
 use crate::numbers;
 use flash_model::Order;
+use memchr::memchr;
 use std::alloc::AllocError;
 
 /// How many bytes a line may have, what ends it not counted.
@@ -70,7 +71,7 @@ fn place_of(bytes: &[u8], wanted: u8) -> Option<usize>
     ensures place { result ≡ position (λ b. b == wanted) bytes.now }
     ensures within { IfSome result (λ place. place < length bytes.now) }
 {
-    bytes.iter().position(|b| *b == wanted)
+    memchr(wanted, bytes)
 }
 
 /// The first line of some bytes, without what ends it, and what follows it.
@@ -79,6 +80,9 @@ pub(crate) fn first_line(bytes: &[u8]) -> (&[u8], &[u8])
     ensures lines { lines bytes.now ≡ result.0.now ∷ lines result.1.now }
     ensures shorter { length result.1.now < length bytes.now }
 {
+    if let [b'\n', rest @ ..] = bytes {
+        return (&[], rest);
+    }
     let (line, rest) = cut_at(bytes, b'\n');
     match rest {
         None => (line, &[]),
@@ -120,10 +124,13 @@ pub(crate) fn words_in(line: &[u8]) -> Words<'_>
 pub(crate) fn meaning<'a>(line: &[u8], buffer: &'a mut Vec<u8>) -> Result<Line<'a>, AllocError>
     ensures { IfOk result (λ meaning. line_read meaning ≡ meaning_of line.now) }
 {
+    if line.is_empty() {
+        return Ok(Line::Skipped);
+    }
     if line.len() > LONGEST_LINE || has_more_than_ascii(line) {
         return Ok(Line::Unfit);
     }
-    if line.is_empty() || line[0] == b'#' {
+    if line[0] == b'#' {
         return Ok(Line::Skipped);
     }
     match asked_by(words_in(line), buffer)? {
@@ -136,7 +143,7 @@ pub(crate) fn meaning<'a>(line: &[u8], buffer: &'a mut Vec<u8>) -> Result<Line<'
 fn has_more_than_ascii(line: &[u8]) -> bool
     ensures { result ≡ list_any (λ b. nat_lt 127 b) line.now }
 {
-    line.iter().any(|b| *b > 127)
+    !line.is_ascii()
 }
 
 /// What some words ask for.

@@ -31,26 +31,14 @@ pub(crate) fn out(frame: &Frame, text: &mut Vec<u8>) -> Result<(), AllocError>
 
 /// Bytes, two digits for each. This is no line of its own.
 pub(crate) fn hex_digits(bytes: &[u8], text: &mut Vec<u8>) -> Result<(), AllocError>
+    requires { length bytes.now ≤ 1518 }
     ensures { OnOk result (text.new.items ≡ text.old.items ++ encode_lower bytes.now) }
 {
-    let mut rest = bytes;
-    while !rest.is_empty() {
-        let (piece, later) = rest.split_at(rest.len().min(32));
-        digits_of_piece(piece, text)?;
-        rest = later;
-    }
+    let before = text.len();
+    text.resize(before + 2 * bytes.len(), 0)?;
+    let digits = &mut text.as_mut_slice()[before..];
+    let _ = hex::encode_to_slice(bytes, digits);
     Ok(())
-}
-
-/// At most 32 bytes, two digits for each.
-fn digits_of_piece(piece: &[u8], text: &mut Vec<u8>) -> Result<(), AllocError>
-    requires { length piece.now ≤ 32 }
-    ensures { OnOk result (text.new.items ≡ text.old.items ++ encode_lower piece.now) }
-{
-    let mut digits = [0; 64];
-    let digits = &mut digits[..2 * piece.len()];
-    let _ = hex::encode_to_slice(piece, digits);
-    text.extend_from_slice(digits)
 }
 
 /// Frames that are sent, the first of them first.

@@ -1,5 +1,5 @@
 // The lines that show the settings and the lamp. Each function appends one of them to a text.
-ghost use Rattle.std.specs.Prelude.{◌≡◌, ◌++◌, OnOk, decimal};
+ghost use Rattle.std.specs.Prelude.{◌≡◌, ◌++◌, ◌≤◌, length, OnOk, decimal};
 ghost use Rattle.script_runner.specs.Show.{name_line, suite_line, dotted, text_line, lamp_line, shown};
 
 use crate::render::hex_digits;
@@ -75,6 +75,7 @@ fn number(number: u32, text: &mut Vec<u8>) -> Result<(), AllocError>
 /// An I&M text, in hex.
 #[tactic(auto, unfolding(crate::specs::Show::text_line))]
 fn im_text(label: &[u8], bytes: &[u8], text: &mut Vec<u8>) -> Result<(), AllocError>
+    requires { length bytes.now ≤ 1518 }
     ensures { OnOk result (text.new.items ≡ text.old.items ++ text_line label.now bytes.now) }
 {
     text.extend_from_slice(label)?;
