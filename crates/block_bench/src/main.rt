@@ -1,6 +1,6 @@
 //! What the benchmark of blocks runs (bench/blocks.py). `block_bench READ WRITE` reads the blocks on standard input READ
-//! times, writes them WRITE times, and prints how many there are, how many octets are written, whether these are those
-//! that came, and how large a block is in memory.
+//! times and writes them WRITE times. It prints how many octets they are in all those readings, how many are written in
+//! the end and whether they are those that came, and how large a block is in memory.
 #![tactic(auto)]
 
 mod turns;
