@@ -137,7 +137,10 @@ fn iocr_block_res<'a>(body: &[u8], behind: &'a [u8]) -> Result<(Block<'a>, &'a [
 /// An AlarmCRBlockReq, and what is behind it.
 #[inline(never)]
 #[tactic(auto, unfolding(crate::specs::Block::fields_of))]
-fn alarm_cr_block_req<'a>(body: &[u8], behind: &'a [u8]) -> Result<(Block<'a>, &'a [u8]), BlockFault>
+fn alarm_cr_block_req<'a>(
+    body: &[u8],
+    behind: &'a [u8],
+) -> Result<(Block<'a>, &'a [u8]), BlockFault>
     ensures { Gives (λ x. (x.0, x.1.now)) result (before behind.now ((fields_of BlockType.AlarmCrBlockReq).read body.now)) }
 {
     Ok((Block::AlarmCrBlockReq(alarm_cr_block_req_at(body)?), behind))
@@ -146,7 +149,10 @@ fn alarm_cr_block_req<'a>(body: &[u8], behind: &'a [u8]) -> Result<(Block<'a>, &
 /// An AlarmCRBlockRes, and what is behind it.
 #[inline(never)]
 #[tactic(auto, unfolding(crate::specs::Block::fields_of))]
-fn alarm_cr_block_res<'a>(body: &[u8], behind: &'a [u8]) -> Result<(Block<'a>, &'a [u8]), BlockFault>
+fn alarm_cr_block_res<'a>(
+    body: &[u8],
+    behind: &'a [u8],
+) -> Result<(Block<'a>, &'a [u8]), BlockFault>
     ensures { Gives (λ x. (x.0, x.1.now)) result (before behind.now ((fields_of BlockType.AlarmCrBlockRes).read body.now)) }
 {
     Ok((Block::AlarmCrBlockRes(alarm_cr_block_res_at(body)?), behind))
@@ -203,7 +209,10 @@ fn application_ready<'a>(body: &[u8], behind: &'a [u8]) -> Result<(Block<'a>, &'
 /// The answer to an ApplicationReady, and what is behind it.
 #[inline(never)]
 #[tactic(auto, unfolding(crate::specs::Block::fields_of))]
-fn application_ready_res<'a>(body: &[u8], behind: &'a [u8]) -> Result<(Block<'a>, &'a [u8]), BlockFault>
+fn application_ready_res<'a>(
+    body: &[u8],
+    behind: &'a [u8],
+) -> Result<(Block<'a>, &'a [u8]), BlockFault>
     ensures { Gives (λ x. (x.0, x.1.now)) result (before behind.now ((fields_of BlockType.ApplicationReadyRes).read body.now)) }
 {
     Ok((
@@ -326,7 +335,10 @@ fn im_filter_data_submodule<'a>(
 /// I&M0FilterData of the device, and what is behind it.
 #[inline(never)]
 #[tactic(auto, unfolding(crate::specs::Block::fields_of))]
-fn im_filter_data_device<'a>(body: &[u8], behind: &'a [u8]) -> Result<(Block<'a>, &'a [u8]), BlockFault>
+fn im_filter_data_device<'a>(
+    body: &[u8],
+    behind: &'a [u8],
+) -> Result<(Block<'a>, &'a [u8]), BlockFault>
     ensures { Gives (λ x. (x.0, x.1.now)) result (before behind.now ((fields_of BlockType.ImFilterDataDevice).read body.now)) }
 {
     Ok((Block::ImFilterDataDevice(filter_data_at(body)?), behind))
@@ -342,7 +354,10 @@ fn alarm_notification<'a>(
     requires { length body.now ≤ 65535 }
     ensures { Gives (λ x. (x.0, x.1.now)) result (before behind.now ((fields_of BlockType.AlarmNotification).read body.now)) }
 {
-    Ok((Block::AlarmNotification(alarm_notification_at(body)?), behind))
+    Ok((
+        Block::AlarmNotification(alarm_notification_at(body)?),
+        behind,
+    ))
 }
 
 /// An alarm acknowledgement, and what is behind it.
