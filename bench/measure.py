@@ -31,20 +31,26 @@ DEVICE_STEP = r"device_core::\S*\bstep"
 SCRIPT_STEP = r"script_runner::session::step"
 
 
-def seconds(program, words, script):
-    """The least of three times, and the peak memory in KiB."""
-    best, peak = None, 0
-    for _ in range(3):
-        with open(script, "rb") as stdin, open(os.devnull, "wb") as stdout:
-            before = time.monotonic()
-            child = subprocess.Popen([program, *words], stdin=stdin, stdout=stdout)
-            _, status, usage = os.wait4(child.pid, 0)
-            took = time.monotonic() - before
-        if status != 0:
-            raise SystemExit(f"{program}: status {status} on {script}")
-        best = took if best is None else min(best, took)
-        peak = max(peak, usage.ru_maxrss)
-    return best, peak
+def run(program, words, script):
+    """The time of one run, and its peak memory in KiB."""
+    with open(script, "rb") as stdin, open(os.devnull, "wb") as stdout:
+        before = time.monotonic()
+        child = subprocess.Popen([program, *words], stdin=stdin, stdout=stdout)
+        _, status, usage = os.wait4(child.pid, 0)
+        took = time.monotonic() - before
+    if status != 0:
+        raise SystemExit(f"{program}: status {status} on {script}")
+    return took, usage.ru_maxrss
+
+
+def side_by_side(program, echo, script):
+    """The least times of both programs, which run in turn, so that both meet the machine as busy as it is; and the peak
+    memory of the first in KiB."""
+    ours, plain = [], []
+    for _ in range(9):
+        ours.append(run(program, ["run"], script))
+        plain.append(run(echo, [], script))
+    return min(took for took, _ in ours), min(took for took, _ in plain), max(peak for _, peak in ours)
 
 
 def inclusive(listing, name):
@@ -109,8 +115,7 @@ def main():
     with open(empty, "w") as out:
         out.write("\n" * 16_777_216)
     for name, script in (("200,000 Identify frames", frames), ("16 MiB of empty lines", empty)):
-        ours, peak = seconds(program, ["run"], script)
-        plain, _ = seconds(echo, [], script)
+        ours, plain, peak = side_by_side(program, echo, script)
         print(f"{name}: {ours:.3f} s, a plain program {plain:.3f} s: {ours / plain:.2f} times (at most 3); peak {peak / 1024:.1f} MiB (at most 48)")
     for name, line, steps, bound in STEPS:
         if is_known(program, line):

@@ -51,8 +51,8 @@ pub fn ranged_at(
 pub fn fixed_at(bytes: &[u8], value: u16, field: u8) -> Result<&[u8], BlockFault>
     ensures { Gives (λ x. (tt, x.now)) result ((fixed field value).read bytes.now) }
 {
-    let (number, rest) = u16_at(bytes)?;
-    if number == value {
+    let (found, rest) = u16_at(bytes)?;
+    if found == value {
         Ok(rest)
     } else {
         Err(BlockFault::Field(field))
