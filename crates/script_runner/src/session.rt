@@ -59,6 +59,7 @@ impl Power {
     {
         match self {
             Power::On(device) => {
+                // What is stored is what the flash holds.
                 let _ = device.stored();
                 Power::with_power(device.into_flash())
             }
