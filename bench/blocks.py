@@ -6,8 +6,8 @@ station whose access point has three submodules, with a module of two octets of 
 Needs python3, valgrind and objdump; `blocks.py --octets` prints the octets in hex, and needs nothing.
 
 Callgrind counts an octet that `rep stosb` clears as an instruction, and so a block that is cleared as thousands. Which
-room is cleared so, and which by vectors, glibc chooses by the processor; it is told to use vectors, so that the figures
-are the same on each machine. The other count is printed beside it.
+room is cleared so, and which by vectors, glibc chooses by the processor; the count where it is told to use vectors, which
+is the same on each machine, is printed beside callgrind's own.
 """
 import os
 import pathlib
@@ -121,9 +121,9 @@ def main():
         return
     size = len(connect())
     for name, turns in (("read", (1, 0)), ("write", (0, 1))):
-        counted, plain = each(*turns, VECTORS), each(*turns, "")
+        counted, by_vectors = each(*turns, ""), each(*turns, VECTORS)
         print(f"to {name} the blocks of a Connect, {size} octets: {counted:.0f} instructions (at most {MOST_INSTRUCTIONS}); "
-              f"{plain:.0f} where callgrind counts each octet of `rep stosb`")
+              f"{by_vectors:.0f} with room cleared by vectors")
     said = subprocess.run([PROGRAM, "1", "1"], input=connect(), capture_output=True, check=True).stdout.decode()
     block = int(re.search(r"in memory: (\d+)", said)[1])
     frame, name = largest_frame()
