@@ -5,11 +5,9 @@ The blocks are made here from the tables of IEC 61158-6-10, 5.2, and not by the 
 station whose access point has three submodules, with a module of two octets of input and one of two octets of output.
 Needs python3, valgrind and objdump; `blocks.py --octets` prints the octets in hex, and needs nothing.
 
-Callgrind counts an octet that `rep stosb` clears as an instruction, and so a block that is cleared as thousands. Which
-room is cleared so, and which by vectors, glibc chooses by the processor; the count where it is told to use vectors, which
-is the same on each machine, is printed beside callgrind's own.
+On some processors glibc clears 2 KiB and more by `rep stosb`, which is one instruction to them, and one for each octet to
+callgrind: the count is then up to three times the room for a block higher than it is on others.
 """
-import os
 import pathlib
 import re
 import struct
@@ -21,8 +19,6 @@ PROGRAM = ROOT / "crates/block_bench/out/block_bench"
 MOST_INSTRUCTIONS = 60_000
 MOST_ON_THE_STACK = 16 * 1024
 TURNS = 100
-# Room is cleared and copied by vectors, of whatever size it is.
-VECTORS = "glibc.cpu.x86_rep_stosb_threshold=100000000:glibc.cpu.x86_rep_movsb_threshold=100000000"
 
 AR_UUID = bytes.fromhex("11111111111111111111111111111122")
 OBJECT = bytes.fromhex("dea000006c9711d18271000100000000")
@@ -89,17 +85,17 @@ def connect():
     return b"".join(blocks + [expected_block(*module) for module in MODULES])
 
 
-def instructions(reads, writes, tunables):
+def instructions(reads, writes):
     """The instructions of a run that reads the blocks and writes them so many times."""
     ran = subprocess.run(
         ["valgrind", "--tool=callgrind", "--callgrind-out-file=/dev/null", PROGRAM, str(reads), str(writes)],
-        input=connect(), capture_output=True, check=True, env={**os.environ, "GLIBC_TUNABLES": tunables})
+        input=connect(), capture_output=True, check=True)
     return int(re.search(rb"Collected : (\d+)", ran.stderr)[1])
 
 
-def each(reads, writes, tunables):
+def each(reads, writes):
     """The instructions of one turn: what twice as many take beyond what half of them take."""
-    once, twice = (instructions(1 + reads * n * TURNS, 1 + writes * n * TURNS, tunables) for n in (1, 2))
+    once, twice = (instructions(1 + reads * n * TURNS, 1 + writes * n * TURNS) for n in (1, 2))
     return (twice - once) / TURNS
 
 
@@ -121,14 +117,12 @@ def main():
         return
     size = len(connect())
     for name, turns in (("read", (1, 0)), ("write", (0, 1))):
-        counted, by_vectors = each(*turns, ""), each(*turns, VECTORS)
-        print(f"to {name} the blocks of a Connect, {size} octets: {counted:.0f} instructions (at most {MOST_INSTRUCTIONS}); "
-              f"{by_vectors:.0f} with room cleared by vectors")
+        print(f"to {name} the blocks of a Connect, {size} octets: {each(*turns):.0f} instructions (at most {MOST_INSTRUCTIONS})")
     said = subprocess.run([PROGRAM, "1", "1"], input=connect(), capture_output=True, check=True).stdout.decode()
-    block = int(re.search(r"in memory: (\d+)", said)[1])
+    block, room = (int(octets) for octets in re.search(r"a block (\d+) octets, the room for its lists (\d+)", said).groups())
     frame, name = largest_frame()
-    print(f"the largest value on the stack, a block: {block} octets (at most {MOST_ON_THE_STACK}); "
-          f"the largest frame, of {name}: {frame} octets")
+    print(f"the largest value on the stack, the room for a block with lists: {max(block, room)} octets (at most {MOST_ON_THE_STACK}); "
+          f"a block: {block}; the largest frame, of {name}: {frame}")
 
 
 if __name__ == "__main__":

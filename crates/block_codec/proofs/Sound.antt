@@ -1,7 +1,7 @@
 -- The formats of blocks are sound.
-use Rattle.std.proofs.Common.{◌≡◌, ℕ, List, ◌++◌, Option, Some, None, Ok, [], ◌<◌, ◌^◌, lit<, refl, ap, subst}
+use Rattle.std.proofs.Common.{◌≡◌, ℕ, List, ◌++◌, Option, Some, None, Ok, ◌<◌, ◌^◌, lit<, refl, ap, subst}
 use Rattle.std.proofs.lemmas.List.{append-nil}
-use Rattle.wire.specs.Codec.{Whole, IsSound, IsSoundWhole, IsOnward}
+use Rattle.wire.specs.Codec.{IsSound, IsSoundWhole, IsOnward}
 use Rattle.wire.specs.Formats.{big_bytes}
 use Rattle.wire.proofs.Fields.{number_sound, number_onward}
 use Rattle.wire.proofs.Joined.{then_by_sound, then_by_onward, seen_sound, seen_onward, framed_sound, framed_onward}

@@ -1,6 +1,6 @@
 -- What octets are as a block: BlockType, BlockLength, and what it counts (IEC 61158-6-10, 5.2.1).
 use Rattle.std.specs.Prelude.{◌≡◌, ◌+◌, ℕ, List, [], Option, Some, None, Result, Ok}
-use Rattle.wire.specs.Codec.{Codec, Whole, ◌>>=◌}
+use Rattle.wire.specs.Codec.{Codec, Whole}
 use Rattle.wire.specs.Formats.{number, then_by, seen, framed}
 use Rattle.wire.specs.Whole.{refused}
 use Rattle.wire.specs.Checks.{variant}
@@ -241,10 +241,6 @@ block_of bytes = block.read bytes
 -- this block at the front, and these octets behind it
 abbrev pub front : Block → List ℕ → Result (Block × List ℕ) BlockFault
 front value rest = Ok (value, rest)
-
--- what is read, and these octets behind it
-abbrev pub before : List ℕ → Result Block BlockFault → Result (Block × List ℕ) BlockFault
-before rest found = found >>= λ value. front value rest
 
 -- ---- what is written
 

@@ -1,7 +1,7 @@
 // Blocks of each kind, written by hand from the tables of IEC 61158-6-10, 5.2.
 use crate::{
-    AlarmData, AlarmNotification, Block, BlockFault, BlockReader, BlockType, block_len, read_block,
-    write_block,
+    AlarmData, AlarmNotification, Block, BlockFault, BlockReader, BlockRoom, BlockType, block_len,
+    read_block, write_block,
 };
 use arrayvec::ArrayVec;
 
@@ -230,7 +230,7 @@ const BLOCKS: [&[u8]; 26] = [
 
 /// Why octets are no block.
 fn fault_of(bytes: &[u8]) -> Option<BlockFault> {
-    match read_block(bytes) {
+    match read_block(bytes, &mut BlockRoom::new()) {
         Ok(_) => None,
         Err(fault) => Some(fault),
     }
@@ -278,8 +278,9 @@ fn written(block: &Block) -> Octets {
 
 #[test]
 fn each_kind_is_read_and_written(rt: HostRuntime) {
+    let mut room = BlockRoom::new();
     for bytes in BLOCKS {
-        match read_block(bytes) {
+        match read_block(bytes, &mut room) {
             Ok((block, rest)) => {
                 assert_eq!(rt; rest.len(), 0);
                 assert_eq!(rt; written(&block).as_slice(), bytes);
@@ -354,12 +355,18 @@ fn input_of(objects: u16) -> Octets {
 #[test]
 fn a_257th_data_object_is_one_too_many(rt: HostRuntime) {
     let most = input_of(256);
-    match read_block(most.as_slice()) {
+    let mut room = BlockRoom::new();
+    match read_block(most.as_slice(), &mut room) {
         Ok((Block::IocrBlockReq(block), _)) => {
             assert_eq!(rt; block.io_data_objects.len(), 256);
             assert_eq!(rt; block.iocs.len(), 0);
         }
         _ => assert!(rt; false, "256 data objects"),
+    }
+    // nothing is left of it in the room
+    match read_block(input_of(1).as_slice(), &mut room) {
+        Ok((Block::IocrBlockReq(block), _)) => assert_eq!(rt; block.io_data_objects.len(), 1),
+        _ => assert!(rt; false, "1 data object"),
     }
     assert_eq!(rt; fault_of(input_of(257).as_slice()), Some(BlockFault::Count));
 }
@@ -399,22 +406,23 @@ fn blocks_are_read_one_behind_the_other(rt: HostRuntime) {
     let _ = bytes.try_extend_from_slice(&IM0);
     let _ = bytes.try_extend_from_slice(&PRM_END);
     let _ = bytes.try_extend_from_slice(&[0xff, 0xff, 0, 0]);
+    let mut room = BlockRoom::new();
     let mut reader = BlockReader::new(bytes.as_slice());
-    match reader.next() {
+    match reader.next(&mut room) {
         Some(Ok(block)) => assert_eq!(rt; block.block_type(), BlockType::Im0),
         _ => assert!(rt; false, "the first"),
     }
     assert_eq!(rt; reader.rest().len(), 36);
-    match reader.next() {
+    match reader.next(&mut room) {
         Some(Ok(block)) => assert_eq!(rt; block.block_type(), BlockType::PrmEnd),
         _ => assert!(rt; false, "the second"),
     }
-    match reader.next() {
+    match reader.next(&mut room) {
         Some(Err(fault)) => assert_eq!(rt; fault, BlockFault::Kind),
         _ => assert!(rt; false, "the fault"),
     }
     assert_eq!(rt; reader.rest(), [0xff, 0xff, 0, 0].as_slice());
-    match reader.next() {
+    match reader.next(&mut room) {
         None => {}
         Some(_) => assert!(rt; false, "none behind a fault"),
     }
@@ -434,7 +442,7 @@ fn alarm_of(octets: usize) -> Octets {
 
 #[test]
 fn an_alarm_is_read_field_by_field(rt: HostRuntime) {
-    match read_block(&ALARM_NOTIFICATION) {
+    match read_block(&ALARM_NOTIFICATION, &mut BlockRoom::new()) {
         Ok((Block::AlarmNotification(alarm), _)) => {
             assert_eq!(rt; alarm.alarm_type, 2);
             assert_eq!(rt; alarm.api, 0);
@@ -459,7 +467,7 @@ fn an_alarm_has_any_number_of_octets_of_data(rt: HostRuntime) {
         let mut more = Octets::new();
         let _ = more.try_extend_from_slice(bytes.as_slice());
         let _ = more.try_extend_from_slice(&[1, 2, 3]);
-        match read_block(more.as_slice()) {
+        match read_block(more.as_slice(), &mut BlockRoom::new()) {
             Ok((block, rest)) => {
                 assert_eq!(rt; rest, [1, 2, 3].as_slice());
                 assert_eq!(rt; block.block_type(), BlockType::AlarmNotification);

@@ -19,7 +19,8 @@
 //! ```
 //!
 //! `control_fields!(read_fields [bytes])` reads them, `control_fields!(put_fields [out, value])` appends them, and
-//! `control_fields!(len_fields [value])` is how many octets they take.
+//! `control_fields!(len_fields [value])` is how many octets they take. A kind with lists is large: `fill_body [bytes, value]`
+//! reads its fields, and what is around them, into a value that is there already.
 //!
 //! | in the list | what it is |
 //! |---|---|
@@ -32,6 +33,7 @@
 //! | `_: blank N` | N octets that are not looked at, and written 0 |
 //! | `name: KIND by READ(..)` | a field of that kind, which a function reads |
 //! | `name: (READ, PUT, LEN)` | what functions read, put and count |
+//! | `name: list (FILL, PUT, LEN)` | a list that functions fill, put and count |
 #![tactic(auto)]
 
 mod fault;

@@ -53,20 +53,23 @@ fn next_object_at<'a>(
     }
 }
 
-/// A number of places and they, and what is behind them.
+/// Reads a number of places, and they into this list: what is behind them.
 #[tactic(auto, unfolding(crate::specs::Iocr::io_objects))]
-pub(crate) fn io_objects_at(bytes: &[u8]) -> Result<(ArrayVec<IoObject, 256>, &[u8]), BlockFault>
-    ensures { Gives (λ x. (x.0, x.1.now)) result (io_objects.read bytes.now) }
+pub(crate) fn fill_io_objects<'a>(
+    bytes: &'a [u8],
+    list: &mut ArrayVec<IoObject, 256>,
+) -> Result<&'a [u8], BlockFault>
+    ensures { Gives (λ rest. (list.new, rest.now)) result (io_objects.read bytes.now) }
 {
     let (count, first) = u16_at(bytes)?;
-    let mut found = ArrayVec::new();
+    list.clear();
     let mut rest = first;
     for _index in 0..count {
-        let (object, behind) = next_object_at(rest, found.as_slice())?;
-        found.push(object);
+        let (object, behind) = next_object_at(rest, list.as_slice())?;
+        list.push(object);
         rest = behind;
     }
-    Ok((found, rest))
+    Ok(rest)
 }
 
 /// Appends a place. There must be room.

@@ -5,10 +5,11 @@ ghost use Rattle.wire.specs.Codec.{Gives};
 ghost use Rattle.block_fields.specs.Fields.{body};
 ghost use Rattle.connect_blocks.specs.Iocr.{iocr_type, rt_class, frame_id, iocr_block_req, iocr_block_res, IsIocrBlockReq};
 
-use crate::io_object::{IoObject, io_objects_at, io_objects_len, put_io_objects};
+use crate::io_object::{IoObject, fill_io_objects, io_objects_len, put_io_objects};
 use arrayvec::ArrayVec;
 use block_fields::{
-    BlockFault, append_u16, append_u32, len_fields, put_fields, read_body, u16_at, u32_at,
+    BlockFault, append_u16, append_u32, fill_body, len_fields, put_fields, read_body, u16_at,
+    u32_at,
 };
 use pn_values::Mac;
 
@@ -87,8 +88,8 @@ macro_rules! iocr_block_req_fields {
             iocr_multicast_mac_add: mac,
             _: fixed 1 19,
             _: fixed_four 0 20,
-            io_data_objects: (io_objects_at, put_io_objects, io_objects_len),
-            iocs: (io_objects_at, put_io_objects, io_objects_len),
+            io_data_objects: list (fill_io_objects, put_io_objects, io_objects_len),
+            iocs: list (fill_io_objects, put_io_objects, io_objects_len),
         } }
     };
 }
@@ -181,12 +182,36 @@ fn frame_id_at(bytes: &[u8], kind: IocrType) -> Result<(u16, &[u8]), BlockFault>
     }
 }
 
-/// What BlockLength counts of an IOCRBlockReq, to the last octet.
+impl Default for IocrBlockReq {
+    /// An input with no places, whose numbers are all 0.
+    fn default() -> IocrBlockReq {
+        IocrBlockReq {
+            iocr_type: IocrType::Input,
+            iocr_reference: 0,
+            iocr_properties: RtClass::Class1,
+            data_length: 0,
+            frame_id: 0,
+            send_clock_factor: 0,
+            reduction_ratio: 0,
+            phase: 0,
+            sequence: 0,
+            frame_send_offset: 0,
+            watchdog_factor: 0,
+            data_hold_factor: 0,
+            iocr_tag_header: 0,
+            iocr_multicast_mac_add: Mac { octets: [0; 6] },
+            io_data_objects: ArrayVec::new(),
+            iocs: ArrayVec::new(),
+        }
+    }
+}
+
+/// Reads what BlockLength counts of an IOCRBlockReq, to the last octet. At a fault the value is any.
 #[tactic(auto, unfolding(block_fields::specs::Fields::body, crate::specs::Iocr::iocr_block_req))]
-pub fn iocr_block_req_at(bytes: &[u8]) -> Result<IocrBlockReq, BlockFault>
-    ensures { Gives (λ x. x) result ((body iocr_block_req).read bytes.now) }
+pub fn fill_iocr_block_req(bytes: &[u8], value: &mut IocrBlockReq) -> Result<(), BlockFault>
+    ensures { Gives (λ _. value.new) result ((body iocr_block_req).read bytes.now) }
 {
-    iocr_block_req_fields!(read_body[bytes])
+    iocr_block_req_fields!(fill_body [bytes, value])
 }
 
 /// Appends the fields of an IOCRBlockReq. There must be room.

@@ -19,6 +19,6 @@ pub use ar_block::{
 pub use control::{ControlBlock, control_at, control_len, put_control};
 pub use io_object::IoObject;
 pub use iocr::{
-    IocrBlockReq, IocrBlockRes, IocrType, RtClass, iocr_block_req_at, iocr_block_req_len,
+    IocrBlockReq, IocrBlockRes, IocrType, RtClass, fill_iocr_block_req, iocr_block_req_len,
     iocr_block_res_at, iocr_block_res_len, put_iocr_block_req, put_iocr_block_res,
 };

@@ -5,7 +5,9 @@ ghost use Rattle.record_blocks.specs.FilterData.{filter_data};
 ghost use Rattle.im_records.specs.Plugged.{device_entries, device_in, device_of, all_of, filter_record, ident_in, modules_in, parts_in, submodules_in};
 
 use arrayvec::ArrayVec;
-use block_codec::{Block, FilterModule, FilterModules, FilterSubmodule, ImFilterData, write_block};
+use block_codec::{
+    Block, FilterModule, FilterModules, FilterSubmodule, ImFilterData, Lent, write_block,
+};
 use pn_values::{Real, RealModule, RealSubmodule};
 use record_blocks::filter_data_len;
 
@@ -26,8 +28,8 @@ pub(crate) fn filter_of(real: &Real) -> ArrayVec<u8, 1024>
     let _all_size = filter_data_len(&all);
     let _device_size = filter_data_len(&device);
     let mut out = ArrayVec::new();
-    write_block(&mut out, &Block::ImFilterDataSubmodule(all));
-    write_block(&mut out, &Block::ImFilterDataDevice(device));
+    write_block(&mut out, &Block::ImFilterDataSubmodule(Lent::new(&all)));
+    write_block(&mut out, &Block::ImFilterDataDevice(Lent::new(&device)));
     out
 }
 

@@ -11,7 +11,7 @@ use crate::submodule_data::{
 };
 use arrayvec::ArrayVec;
 use block_fields::{
-    BlockFault, append_u16, len_fields, put_fields, read_body, read_fields, u16_at,
+    BlockFault, append_u16, fill_body, len_fields, put_fields, read_fields, u16_at,
 };
 
 /// A module that is expected in a slot, with its API, 0.
@@ -61,7 +61,7 @@ macro_rules! expected_submodule_fields {
 }
 
 /// The modules that are expected.
-#[derive(Drop)]
+#[derive(Default, Drop)]
 pub struct ExpectedModules {
     /// The modules, at most 256.
     pub modules: ArrayVec<ExpectedModule, 256>,
@@ -70,7 +70,7 @@ pub struct ExpectedModules {
 }
 
 /// 0x0104: ExpectedSubmoduleBlockReq (IEC 61158-6-10, 5.2.4.5).
-#[derive(Drop)]
+#[derive(Default, Drop)]
 pub struct ExpectedSubmoduleBlockReq {
     /// The modules, each with its submodules.
     pub modules: ExpectedModules,
@@ -79,7 +79,7 @@ pub struct ExpectedSubmoduleBlockReq {
 macro_rules! expected_fields {
     ($with:ident $args:tt) => {
         $with! { $args ExpectedSubmoduleBlockReq {
-            modules: (expected_modules_at, put_expected_modules, expected_modules_len),
+            modules: list (fill_expected_modules, put_expected_modules, expected_modules_len),
         } }
     };
 }
@@ -224,26 +224,26 @@ fn modules_at<'a>(
     Ok(rest)
 }
 
-/// NumberOfAPIs and the entries of modules and submodules, and what is behind them.
+/// Reads NumberOfAPIs and the entries of modules and submodules into these lists: what is behind them.
 #[tactic(auto, unfolding(crate::specs::Expected::expected_modules, crate::specs::Expected::modules_read))]
-fn expected_modules_at(bytes: &[u8]) -> Result<(ExpectedModules, &[u8]), BlockFault>
-    ensures { Gives (λ x. (x.0, x.1.now)) result (expected_modules.read bytes.now) }
+fn fill_expected_modules<'a>(
+    bytes: &'a [u8],
+    value: &mut ExpectedModules,
+) -> Result<&'a [u8], BlockFault>
+    ensures { Gives (λ rest. (value.new, rest.now)) result (expected_modules.read bytes.now) }
 {
     let (count, rest) = u16_at(bytes)?;
-    let mut value = ExpectedModules {
-        modules: ArrayVec::new(),
-        submodules: ArrayVec::new(),
-    };
-    let rest = modules_at(rest, count, &mut value)?;
-    Ok((value, rest))
+    value.modules.clear();
+    value.submodules.clear();
+    modules_at(rest, count, value)
 }
 
-/// What BlockLength counts of a ExpectedSubmoduleBlockReq, to the last octet.
+/// Reads what BlockLength counts of an ExpectedSubmoduleBlockReq, to the last octet. At a fault the value is any.
 #[tactic(auto, unfolding(block_fields::specs::Fields::body, crate::specs::Expected::expected))]
-pub fn expected_at(bytes: &[u8]) -> Result<ExpectedSubmoduleBlockReq, BlockFault>
-    ensures { Gives (λ x. x) result ((body expected).read bytes.now) }
+pub fn fill_expected(bytes: &[u8], value: &mut ExpectedSubmoduleBlockReq) -> Result<(), BlockFault>
+    ensures { Gives (λ _. value.new) result ((body expected).read bytes.now) }
 {
-    expected_fields!(read_body[bytes])
+    expected_fields!(fill_body [bytes, value])
 }
 
 /// Appends an entry of a module. There must be room.

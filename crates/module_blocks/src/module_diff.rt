@@ -7,7 +7,7 @@ ghost use Rattle.module_blocks.specs.ModuleDiff.{module_diff, diff_module, diff_
 
 use arrayvec::ArrayVec;
 use block_fields::{
-    BlockFault, append_u16, len_fields, put_fields, read_body, read_fields, u16_at,
+    BlockFault, append_u16, fill_body, len_fields, put_fields, read_fields, u16_at,
 };
 
 /// A module that differs.
@@ -56,7 +56,7 @@ macro_rules! diff_submodule_fields {
 }
 
 /// The modules that differ.
-#[derive(Drop)]
+#[derive(Default, Drop)]
 pub struct DiffModules {
     /// The modules, at most 256.
     pub modules: ArrayVec<DiffModule, 256>,
@@ -65,7 +65,7 @@ pub struct DiffModules {
 }
 
 /// 0x8104: ModuleDiffBlock (IEC 61158-6-10, 5.2.4.11), of NumberOfAPIs 1.
-#[derive(Drop)]
+#[derive(Default, Drop)]
 pub struct ModuleDiffBlock {
     /// API.
     pub api: u32,
@@ -78,7 +78,7 @@ macro_rules! module_diff_fields {
         $with! { $args ModuleDiffBlock {
             _: fixed 1 4,
             api: u32,
-            modules: (diff_modules_at, put_diff_modules, diff_modules_len),
+            modules: list (fill_diff_modules, put_diff_modules, diff_modules_len),
         } }
     };
 }
@@ -169,26 +169,23 @@ fn modules_at<'a>(
     Ok(rest)
 }
 
-/// NumberOfModules and the entries of modules and submodules, and what is behind them.
+/// Reads NumberOfModules and the entries of modules and submodules into these lists: what is behind them.
 #[tactic(auto, unfolding(crate::specs::ModuleDiff::diff_modules, crate::specs::ModuleDiff::modules_read))]
-fn diff_modules_at(bytes: &[u8]) -> Result<(DiffModules, &[u8]), BlockFault>
-    ensures { Gives (λ x. (x.0, x.1.now)) result (diff_modules.read bytes.now) }
+fn fill_diff_modules<'a>(bytes: &'a [u8], value: &mut DiffModules) -> Result<&'a [u8], BlockFault>
+    ensures { Gives (λ rest. (value.new, rest.now)) result (diff_modules.read bytes.now) }
 {
     let (count, rest) = u16_at(bytes)?;
-    let mut value = DiffModules {
-        modules: ArrayVec::new(),
-        submodules: ArrayVec::new(),
-    };
-    let rest = modules_at(rest, count, &mut value)?;
-    Ok((value, rest))
+    value.modules.clear();
+    value.submodules.clear();
+    modules_at(rest, count, value)
 }
 
-/// What BlockLength counts of a ModuleDiffBlock, to the last octet.
+/// Reads what BlockLength counts of a ModuleDiffBlock, to the last octet. At a fault the value is any.
 #[tactic(auto, unfolding(block_fields::specs::Fields::body, crate::specs::ModuleDiff::module_diff))]
-pub fn module_diff_at(bytes: &[u8]) -> Result<ModuleDiffBlock, BlockFault>
-    ensures { Gives (λ x. x) result ((body module_diff).read bytes.now) }
+pub fn fill_module_diff(bytes: &[u8], value: &mut ModuleDiffBlock) -> Result<(), BlockFault>
+    ensures { Gives (λ _. value.new) result ((body module_diff).read bytes.now) }
 {
-    module_diff_fields!(read_body[bytes])
+    module_diff_fields!(fill_body [bytes, value])
 }
 
 /// Appends an entry of a module. There must be room.

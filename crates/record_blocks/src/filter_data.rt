@@ -7,7 +7,7 @@ ghost use Rattle.record_blocks.specs.FilterData.{filter_data, filter_module, fil
 
 use arrayvec::ArrayVec;
 use block_fields::{
-    BlockFault, append_u16, len_fields, put_fields, read_body, read_fields, u16_at,
+    BlockFault, append_u16, fill_body, len_fields, put_fields, read_fields, u16_at,
 };
 
 /// A module that an I&M0FilterData lists.
@@ -50,7 +50,7 @@ macro_rules! filter_submodule_fields {
 }
 
 /// The modules that an I&M0FilterData lists.
-#[derive(Drop)]
+#[derive(Default, Drop)]
 pub struct FilterModules {
     /// The modules, at most 256.
     pub modules: ArrayVec<FilterModule, 256>,
@@ -59,7 +59,7 @@ pub struct FilterModules {
 }
 
 /// 0x0030 and 0x0032: I&M0FilterData (IEC 61158-6-10, 5.2.3.22), of NumberOfAPIs 1.
-#[derive(Drop)]
+#[derive(Default, Drop)]
 pub struct ImFilterData {
     /// API.
     pub api: u32,
@@ -72,7 +72,7 @@ macro_rules! filter_data_fields {
         $with! { $args ImFilterData {
             _: fixed 1 4,
             api: u32,
-            modules: (filter_modules_at, put_filter_modules, filter_modules_len),
+            modules: list (fill_filter_modules, put_filter_modules, filter_modules_len),
         } }
     };
 }
@@ -163,26 +163,26 @@ fn modules_at<'a>(
     Ok(rest)
 }
 
-/// NumberOfModules and the entries of modules and submodules, and what is behind them.
+/// Reads NumberOfModules and the entries of modules and submodules into these lists: what is behind them.
 #[tactic(auto, unfolding(crate::specs::FilterData::filter_modules, crate::specs::FilterData::modules_read))]
-fn filter_modules_at(bytes: &[u8]) -> Result<(FilterModules, &[u8]), BlockFault>
-    ensures { Gives (λ x. (x.0, x.1.now)) result (filter_modules.read bytes.now) }
+fn fill_filter_modules<'a>(
+    bytes: &'a [u8],
+    value: &mut FilterModules,
+) -> Result<&'a [u8], BlockFault>
+    ensures { Gives (λ rest. (value.new, rest.now)) result (filter_modules.read bytes.now) }
 {
     let (count, rest) = u16_at(bytes)?;
-    let mut value = FilterModules {
-        modules: ArrayVec::new(),
-        submodules: ArrayVec::new(),
-    };
-    let rest = modules_at(rest, count, &mut value)?;
-    Ok((value, rest))
+    value.modules.clear();
+    value.submodules.clear();
+    modules_at(rest, count, value)
 }
 
-/// What BlockLength counts of an I&M0FilterData, to the last octet.
+/// Reads what BlockLength counts of an I&M0FilterData, to the last octet. At a fault the value is any.
 #[tactic(auto, unfolding(block_fields::specs::Fields::body, crate::specs::FilterData::filter_data))]
-pub fn filter_data_at(bytes: &[u8]) -> Result<ImFilterData, BlockFault>
-    ensures { Gives (λ x. x) result ((body filter_data).read bytes.now) }
+pub fn fill_filter_data(bytes: &[u8], value: &mut ImFilterData) -> Result<(), BlockFault>
+    ensures { Gives (λ _. value.new) result ((body filter_data).read bytes.now) }
 {
-    filter_data_fields!(read_body[bytes])
+    filter_data_fields!(fill_body [bytes, value])
 }
 
 /// Appends an entry of a module. There must be room.

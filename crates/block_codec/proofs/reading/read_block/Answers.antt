@@ -2,7 +2,7 @@
 use Rattle.std.proofs.Common.{ℕ, List, [], sym, subst}
 use Rattle.wire.proofs.Given.{found, only}
 use Rattle.block_codec.specs.declared.block.Block.{Block}
-use Rattle.block_codec.specs.Block.{IsBlock, block_of, front}
+use Rattle.block_codec.specs.Block.{IsBlock, block_of}
 use Rattle.block_codec.proofs.Sound.{block_takes, block_again, block_behind}
 use Rattle.block_codec.proofs.reading.read_block.Goals as goal
 
