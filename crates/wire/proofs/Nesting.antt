@@ -4,6 +4,7 @@ use Rattle.std.specs.List.{AllByRecursion}
 use Rattle.std.proofs.lemmas.Bool.{lt-ltb}
 use Rattle.std.proofs.lemmas.List.{append-nil, length-append, take_at, drop_at, length-take, take-append-drop, drop_more, nil_from_length}
 use Rattle.std.proofs.lemmas.List.Sums.{sum_by-cons}
+use Rattle.std.proofs.Math.Nat.{add-mul}
 use Rattle.wire.specs.Codec.{Codec, IsSound, ◌>>=◌}
 use Rattle.wire.specs.Counted.{SpellEach, write_each, size_each, FitsEach, bounded}
 use Rattle.wire.specs.Nested.{read_inner, SpellOuter, write_outer, size_outer, FitsOuter, read_outer, nested, flat_bytes, flat_size, nested_bytes, nested_size, FitsNested}
@@ -218,9 +219,9 @@ module _ {F S : Type 0} (item : List S → Codec F S) (put : S → List ℕ → 
   each_flat_size before (value ∷ values) = omega (arith, long before value, each_flat_size (before ++ value ∷ []) values)
 
 module _ {F H S : Type 0} (header : List H → Codec F H) (count_of : H → ℕ) (item : ℕ → List S → Codec F S)
-    (head : H → List ℕ → List ℕ) (head_takes : ℕ) (put : S → List ℕ → List ℕ) (takes : S → ℕ)
+    (head : H → List ℕ → List ℕ) (head_takes : H → ℕ) (put : S → List ℕ → List ℕ) (takes : S → ℕ)
     (head_same : (before : List H) (value : H) (rest : List ℕ) → (header before).write value rest ≡ head value rest)
-    (head_long : (before : List H) (value : H) → (header before).size value ≡ head_takes)
+    (head_long : (before : List H) (value : H) → (header before).size value ≡ head_takes value)
     (same : (start : ℕ) (before : List S) (value : S) (rest : List ℕ) → (item start before).write value rest ≡ put value rest)
     (long : (start : ℕ) (before : List S) (value : S) → (item start before).size value ≡ takes value) where
   pub outer_flat : (first : List H) (second : List S) (entries : List H) (inner : List S) (rest : List ℕ)
@@ -245,23 +246,30 @@ module _ {F H S : Type 0} (header : List H → Codec F H) (count_of : H → ℕ)
         outer_flat_size (first ++ entry ∷ []) (second ++ own) entries (drop (count_of entry) inner),
       )
 
--- an entry that is left takes its own bytes at least
-pub one_left : {H S : Type 0} (head_takes : ℕ) (count_of : H → ℕ) (takes : S → ℕ) (entries : List H) (inner : List S) (i : ℕ) → i < length entries
-    → head_takes ≤ nested_size head_takes count_of takes (drop i entries) inner
-one_left head_takes count_of takes [] inner i h = absurd (omega (arith, h))
-one_left head_takes count_of takes (entry ∷ entries) inner zero h = omega arith
-one_left head_takes count_of takes (entry ∷ entries) inner (suc i) h = one_left head_takes count_of takes entries inner i (omega (arith, h))
+-- how many bytes so many entries take at most, where one takes at most so many, and one of the second kind
+module _ {F H S : Type 0} (header : List H → Codec F H) (count_of : H → ℕ) (item : ℕ → List S → Codec F S) (head_most most : ℕ)
+    (heads : (before : List H) (value : H) → (header before).size value ≤ head_most)
+    (items : (start : ℕ) (before : List S) (value : S) → (item start before).size value ≤ most) where
+  each_few : (start : ℕ) (before values : List S) → size_each (item start) before values ≤ length values * most
+  each_few start before [] = omega arith
+  each_few start before (value ∷ values) =
+      omega (arith, items start before value, each_few start (before ++ value ∷ []) values, add-mul 1 (length values) most)
 
--- a value that is left takes its own bytes at least, where all take as many
-pub flat_left : {S : Type 0} (n : ℕ) (values : List S) (i : ℕ) → i < length values → n ≤ flat_size (λ (_ : S). n) (drop i values)
-flat_left n [] i h = absurd (omega (arith, h))
-flat_left n (value ∷ values) zero h = omega arith
-flat_left n (value ∷ values) (suc i) h = flat_left n values i (omega (arith, h))
-
--- values that take as many bytes each
-pub flat_sized : {S : Type 0} (n : ℕ) (values : List S) → flat_size (λ (_ : S). n) values ≡ n * length values
-flat_sized n [] = omega arith
-flat_sized n (value ∷ values) = omega (arith, flat_sized n values)
+  pub outer_few : (first : List H) (second : List S) (entries : List H) (inner : List S)
+      → size_outer header count_of item first second entries inner ≤ length entries * head_most + length inner * most
+  outer_few first second [] inner = omega arith
+  outer_few first second (entry ∷ entries) inner =
+      let n = count_of entry in
+      let cut : length inner ≡ length (take n inner) + length (drop n inner) = sym (ap length (take-append-drop n inner)) ∙ length-append (take n inner) (drop n inner) in
+      let own : length inner * most ≡ length (take n inner) * most + length (drop n inner) * most = ap (λ k. k * most) cut ∙ add-mul (length (take n inner)) (length (drop n inner)) most in
+      omega (
+        arith,
+        heads first entry,
+        each_few (length second) second (take n inner),
+        outer_few (first ++ entry ∷ []) (second ++ take n inner) entries (drop n inner),
+        add-mul 1 (length entries) head_most,
+        own,
+      )
 
 -- ---- what can be written, where it does not hang on what was before
 

@@ -84,7 +84,7 @@ nested_bytes head count_of put (entry ∷ entries) inner rest =
     head entry (flat_bytes put (take (count_of entry) inner) (nested_bytes head count_of put entries (drop (count_of entry) inner) rest))
 
 -- how many bytes they take
-abbrev pub nested_size : {H S : Type 0} → ℕ → (H → ℕ) → (S → ℕ) → List H → List S → ℕ
+abbrev pub nested_size : {H S : Type 0} → (H → ℕ) → (H → ℕ) → (S → ℕ) → List H → List S → ℕ
 nested_size head_takes count_of takes [] inner = 0
 nested_size head_takes count_of takes (entry ∷ entries) inner =
-    head_takes + (flat_size takes (take (count_of entry) inner) + nested_size head_takes count_of takes entries (drop (count_of entry) inner))
+    head_takes entry + (flat_size takes (take (count_of entry) inner) + nested_size head_takes count_of takes entries (drop (count_of entry) inner))

@@ -1,0 +1,58 @@
+-- The lists are sound, and reading goes on behind an entry or ends at a fault.
+use Rattle.std.proofs.Common.{◌≡◌, ℕ, ◌+◌, ◌<◌, List, [], ◌∷◌, ◌++◌, length, drop, Ok, Err}
+use Rattle.wire.specs.Codec.{Codec, IsSound}
+use Rattle.wire.proofs.Counts.{bounded_sound}
+use Rattle.wire.proofs.Nesting.{nested_sound, inner_goes_on, inner_fails, inner_ends, outer_goes_on, outer_fails, outer_fails_inside, outer_ends}
+use Rattle.block_fields.specs.declared.fault.BlockFault.{BlockFault}
+use Rattle.block_fields.specs.declared.fault.BlockFault.TheVariants.{Count}
+use Rattle.block_fields.specs.Fields.{two}
+use Rattle.block_fields.proofs.Sound.{numeral_sound}
+use Rattle.module_lists.specs.Lists.{next_entry, module_list, submodules_read, modules_read}
+
+next_sound : {E : Type 0} (format : List E → Codec BlockFault E) → ((before : List E) → IsSound (format before)) → (start : ℕ) (before : List E)
+    → IsSound (next_entry format start before)
+unfolding next_entry
+next_sound format sound start before = bounded_sound (λ all. format (drop start all)) (λ all. sound (drop start all)) 256 Count before
+
+module _ {S : Type 0} (item : List S → Codec BlockFault S) (start : ℕ) (before : List S) (bytes : List ℕ) where
+  pub submodules_go_on : (behind : List ℕ) (entry : S) (left n : ℕ) → left ≡ n + 1 → (next_entry item start before).read bytes ≡ Ok (entry, behind)
+      → submodules_read item start left before bytes ≡ submodules_read item start n (before ++ entry ∷ []) behind
+  unfolding submodules_read
+  submodules_go_on behind entry left n h e = inner_goes_on (next_entry item start) before bytes left entry behind n h e
+
+  pub submodules_fail : (fault : BlockFault) (left : ℕ) → 0 < left → (next_entry item start before).read bytes ≡ Err fault → submodules_read item start left before bytes ≡ Err fault
+  unfolding submodules_read
+  submodules_fail fault left h e = inner_fails (next_entry item start) before bytes left fault h e
+
+  pub submodules_end : (left : ℕ) → left ≡ 0 → submodules_read item start left before bytes ≡ Ok (before, bytes)
+  unfolding submodules_read
+  submodules_end left h = inner_ends (next_entry item start) before bytes left h
+
+module _ {M S : Type 0} (head : List M → Codec BlockFault M) (own : M → ℕ) (item : List S → Codec BlockFault S) where
+  pub modules_sound : ((before : List M) → IsSound (head before)) → ((before : List S) → IsSound (item before)) → IsSound (module_list head own item)
+  unfolding module_list
+  modules_sound heads items = nested_sound (next_entry head 0) own (next_entry item) (next_sound head heads 0) (next_sound item items) two (numeral_sound 2)
+
+  pub modules_go_on : (modules : List M) (submodules more : List S) (bytes behind rest : List ℕ) (entry : M) (left n : ℕ) → left ≡ n + 1
+      → (next_entry head 0 modules).read bytes ≡ Ok (entry, behind) → submodules_read item (length submodules) (own entry) submodules behind ≡ Ok (more, rest)
+      → modules_read head own item left modules submodules bytes ≡ modules_read head own item n (modules ++ entry ∷ []) more rest
+  unfolding modules_read submodules_read
+  modules_go_on modules submodules more bytes behind rest entry left n h e f =
+      outer_goes_on (next_entry head 0) own (next_entry item) modules submodules bytes left entry more behind rest n h e f
+
+  pub modules_fail : (modules : List M) (submodules : List S) (bytes : List ℕ) (fault : BlockFault) (left : ℕ) → 0 < left
+      → (next_entry head 0 modules).read bytes ≡ Err fault → modules_read head own item left modules submodules bytes ≡ Err fault
+  unfolding modules_read
+  modules_fail modules submodules bytes fault left h e = outer_fails (next_entry head 0) own (next_entry item) modules submodules bytes left fault h e
+
+  pub modules_fail_inside : (modules : List M) (submodules : List S) (bytes behind : List ℕ) (entry : M) (fault : BlockFault) (left : ℕ) → 0 < left
+      → (next_entry head 0 modules).read bytes ≡ Ok (entry, behind) → submodules_read item (length submodules) (own entry) submodules behind ≡ Err fault
+      → modules_read head own item left modules submodules bytes ≡ Err fault
+  unfolding modules_read submodules_read
+  modules_fail_inside modules submodules bytes behind entry fault left h e f =
+      outer_fails_inside (next_entry head 0) own (next_entry item) modules submodules bytes left entry behind fault h e f
+
+  pub modules_end : (modules : List M) (submodules : List S) (bytes : List ℕ) (left : ℕ) → left ≡ 0
+      → modules_read head own item left modules submodules bytes ≡ Ok ((modules, submodules), bytes)
+  unfolding modules_read
+  modules_end modules submodules bytes left h = outer_ends (next_entry head 0) own (next_entry item) modules submodules bytes left h

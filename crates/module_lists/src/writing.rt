@@ -1,0 +1,101 @@
+//! Lists of modules to octets.
+ghost use Rattle.std.specs.Prelude.{◌≡◌, ◌+◌, ◌*◌, ◌≤◌, ◌++◌, List, ℕ, length};
+ghost use Rattle.std.specs.List.{AllByRecursion};
+ghost use Rattle.arrayvec.specs.ArrayVec.{array_vec_len};
+ghost use Rattle.wire.specs.Nested.{FitsNested};
+ghost use Rattle.module_lists.specs.Lists.{module_list, modules_bytes, modules_size, submodules_bytes, submodules_size};
+
+use crate::entry::{Entry, Module, Put};
+use arrayvec::ArrayVec;
+use block_fields::append_u16;
+
+/// Appends the submodules of one module. There must be room.
+#[tactic(auto, using(crate::proofs::Written::first_inner, wire::proofs::Nesting::fits_on))]
+fn put_submodules<const N: usize, S: Put<N>>(out: &mut ArrayVec<u8, N>, submodules: &[S])
+    requires { array_vec_len out.old + submodules_size S.format submodules.now ≤ N }
+    ensures items { (tail : List ℕ) → out.new.items ++ tail ≡ out.old.items ++ submodules_bytes S.format submodules.now tail }
+    ensures len { array_vec_len out.new ≡ array_vec_len out.old + submodules_size S.format submodules.now }
+    ensures fits { AllByRecursion S.fits submodules.now }
+{
+    for submodule in submodules {
+        submodule.put(out);
+    }
+}
+
+/// Appends modules, each with as many of the submodules as it counts. There must be room.
+#[tactic(auto, using(crate::proofs::Written::first_outer, wire::proofs::Nesting::nested_fits_on))]
+fn put_each<const N: usize, M: Module + Put<N>, S: Put<N>>(
+    out: &mut ArrayVec<u8, N>,
+    modules: &[M],
+    submodules: &[S],
+)
+    requires { array_vec_len out.old + modules_size M.format M.own S.format modules.now submodules.now ≤ N }
+    ensures items { (tail : List ℕ) → out.new.items ++ tail ≡ out.old.items ++ modules_bytes M.format M.own S.format modules.now submodules.now tail }
+    ensures len { array_vec_len out.new ≡ array_vec_len out.old + modules_size M.format M.own S.format modules.now submodules.now }
+    ensures fits { FitsNested M.fits M.own S.fits modules.now submodules.now }
+{
+    let mut left = submodules;
+    for entry in modules {
+        entry.put(out);
+        let count = left.len().min(entry.number_of_submodules() as usize);
+        put_submodules(out, &left[..count]);
+        left = &left[count..];
+    }
+}
+
+/// Appends a count of modules, and each with as many of the submodules as it counts. There must be room.
+pub fn put_modules<const N: usize, M: Module + Put<N>, S: Put<N>>(
+    out: &mut ArrayVec<u8, N>,
+    modules: &ArrayVec<M, 256>,
+    submodules: &ArrayVec<S, 256>,
+)
+    requires { array_vec_len out.old + (module_list M.format M.own S.format).size (modules.now.items, submodules.now.items) ≤ N }
+    ensures items { (tail : List ℕ) → out.new.items ++ tail ≡ out.old.items ++ (module_list M.format M.own S.format).write (modules.now.items, submodules.now.items) tail }
+    ensures len { array_vec_len out.new ≡ array_vec_len out.old + (module_list M.format M.own S.format).size (modules.now.items, submodules.now.items) }
+    ensures fits { FitsNested M.fits M.own S.fits modules.now.items submodules.now.items }
+{
+    append_u16(out, modules.len() as u16);
+    put_each(out, modules.as_slice(), submodules.as_slice());
+}
+
+/// How many octets the submodules of one module take.
+#[tactic(auto, using(crate::proofs::Written::first_inner))]
+fn submodules_len<S: Entry>(submodules: &[S]) -> usize
+    requires { length submodules.now ≤ 256 }
+    ensures size { result ≡ submodules_size S.format submodules.now }
+    ensures few { result ≤ 255 * length submodules.now }
+{
+    let mut size = 0;
+    for submodule in submodules {
+        size += submodule.len();
+    }
+    size
+}
+
+/// How many octets modules take with their submodules.
+#[tactic(auto, using(crate::proofs::Written::first_outer))]
+fn each_len<M: Module, S: Entry>(modules: &[M], submodules: &[S]) -> usize
+    requires modules { length modules.now ≤ 256 }
+    requires submodules { length submodules.now ≤ 256 }
+    ensures size { result ≡ modules_size M.format M.own S.format modules.now submodules.now }
+    ensures few { result ≤ 255 * length modules.now + 255 * length submodules.now }
+{
+    let mut left = submodules;
+    let mut size = 0;
+    for entry in modules {
+        let count = left.len().min(entry.number_of_submodules() as usize);
+        size += entry.len() + submodules_len(&left[..count]);
+        left = &left[count..];
+    }
+    size
+}
+
+/// How many octets a count of modules takes, and each of them with its submodules.
+pub fn modules_len<M: Module, S: Entry>(
+    modules: &ArrayVec<M, 256>,
+    submodules: &ArrayVec<S, 256>,
+) -> usize
+    ensures { result ≡ (module_list M.format M.own S.format).size (modules.now.items, submodules.now.items) }
+{
+    2 + each_len(modules.as_slice(), submodules.as_slice())
+}
