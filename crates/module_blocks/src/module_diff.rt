@@ -3,12 +3,12 @@ ghost use Rattle.std.specs.Prelude.{◌≡◌, ◌+◌, ◌*◌, ◌<◌, ◌≤
 ghost use Rattle.arrayvec.specs.ArrayVec.{array_vec_len};
 ghost use Rattle.wire.specs.Codec.{Gives};
 ghost use Rattle.block_fields.specs.Fields.{body};
-ghost use Rattle.module_blocks.specs.ModuleDiff.{module_diff, diff_module, diff_modules, diff_submodule, next_module, next_submodule, modules_bytes, modules_read, modules_size, submodules_bytes, submodules_read, submodules_size, IsCounted, IsModuleDiff, ModulesFit, SubmodulesFit};
+ghost use Rattle.module_lists.specs.Lists.{flat_alike};
+ghost use Rattle.module_blocks.specs.ModuleDiff.{module_diff, diff_module, diff_modules, diff_submodule, own_of, IsCounted, IsModuleDiff};
 
 use arrayvec::ArrayVec;
-use block_fields::{
-    BlockFault, append_u16, fill_body, len_fields, put_fields, read_fields, u16_at,
-};
+use block_fields::{BlockFault, fill_body, len_fields, put_fields, read_fields};
+use module_lists::{Entry, Module, Put, fill_modules, modules_len, put_modules};
 
 /// A module that differs.
 #[derive(Clone, Copy, Default)]
@@ -83,101 +83,68 @@ macro_rules! module_diff_fields {
     };
 }
 
-/// An entry of a module, and what is behind it.
 #[tactic(auto, unfolding(crate::specs::ModuleDiff::diff_module))]
-fn diff_module_at(bytes: &[u8]) -> Result<(DiffModule, &[u8]), BlockFault>
-    ensures { Gives (λ x. (x.0, x.1.now)) result (diff_module.read bytes.now) }
-{
-    diff_module_fields!(read_fields[bytes])
+impl Entry for DiffModule {
+    ghost format = { λ _. diff_module };
+
+    ghost fits = { diff_module.Fits };
+
+    fn at<'a>(bytes: &'a [u8], _before: &[Self]) -> Result<(Self, &'a [u8]), BlockFault> {
+        diff_module_fields!(read_fields[bytes])
+    }
+
+    fn len(&self) -> usize {
+        diff_module_fields!(len_fields[self])
+    }
+
+    ghost alike = { flat_alike diff_module };
 }
 
-/// An entry of a submodule, and what is behind it.
+#[tactic(auto, unfolding(crate::specs::ModuleDiff::diff_module))]
+impl<const N: usize> Put<N> for DiffModule {
+    fn put(&self, out: &mut ArrayVec<u8, N>) {
+        diff_module_fields!(put_fields [out, self]);
+    }
+}
+
+impl Module for DiffModule {
+    ghost own = { own_of };
+
+    fn number_of_submodules(&self) -> u16 {
+        self.number_of_submodules
+    }
+}
+
 #[tactic(auto, unfolding(crate::specs::ModuleDiff::diff_submodule))]
-fn diff_submodule_at(bytes: &[u8]) -> Result<(DiffSubmodule, &[u8]), BlockFault>
-    ensures { Gives (λ x. (x.0, x.1.now)) result (diff_submodule.read bytes.now) }
-{
-    diff_submodule_fields!(read_fields[bytes])
+impl Entry for DiffSubmodule {
+    ghost format = { λ _. diff_submodule };
+
+    ghost fits = { diff_submodule.Fits };
+
+    fn at<'a>(bytes: &'a [u8], _before: &[Self]) -> Result<(Self, &'a [u8]), BlockFault> {
+        diff_submodule_fields!(read_fields[bytes])
+    }
+
+    fn len(&self) -> usize {
+        diff_submodule_fields!(len_fields[self])
+    }
+
+    ghost alike = { flat_alike diff_submodule };
 }
 
-/// One more module behind these, if there is room for it, and what is behind it.
-#[tactic(auto, unfolding(crate::specs::ModuleDiff::next_module))]
-fn next_module_at<'a>(
-    bytes: &'a [u8],
-    before: &ArrayVec<DiffModule, 256>,
-) -> Result<(DiffModule, &'a [u8]), BlockFault>
-    ensures read { Gives (λ x. (x.0, x.1.now)) result ((next_module before.now.items).read bytes.now) }
-    ensures room { OnOk result (array_vec_len before.now < 256) }
-{
-    let (entry, rest) = diff_module_at(bytes)?;
-    if before.len() < 256 {
-        Ok((entry, rest))
-    } else {
-        Err(BlockFault::Count)
+#[tactic(auto, unfolding(crate::specs::ModuleDiff::diff_submodule))]
+impl<const N: usize> Put<N> for DiffSubmodule {
+    fn put(&self, out: &mut ArrayVec<u8, N>) {
+        diff_submodule_fields!(put_fields [out, self]);
     }
-}
-
-/// One more submodule behind these, if there is room for it, and what is behind it.
-#[tactic(auto, unfolding(crate::specs::ModuleDiff::next_submodule))]
-fn next_submodule_at<'a>(
-    bytes: &'a [u8],
-    before: &ArrayVec<DiffSubmodule, 256>,
-) -> Result<(DiffSubmodule, &'a [u8]), BlockFault>
-    ensures read { Gives (λ x. (x.0, x.1.now)) result ((next_submodule before.now.items).read bytes.now) }
-    ensures room { OnOk result (array_vec_len before.now < 256) }
-{
-    let (entry, rest) = diff_submodule_at(bytes)?;
-    if before.len() < 256 {
-        Ok((entry, rest))
-    } else {
-        Err(BlockFault::Count)
-    }
-}
-
-/// So many submodules, which come to those before them, and what is behind them.
-#[tactic(auto, using(crate::proofs::Diff::submodules_go_on, crate::proofs::Diff::submodules_fail, crate::proofs::Diff::submodules_end))]
-fn submodules_at<'a>(
-    bytes: &'a [u8],
-    count: u16,
-    submodules: &mut ArrayVec<DiffSubmodule, 256>,
-) -> Result<&'a [u8], BlockFault>
-    ensures { Gives (λ rest. (submodules.new.items, rest.now)) result (submodules_read count submodules.old.items bytes.now) }
-{
-    let mut rest = bytes;
-    for turn in 0..count {
-        let (entry, behind) = next_submodule_at(rest, submodules)?;
-        submodules.push(entry);
-        rest = behind;
-    }
-    Ok(rest)
-}
-
-/// So many modules with their submodules, which come to those before them, and what is behind them.
-#[tactic(auto, using(crate::proofs::Diff::modules_go_on, crate::proofs::Diff::modules_fail, crate::proofs::Diff::modules_fail_inside, crate::proofs::Diff::modules_end))]
-fn modules_at<'a>(
-    bytes: &'a [u8],
-    count: u16,
-    value: &mut DiffModules,
-) -> Result<&'a [u8], BlockFault>
-    ensures { Gives (λ rest. ((value.new.modules.items, value.new.submodules.items), rest.now)) result (modules_read count value.old.modules.items value.old.submodules.items bytes.now) }
-{
-    let mut rest = bytes;
-    for turn in 0..count {
-        let (entry, behind) = next_module_at(rest, &value.modules)?;
-        rest = submodules_at(behind, entry.number_of_submodules, &mut value.submodules)?;
-        value.modules.push(entry);
-    }
-    Ok(rest)
 }
 
 /// Reads NumberOfModules and the entries of modules and submodules into these lists: what is behind them.
-#[tactic(auto, unfolding(crate::specs::ModuleDiff::diff_modules, crate::specs::ModuleDiff::modules_read))]
+#[tactic(auto, unfolding(crate::specs::ModuleDiff::diff_modules))]
 fn fill_diff_modules<'a>(bytes: &'a [u8], value: &mut DiffModules) -> Result<&'a [u8], BlockFault>
     ensures { Gives (λ rest. (value.new, rest.now)) result (diff_modules.read bytes.now) }
 {
-    let (count, rest) = u16_at(bytes)?;
-    value.modules.clear();
-    value.submodules.clear();
-    modules_at(rest, count, value)
+    fill_modules(bytes, &mut value.modules, &mut value.submodules)
 }
 
 /// Reads what BlockLength counts of a ModuleDiffBlock, to the last octet. At a fault the value is any.
@@ -188,108 +155,24 @@ pub fn fill_module_diff(bytes: &[u8], value: &mut ModuleDiffBlock) -> Result<(),
     module_diff_fields!(fill_body [bytes, value])
 }
 
-/// Appends an entry of a module. There must be room.
-#[tactic(auto, unfolding(crate::specs::ModuleDiff::diff_module))]
-fn put_diff_module<const N: usize>(out: &mut ArrayVec<u8, N>, value: &DiffModule)
-    requires { array_vec_len out.old + 10 ≤ N }
-    ensures items { (tail : List ℕ) → out.new.items ++ tail ≡ out.old.items ++ diff_module.write value.now tail }
-    ensures len { array_vec_len out.new ≡ array_vec_len out.old + 10 }
-    ensures fits { diff_module.Fits value.now }
-{
-    diff_module_fields!(put_fields [out, value]);
-}
-
-/// Appends an entry of a submodule. There must be room.
-#[tactic(auto, unfolding(crate::specs::ModuleDiff::diff_submodule))]
-fn put_diff_submodule<const N: usize>(out: &mut ArrayVec<u8, N>, value: &DiffSubmodule)
-    requires { array_vec_len out.old + 8 ≤ N }
-    ensures items { (tail : List ℕ) → out.new.items ++ tail ≡ out.old.items ++ diff_submodule.write value.now tail }
-    ensures len { array_vec_len out.new ≡ array_vec_len out.old + 8 }
-    ensures fits { diff_submodule.Fits value.now }
-{
-    diff_submodule_fields!(put_fields [out, value]);
-}
-
-/// Appends the entries of submodules. There must be room.
-#[tactic(auto, using(crate::proofs::Diff::one_inner, wire::proofs::Nesting::fits_on))]
-fn put_submodules<const N: usize>(out: &mut ArrayVec<u8, N>, submodules: &[DiffSubmodule])
-    requires { array_vec_len out.old + submodules_size submodules.now ≤ N }
-    ensures items { (tail : List ℕ) → out.new.items ++ tail ≡ out.old.items ++ submodules_bytes submodules.now tail }
-    ensures len { array_vec_len out.new ≡ array_vec_len out.old + submodules_size submodules.now }
-    ensures fits { SubmodulesFit submodules.now }
-{
-    for submodule in submodules {
-        put_diff_submodule(out, submodule);
-    }
-}
-
-/// Appends the entries of modules, each with as many of the submodules as it counts. There must be room.
-#[tactic(auto, using(crate::proofs::Diff::one_more, wire::proofs::Nesting::nested_fits_on))]
-fn put_modules<const N: usize>(
-    out: &mut ArrayVec<u8, N>,
-    modules: &[DiffModule],
-    submodules: &[DiffSubmodule],
-)
-    requires { array_vec_len out.old + modules_size modules.now submodules.now ≤ N }
-    ensures items { (tail : List ℕ) → out.new.items ++ tail ≡ out.old.items ++ modules_bytes modules.now submodules.now tail }
-    ensures len { array_vec_len out.new ≡ array_vec_len out.old + modules_size modules.now submodules.now }
-    ensures fits { ModulesFit modules.now submodules.now }
-{
-    let mut left = submodules;
-    for entry in modules {
-        put_diff_module(out, entry);
-        let count = left.len().min(entry.number_of_submodules as usize);
-        put_submodules(out, &left[..count]);
-        left = &left[count..];
-    }
-}
-
 /// Appends NumberOfModules and the entries of modules and submodules. There must be room.
-#[tactic(auto, using(crate::proofs::Diff::modules_written, crate::proofs::Diff::modules_sized, crate::proofs::Diff::modules_fit))]
+#[tactic(auto, using(crate::proofs::Diff::modules_fit), unfolding(crate::specs::ModuleDiff::diff_modules))]
 fn put_diff_modules<const N: usize>(out: &mut ArrayVec<u8, N>, value: &DiffModules)
     requires { array_vec_len out.old + diff_modules.size value.now ≤ N }
     ensures items { (tail : List ℕ) → out.new.items ++ tail ≡ out.old.items ++ diff_modules.write value.now tail }
     ensures len { array_vec_len out.new ≡ array_vec_len out.old + diff_modules.size value.now }
     ensures fits { IsCounted value.now → diff_modules.Fits value.now }
 {
-    append_u16(out, value.modules.len() as u16);
-    put_modules(out, value.modules.as_slice(), value.submodules.as_slice());
-}
-
-/// How many octets the entries of submodules take.
-#[tactic(auto, using(crate::proofs::Diff::submodules_sized))]
-fn submodules_len(submodules: &[DiffSubmodule]) -> usize
-    requires { length submodules.now ≤ 256 }
-    ensures size { result ≡ submodules_size submodules.now }
-    ensures few { result ≡ 8 * length submodules.now }
-{
-    8 * submodules.len()
-}
-
-/// How many octets the entries of modules take with their submodules.
-fn modules_len(modules: &[DiffModule], submodules: &[DiffSubmodule]) -> usize
-    requires modules { length modules.now ≤ 256 }
-    requires submodules { length submodules.now ≤ 256 }
-    ensures size { result ≡ modules_size modules.now submodules.now }
-    ensures few { result ≤ 10 * length modules.now + 8 * length submodules.now }
-{
-    let mut left = submodules;
-    let mut size = 0;
-    for entry in modules {
-        let count = left.len().min(entry.number_of_submodules as usize);
-        size += 10 + submodules_len(&left[..count]);
-        left = &left[count..];
-    }
-    size
+    put_modules(out, &value.modules, &value.submodules);
 }
 
 /// How many octets NumberOfModules and the entries of modules and submodules take.
-#[tactic(auto, using(crate::proofs::Diff::modules_sized))]
+#[tactic(auto, using(crate::proofs::Diff::modules_few), unfolding(crate::specs::ModuleDiff::diff_modules))]
 fn diff_modules_len(value: &DiffModules) -> usize
     ensures size { result ≡ diff_modules.size value.now }
     ensures few { result ≤ 4610 }
 {
-    2 + modules_len(value.modules.as_slice(), value.submodules.as_slice())
+    modules_len(&value.modules, &value.submodules)
 }
 
 /// Appends the fields of a ModuleDiffBlock. There must be room.

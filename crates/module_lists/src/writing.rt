@@ -53,6 +53,8 @@ pub fn put_modules<const N: usize, M: Module + Put<N>, S: Put<N>>(
     ensures items { (tail : List ℕ) → out.new.items ++ tail ≡ out.old.items ++ (module_list M.format M.own S.format).write (modules.now.items, submodules.now.items) tail }
     ensures len { array_vec_len out.new ≡ array_vec_len out.old + (module_list M.format M.own S.format).size (modules.now.items, submodules.now.items) }
     ensures fits { FitsNested M.fits M.own S.fits modules.now.items submodules.now.items }
+    ensures modules { length modules.now.items ≤ 256 }
+    ensures submodules { length submodules.now.items ≤ 256 }
 {
     append_u16(out, modules.len() as u16);
     put_each(out, modules.as_slice(), submodules.as_slice());
@@ -95,7 +97,9 @@ pub fn modules_len<M: Module, S: Entry>(
     modules: &ArrayVec<M, 256>,
     submodules: &ArrayVec<S, 256>,
 ) -> usize
-    ensures { result ≡ (module_list M.format M.own S.format).size (modules.now.items, submodules.now.items) }
+    ensures size { result ≡ (module_list M.format M.own S.format).size (modules.now.items, submodules.now.items) }
+    ensures modules { length modules.now.items ≤ 256 }
+    ensures submodules { length submodules.now.items ≤ 256 }
 {
     2 + each_len(modules.as_slice(), submodules.as_slice())
 }
