@@ -8,12 +8,13 @@ use Rattle.std.proofs.lemmas.List.{append-nil, length-append, length-take, take-
 use Rattle.std.proofs.lemmas.List.Folds.{list_any-append}
 use Rattle.std.proofs.lemmas.List.Sums.{sum_by-cons}
 use Rattle.wire.specs.Counted.{FitsEach}
-use Rattle.wire.specs.Nested.{FitsOuter}
+use Rattle.wire.specs.Nested.{FitsOuter, FitsNested}
+use Rattle.module_lists.specs.Lists.{next_entry, module_list}
 use Rattle.module_blocks.specs.declared.submodule_data.SubmoduleData.{SubmoduleData}
 use Rattle.module_blocks.specs.declared.expected.ExpectedModule.{ExpectedModule}
 use Rattle.module_blocks.specs.declared.expected.ExpectedSubmodule.{ExpectedSubmodule}
 use Rattle.module_blocks.specs.declared.expected.ExpectedModules.{ExpectedModules}
-use Rattle.module_blocks.specs.Expected.{description_kind, description, no_data, data_of, submodule_data, new_slot, new_subslot, expected_module, expected_submodule, own_of, next_module, next_submodule, expected_modules, IsShort, SubslotsDiffer, IsExpected, SubmodulesFit, ModulesFit}
+use Rattle.module_blocks.specs.Expected.{description_kind, description, no_data, data_of, submodule_data, new_slot, new_subslot, expected_module, expected_submodule, own_of, expected_modules, IsShort, SubslotsDiffer, IsExpected, SubmoduleFits}
 
 -- ---- numbers that differ
 
@@ -74,9 +75,9 @@ all_cut P (suc n) (value ∷ values) all = let cut = all_cut P n values all.1 in
 
 -- the submodules of a slot, behind some of them
 own_fit : (second own values : List ExpectedSubmodule) → length second + length own + length values ≤ 256 → AreNew (λ entry. entry.subslot_number) own values
-    → IsDistinct (λ one other. one.subslot_number == other.subslot_number) values → AllByRecursion (λ entry. IsShort entry.io_data) values → SubmodulesFit values
-    → FitsEach (next_submodule (length second)) (second ++ own) values
-unfolding next_submodule IsDistinct
+    → IsDistinct (λ one other. one.subslot_number == other.subslot_number) values → AllByRecursion (λ entry. IsShort entry.io_data) values → AllByRecursion SubmoduleFits values
+    → FitsEach (next_entry expected_submodule (length second)) (second ++ own) values
+unfolding next_entry IsDistinct
 own_fit second own [] room new distinct short fits = tt
 own_fit second own (entry ∷ values) room new distinct short fits =
     let more = own_fit second (own ++ entry ∷ []) values (omega (arith, room, length-append own (entry ∷ []))) (new_on (λ entry. entry.subslot_number) own entry values new.1 distinct.0) distinct.1 short.1 fits.1 in (
@@ -85,16 +86,16 @@ own_fit second own (entry ∷ values) room new distinct short fits =
         subst (λ (before : List ExpectedSubmodule). (expected_submodule before).Fits entry) (sym (drop_at second own (length second) refl))
             (submodule_fits own entry new.0 (fits.0 short.0)),
       ),
-      subst (λ (before : List ExpectedSubmodule). FitsEach (next_submodule (length second)) before values) (sym (append_assoc second own (entry ∷ []))) more,
+      subst (λ (before : List ExpectedSubmodule). FitsEach (next_entry expected_submodule (length second)) before values) (sym (append_assoc second own (entry ∷ []))) more,
     )
 
 -- modules behind some of them, and submodules behind theirs
 all_fit : (first : List ExpectedModule) (second : List ExpectedSubmodule) (modules : List ExpectedModule) (submodules : List ExpectedSubmodule)
     → length first + length modules ≤ 256 → length second + length submodules ≤ 256 → sum_by own_of modules ≡ length submodules
     → AreNew (λ entry. entry.slot_number) first modules → IsDistinct (λ one other. one.slot_number == other.slot_number) modules
-    → SubslotsDiffer modules submodules → AllByRecursion (λ entry. IsShort entry.io_data) submodules → ModulesFit modules submodules
-    → FitsOuter next_module own_of next_submodule first second modules submodules
-unfolding next_module IsDistinct
+    → SubslotsDiffer modules submodules → AllByRecursion (λ entry. IsShort entry.io_data) submodules → FitsNested (expected_module []).Fits own_of SubmoduleFits modules submodules
+    → FitsOuter (next_entry expected_module 0) own_of (next_entry expected_submodule) first second modules submodules
+unfolding next_entry IsDistinct
 all_fit first second [] submodules room places counted new slots subslots short fits = nil_from_length submodules (sym counted)
 all_fit first second (entry ∷ modules) submodules room places counted new slots subslots short fits =
     let n = own_of entry in
@@ -106,7 +107,7 @@ all_fit first second (entry ∷ modules) submodules room places counted new slot
     let cut = all_cut (λ (part : ExpectedSubmodule). IsShort part.io_data) n submodules short in (
       (lt-ltb _ _ (omega (arith, room)), module_fits first entry new.0 fits.0),
       few,
-      subst (λ (before : List ExpectedSubmodule). FitsEach (next_submodule (length second)) before (take n submodules)) (append-nil second)
+      subst (λ (before : List ExpectedSubmodule). FitsEach (next_entry expected_submodule (length second)) before (take n submodules)) (append-nil second)
           (own_fit second [] (take n submodules) (omega (arith, places, own, few)) (new_first (λ entry. entry.subslot_number) (take n submodules)) subslots.0 cut.0 fits.1),
       all_fit (first ++ entry ∷ []) (second ++ take n submodules) modules (drop n submodules) (omega (arith, room, length-append first (entry ∷ [])))
           (omega (arith, places, left, length-append second (take n submodules))) (omega (arith, counted, sum, own, left))
@@ -115,8 +116,8 @@ all_fit first second (entry ∷ modules) submodules room places counted new slot
 
 -- what is accepted can be written
 pub modules_fit : (value : ExpectedModules) → length value.modules.items ≤ 256 → length value.submodules.items ≤ 256 → IsExpected value
-    → ModulesFit value.modules.items value.submodules.items → expected_modules.Fits value
-unfolding expected_modules
+    → FitsNested (expected_module []).Fits own_of SubmoduleFits value.modules.items value.submodules.items → expected_modules.Fits value
+unfolding expected_modules module_list
 modules_fit value few places is fits = (
   omega (arith, few),
   all_fit [] [] value.modules.items value.submodules.items (omega (arith, few)) (omega (arith, places)) is.counted

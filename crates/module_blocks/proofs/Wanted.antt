@@ -1,20 +1,19 @@
 -- The modules of an ExpectedSubmoduleBlockReq, one after another.
-use Rattle.std.proofs.Common.{◌≡◌, ℕ, ◌+◌, ◌<◌, ◌≤◌, ◌%◌, ◌==◌, Bool, ◌||◌, List, [], ◌∷◌, ◌++◌, length, drop, get_or, Option, Some, None, Ok, Err, refl, ap, arith}
-use Rattle.std.proofs.lemmas.List.{drop_more}
+use Rattle.std.proofs.Common.{◌≡◌, ℕ, ◌+◌, ◌*◌, ◌<◌, ◌≤◌, ◌%◌, ◌==◌, Bool, ◌||◌, List, [], ◌∷◌, ◌++◌, length, drop, get_or, Option, Some, None, Ok, Err, refl, ap, arith}
 use Rattle.wire.specs.Codec.{IsSound}
 use Rattle.wire.proofs.Joined.{then_by_sound, seen_sound, when_sound}
 use Rattle.wire.proofs.Judged.{checked_sound}
-use Rattle.wire.proofs.Counts.{bounded_sound}
-use Rattle.wire.proofs.Nesting.{nested_sound, inner_goes_on, inner_fails, inner_ends, outer_goes_on, outer_fails, outer_fails_inside, outer_ends, outer_flat, outer_flat_size, one_left}
 use Rattle.block_fields.specs.declared.fault.BlockFault.{BlockFault}
-use Rattle.block_fields.specs.declared.fault.BlockFault.TheVariants.{Count, Field}
-use Rattle.block_fields.specs.Fields.{two, number_bytes}
+use Rattle.block_fields.specs.declared.fault.BlockFault.TheVariants.{Field}
+use Rattle.block_fields.specs.Fields.{two}
 use Rattle.block_fields.proofs.Sound.{numeral_sound, ranged_sound, fixed_one_sound, fixed_four_sound}
+use Rattle.module_lists.proofs.Taken.{modules_sound}
+use Rattle.module_lists.proofs.Written.{modules_few as few}
 use Rattle.module_blocks.specs.declared.submodule_data.SubmoduleData.{SubmoduleData}
 use Rattle.module_blocks.specs.declared.expected.ExpectedModule.{ExpectedModule}
 use Rattle.module_blocks.specs.declared.expected.ExpectedSubmodule.{ExpectedSubmodule}
 use Rattle.module_blocks.specs.declared.expected.ExpectedModules.{ExpectedModules}
-use Rattle.module_blocks.specs.Expected.{description_kind, description, no_data, data_of, submodule_data, data_size, new_slot, new_subslot, expected_module, expected_submodule, own_of, next_module, next_submodule, expected_modules, expected, submodules_read, modules_read, module_bytes, submodule_bytes, submodule_size, modules_bytes, modules_size, submodules_size}
+use Rattle.module_blocks.specs.Expected.{description_kind, description, no_data, data_of, submodule_data, data_size, new_slot, new_subslot, expected_module, expected_submodule, own_of, expected_modules, expected}
 
 -- ---- the law
 
@@ -53,71 +52,18 @@ expected_submodule_sound : (before : List ExpectedSubmodule) → IsSound (expect
 unfolding expected_submodule
 expected_submodule_sound before = seen_sound _ _ _ (λ _. refl) (then_by_sound _ _ (new_subslot_sound before) (λ _. then_by_sound _ _ (numeral_sound 4) (λ _. submodule_data_sound)))
 
-next_module_sound : (before : List ExpectedModule) → IsSound (next_module before)
-unfolding next_module
-next_module_sound before = bounded_sound expected_module expected_module_sound 256 Count before
-
-next_submodule_sound : (start : ℕ) (before : List ExpectedSubmodule) → IsSound (next_submodule start before)
-unfolding next_submodule
-next_submodule_sound start before = bounded_sound (λ all. expected_submodule (drop start all)) (λ all. expected_submodule_sound (drop start all)) 256 Count before
-
 expected_modules_sound : IsSound expected_modules
 unfolding expected_modules
-expected_modules_sound = seen_sound _ _ _ (λ _. refl) (nested_sound next_module own_of next_submodule next_module_sound next_submodule_sound two (numeral_sound 2))
+expected_modules_sound = seen_sound _ _ _ (λ _. refl) (modules_sound expected_module own_of expected_submodule expected_module_sound expected_submodule_sound)
 
 pub expected_sound : IsSound expected
 unfolding expected
 expected_sound = seen_sound _ _ _ (λ _. refl) expected_modules_sound
 
--- ---- reading goes on behind an entry, or ends at a fault
-
-pub submodules_go_on : (start : ℕ) (before : List ExpectedSubmodule) (bytes behind : List ℕ) (entry : ExpectedSubmodule) (left n : ℕ) → left ≡ n + 1
-    → (next_submodule start before).read bytes ≡ Ok (entry, behind) → submodules_read start left before bytes ≡ submodules_read start n (before ++ entry ∷ []) behind
-unfolding submodules_read
-submodules_go_on start before bytes behind entry left n h e = inner_goes_on (next_submodule start) before bytes left entry behind n h e
-
-pub submodules_fail : (start : ℕ) (before : List ExpectedSubmodule) (bytes : List ℕ) (fault : BlockFault) (left : ℕ) → 0 < left
-    → (next_submodule start before).read bytes ≡ Err fault → submodules_read start left before bytes ≡ Err fault
-unfolding submodules_read
-submodules_fail start before bytes fault left h e = inner_fails (next_submodule start) before bytes left fault h e
-
-pub submodules_end : (start : ℕ) (before : List ExpectedSubmodule) (bytes : List ℕ) (left : ℕ) → left ≡ 0 → submodules_read start left before bytes ≡ Ok (before, bytes)
-unfolding submodules_read
-submodules_end start before bytes left h = inner_ends (next_submodule start) before bytes left h
-
-pub modules_go_on : (modules : List ExpectedModule) (submodules more : List ExpectedSubmodule) (bytes behind rest : List ℕ) (entry : ExpectedModule) (left n : ℕ)
-    → left ≡ n + 1 → (next_module modules).read bytes ≡ Ok (entry, behind)
-    → submodules_read (length submodules) entry.number_of_submodules submodules behind ≡ Ok (more, rest)
-    → modules_read left modules submodules bytes ≡ modules_read n (modules ++ entry ∷ []) more rest
-unfolding modules_read submodules_read
-modules_go_on modules submodules more bytes behind rest entry left n h e f =
-    outer_goes_on next_module own_of next_submodule modules submodules bytes left entry more behind rest n h e f
-
-pub modules_fail : (modules : List ExpectedModule) (submodules : List ExpectedSubmodule) (bytes : List ℕ) (fault : BlockFault) (left : ℕ) → 0 < left
-    → (next_module modules).read bytes ≡ Err fault → modules_read left modules submodules bytes ≡ Err fault
-unfolding modules_read
-modules_fail modules submodules bytes fault left h e = outer_fails next_module own_of next_submodule modules submodules bytes left fault h e
-
-pub modules_fail_inside : (modules : List ExpectedModule) (submodules : List ExpectedSubmodule) (bytes behind : List ℕ) (entry : ExpectedModule) (fault : BlockFault) (left : ℕ)
-    → 0 < left → (next_module modules).read bytes ≡ Ok (entry, behind)
-    → submodules_read (length submodules) entry.number_of_submodules submodules behind ≡ Err fault → modules_read left modules submodules bytes ≡ Err fault
-unfolding modules_read submodules_read
-modules_fail_inside modules submodules bytes behind entry fault left h e f =
-    outer_fails_inside next_module own_of next_submodule modules submodules bytes left entry behind fault h e f
-
-pub modules_end : (modules : List ExpectedModule) (submodules : List ExpectedSubmodule) (bytes : List ℕ) (left : ℕ) → left ≡ 0
-    → modules_read left modules submodules bytes ≡ Ok ((modules, submodules), bytes)
-unfolding modules_read
-modules_end modules submodules bytes left h = outer_ends next_module own_of next_submodule modules submodules bytes left h
-
 -- ---- what is written
 
-heads : (before : List ExpectedModule) (entry : ExpectedModule) → (next_module before).size entry ≡ 14
-unfolding next_module expected_module new_slot
-heads before entry = refl
-
 -- how many octets SubmoduleProperties and the descriptions take
-data_sized : (value : SubmoduleData) → submodule_data.size value ≡ data_size value.input value.output
+pub data_sized : (value : SubmoduleData) → submodule_data.size value ≡ data_size value.input value.output
 unfolding submodule_data no_data data_of description description_kind
 data_sized value = by value.input value.output
   where
@@ -127,37 +73,18 @@ data_sized value = by value.input value.output
     by None (Some o) = refl
     by (Some i) (Some o) = refl
 
-inner : (start : ℕ) (before : List ExpectedSubmodule) (entry : ExpectedSubmodule) → (next_submodule start before).size entry ≡ submodule_size entry
-unfolding next_submodule expected_submodule new_subslot
-inner start before entry = omega (arith, data_sized entry.io_data)
+-- at most 14 octets
+data_few : (value : SubmoduleData) → data_size value.input value.output ≤ 14
+data_few value = by value.input value.output
+  where
+    by : (input output : Option ℕ) → data_size input output ≤ 14
+    by None None = omega arith
+    by (Some i) None = omega arith
+    by None (Some o) = omega arith
+    by (Some i) (Some o) = omega arith
 
-heads_same : (before : List ExpectedModule) (entry : ExpectedModule) (rest : List ℕ) → (next_module before).write entry rest ≡ module_bytes entry rest
-unfolding next_module expected_module new_slot
-heads_same before entry rest = refl
-
-inner_same : (start : ℕ) (before : List ExpectedSubmodule) (entry : ExpectedSubmodule) (rest : List ℕ) → (next_submodule start before).write entry rest ≡ submodule_bytes entry rest
-unfolding next_submodule expected_submodule new_subslot
-inner_same start before entry rest = refl
-
-pub modules_written : (value : ExpectedModules) (rest : List ℕ)
-    → expected_modules.write value rest ≡ number_bytes 2 (length value.modules.items) (modules_bytes value.modules.items value.submodules.items rest)
-unfolding expected_modules
-modules_written value rest =
-    ap (λ (xs : List ℕ). number_bytes 2 (length value.modules.items) xs)
-    (outer_flat next_module own_of next_submodule module_bytes 14 submodule_bytes submodule_size heads_same heads inner_same inner
-    [] [] value.modules.items value.submodules.items rest)
-
-pub modules_sized : (value : ExpectedModules) → expected_modules.size value ≡ 2 + modules_size value.modules.items value.submodules.items
-unfolding expected_modules
-modules_sized value =
-    ap (λ (n : ℕ). 2 + n) (outer_flat_size next_module own_of next_submodule module_bytes 14 submodule_bytes submodule_size heads_same heads inner_same inner
-    [] [] value.modules.items value.submodules.items)
-
--- the first of the submodules that are left
-pub first_inner : (submodules : List ExpectedSubmodule) (i : ℕ) (d : ExpectedSubmodule) → i < length submodules
-    → submodules_size (drop i submodules) ≡ submodule_size (get_or submodules i d) + submodules_size (drop (i + 1) submodules)
-first_inner submodules i d below = ap submodules_size (drop_more submodules i d below)
-
--- a module that is left takes its fourteen octets at least
-pub one_more : (modules : List ExpectedModule) (submodules : List ExpectedSubmodule) (i : ℕ) → i < length modules → 14 ≤ modules_size (drop i modules) submodules
-one_more modules submodules i h = one_left 14 own_of submodule_size modules submodules i h
+-- 14 octets a module and at most 20 a submodule, and the count
+pub modules_few : (value : ExpectedModules) → expected_modules.size value ≤ 2 + (length value.modules.items * 14 + length value.submodules.items * 20)
+unfolding expected_modules expected_module expected_submodule new_slot new_subslot
+modules_few value =
+    few expected_module own_of expected_submodule 14 20 (λ _ _. omega arith) (λ _ entry. omega (arith, data_sized entry.io_data, data_few entry.io_data)) value.modules.items value.submodules.items

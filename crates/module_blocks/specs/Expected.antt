@@ -1,15 +1,14 @@
 -- ExpectedSubmoduleBlockReq (IEC 61158-6-10, 5.2.4.5): the modules and submodules that a controller expects. The submodules of
 -- all modules stand in one list, those of the first module first.
-use Rattle.std.specs.Prelude.{◌≡◌, ◌≤◌, ◌+◌, ◌%◌, ◌==◌, ◌||◌, ℕ, Bool, true, false, not, List, [], ◌∷◌, length, take, drop, sum_by, Option, Some, None, IfSome, Result}
+use Rattle.std.specs.Prelude.{◌≡◌, ◌≤◌, ◌+◌, ◌%◌, ◌==◌, ◌||◌, ℕ, Bool, true, false, not, List, [], ◌∷◌, length, take, drop, sum_by, Option, Some, None, IfSome, refl}
 use Rattle.std.specs.List.{list_any, AllByRecursion, IsDistinct}
 use Rattle.wire.specs.Codec.{Codec}
 use Rattle.wire.specs.Formats.{◌⨾◌, seen, then_by, when}
 use Rattle.wire.specs.Checks.{checked}
-use Rattle.wire.specs.Counted.{bounded}
-use Rattle.wire.specs.Nested.{nested, read_inner, read_outer, flat_bytes, flat_size, nested_bytes, nested_size, FitsNested}
 use Rattle.block_fields.specs.declared.fault.BlockFault.{BlockFault}
-use Rattle.block_fields.specs.declared.fault.BlockFault.TheVariants.{Count, Field}
+use Rattle.block_fields.specs.declared.fault.BlockFault.TheVariants.{Field}
 use Rattle.block_fields.specs.Fields.{two, four, ranged, fixed_one, fixed_four}
+use Rattle.module_lists.specs.Lists.{module_list, WritesAlike}
 use Rattle.module_blocks.specs.declared.expected.ExpectedModule.{ExpectedModule}
 use Rattle.module_blocks.specs.declared.submodule_data.SubmoduleData.{SubmoduleData}
 use Rattle.module_blocks.specs.declared.expected.ExpectedSubmodule.{ExpectedSubmodule}
@@ -87,12 +86,14 @@ expected_submodule before = seen
 abbrev pub own_of : ExpectedModule → ℕ
 own_of entry = entry.number_of_submodules
 
--- one more of each behind these, of which there are at most 256; those of its slot begin at a place
-unfoldable pub next_module : List ExpectedModule → Codec BlockFault ExpectedModule
-next_module before = bounded 256 Count expected_module before
+-- what is written of them does not hang on those before them
+pub expected_module_alike : WritesAlike expected_module
+unfolding expected_module new_slot
+expected_module_alike = record { write = λ before entry rest. refl; size = λ before entry. refl }
 
-unfoldable pub next_submodule : ℕ → List ExpectedSubmodule → Codec BlockFault ExpectedSubmodule
-next_submodule start before = bounded 256 Count (λ all. expected_submodule (drop start all)) before
+pub expected_submodule_alike : WritesAlike expected_submodule
+unfolding expected_submodule new_subslot
+expected_submodule_alike = record { write = λ before entry rest. refl; size = λ before entry. refl }
 
 -- ---- the block
 
@@ -101,7 +102,7 @@ unfoldable pub expected_modules : Codec BlockFault ExpectedModules
 expected_modules = seen
     (λ x. record { modules = record { items = x.0 }; submodules = record { items = x.1 } })
     (λ value. (value.modules.items, value.submodules.items))
-    (nested next_module own_of next_submodule two)
+    (module_list expected_module own_of expected_submodule)
 
 unfoldable pub expected : Codec BlockFault ExpectedSubmoduleBlockReq
 expected = seen (λ x. record { modules = x }) (λ block. block.modules) expected_modules
@@ -129,45 +130,6 @@ pub record IsExpected (value : ExpectedModules) : Type 0 where
 abbrev pub IsExpectedSubmoduleBlockReq : ExpectedSubmoduleBlockReq → Type 0
 IsExpectedSubmoduleBlockReq block = IsExpected block.modules
 
--- ---- as the code goes over the lists
-
--- so many submodules behind those before them, of which their slot's begin at a place, and so many modules with theirs
-unfoldable pub submodules_read : ℕ → ℕ → List ExpectedSubmodule → List ℕ → Result (List ExpectedSubmodule × List ℕ) BlockFault
-submodules_read start count before bytes = read_inner (next_submodule start) count before bytes
-
-unfoldable pub modules_read : ℕ → List ExpectedModule → List ExpectedSubmodule → List ℕ → Result ((List ExpectedModule × List ExpectedSubmodule) × List ℕ) BlockFault
-modules_read count modules submodules bytes = read_outer next_module own_of next_submodule count modules submodules bytes
-
--- the octets of an entry, which do not hang on those before it
-abbrev pub module_bytes : ExpectedModule → List ℕ → List ℕ
-module_bytes entry rest = (expected_module []).write entry rest
-
-abbrev pub submodule_bytes : ExpectedSubmodule → List ℕ → List ℕ
-submodule_bytes entry rest = (expected_submodule []).write entry rest
-
-abbrev pub submodule_size : ExpectedSubmodule → ℕ
-submodule_size entry = 6 + data_size entry.io_data.input entry.io_data.output
-
--- submodules, and modules with theirs, in front of what follows
-abbrev pub submodules_bytes : List ExpectedSubmodule → List ℕ → List ℕ
-submodules_bytes submodules rest = flat_bytes submodule_bytes submodules rest
-
-abbrev pub modules_bytes : List ExpectedModule → List ExpectedSubmodule → List ℕ → List ℕ
-modules_bytes modules submodules rest = nested_bytes module_bytes own_of submodule_bytes modules submodules rest
-
--- how many octets they take: 14 a module
-abbrev pub submodules_size : List ExpectedSubmodule → ℕ
-submodules_size submodules = flat_size submodule_size submodules
-
-abbrev pub modules_size : List ExpectedModule → List ExpectedSubmodule → ℕ
-modules_size modules submodules = nested_size 14 own_of submodule_size modules submodules
-
--- the fields of a submodule fit where its data is not too long, and those of modules with theirs
+-- the fields of a submodule fit where its data is not too long
 abbrev pub SubmoduleFits : ExpectedSubmodule → Type 0
 SubmoduleFits entry = IsShort entry.io_data → (expected_submodule []).Fits entry
-
-abbrev pub SubmodulesFit : List ExpectedSubmodule → Type 0
-SubmodulesFit submodules = AllByRecursion SubmoduleFits submodules
-
-abbrev pub ModulesFit : List ExpectedModule → List ExpectedSubmodule → Type 0
-ModulesFit modules submodules = FitsNested (expected_module []).Fits own_of SubmoduleFits modules submodules
