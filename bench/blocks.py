@@ -103,7 +103,7 @@ def largest_frame():
     """The octets of the largest frame of a function that reads or writes blocks, as the program was built."""
     listing = subprocess.run(["objdump", "-d", "--no-show-raw-insn", PROGRAM], capture_output=True, text=True, check=True).stdout
     frames = []
-    for name, body in re.findall(r"<((?:block_codec|connect_blocks|module_blocks|record_blocks)::[^\n]*)>:\n(.*?)\n\n", listing, re.DOTALL):
+    for name, body in re.findall(r"<((?:block_codec|connect_blocks|module_lists|module_blocks|record_blocks)::[^\n]*)>:\n(.*?)\n\n", listing, re.DOTALL):
         # a large frame is probed page by page, down to what r11 holds
         probed = [int(size, 16) for size in re.findall(r"sub +\$0x([0-9a-f]+),%r11", body)]
         rest = [int(size, 16) for size in re.findall(r"sub +\$0x([0-9a-f]+),%rsp", body)]

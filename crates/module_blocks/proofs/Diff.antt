@@ -1,13 +1,11 @@
 -- The modules of a ModuleDiffBlock, one after another.
-use Rattle.std.proofs.Common.{◌≡◌, ℕ, ◌+◌, ◌*◌, ◌≤◌, List, length, refl, arith}
+use Rattle.std.proofs.Common.{◌+◌, ◌*◌, ◌≤◌, length, refl, arith}
 use Rattle.wire.specs.Codec.{IsSound}
 use Rattle.wire.specs.Nested.{FitsNested}
 use Rattle.wire.proofs.Joined.{then_by_sound, seen_sound}
 use Rattle.block_fields.proofs.Sound.{numeral_sound, fixed_sound}
 use Rattle.module_lists.proofs.Taken.{modules_sound}
 use Rattle.module_lists.proofs.Written.{modules_few as few, modules_fit as fit}
-use Rattle.module_blocks.specs.declared.module_diff.DiffModule.{DiffModule}
-use Rattle.module_blocks.specs.declared.module_diff.DiffSubmodule.{DiffSubmodule}
 use Rattle.module_blocks.specs.declared.module_diff.DiffModules.{DiffModules}
 use Rattle.module_blocks.specs.ModuleDiff.{diff_module, diff_submodule, own_of, diff_modules, module_diff, IsCounted}
 

@@ -1,12 +1,12 @@
 -- What is written of the lists, entry by entry, and how many octets it takes.
-use Rattle.std.proofs.Common.{◌≡◌, ℕ, ◌+◌, ◌*◌, ◌<◌, ◌≤◌, List, [], ◌∷◌, ◌++◌, length, take, drop, get_or, sum_by, refl, ap, arith}
+use Rattle.std.proofs.Common.{◌≡◌, ℕ, ◌+◌, ◌*◌, ◌<◌, ◌≤◌, List, [], length, take, drop, get_or, sum_by, ap, arith}
 use Rattle.std.proofs.lemmas.List.{drop_more}
 use Rattle.wire.specs.Codec.{Codec}
 use Rattle.wire.specs.Nested.{FitsNested}
 use Rattle.wire.proofs.Nesting.{outer_flat, outer_flat_size, outer_few, outer_bounded}
 use Rattle.block_fields.specs.declared.fault.BlockFault.{BlockFault}
 use Rattle.block_fields.specs.declared.fault.BlockFault.TheVariants.{Count}
-use Rattle.block_fields.specs.Fields.{two, number_bytes}
+use Rattle.block_fields.specs.Fields.{number_bytes}
 use Rattle.module_lists.specs.Lists.{next_entry, module_list, submodules_size, modules_bytes, modules_size, WritesAlike}
 
 -- the first of the submodules that are left

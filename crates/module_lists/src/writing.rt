@@ -9,7 +9,7 @@ use crate::entry::{Entry, Module, Put};
 use arrayvec::ArrayVec;
 use block_fields::append_u16;
 
-/// Appends the submodules of one module. There must be room.
+/// Appends the entries of submodules. There must be room.
 #[tactic(auto, using(crate::proofs::Written::first_inner, wire::proofs::Nesting::fits_on))]
 fn put_submodules<const N: usize, S: Put<N>>(out: &mut ArrayVec<u8, N>, submodules: &[S])
     requires { array_vec_len out.old + submodules_size S.format submodules.now ≤ N }
@@ -22,9 +22,9 @@ fn put_submodules<const N: usize, S: Put<N>>(out: &mut ArrayVec<u8, N>, submodul
     }
 }
 
-/// Appends modules, each with as many of the submodules as it counts. There must be room.
+/// Appends the entries of modules, each with as many of the submodules as it counts. There must be room.
 #[tactic(auto, using(crate::proofs::Written::first_outer, wire::proofs::Nesting::nested_fits_on))]
-fn put_each<const N: usize, M: Module + Put<N>, S: Put<N>>(
+fn put_entries<const N: usize, M: Module + Put<N>, S: Put<N>>(
     out: &mut ArrayVec<u8, N>,
     modules: &[M],
     submodules: &[S],
@@ -53,14 +53,14 @@ pub fn put_modules<const N: usize, M: Module + Put<N>, S: Put<N>>(
     ensures items { (tail : List ℕ) → out.new.items ++ tail ≡ out.old.items ++ (module_list M.format M.own S.format).write (modules.now.items, submodules.now.items) tail }
     ensures len { array_vec_len out.new ≡ array_vec_len out.old + (module_list M.format M.own S.format).size (modules.now.items, submodules.now.items) }
     ensures fits { FitsNested M.fits M.own S.fits modules.now.items submodules.now.items }
-    ensures modules { length modules.now.items ≤ 256 }
-    ensures submodules { length submodules.now.items ≤ 256 }
+    ensures few_modules { length modules.now.items ≤ 256 }
+    ensures few_submodules { length submodules.now.items ≤ 256 }
 {
     append_u16(out, modules.len() as u16);
-    put_each(out, modules.as_slice(), submodules.as_slice());
+    put_entries(out, modules.as_slice(), submodules.as_slice());
 }
 
-/// How many octets the submodules of one module take.
+/// How many octets the entries of submodules take.
 #[tactic(auto, using(crate::proofs::Written::first_inner))]
 fn submodules_len<S: Entry>(submodules: &[S]) -> usize
     requires { length submodules.now ≤ 256 }
@@ -74,9 +74,9 @@ fn submodules_len<S: Entry>(submodules: &[S]) -> usize
     size
 }
 
-/// How many octets modules take with their submodules.
+/// How many octets the entries of modules take with their submodules.
 #[tactic(auto, using(crate::proofs::Written::first_outer))]
-fn each_len<M: Module, S: Entry>(modules: &[M], submodules: &[S]) -> usize
+fn entries_len<M: Module, S: Entry>(modules: &[M], submodules: &[S]) -> usize
     requires modules { length modules.now ≤ 256 }
     requires submodules { length submodules.now ≤ 256 }
     ensures size { result ≡ modules_size M.format M.own S.format modules.now submodules.now }
@@ -98,8 +98,8 @@ pub fn modules_len<M: Module, S: Entry>(
     submodules: &ArrayVec<S, 256>,
 ) -> usize
     ensures size { result ≡ (module_list M.format M.own S.format).size (modules.now.items, submodules.now.items) }
-    ensures modules { length modules.now.items ≤ 256 }
-    ensures submodules { length submodules.now.items ≤ 256 }
+    ensures few_modules { length modules.now.items ≤ 256 }
+    ensures few_submodules { length submodules.now.items ≤ 256 }
 {
-    2 + each_len(modules.as_slice(), submodules.as_slice())
+    2 + entries_len(modules.as_slice(), submodules.as_slice())
 }

@@ -1,13 +1,11 @@
 -- The modules of an I&M0FilterData, one after another.
-use Rattle.std.proofs.Common.{◌≡◌, ℕ, ◌+◌, ◌*◌, ◌≤◌, List, length, refl, arith}
+use Rattle.std.proofs.Common.{◌+◌, ◌*◌, ◌≤◌, length, refl, arith}
 use Rattle.wire.specs.Codec.{IsSound}
 use Rattle.wire.specs.Nested.{FitsNested}
 use Rattle.wire.proofs.Joined.{then_by_sound, seen_sound}
 use Rattle.block_fields.proofs.Sound.{numeral_sound, fixed_sound}
 use Rattle.module_lists.proofs.Taken.{modules_sound}
 use Rattle.module_lists.proofs.Written.{modules_few as few, modules_fit as fit}
-use Rattle.record_blocks.specs.declared.filter_data.FilterModule.{FilterModule}
-use Rattle.record_blocks.specs.declared.filter_data.FilterSubmodule.{FilterSubmodule}
 use Rattle.record_blocks.specs.declared.filter_data.FilterModules.{FilterModules}
 use Rattle.record_blocks.specs.FilterData.{filter_module, filter_submodule, own_of, filter_modules, filter_data, IsCounted}
 

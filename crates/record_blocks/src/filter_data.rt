@@ -135,7 +135,10 @@ impl<const N: usize> Put<N> for FilterSubmodule {
 
 /// Reads NumberOfModules and the entries of modules and submodules into these lists: what is behind them.
 #[tactic(auto, unfolding(crate::specs::FilterData::filter_modules))]
-fn fill_filter_modules<'a>(bytes: &'a [u8], value: &mut FilterModules) -> Result<&'a [u8], BlockFault>
+fn fill_filter_modules<'a>(
+    bytes: &'a [u8],
+    value: &mut FilterModules,
+) -> Result<&'a [u8], BlockFault>
     ensures { Gives (λ rest. (value.new, rest.now)) result (filter_modules.read bytes.now) }
 {
     fill_modules(bytes, &mut value.modules, &mut value.submodules)

@@ -1,4 +1,4 @@
-use Rattle.std.proofs.Common.{rules, ◌≡◌, sym, ◌∙◌, arith}
+use Rattle.std.proofs.Common.{rules, sym, ◌∙◌, arith}
 use Rattle.module_lists.proofs.Taken.{modules_fail, modules_fail_inside}
 use Rattle.module_lists.proofs.reading.modules_at.Goals as goal
 

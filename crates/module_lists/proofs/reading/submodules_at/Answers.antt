@@ -1,4 +1,4 @@
-use Rattle.std.proofs.Common.{rules, ◌≡◌, sym, ◌∙◌, arith}
+use Rattle.std.proofs.Common.{rules, sym, ◌∙◌, arith}
 use Rattle.module_lists.proofs.Taken.{submodules_fail}
 use Rattle.module_lists.proofs.reading.submodules_at.Goals as goal
 

@@ -1,8 +1,7 @@
-use Rattle.std.proofs.Common.{◌≡◌, ◌+◌, arith}
+use Rattle.std.proofs.Common.{arith}
 use Rattle.module_lists.proofs.Written.{modules_sized}
 use Rattle.module_lists.proofs.writing.modules_len.Goals as goal
 
 pub returns-clause-size : goal.returns-clause-size
 returns-clause-size g c =
-    let long = rw (c.as_slice.ensures.value, c.as_slice-2.ensures.value) at c.each_len.ensures.size in
-    omega (arith, long, modules_sized g.M.Entry.format g.M.Module.own g.S.Entry.format g.met.M.Entry.alike g.met.S.Entry.alike c.args.modules.now.items c.args.submodules.now.items)
+    let sized = modules_sized g.M.Entry.format g.M.Module.own g.S.Entry.format g.met.M.Entry.alike g.met.S.Entry.alike in grind (arith, sized)

@@ -1,15 +1,19 @@
-use Rattle.std.proofs.Common.{rules, ◌≡◌, ◌+◌, arith}
+use Rattle.std.proofs.Common.{arith}
 use Rattle.module_lists.proofs.Written.{modules_sized, modules_written}
 use Rattle.module_lists.proofs.writing.put_modules.Goals as goal
 
 pub append_u16-requires : goal.append_u16-requires
-append_u16-requires g c = grind (arith, modules_sized g.M.Entry.format g.M.Module.own g.S.Entry.format g.met.M.Entry.alike g.met.S.Entry.alike c.args.modules.now.items c.args.submodules.now.items)
+append_u16-requires g c =
+    let sized = modules_sized g.M.Entry.format g.M.Module.own g.S.Entry.format g.met.M.Entry.alike g.met.S.Entry.alike in grind (arith, sized)
 
-pub put_each-requires : goal.put_each-requires
-put_each-requires g c = grind (arith, modules_sized g.M.Entry.format g.M.Module.own g.S.Entry.format g.met.M.Entry.alike g.met.S.Entry.alike c.args.modules.now.items c.args.submodules.now.items)
+pub put_entries-requires : goal.put_entries-requires
+put_entries-requires g c =
+    let sized = modules_sized g.M.Entry.format g.M.Module.own g.S.Entry.format g.met.M.Entry.alike g.met.S.Entry.alike in grind (arith, sized)
 
 pub returns-clause-items : goal.returns-clause-items
-returns-clause-items g c tail = grind (arith, modules_written g.M.Entry.format g.M.Module.own g.S.Entry.format g.met.M.Entry.alike g.met.S.Entry.alike c.args.modules.now.items c.args.submodules.now.items tail)
+returns-clause-items g c tail =
+    let written = modules_written g.M.Entry.format g.M.Module.own g.S.Entry.format g.met.M.Entry.alike g.met.S.Entry.alike in grind (arith, written)
 
 pub returns-clause-len : goal.returns-clause-len
-returns-clause-len g c = grind (arith, modules_sized g.M.Entry.format g.M.Module.own g.S.Entry.format g.met.M.Entry.alike g.met.S.Entry.alike c.args.modules.now.items c.args.submodules.now.items)
+returns-clause-len g c =
+    let sized = modules_sized g.M.Entry.format g.M.Module.own g.S.Entry.format g.met.M.Entry.alike g.met.S.Entry.alike in grind (arith, sized)

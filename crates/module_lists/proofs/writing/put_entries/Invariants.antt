@@ -3,7 +3,7 @@ use Rattle.std.proofs.Common.{◌≡◌, ◌+◌, ◌++◌, ℕ, List, drop}
 use Rattle.arrayvec.specs.ArrayVec.{array_vec_len}
 use Rattle.wire.specs.Nested.{FitsNested}
 use Rattle.module_lists.specs.Lists.{modules_bytes, modules_size}
-use Rattle.module_lists.proofs.writing.put_each.Given as goal
+use Rattle.module_lists.proofs.writing.put_entries.Given as goal
 
 abbrev pub invariant-loop-entry : goal.invariant-loop-entry
 invariant-loop-entry g l =

@@ -1,7 +1,7 @@
 -- the octets so far, and those of the entries that are left
 use Rattle.std.proofs.Common.{◌≡◌, ◌+◌, ◌*◌, ◌≤◌, length, drop}
 use Rattle.module_lists.specs.Lists.{modules_size}
-use Rattle.module_lists.proofs.writing.each_len.Given as goal
+use Rattle.module_lists.proofs.writing.entries_len.Given as goal
 
 abbrev pub invariant-loop-entry : goal.invariant-loop-entry
 invariant-loop-entry g l = let sizes = modules_size g.M.Entry.format g.M.Module.own g.S.Entry.format in record {
