@@ -1,26 +1,23 @@
 -- What a start and a commit answer, and what a commit leaves.
-use Rattle.std.specs.Prelude.{◌≡◌, ◌⊎◌, ◌<◌, ℕ, Result, Ok, Err}
+use Rattle.std.specs.Prelude.{◌≡◌, ◌⊎◌, ℕ, Result, Ok, Err}
 use Rattle.pn_values.specs.declared.settings.Settings.{Settings}
 use Rattle.flash_model.specs.Image.{Image}
+use Rattle.flash_model.specs.Torn.{HasRisen}
 use Rattle.settings_journal.specs.declared.journal.BootFault.{BootFault}
 use Rattle.settings_journal.specs.declared.journal.BootFault.TheVariants.{FlashFault, Foreign}
 use Rattle.settings_journal.specs.declared.journal.CommitFault.{CommitFault}
 use Rattle.settings_journal.specs.declared.journal.CommitFault.TheVariants as commit
 use Rattle.settings_journal.specs.Image.{BootsTo, LeftByDevice}
 
--- a call of the flash failed: the count of failures rose, or stands where it counts no further
-abbrev pub IsFault : ℕ → ℕ → Type 0
-IsFault before now = (before < now) ⊎ ((before ≡ 18446744073709551615) × (now ≡ 18446744073709551615))
-
 -- a start answers FlashFault where a read failed, and only there
 abbrev pub HasBootCause : BootFault → ℕ → ℕ → Type 0
-HasBootCause FlashFault before now = IsFault before now
+HasBootCause FlashFault before now = HasRisen before now
 HasBootCause Foreign before now = now ≡ before
 
 -- a commit answers FlashFault where a call of the flash failed, and only there
 abbrev pub HasCommitCause : Result (Unit {0}) CommitFault → ℕ → ℕ → Type 0
 HasCommitCause (Ok done) before now = now ≡ before
-HasCommitCause (Err commit.FlashFault) before now = IsFault before now
+HasCommitCause (Err commit.FlashFault) before now = HasRisen before now
 HasCommitCause (Err commit.Exhausted) before now = now ≡ before
 HasCommitCause (Err commit.Failed) before now = now ≡ before
 

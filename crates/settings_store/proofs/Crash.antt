@@ -5,7 +5,7 @@ use Rattle.pn_values.specs.declared.settings.Settings.{Settings}
 use Rattle.pn_values.specs.declared.set_item.SetItem.{SetItem}
 use Rattle.pn_values.specs.declared.set_item.BlockError.{BlockError}
 use Rattle.flash_model.specs.Image.{Image}
-use Rattle.settings_journal.specs.Commit.{IsFault}
+use Rattle.flash_model.specs.Torn.{HasRisen}
 use Rattle.settings_journal.specs.Image.{LeftByDevice}
 use Rattle.settings_store.specs.State.{State, Values}
 use Rattle.settings_store.specs.Machine.{Accepted, followed_by, carried}
@@ -44,10 +44,10 @@ safe_then before between first middle front back old mid new stays none made one
   untouched = λ failed. two.untouched (stays failed) ∙ one.untouched failed;
 }
 
-fault_then : (a b c : ℕ) → IsFault a b → IsFault b c → IsFault a c
+fault_then : (a b c : ℕ) → HasRisen a b → HasRisen b c → HasRisen a c
 fault_then a b c one two = grind arith
 
-fault_quiet : (a b c : ℕ) → IsFault a b → c ≡ b → IsFault a c
+fault_quiet : (a b c : ℕ) → HasRisen a b → c ≡ b → HasRisen a c
 fault_quiet a b c one same = rw same one
 
 still_fine : (before now : Bool) → (before ≡ true → now ≡ true) → now ≡ false → before ≡ false
@@ -59,7 +59,7 @@ pub caused_then : {A B C : Type 0} (front : List A) (back : List B) (all : List 
     → (front ≡ [] → back ≡ [] → all ≡ []) → (old.has_failed ≡ true → between.has_failed ≡ true) → (between.has_failed ≡ true → new.has_failed ≡ true)
     → IsCaused front before mid old between → IsCaused back mid now between new → IsCaused all before now old new
 caused_then front back all before mid now old between new quiet first second (inl one) (inl two) = inl (quiet one.0 two.0, two.1 ∙ one.1)
-caused_then front back all before mid now old between new quiet first second (inl one) (inr two) = inr (subst (λ n. IsFault n now) one.1 two.0, still_fine _ _ first two.1, two.2)
+caused_then front back all before mid now old between new quiet first second (inl one) (inr two) = inr (subst (λ n. HasRisen n now) one.1 two.0, still_fine _ _ first two.1, two.2)
 caused_then front back all before mid now old between new quiet first second (inr one) (inl two) = inr (fault_quiet before mid now one.0 two.1, one.1, second one.2)
 caused_then front back all before mid now old between new quiet first second (inr one) (inr two) = cc
 

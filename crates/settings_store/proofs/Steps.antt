@@ -9,7 +9,8 @@ use Rattle.pn_values.specs.declared.set_item.SetItem.TheVariants.{Ask, Answer}
 use Rattle.pn_values.specs.declared.set_item.BlockError.{BlockError}
 use Rattle.pn_values.specs.declared.set_item.BlockError.TheVariants.{Done, Exhausted, Local}
 use Rattle.flash_model.specs.Image.{Image}
-use Rattle.settings_journal.specs.Commit.{IsFault, IsKept}
+use Rattle.flash_model.specs.Torn.{HasRisen}
+use Rattle.settings_journal.specs.Commit.{IsKept}
 use Rattle.settings_journal.specs.Image.{StartsWith, LeftByDevice}
 use Rattle.settings_journal.specs.State as journal
 use Rattle.pn_values.specs.declared.settings.Settings.{Settings}
@@ -120,7 +121,7 @@ passed image failures is_lost old new before now command fine still settings roo
 -- a call of the flash failed, and the settings from before or those after are stored
 pub faulted : {F : Type 0} (image : F → Image) (failures : F → ℕ) (is_lost : F → Bool) (old new : journal.State F) (running : Settings) (command : Command)
     → old.has_failed ≡ false → new.has_failed ≡ true → (old.room ≡ 0 → ⊥) → new.settings ≡ old.settings → new.room ≡ old.room
-    → IsFault (failures old.flash) (failures new.flash)
+    → HasRisen (failures old.flash) (failures new.flash)
     → (LeftByDevice (image old.flash) → LeftByDevice (image new.flash))
     → (LeftByDevice (image old.flash) → IsKept (image new.flash) old.settings (apply command old.settings)) → (is_lost old.flash ≡ true → is_lost new.flash ≡ true)
     → Carries image failures (seen is_lost old running) (Ask command ∷ []) (Local ∷ []) (seen is_lost new running)

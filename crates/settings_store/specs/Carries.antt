@@ -3,7 +3,7 @@ use Rattle.std.specs.Prelude.{◌≡◌, ◌⊎◌, ℕ, true, false, List, [], 
 use Rattle.pn_values.specs.declared.set_item.SetItem.{SetItem}
 use Rattle.pn_values.specs.declared.set_item.BlockError.{BlockError}
 use Rattle.flash_model.specs.Image.{Image}
-use Rattle.settings_journal.specs.Commit.{IsFault}
+use Rattle.flash_model.specs.Torn.{HasRisen}
 use Rattle.settings_journal.specs.Image.{StartsWith}
 use Rattle.settings_store.specs.State.{State, Values}
 use Rattle.settings_store.specs.Machine.{Outcome, first_of, rest_of, carried_one, carried}
@@ -13,7 +13,7 @@ use Rattle.settings_store.specs.Legal.{CrashSafe}
 -- start. The outcomes may be those of one stretch, or those of many in a list of lists.
 abbrev pub IsCaused : {A : Type 0} → List A → ℕ → ℕ → Values → Values → Type 0
 IsCaused outcomes before now old new =
-    ((outcomes ≡ []) × (now ≡ before)) ⊎ (IsFault before now × (old.has_failed ≡ false) × (new.has_failed ≡ true))
+    ((outcomes ≡ []) × (now ≡ before)) ⊎ (HasRisen before now × (old.has_failed ≡ false) × (new.has_failed ≡ true))
 
 -- where no commit failed since the start, a start on the image gives the stored settings, and room for as many commits
 abbrev pub Holds : Image → Values → Type 0
@@ -23,7 +23,7 @@ Holds image values = values.has_failed ≡ false → StartsWith image values.sto
 -- it, the first since the start.
 abbrev pub IsCausedAlone : ℕ → ℕ → Values → Values → Type 0
 IsCausedAlone before now old new =
-    ((now ≡ before) × (new.has_failed ≡ old.has_failed)) ⊎ (IsFault before now × (old.has_failed ≡ false) × (new.has_failed ≡ true))
+    ((now ≡ before) × (new.has_failed ≡ old.has_failed)) ⊎ (HasRisen before now × (old.has_failed ≡ false) × (new.has_failed ≡ true))
 
 -- One item, for an outcome of its call: the values are those that it makes, the outcome has its cause in this item, the
 -- image is safe and holds what is stored, and where no command is accepted the flash is left alone.
