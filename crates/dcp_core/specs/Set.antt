@@ -6,6 +6,7 @@ use Rattle.std.specs.Int.{w16, from_be_bytes}
 use Rattle.pn_values.specs.declared.command.Command.{Command}
 use Rattle.pn_values.specs.declared.command.Command.TheVariants.{SetName, SetIp, ResetApplication, ResetCommunication, ResetAll}
 use Rattle.pn_values.specs.declared.set_item.SetItem.{SetItem}
+use Rattle.pn_values.specs.declared.set_item.SetItem.TheVariants as item
 use Rattle.pn_values.specs.declared.set_item.SetItem.TheVariants.{Ask, Answer}
 use Rattle.pn_values.specs.declared.set_item.BlockError.{BlockError}
 use Rattle.pn_values.specs.declared.set_item.BlockError.TheVariants as error
@@ -56,7 +57,7 @@ is_flash contents = pointwise nat_eq (value_in contents) (1 ∷ 0 ∷ [])
 
 -- Signal
 abbrev pub signal_item : List ℕ → SetItem
-signal_item contents = Answer (if is_flash contents then error.Done else error.Value)
+signal_item contents = if is_flash contents then item.Signal else Answer error.Value
 
 -- FactoryReset: a qualifier alone
 abbrev pub factory_item : List ℕ → SetItem

@@ -108,11 +108,11 @@ fn is_permanent(qualifier: [u8; 2]) -> bool
 fn plan_signal(contents: &[u8]) -> SetItem
     ensures { result ≡ signal_item contents.now }
 {
-    SetItem::Answer(if asks_to_flash(contents) {
-        BlockError::Done
+    if asks_to_flash(contents) {
+        SetItem::Signal
     } else {
-        BlockError::Value
-    })
+        SetItem::Answer(BlockError::Value)
+    }
 }
 
 /// Whether a Signal block asks to flash once, which is all that it may ask.

@@ -20,14 +20,24 @@ pub enum BlockError {
     InOperation = 6,
 }
 
-/// What one block of a Set comes to: a command to carry out, or an answer that asks for nothing to be stored.
+/// What one block of a Set comes to.
 #[derive(Drop)]
 pub enum SetItem {
+    /// A command to carry out.
     Ask(Command),
+    /// The lamp is to flash: nothing is stored, and the answer is `Done`.
+    Signal,
+    /// An answer that asks for nothing at all.
     Answer(BlockError),
 }
 
 impl Default for SetItem {
+    ghost use Rattle.std.specs.Prelude.{◌≡◌};
+    ghost use Rattle.pn_values.specs.declared.set_item.SetItem.TheVariants.{Answer};
+    ghost use Rattle.pn_values.specs.declared.set_item.BlockError.TheVariants.{Done};
+
+    ghost is_default = { λ item. item ≡ Answer Done };
+
     fn default() -> SetItem {
         SetItem::Answer(BlockError::Done)
     }

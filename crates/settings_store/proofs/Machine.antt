@@ -7,9 +7,9 @@ use Rattle.std.proofs.lemmas.List.Elements.{All-nil, All-cons}
 use Rattle.pn_values.specs.declared.settings.Settings.{Settings}
 use Rattle.pn_values.specs.declared.command.Command.{Command}
 use Rattle.pn_values.specs.declared.set_item.SetItem.{SetItem}
-use Rattle.pn_values.specs.declared.set_item.SetItem.TheVariants.{Ask, Answer}
+use Rattle.pn_values.specs.declared.set_item.SetItem.TheVariants.{Ask, Signal, Answer}
 use Rattle.pn_values.specs.declared.set_item.BlockError.{BlockError}
-use Rattle.pn_values.specs.declared.set_item.BlockError.TheVariants.{Exhausted, Local}
+use Rattle.pn_values.specs.declared.set_item.BlockError.TheVariants.{Done, Exhausted, Local}
 use Rattle.settings_store.specs.State.{Values}
 use Rattle.settings_store.specs.Machine.{Outcome, Pass, Fault, Accepted, Carried, answered, accepted, carried_one, first_of, rest_of, followed_by, carried}
 use Rattle.settings_store.specs.Legal.{made_of}
@@ -39,6 +39,7 @@ pub item_is : (P : Carried → Type 0) (outcome : Outcome) (values : Values) (it
     → ((is_lost : Bool) (command : Command) → values.has_failed ≡ false → (values.room == 0) ≡ false → P (accepted (Fault is_lost) values command))
     → P (carried_one outcome values item)
 item_is P outcome values (Answer answer) alone passed fault = alone answer
+item_is P outcome values Signal alone passed fault = alone Done
 item_is P outcome values (Ask command) alone passed fault =
     cond_both values.has_failed _ _ P (λ _. alone Local)
     (λ fine. cond_both (values.room == 0) _ _ P (λ _. alone Exhausted)

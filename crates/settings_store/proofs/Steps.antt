@@ -5,7 +5,7 @@ use Rattle.std.proofs.lemmas.Bool.{cond-true, cond-false}
 use Rattle.pn_values.specs.Command.{apply, show}
 use Rattle.pn_values.specs.declared.command.Command.{Command}
 use Rattle.pn_values.specs.declared.set_item.SetItem.{SetItem}
-use Rattle.pn_values.specs.declared.set_item.SetItem.TheVariants.{Ask, Answer}
+use Rattle.pn_values.specs.declared.set_item.SetItem.TheVariants.{Ask, Signal, Answer}
 use Rattle.pn_values.specs.declared.set_item.BlockError.{BlockError}
 use Rattle.pn_values.specs.declared.set_item.BlockError.TheVariants.{Done, Exhausted, Local}
 use Rattle.flash_model.specs.Image.{Image}
@@ -162,6 +162,10 @@ full image failures is_lost old new running command same fine none holds =
 pub answers : {F : Type 0} (image : F → Image) (failures : F → ℕ) (state : State F) (answer : BlockError)
     → Holds (image state.flash) state.values → Carries image failures state (Answer answer ∷ []) (answer ∷ []) state
 answers image failures state answer holds = alone image failures state (Answer answer) answer refl holds
+
+-- a lamp that is to flash
+pub signals : {F : Type 0} (image : F → Image) (failures : F → ℕ) (state : State F) → Holds (image state.flash) state.values → Carries image failures state (Signal ∷ []) (Done ∷ []) state
+signals image failures state holds = alone image failures state Signal Done refl holds
 
 -- nothing to do
 pub nothing : {F : Type 0} (image : F → Image) (failures : F → ℕ) (state : State F) → Holds (image state.flash) state.values → Carries image failures state [] [] state

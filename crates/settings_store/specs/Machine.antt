@@ -3,7 +3,7 @@ use Rattle.std.specs.Prelude.{◌-◌, ◌==◌, Bool, true, false, List, [], �
 use Rattle.pn_values.specs.Command.{apply, show}
 use Rattle.pn_values.specs.declared.command.Command.{Command}
 use Rattle.pn_values.specs.declared.set_item.SetItem.{SetItem}
-use Rattle.pn_values.specs.declared.set_item.SetItem.TheVariants.{Ask, Answer}
+use Rattle.pn_values.specs.declared.set_item.SetItem.TheVariants.{Ask, Signal, Answer}
 use Rattle.pn_values.specs.declared.set_item.BlockError.{BlockError}
 use Rattle.pn_values.specs.declared.set_item.BlockError.TheVariants.{Done, Exhausted, Local}
 use Rattle.settings_store.specs.State.{Values}
@@ -54,6 +54,7 @@ committed outcome values command =
 
 abbrev pub carried_one : Outcome → Values → SetItem → Carried
 carried_one outcome values (Ask command) = committed outcome values command
+carried_one outcome values Signal = answered Done values
 carried_one outcome values (Answer answer) = answered answer values
 
 -- the outcome of the first call; a call of which nothing is said passes

@@ -127,6 +127,7 @@ impl<F: Flash<S>, const S: usize> Store<F, S> {
         let _ = &self.journal;
         match item {
             SetItem::Ask(command) => self.commit(command),
+            SetItem::Signal => BlockError::Done,
             SetItem::Answer(answer) => *answer,
         }
     }
