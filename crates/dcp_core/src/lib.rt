@@ -21,6 +21,3 @@ pub use reading::read_request;
 pub use request::{Block, DcpFault, Request, Service};
 pub use response::{Outcome, Response, ResponseBlock, ResponseBlocks};
 pub use set::{has_signal, plan_block, set_answer, set_plan};
-
-#[cfg(test)]
-mod tests;

@@ -18,6 +18,3 @@ pub use layered::{Layered, Payload};
 pub use limits::{Bytes, Frame, Outbox};
 pub use reading::read;
 pub use writing::{put_alone, write};
-
-#[cfg(test)]
-mod tests;

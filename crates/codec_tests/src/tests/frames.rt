@@ -1,8 +1,9 @@
+// Frames as they are on the wire.
 ghost use Rattle.std.specs.Prelude.{◌≡◌, ◌+◌, length};
 ghost use Rattle.frame_codec.specs.Meaning.{meaning_of};
 ghost use Rattle.frame_codec.specs.Frame.{content_size};
 
-use super::*;
+use frame_codec::{DCP_IDENTIFY_REQUEST, FrameFault, Layered, Outbox, Payload, read, write};
 use pn_values::Mac;
 
 /// A DCP Identify request for all stations, as it is sent on the wire before padding.

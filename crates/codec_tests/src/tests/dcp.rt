@@ -1,9 +1,9 @@
 // Frames that other stations sent, and what this one answers. Each is given from behind its FrameID.
-use crate::{
+use arrayvec::ArrayVec;
+use dcp_core::{
     DcpFault, Kind, Outcome, ResponseBlock, ResponseBlocks, Service, get_answer, identify_answer,
     identify_matches, read_answer, read_request, set_answer, set_plan,
 };
-use arrayvec::ArrayVec;
 use pn_values::{BlockError, Command, Identity, Mac, SetItem, Settings};
 
 const GET_SET: u16 = 0xFEFD;

@@ -1,0 +1,3 @@
+// A module for each codec, by what it reads and writes.
+mod dcp;
+mod frames;
