@@ -1,90 +1,73 @@
 -- What one step and runs of steps do.
-use Rattle.std.proofs.Common.{◌≡◌, ◌+◌, ℕ, Bool, true, false, List, [], ◌∷◌, ◌++◌, length, length-append, refl, sym, ap, ◌∙◌, append_assoc, arith}
+use Rattle.std.proofs.Common.{◌≡◌, ◌+◌, ℕ, Bool, true, false, List, [], ◌∷◌, ◌++◌, length, length-append, map, refl, sym, ap, ◌∙◌, append_assoc, arith}
 use Rattle.std.proofs.lemmas.List.{append-nil}
 use Rattle.pn_values.specs.declared.identity.Identity.{Identity}
 use Rattle.settings_store.specs.Machine.{Outcome, Accepted, carried}
 use Rattle.settings_store.specs.Legal.{made_of}
 use Rattle.device_core.specs.declared.event.Event.{Event}
 use Rattle.device_core.specs.State.{Live}
-use Rattle.pn_values.specs.declared.mac.Mac.{Mac}
-use Rattle.dcp_core.specs.declared.request.Service.{Service}
-use Rattle.dcp_core.specs.declared.request.Service.TheVariants as service
-use Rattle.dcp_core.specs.Request.{Asked}
-use Rattle.dcp_core.specs.Set.{plan_of, set_bytes}
-use Rattle.device_core.specs.declared.event.Note.TheVariants as note
-use Rattle.device_core.specs.Heard.{Heard, Ticks, Unreadable, Elsewhere, Asks, heard_of}
-use Rattle.device_core.specs.Machine.{Stepped, Ran, items_of, lamp_after, answer_frame, finished, heard_step, step_of, handed, first_step, later_steps, then_run, run_of}
+use Rattle.device_core.specs.Heard.{Heard, heard_of}
+use Rattle.device_core.specs.Sent.{bytes_of}
+use Rattle.device_core.specs.Machine.{Judged, Refuses, Sets, Moves, Stepped, Ran, judged, items_in, items_of, finished, judged_step, heard_step, step_of, handed, first_step, later_steps, then_run, run_of}
 use Rattle.settings_store.proofs.Laws.{failed_accepted, stays_failed, stored_made, made_append, room_left}
 
--- whether a Set was heard, which alone asks the flash for something
-abbrev pub is_set : Heard → Bool
-is_set (Asks asker request) = sets request.service
-  where
-    sets : Service → Bool
-    sets service.Set = true
-    sets service.Get = false
-    sets service.Identify = false
-is_set Ticks = false
-is_set Unreadable = false
-is_set Elsewhere = false
+-- whether a Set was judged, which alone asks the settings for something
+abbrev pub is_set : Judged → Bool
+is_set (Refuses why) = false
+is_set (Sets asker request in_operation) = true
+is_set (Moves rest sent) = false
 
--- a step that asks nothing of the flash
-unfoldable pub quiet_step : Identity → Live → Heard → Stepped
-quiet_step identity live heard =
-    let end = finished identity live.values.running live.lamp heard [] in
-    record { live = record { values = live.values; lamp = end.lamp }; frames = end.frames; note = end.note; accepted = [] }
+-- what comes of all else: nothing is asked of the settings
+unfoldable pub quiet_step : Identity → Live → Judged → Stepped
+quiet_step identity live what =
+    let end = finished live.rest what [] in
+    record { live = record { values = live.values; rest = end.rest }; sent = end.sent; frames = map (bytes_of identity) end.sent; note = end.note; accepted = [] }
 
-nothing_for : (service : Service) (asker : Mac) (request : Asked) → request.service ≡ service → is_set (Asks asker request) ≡ false → items_of (Asks asker request) ≡ []
-nothing_for service.Set asker request is none = let e = rw is at none in cc
-nothing_for service.Get asker request is none = rw is refl
-nothing_for service.Identify asker request is none = rw is refl
+judged_quiet : (outcomes : List Outcome) (identity : Identity) (live : Live) (what : Judged) → is_set what ≡ false → judged_step outcomes identity live what ≡ quiet_step identity live what
+unfolding judged_step quiet_step
+judged_quiet outcomes identity live (Refuses why) none = refl
+judged_quiet outcomes identity live (Sets asker request in_operation) none = cc
+judged_quiet outcomes identity live (Moves rest sent) none = refl
 
-pub nothing_asked : (heard : Heard) → is_set heard ≡ false → items_of heard ≡ []
-nothing_asked (Asks asker request) none = nothing_for request.service asker request refl none
-nothing_asked Ticks none = refl
-nothing_asked Unreadable none = refl
-nothing_asked Elsewhere none = refl
+pub is_quiet : (outcomes : List Outcome) (identity : Identity) (live : Live) (heard : Heard) → is_set (judged identity live heard) ≡ false
+    → heard_step outcomes identity live heard ≡ quiet_step identity live (judged identity live heard)
+unfolding heard_step
+is_quiet outcomes identity live heard none = judged_quiet outcomes identity live (judged identity live heard) none
 
-pub is_quiet : (outcomes : List Outcome) (identity : Identity) (live : Live) (heard : Heard) → is_set heard ≡ false → heard_step outcomes identity live heard ≡ quiet_step identity live heard
-unfolding heard_step quiet_step
-is_quiet outcomes identity live heard none = let nothing = nothing_asked heard none in rw nothing refl
+no_items : (what : Judged) → is_set what ≡ false → items_in what ≡ []
+no_items (Refuses why) none = refl
+no_items (Sets asker request in_operation) none = cc
+no_items (Moves rest sent) none = refl
 
--- a Set
-unfoldable pub set_step : List Outcome → Identity → Live → Mac → Asked → Stepped
-set_step outcomes identity live asker request =
-    let settled = carried outcomes live.values (plan_of false request) in
-    record {
-      live = record { values = settled.values; lamp = lamp_after live.lamp request };
-      frames = answer_frame identity asker 65277 (set_bytes request settled.answers) ∷ [];
-      note = note.Done;
-      accepted = settled.accepted;
-    }
+pub nothing_asked : (identity : Identity) (live : Live) (heard : Heard) → is_set (judged identity live heard) ≡ false → items_of identity live heard ≡ []
+nothing_asked identity live heard none = no_items (judged identity live heard) none
 
-pub is_set_step : (outcomes : List Outcome) (identity : Identity) (live : Live) (asker : Mac) (request : Asked) → request.service ≡ service.Set
-    → heard_step outcomes identity live (Asks asker request) ≡ set_step outcomes identity live asker request
-unfolding heard_step set_step
-is_set_step outcomes identity live asker request set = rw set refl
+-- a step by what was judged
+pub judged_as : (outcomes : List Outcome) (identity : Identity) (live : Live) (heard : Heard) (what : Judged) → judged identity live heard ≡ what
+    → heard_step outcomes identity live heard ≡ judged_step outcomes identity live what
+unfolding heard_step
+judged_as outcomes identity live heard what is = ap (judged_step outcomes identity live) is
 
 -- after a commit that failed nothing is accepted
 pub step_none : (outcomes : List Outcome) (identity : Identity) (live : Live) (heard : Heard) → live.values.has_failed ≡ true → (heard_step outcomes identity live heard).accepted ≡ []
-unfolding heard_step
-step_none outcomes identity live heard failed = failed_accepted outcomes live.values (items_of heard) failed
+unfolding heard_step judged_step
+step_none outcomes identity live heard failed = failed_accepted outcomes live.values (items_of identity live heard) failed
 
 pub step_failed : (outcomes : List Outcome) (identity : Identity) (live : Live) (heard : Heard) → live.values.has_failed ≡ true → (heard_step outcomes identity live heard).live.values.has_failed ≡ true
-unfolding heard_step
-step_failed outcomes identity live heard failed = stays_failed outcomes live.values (items_of heard) failed
+unfolding heard_step judged_step
+step_failed outcomes identity live heard failed = stays_failed outcomes live.values (items_of identity live heard) failed
 
 -- while no commit failed, what is stored is what the accepted commands make
 pub step_stored : (outcomes : List Outcome) (identity : Identity) (live : Live) (heard : Heard) → (heard_step outcomes identity live heard).live.values.has_failed ≡ false
     → (heard_step outcomes identity live heard).live.values.stored ≡ made_of (heard_step outcomes identity live heard).accepted live.values.stored
-unfolding heard_step
-step_stored outcomes identity live heard fine = stored_made outcomes live.values (items_of heard) fine
+unfolding heard_step judged_step
+step_stored outcomes identity live heard fine = stored_made outcomes live.values (items_of identity live heard) fine
 
 -- while no commit failed, each accepted command takes one of the room for commits, and nothing else does
 pub step_room : (outcomes : List Outcome) (identity : Identity) (live : Live) (heard : Heard) → (heard_step outcomes identity live heard).live.values.has_failed ≡ false
     → (heard_step outcomes identity live heard).live.values.room + length (heard_step outcomes identity live heard).accepted ≡ live.values.room
-unfolding heard_step
-step_room outcomes identity live heard fine = room_left outcomes live.values (items_of heard) fine
+unfolding heard_step judged_step
+step_room outcomes identity live heard fine = room_left outcomes live.values (items_of identity live heard) fine
 
 -- a run, and then a step
 unfoldable pub then_step : Ran → Stepped → Ran

@@ -13,9 +13,17 @@ use Rattle.settings_store.specs.Machine.{Accepted}
 use Rattle.settings_store.specs.Carries.{IsCaused}
 use Rattle.device_core.specs.declared.event.Event.{Event}
 use Rattle.device_core.specs.State.{State, Live}
-use Rattle.device_core.specs.Steps.{EventByEvent, Runs}
+use Rattle.device_core.specs.Steps.{AnswersBy, IsIdentified, Runs}
 use Rattle.device_core.specs.Cycle.{started, cycle_of, Cycled, IsMadeOf, Restarts, Refuses, IsRefused}
-use Rattle.device_core.proofs.Steps.{same_state}
+use Rattle.device_core.specs.Heard.{heard_of}
+use Rattle.device_core.specs.Machine.{step_of}
+use Rattle.device_core.proofs.Steps.{same_state, identify_heard}
+
+-- a device whose running settings are these answers Identify by them
+answers_by : (identity : Identity) (live : Live) → live.values.running ≡ live.values.stored → AnswersBy identity live.values.stored live
+answers_by identity live runs outcomes event asker request is identify =
+    subst (λ settings. IsIdentified identity settings live asker request (step_of outcomes identity live event)) runs
+    (identify_heard outcomes identity live (heard_of identity event) asker request is identify)
 
 -- a start on a legal end has what its commands make of the first settings
 ends_made : (image : Image) (accepted : List Accepted) (first : Settings) (live : Live)
@@ -42,8 +50,7 @@ cycled_from image failures identity real flash begun first room events before no
       begins = (same_image, same_failures);
       caused = subst (λ n. IsCaused runs.outcomes n (failures ran.flash) (started first room).values end.live.values) same_failures
           (subst (λ v. IsCaused runs.outcomes (failures begun) (failures ran.flash) (started first room).values v) values runs.caused);
-      placed = subst (λ v. EventByEvent image failures runs.outcomes identity (record { flash = begun; values = (started first room).values }) events (record { flash = ran.flash; values = v }))
-          values runs.placed;
+      placed = runs.placed;
       handed_on = runs.frames;
       safe = subst (λ i. CrashSafe false first end.accepted i (image ran.flash)) same_image runs.safe;
       untouched = runs.untouched;
@@ -83,6 +90,7 @@ cycle_restarts image failures power_up identity real flash first room events bef
           (subst (λ i. StartsWith i end.live.values.stored end.live.values.room) (sym kept)
           (subst (λ v. StartsWith (image ran.flash) v.stored v.room) values (runs.holds (ap (λ v. v.has_failed) values ∙ fine))));
       nothing_else = fresh;
+      answers = answers_by identity again.live (ap (λ l. l.values.running) fresh);
       starts = subst (λ i. StartsWith i again.live.values.stored again.live.values.room) (sym image_is) starts;
       identity_is = same_identity ∙ runs.same.identity;
       real_is = same_real ∙ runs.same.real;

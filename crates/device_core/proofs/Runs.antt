@@ -61,8 +61,11 @@ run_more image failures old mid new events event before between now run on =
           ∙ append_assoc before ran.frames _ ∙ ap (λ f. before ++ f) (sym (ap (λ r. r.frames) all));
       caused = caused_then run.outcomes step.outcomes (joined run.outcomes events step.outcomes) _ _ _ old.live.values mid.live.values new.live.values
           (joined_quiet run.outcomes events step.outcomes) run_fails failed run.caused step.caused;
-      placed = placed_more image failures run.outcomes step.outcomes old.identity (store_of old) (store_of mid) (store_of new) events event run.placed
-          (subst (λ i. OneByOne image failures step.outcomes (store_of mid) (items_of (heard_of i event)) (store_of new)) run.same.identity step.placed);
+      placed = placed_more image failures run.outcomes step.outcomes old.identity old.flash mid.flash new.flash old.live events event run.placed
+          (subst (λ v. OneByOne image failures step.outcomes (record { flash = mid.flash; values = ran.live.values }) (items_of old.identity ran.live (heard_of old.identity event)) (record { flash = new.flash; values = v }))
+          (ap (λ l. l.values) live)
+          (subst (λ l. OneByOne image failures step.outcomes (record { flash = mid.flash; values = l.values }) (items_of old.identity l (heard_of old.identity event)) (store_of new)) run.live
+          (subst (λ i. OneByOne image failures step.outcomes (store_of mid) (items_of i mid.live (heard_of i event)) (store_of new)) run.same.identity step.placed)));
       safe = subst (λ a. CrashSafe old.live.values.has_failed old.live.values.stored a (image old.flash) (image new.flash)) (sym (ap (λ r. r.accepted) all))
           (safe_then old.live.values.has_failed mid.live.values.has_failed old.live.values.stored mid.live.values.stored ran.accepted one.accepted
           (image old.flash) (image mid.flash) (image new.flash) run_fails none made run.safe

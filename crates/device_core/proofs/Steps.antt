@@ -1,28 +1,27 @@
 -- What a step does, from what its parts do.
-use Rattle.std.proofs.lemmas.Bool.{cond_both, cond-true, cond-false}
-use Rattle.std.proofs.Common.{◌≡◌, ◌≢◌, ℕ, ◌-◌, false, List, [], ◌∷◌, map, refl, sym, ap, subst, ◌∙◌, inl}
+use Rattle.std.proofs.lemmas.Bool.{cond_both}
+use Rattle.std.proofs.Common.{◌≡◌, ◌≢◌, ℕ, Bool, false, List, [], ◌∷◌, map, refl, sym, ap, subst, ◌∙◌, inl}
 use Rattle.flash_model.specs.Image.{Image}
 use Rattle.pn_values.specs.declared.mac.Mac.{Mac}
 use Rattle.pn_values.specs.declared.identity.Identity.{Identity}
 use Rattle.pn_values.specs.declared.set_item.BlockError.{BlockError}
+use Rattle.pn_values.specs.declared.settings.Settings.{Settings}
 use Rattle.settings_store.specs.Machine.{Outcome}
 use Rattle.settings_store.specs.State as store
 use Rattle.settings_store.specs.Carries.{Carries, OneByOne, Holds}
-use Rattle.dcp_core.specs.declared.request.Service.{Service}
 use Rattle.dcp_core.specs.declared.request.Service.TheVariants as service
 use Rattle.dcp_core.specs.Request.{Asked}
 use Rattle.dcp_core.specs.Identify.{matches}
-use Rattle.dcp_core.specs.Get.{get_bytes}
-use Rattle.dcp_core.specs.Set.{plan_of, set_bytes}
+use Rattle.dcp_core.specs.Set.{plan_of}
 use Rattle.device_core.specs.declared.event.Note.{Note}
 use Rattle.device_core.specs.declared.event.Note.TheVariants as note
-use Rattle.pn_values.specs.declared.settings.Settings.{Settings}
 use Rattle.device_core.specs.Cycle.{started}
-use Rattle.device_core.specs.State.{State, Live, store_of}
-use Rattle.device_core.specs.Heard.{Heard, Ticks, Unreadable, Elsewhere, Asks}
-use Rattle.device_core.specs.Machine.{Finished, items_for, finished, identified, answered, lamp_after, answer_frame, heard_step}
-use Rattle.device_core.specs.Steps.{Steps, Identifies, IsSame}
-use Rattle.device_core.proofs.Machine.{is_set, nothing_asked, quiet_step, is_quiet, set_step, is_set_step}
+use Rattle.device_core.specs.State.{State, Rest, Live, store_of}
+use Rattle.device_core.specs.Heard.{Heard, Asks}
+use Rattle.device_core.specs.Sent.{Sent, GetAnswer, SetAnswer, bytes_of}
+use Rattle.device_core.specs.Machine.{Judged, Refuses, Sets, Moves, Stepped, identified, judged_request, judged, items_in, finished, judged_step, heard_step}
+use Rattle.device_core.specs.Steps.{Steps, Identifies, IsIdentified, IsSame}
+use Rattle.device_core.proofs.Machine.{is_set, nothing_asked, quiet_step, is_quiet, judged_as}
 
 -- a state by its parts
 pub same_state : {F : Type 0} (a b : State F) → a.flash ≡ b.flash → a.identity ≡ b.identity → a.real ≡ b.real → a.live ≡ b.live → a ≡ b
@@ -32,9 +31,9 @@ same_state a b flash identity real live =
     ∙ ap (λ r. record { flash = b.flash; identity = b.identity; real = r; live = a.live }) real
     ∙ ap (λ l. record { flash = b.flash; identity = b.identity; real = b.real; live = l }) live
 
-same_live : (a b : Live) → a.values ≡ b.values → a.lamp ≡ b.lamp → a ≡ b
-same_live a b values lamp =
-    ap (λ v. record { values = v; lamp = a.lamp }) values ∙ ap (λ l. record { values = b.values; lamp = l }) lamp
+same_live : (a b : Live) → a.values ≡ b.values → a.rest ≡ b.rest → a ≡ b
+same_live a b values rest =
+    ap (λ v. record { values = v; rest = a.rest }) values ∙ ap (λ r. record { values = b.values; rest = r }) rest
 
 same_values : (a b : store.Values) → a.running ≡ b.running → a.stored ≡ b.stored → a.room ≡ b.room → a.has_failed ≡ b.has_failed → a.is_lost ≡ b.is_lost → a ≡ b
 same_values a b running stored room failed lost =
@@ -42,163 +41,186 @@ same_values a b running stored room failed lost =
     ∙ ap (λ x. record b { room = x; has_failed = a.has_failed; is_lost = a.is_lost }) room
     ∙ ap (λ x. record b { has_failed = x; is_lost = a.is_lost }) failed ∙ ap (λ x. record b { is_lost = x }) lost
 
--- a step that asks nothing of the flash
-pub quiet_steps : {F : Type 0} (image : F → Image) (failures : F → ℕ) (old new : State F) (heard : Heard) (sent : List (List ℕ)) (said : Note)
-    → Holds (image old.flash) old.live.values → is_set heard ≡ false → new.flash ≡ old.flash → IsSame old new
-    → new.live ≡ record { values = old.live.values; lamp = (finished old.identity old.live.values.running old.live.lamp heard []).lamp }
-    → sent ≡ (finished old.identity old.live.values.running old.live.lamp heard []).frames
-    → said ≡ (finished old.identity old.live.values.running old.live.lamp heard []).note
-    → Steps image failures old heard sent said new
+-- What was heard is no Set, and the parts of what it came to are those of what was judged: for a service whose parts see one
+-- field of the device only.
+pub record IsQuiet {F : Type 0} (old new : State F) (heard : Heard) (frames : List (List ℕ)) (said : Note) : Type 0 where
+  pub not_set : is_set (judged old.identity old.live heard) ≡ false
+  pub flash : new.flash ≡ old.flash
+  pub same : IsSame old new
+  pub live : new.live ≡ record { values = old.live.values; rest = (finished old.live.rest (judged old.identity old.live heard) []).rest }
+  pub frames_are : frames ≡ map (bytes_of old.identity) (finished old.live.rest (judged old.identity old.live heard) []).sent
+  pub note_is : said ≡ (finished old.live.rest (judged old.identity old.live heard) []).note
+
+pub is_quiet_steps : {F : Type 0} (image : F → Image) (failures : F → ℕ) (old new : State F) (heard : Heard) (frames : List (List ℕ)) (said : Note)
+    → Holds (image old.flash) old.live.values → IsQuiet old new heard frames said → Steps image failures old heard frames said new
 unfolding quiet_step
-quiet_steps image failures old new heard sent said holds none flash same live frames note =
-    let quiet = is_quiet [] old.identity old.live heard none in
+is_quiet_steps image failures old new heard frames said holds parts =
+    let quiet = is_quiet [] old.identity old.live heard parts.not_set in
+    let flash = parts.flash in
+    let live = parts.live in
     let same_store : store_of new ≡ store_of old = ap (λ f. record { flash = f; values = new.live.values }) flash ∙ ap (λ l. record { flash = old.flash; values = l.values }) live in
     record {
       outcomes = [];
-      same = same;
+      same = parts.same;
       live = rw quiet live;
-      frames = rw quiet frames;
-      note = rw quiet note;
+      frames = rw quiet parts.frames_are;
+      note = rw quiet parts.note_is;
       caused = inl (refl, ap failures flash);
-      placed = subst (λ items. OneByOne image failures [] (store_of old) items (store_of new)) (sym (nothing_asked heard none)) same_store;
+      placed = subst (λ items. OneByOne image failures [] (store_of old) items (store_of new)) (sym (nothing_asked old.identity old.live heard parts.not_set)) same_store;
       safe = rw (quiet, flash) (record { left = λ left. left; legal = λ fine left. inl (old.live.values.room, holds fine); untouched = λ failed. refl });
       holds = λ fine. rw (flash, ap (λ l. l.values) live) (holds (sym (ap (λ l. l.values.has_failed) live) ∙ fine));
       untouched = λ _. flash;
       stays_lost = λ lost. ap (λ l. l.values.is_lost) live ∙ lost;
     }
 
--- a Set
-pub set_steps : {F : Type 0} (image : F → Image) (failures : F → ℕ) (old new : State F) (asker : Mac) (request : Asked) (answers : List BlockError) (sent : List (List ℕ)) (said : Note)
-    → request.service ≡ service.Set
-    → Carries image failures (record { flash = old.flash; values = old.live.values }) (plan_of false request) answers (record { flash = new.flash; values = new.live.values })
-    → IsSame old new → new.live.lamp ≡ lamp_after old.live.lamp request
-    → sent ≡ answer_frame old.identity asker 65277 (set_bytes request answers) ∷ [] → said ≡ note.Done
-    → Steps image failures old (Asks asker request) sent said new
-unfolding set_step
-set_steps image failures old new asker request answers sent said set carries same lamp frames done =
-    let is = is_set_step carries.outcomes old.identity old.live asker request set in record {
+-- what was judged a move
+pub moves_steps : {F : Type 0} (image : F → Image) (failures : F → ℕ) (old new : State F) (heard : Heard) (rest : Rest) (sent : List Sent) (frames : List (List ℕ)) (said : Note)
+    → Holds (image old.flash) old.live.values → judged old.identity old.live heard ≡ Moves rest sent
+    → new ≡ record old { live = record { values = old.live.values; rest = rest } } → frames ≡ map (bytes_of old.identity) sent → said ≡ note.Done
+    → Steps image failures old heard frames said new
+moves_steps image failures old new heard rest sent frames said holds moves is frames_are done =
+    let end = ap (λ what. finished old.live.rest what []) moves in
+    is_quiet_steps image failures old new heard frames said holds (record {
+      not_set = ap is_set moves;
+      flash = ap (λ s. s.flash) is;
+      same = record { identity = ap (λ s. s.identity) is; real = ap (λ s. s.real) is };
+      live = ap (λ s. s.live) is ∙ ap (λ r. record { values = old.live.values; rest = r }) (sym (ap (λ e. e.rest) end));
+      frames_are = frames_are ∙ ap (map (bytes_of old.identity)) (sym (ap (λ e. e.sent) end));
+      note_is = done ∙ sym (ap (λ e. e.note) end);
+    })
+
+-- what was judged to be refused
+pub refuses_steps : {F : Type 0} (image : F → Image) (failures : F → ℕ) (state : State F) (heard : Heard) (why : Note) (frames : List (List ℕ)) (said : Note)
+    → Holds (image state.flash) state.live.values → judged state.identity state.live heard ≡ Refuses why → frames ≡ [] → said ≡ why
+    → Steps image failures state heard frames said state
+refuses_steps image failures state heard why frames said holds refuses none is =
+    let end = ap (λ what. finished state.live.rest what []) refuses in
+    is_quiet_steps image failures state state heard frames said holds (record {
+      not_set = ap is_set refuses;
+      flash = refl;
+      same = record { identity = refl; real = refl };
+      live = ap (λ r. record { values = state.live.values; rest = r }) (sym (ap (λ e. e.rest) end));
+      frames_are = none ∙ ap (map (bytes_of state.identity)) (sym (ap (λ e. e.sent) end));
+      note_is = is ∙ sym (ap (λ e. e.note) end);
+    })
+
+-- an Identify request
+identify_leaves : (identity : Identity) (live : Live) (asker : Mac) (request : Asked)
+    → (is_set (identified identity live asker request) ≡ false) × ((finished live.rest (identified identity live asker request) []).rest ≡ live.rest)
+identify_leaves identity live asker request = cond_both (matches identity live.values.running request) _ _
+    (λ what. (is_set what ≡ false) × ((finished live.rest what []).rest ≡ live.rest)) (λ _. (refl, refl)) (λ _. (refl, refl))
+
+pub identify_steps : {F : Type 0} (image : F → Image) (failures : F → ℕ) (state : State F) (asker : Mac) (request : Asked) (frames : List (List ℕ)) (said : Note)
+    → Holds (image state.flash) state.live.values → request.service ≡ service.Identify
+    → frames ≡ map (bytes_of state.identity) (finished state.live.rest (identified state.identity state.live asker request) []).sent
+    → said ≡ (finished state.live.rest (identified state.identity state.live asker request) []).note
+    → Steps image failures state (Asks asker request) frames said state
+identify_steps image failures state asker request frames said holds identify frames_are note_is =
+    let is = ap (λ s. judged_request state.identity state.live asker s request) identify in
+    let leaves = identify_leaves state.identity state.live asker request in
+    is_quiet_steps image failures state state (Asks asker request) frames said holds (record {
+      not_set = ap is_set is ∙ leaves.0;
+      flash = refl;
+      same = record { identity = refl; real = refl };
+      live = ap (λ r. record { values = state.live.values; rest = r }) (sym (ap (λ what. (finished state.live.rest what []).rest) is ∙ leaves.1));
+      frames_are = frames_are ∙ sym (ap (λ what. map (bytes_of state.identity) (finished state.live.rest what []).sent) is);
+      note_is = note_is ∙ sym (ap (λ what. (finished state.live.rest what []).note) is);
+    })
+
+-- a Get
+pub get_steps : {F : Type 0} (image : F → Image) (failures : F → ℕ) (state : State F) (asker : Mac) (request : Asked) (frames : List (List ℕ)) (said : Note)
+    → Holds (image state.flash) state.live.values → request.service ≡ service.Get
+    → frames ≡ bytes_of state.identity (GetAnswer asker state.live.values.running request) ∷ [] → said ≡ note.Done
+    → Steps image failures state (Asks asker request) frames said state
+get_steps image failures state asker request frames said holds get frames_are done =
+    moves_steps image failures state state (Asks asker request) state.live.rest (GetAnswer asker state.live.values.running request ∷ []) frames said holds
+    (ap (λ s. judged_request state.identity state.live asker s request) get) refl frames_are done
+
+-- what was judged a Set
+pub set_steps : {F : Type 0} (image : F → Image) (failures : F → ℕ) (old new : State F) (heard : Heard) (asker : Mac) (request : Asked) (in_operation : Bool) (answers : List BlockError)
+    (frames : List (List ℕ)) (said : Note) → judged old.identity old.live heard ≡ Sets asker request in_operation
+    → Carries image failures (store_of old) (plan_of in_operation request) answers (store_of new)
+    → IsSame old new → new.live.rest ≡ (finished old.live.rest (Sets asker request in_operation) answers).rest
+    → frames ≡ bytes_of old.identity (SetAnswer asker request answers) ∷ [] → said ≡ note.Done
+    → Steps image failures old heard frames said new
+unfolding judged_step
+set_steps image failures old new heard asker request in_operation answers frames said sets carries same rest frames_are done =
+    let is = judged_as carries.outcomes old.identity old.live heard (Sets asker request in_operation) sets in record {
       outcomes = carries.outcomes;
       same = same;
-      live = rw is (same_live _ _ carries.values lamp);
-      frames = rw is (frames ∙ ap (λ a. answer_frame old.identity asker 65277 (set_bytes request a) ∷ []) carries.answers_are);
+      live = rw is (same_live _ _ carries.values rest);
+      frames = rw is (frames_are ∙ ap (λ a. bytes_of old.identity (SetAnswer asker request a) ∷ []) carries.answers_are);
       note = rw is done;
       caused = carries.caused;
-      placed = subst (λ s. OneByOne image failures carries.outcomes (store_of old) (items_for s request) (store_of new)) (sym set) carries.placed;
+      placed = subst (λ what. OneByOne image failures carries.outcomes (store_of old) (items_in what) (store_of new)) (sym sets) carries.placed;
       safe = rw is carries.safe;
       holds = carries.holds;
       untouched = rw is carries.untouched;
       stays_lost = carries.stays_lost;
     }
 
--- a unit of time
-pub tick_steps : {F : Type 0} (image : F → Image) (failures : F → ℕ) (old new : State F) (sent : List (List ℕ)) (said : Note)
-    → Holds (image old.flash) old.live.values → new ≡ record old { live = record { values = old.live.values; lamp = old.live.lamp - 1 } } → sent ≡ [] → said ≡ note.Done
-    → Steps image failures old Ticks sent said new
-tick_steps image failures old new sent said holds is none done =
-    quiet_steps image failures old new Ticks sent said holds refl (ap (λ s. s.flash) is)
-    (record { identity = ap (λ s. s.identity) is; real = ap (λ s. s.real) is }) (ap (λ s. s.live) is) none done
+-- a Set of a station
+pub asked_set_steps : {F : Type 0} (image : F → Image) (failures : F → ℕ) (old new : State F) (asker : Mac) (request : Asked) (answers : List BlockError) (frames : List (List ℕ)) (said : Note)
+    → request.service ≡ service.Set → Carries image failures (store_of old) (plan_of false request) answers (store_of new) → IsSame old new
+    → new.live.rest ≡ (finished old.live.rest (Sets asker request false) answers).rest → frames ≡ bytes_of old.identity (SetAnswer asker request answers) ∷ [] → said ≡ note.Done
+    → Steps image failures old (Asks asker request) frames said new
+asked_set_steps image failures old new asker request answers frames said set carries same rest frames_are done =
+    set_steps image failures old new (Asks asker request) asker request false answers frames said
+    (ap (λ s. judged_request old.identity old.live asker s request) set) carries same rest frames_are done
 
--- an Identify request
-identified_lamp : (identity : Identity) (running : Settings) (lamp : ℕ) (asker : Mac) (request : Asked) → (identified identity running lamp asker request).lamp ≡ lamp
-identified_lamp identity running lamp asker request = cond_both (matches identity running request) _ _ (λ (end : Finished). end.lamp ≡ lamp) (λ _. refl) (λ _. refl)
+-- what is not done changes nothing and sends nothing
+pub record IsNothing (live : Live) (step : Stepped) : Type 0 where
+  pub live_is : step.live ≡ live
+  pub none_sent : step.frames ≡ []
+  pub none_accepted : step.accepted ≡ []
 
-pub identify_steps : {F : Type 0} (image : F → Image) (failures : F → ℕ) (state : State F) (asker : Mac) (request : Asked) (sent : List (List ℕ)) (said : Note)
-    → Holds (image state.flash) state.live.values → request.service ≡ service.Identify
-    → sent ≡ (identified state.identity state.live.values.running state.live.lamp asker request).frames
-    → said ≡ (identified state.identity state.live.values.running state.live.lamp asker request).note
-    → Steps image failures state (Asks asker request) sent said state
-identify_steps image failures state asker request sent said holds identify frames note =
-    let end = ap (λ s. answered state.identity state.live.values.running state.live.lamp asker s request []) identify in
-    quiet_steps image failures state state (Asks asker request) sent said holds (rw identify refl) refl (record { identity = refl; real = refl })
-    (ap (λ l. record { values = state.live.values; lamp = l }) (sym (ap (λ e. e.lamp) end ∙ identified_lamp state.identity state.live.values.running state.live.lamp asker request)))
-    (frames ∙ sym (ap (λ e. e.frames) end)) (note ∙ sym (ap (λ e. e.note) end))
+refused_judged : (outcomes : List Outcome) (identity : Identity) (live : Live) (what : Judged) → (judged_step outcomes identity live what).note ≢ note.Done → IsNothing live (judged_step outcomes identity live what)
+unfolding judged_step
+refused_judged outcomes identity live (Refuses why) refused = record { live_is = refl; none_sent = refl; none_accepted = refl }
+refused_judged outcomes identity live (Sets asker request in_operation) refused = absurd (refused refl)
+refused_judged outcomes identity live (Moves rest sent) refused = absurd (refused refl)
 
--- a Get
-pub get_steps : {F : Type 0} (image : F → Image) (failures : F → ℕ) (state : State F) (asker : Mac) (request : Asked) (sent : List (List ℕ)) (said : Note)
-    → Holds (image state.flash) state.live.values → request.service ≡ service.Get
-    → sent ≡ answer_frame state.identity asker 65277 (get_bytes state.identity state.live.values.running request) ∷ [] → said ≡ note.Done
-    → Steps image failures state (Asks asker request) sent said state
-get_steps image failures state asker request sent said holds get frames done =
-    let end = ap (λ s. answered state.identity state.live.values.running state.live.lamp asker s request []) get in
-    quiet_steps image failures state state (Asks asker request) sent said holds (rw get refl) refl (record { identity = refl; real = refl })
-    (ap (λ l. record { values = state.live.values; lamp = l }) (sym (ap (λ e. e.lamp) end)))
-    (frames ∙ sym (ap (λ e. e.frames) end)) (done ∙ sym (ap (λ e. e.note) end))
-
--- what is not done is no Set ..
-not_set_for : (service : Service) (outcomes : List Outcome) (identity : Identity) (live : Live) (asker : Mac) (request : Asked) → request.service ≡ service
-    → (heard_step outcomes identity live (Asks asker request)).note ≢ note.Done → is_set (Asks asker request) ≡ false
+refused_heard : (outcomes : List Outcome) (identity : Identity) (live : Live) (heard : Heard) → (heard_step outcomes identity live heard).note ≢ note.Done → IsNothing live (heard_step outcomes identity live heard)
 unfolding heard_step
-not_set_for service.Set outcomes identity live asker request is refused = absurd (refused (rw is refl))
-not_set_for service.Get outcomes identity live asker request is refused = rw is refl
-not_set_for service.Identify outcomes identity live asker request is refused = rw is refl
+refused_heard outcomes identity live heard refused = refused_judged outcomes identity live (judged identity live heard) refused
 
-not_set : (outcomes : List Outcome) (identity : Identity) (live : Live) (heard : Heard) → (heard_step outcomes identity live heard).note ≢ note.Done → is_set heard ≡ false
-not_set outcomes identity live (Asks asker request) refused = not_set_for request.service outcomes identity live asker request refl refused
-not_set outcomes identity live Ticks refused = refl
-not_set outcomes identity live Unreadable refused = refl
-not_set outcomes identity live Elsewhere refused = refl
-
--- .. sends nothing and leaves the lamp
-abbrev Nothing : ℕ → Finished → Type 0
-Nothing lamp end = end.note ≢ note.Done → (end.lamp ≡ lamp) × (end.frames ≡ [])
-
-identified_refused : (identity : Identity) (running : Settings) (lamp : ℕ) (asker : Mac) (request : Asked) → Nothing lamp (identified identity running lamp asker request)
-identified_refused identity running lamp asker request =
-    cond_both (matches identity running request) _ _ (Nothing lamp) (λ _ refused. absurd (refused refl)) (λ _ _. (refl, refl))
-
-answered_refused : (service : Service) (identity : Identity) (running : Settings) (lamp : ℕ) (asker : Mac) (request : Asked) → Nothing lamp (answered identity running lamp asker service request [])
-answered_refused service.Set identity running lamp asker request refused = absurd (refused refl)
-answered_refused service.Get identity running lamp asker request refused = absurd (refused refl)
-answered_refused service.Identify identity running lamp asker request refused = identified_refused identity running lamp asker request refused
-
-finished_refused : (identity : Identity) (running : Settings) (lamp : ℕ) (heard : Heard) → Nothing lamp (finished identity running lamp heard [])
-finished_refused identity running lamp (Asks asker request) refused = answered_refused request.service identity running lamp asker request refused
-finished_refused identity running lamp Ticks refused = absurd (refused refl)
-finished_refused identity running lamp Unreadable refused = (refl, refl)
-finished_refused identity running lamp Elsewhere refused = (refl, refl)
-
-pub refused_step : {F : Type 0} (image : F → Image) (failures : F → ℕ) (old new : State F) (heard : Heard) (sent : List (List ℕ)) (said : Note)
-    → Steps image failures old heard sent said new → said ≢ note.Done → (new ≡ old) × (sent ≡ [])
-unfolding quiet_step
-refused_step image failures old new heard sent said steps refused =
-    let none = not_set steps.outcomes old.identity old.live heard (λ done. refused (steps.note ∙ done)) in
-    let quiet = is_quiet steps.outcomes old.identity old.live heard none in
-    let nothing = finished_refused old.identity old.live.values.running old.live.lamp heard (λ done. refused (steps.note ∙ ap (λ s. s.note) quiet ∙ done)) in
-    let live : new.live ≡ old.live = steps.live ∙ ap (λ s. s.live) quiet ∙ ap (λ l. record { values = old.live.values; lamp = l }) nothing.0 in
-    (same_state new old (steps.untouched (ap (λ s. s.accepted) quiet)) steps.same.identity steps.same.real live, steps.frames ∙ ap (λ s. s.frames) quiet ∙ nothing.1)
+pub refused_step : {F : Type 0} (image : F → Image) (failures : F → ℕ) (old new : State F) (heard : Heard) (frames : List (List ℕ)) (said : Note)
+    → Steps image failures old heard frames said new → said ≢ note.Done → (new ≡ old) × (frames ≡ [])
+refused_step image failures old new heard frames said steps refused =
+    let nothing = refused_heard steps.outcomes old.identity old.live heard (λ done. refused (steps.note ∙ done)) in
+    (same_state new old (steps.untouched nothing.none_accepted) steps.same.identity steps.same.real (steps.live ∙ nothing.live_is), steps.frames ∙ nothing.none_sent)
 
 pub none_sent : {A B : Type 0} (f : A → B) (xs : List A) → map f xs ≡ [] → xs ≡ []
 none_sent f [] none = refl
 none_sent f (x ∷ xs) none = cc
 
--- an Identify request changes nothing
-identify_asked : {F : Type 0} (image : F → Image) (failures : F → ℕ) (old new : State F) (asker : Mac) (request : Asked) (sent : List (List ℕ)) (said : Note)
-    → request.service ≡ service.Identify → Steps image failures old (Asks asker request) sent said new → Identifies old asker request sent said new
-unfolding quiet_step
-identify_asked image failures old new asker request sent said identify steps =
-    let none : is_set (Asks asker request) ≡ false = rw identify refl in
-    let quiet = is_quiet steps.outcomes old.identity old.live (Asks asker request) none in
-    let end = ap (λ s. answered old.identity old.live.values.running old.live.lamp asker s request []) identify in
-    let live : new.live ≡ old.live = steps.live ∙ ap (λ s. s.live) quiet
-    ∙ ap (λ e. record { values = old.live.values; lamp = e.lamp }) end
-    ∙ ap (λ l. record { values = old.live.values; lamp = l }) (identified_lamp old.identity old.live.values.running old.live.lamp asker request) in
-    record {
-      unchanged = same_state new old (steps.untouched (ap (λ s. s.accepted) quiet)) steps.same.identity steps.same.real live;
-      answered = λ match.
-          let one : identified old.identity old.live.values.running old.live.lamp asker request ≡ _ = cond-true _ _ _ match in
-          (steps.note ∙ ap (λ s. s.note) quiet ∙ ap (λ e. e.note) (end ∙ one), steps.frames ∙ ap (λ s. s.frames) quiet ∙ ap (λ e. e.frames) (end ∙ one));
-      filtered = λ match.
-          let one : identified old.identity old.live.values.running old.live.lamp asker request ≡ _ = cond-false _ _ _ match in
-          (steps.note ∙ ap (λ s. s.note) quiet ∙ ap (λ e. e.note) (end ∙ one), steps.frames ∙ ap (λ s. s.frames) quiet ∙ ap (λ e. e.frames) (end ∙ one));
-    }
+-- an Identify request, where it matches and where it does not
+identify_judged : (outcomes : List Outcome) (identity : Identity) (live : Live) (asker : Mac) (request : Asked) → IsIdentified identity live.values.running live asker request (judged_step outcomes identity live (identified identity live asker request))
+unfolding judged_step
+identify_judged outcomes identity live asker request = cond_both (matches identity live.values.running request) _ _
+    (λ what. IsIdentified identity live.values.running live asker request (judged_step outcomes identity live what))
+    (λ match. record { unchanged = refl; none_accepted = refl; answered = λ _. (refl, refl); filtered = λ none. cc })
+    (λ none. record { unchanged = refl; none_accepted = refl; answered = λ match. cc; filtered = λ _. (refl, refl) })
 
-pub identify_step : {F : Type 0} (image : F → Image) (failures : F → ℕ) (old new : State F) (heard : Heard) (sent : List (List ℕ)) (said : Note)
-    → Steps image failures old heard sent said new → (asker : Mac) (request : Asked) → heard ≡ Asks asker request → request.service ≡ service.Identify → Identifies old asker request sent said new
-identify_step image failures old new heard sent said steps asker request is identify =
-    identify_asked image failures old new asker request sent said identify (subst (λ h. Steps image failures old h sent said new) is steps)
+pub identify_heard : (outcomes : List Outcome) (identity : Identity) (live : Live) (heard : Heard) (asker : Mac) (request : Asked) → heard ≡ Asks asker request → request.service ≡ service.Identify
+    → IsIdentified identity live.values.running live asker request (heard_step outcomes identity live heard)
+identify_heard outcomes identity live heard asker request is identify =
+    subst (IsIdentified identity live.values.running live asker request)
+    (sym (judged_as outcomes identity live heard (identified identity live asker request) (ap (judged identity live) is ∙ ap (λ s. judged_request identity live asker s request) identify)))
+    (identify_judged outcomes identity live asker request)
+
+pub identify_step : {F : Type 0} (image : F → Image) (failures : F → ℕ) (old new : State F) (heard : Heard) (frames : List (List ℕ)) (said : Note)
+    → Steps image failures old heard frames said new → (asker : Mac) (request : Asked) → heard ≡ Asks asker request → request.service ≡ service.Identify → Identifies old asker request frames said new
+identify_step image failures old new heard frames said steps asker request is identify =
+    let one = identify_heard steps.outcomes old.identity old.live heard asker request is identify in
+    record {
+      unchanged = same_state new old (steps.untouched one.none_accepted) steps.same.identity steps.same.real (steps.live ∙ one.unchanged);
+      answered = λ match. let end = one.answered match in (steps.note ∙ end.0, steps.frames ∙ end.1);
+      filtered = λ match. let end = one.filtered match in (steps.note ∙ end.0, steps.frames ∙ end.1);
+    }
 
 -- the values of a store that has just started
 pub as_started : (values : store.Values) (settings : Settings) (room : ℕ) → values.running ≡ values.stored → values.has_failed ≡ false → values.is_lost ≡ false
-    → values.stored ≡ settings → values.room ≡ room → record { values = values; lamp = 0 } ≡ started settings room
+    → values.stored ≡ settings → values.room ≡ room → record { values = values; rest = record { lamp = 0 } } ≡ started settings room
 as_started values settings room running failed lost stored left =
     same_live _ _ (same_values values (started settings room).values (running ∙ stored) stored left failed lost) refl

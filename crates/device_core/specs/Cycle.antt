@@ -14,13 +14,13 @@ use Rattle.settings_store.specs.Carries.{IsCaused}
 use Rattle.device_core.specs.declared.event.Event.{Event}
 use Rattle.device_core.specs.State.{State, Live}
 use Rattle.device_core.specs.Machine.{Ran, run_of}
-use Rattle.device_core.specs.Steps.{EventByEvent}
+use Rattle.device_core.specs.Steps.{EventByEvent, AnswersBy}
 
--- a device as it starts: what is stored runs, no commit failed, power is there and the lamp is off
+-- a device as it starts: what is stored runs, no commit failed, power is there, and of the rest nothing: the lamp is off
 abbrev pub started : Settings → ℕ → Live
 started settings room = record {
   values = record { running = settings; stored = settings; room = room; has_failed = false; is_lost = false };
-  lamp = 0;
+  rest = record { lamp = 0 };
 }
 
 -- the events of a cycle that begins with the first settings, and with room for so many commits
@@ -40,8 +40,7 @@ pub record Cycled {F : Type 0} (image : F → Image) (failures : F → ℕ) (ide
   pub begun : F
   pub begins : (image begun ≡ image flash) × (failures begun ≡ failures flash)
   pub caused : IsCaused outcomes (failures flash) (failures lost) (started first room).values (cycle_of outcomes identity first room events).live.values
-  pub placed : EventByEvent image failures outcomes identity (record { flash = begun; values = (started first room).values }) events
-      (record { flash = lost; values = (cycle_of outcomes identity first room events).live.values })
+  pub placed : EventByEvent image failures outcomes identity begun (started first room) events lost
   pub handed_on : now ≡ before ++ (cycle_of outcomes identity first room events).frames
   pub safe : CrashSafe false first (cycle_of outcomes identity first room events).accepted (image flash) (image lost)
   pub untouched : (cycle_of outcomes identity first room events).accepted ≡ [] → lost ≡ begun
@@ -49,7 +48,8 @@ pub record Cycled {F : Type 0} (image : F → Image) (failures : F → ℕ) (ide
 -- The headline. The cycle went through the events, with whatever outcomes its flash chose for the calls that store. The
 -- restarted device has, running and stored, what all accepted commands of the cycle, or all but a last one that was not
 -- answered 'done', make of the first settings; where no commit failed, just what the cycle stored. Nothing else is left of
--- the cycle, and the image is again one that this device left. `power_up` relates a flash to itself with its power back.
+-- the cycle, Identify is answered by those settings and the identity alone, and the image is again one that this device
+-- left. `power_up` relates a flash to itself with its power back.
 pub record Restarts {F : Type 0} (image : F → Image) (failures : F → ℕ) (power_up : F → F → Type 0) (identity : Identity) (real : Real) (flash : F) (first : Settings) (room : ℕ) (events : List Event) (before now : List (List ℕ)) (restarted : State F) : Type 0 where
   pub outcomes : List (List Outcome)
   pub lost : F
@@ -60,6 +60,7 @@ pub record Restarts {F : Type 0} (image : F → Image) (failures : F → ℕ) (p
   pub clean : (cycle_of outcomes identity first room events).live.values.has_failed ≡ false →
       restarted.live ≡ started (cycle_of outcomes identity first room events).live.values.stored (cycle_of outcomes identity first room events).live.values.room
   pub nothing_else : restarted.live ≡ started restarted.live.values.stored restarted.live.values.room
+  pub answers : AnswersBy identity restarted.live.values.stored restarted.live
   pub starts : StartsWith (image restarted.flash) restarted.live.values.stored restarted.live.values.room
   pub identity_is : restarted.identity ≡ identity
   pub real_is : restarted.real ≡ real

@@ -1,6 +1,7 @@
 pub mod State
 pub mod Heard
 pub mod Hearing
+pub mod Sent
 pub mod Machine
 pub mod Steps
 pub mod Cycle

@@ -1,85 +1,102 @@
 -- One step of a device, and a run of steps, given what becomes of each call that stores a command.
-use Rattle.std.specs.Prelude.{◌-◌, ℕ, false, List, [], ◌∷◌, ◌++◌, if◌then◌else◌, None}
+use Rattle.std.specs.Prelude.{◌-◌, ℕ, Bool, false, List, [], ◌∷◌, ◌++◌, map, if◌then◌else◌}
 use Rattle.pn_values.specs.declared.mac.Mac.{Mac}
 use Rattle.pn_values.specs.declared.identity.Identity.{Identity}
-use Rattle.pn_values.specs.declared.settings.Settings.{Settings}
 use Rattle.pn_values.specs.declared.set_item.SetItem.{SetItem}
 use Rattle.pn_values.specs.declared.set_item.BlockError.{BlockError}
 use Rattle.settings_store.specs.Machine.{Outcome, Accepted, carried}
-use Rattle.frame_codec.specs.Meaning.{RealTime}
-use Rattle.frame_codec.specs.Frame.{frame_bytes}
 use Rattle.dcp_core.specs.declared.request.Service.{Service}
 use Rattle.dcp_core.specs.declared.request.Service.TheVariants as service
 use Rattle.dcp_core.specs.Request.{Asked}
-use Rattle.dcp_core.specs.Identify.{matches, identify_bytes}
-use Rattle.dcp_core.specs.Get.{get_bytes}
-use Rattle.dcp_core.specs.Set.{plan_of, signals, set_bytes}
+use Rattle.dcp_core.specs.Identify.{matches}
+use Rattle.dcp_core.specs.Set.{plan_of, signals}
 use Rattle.device_core.specs.declared.event.Event.{Event}
 use Rattle.device_core.specs.declared.event.Note.{Note}
 use Rattle.device_core.specs.declared.event.Note.TheVariants as note
-use Rattle.device_core.specs.State.{Live}
+use Rattle.device_core.specs.State.{Rest, Live}
+use Rattle.device_core.specs.Sent.{Sent, IdentifyAnswer, GetAnswer, SetAnswer, bytes_of}
 use Rattle.device_core.specs.Heard.{Heard, Ticks, Unreadable, Elsewhere, Asks, heard_of}
 
--- a DCP answer to whom asked: FrameID, and what follows it
-abbrev pub answer_frame : Identity → Mac → ℕ → List ℕ → List ℕ
-answer_frame identity asker frame_id answer =
-    frame_bytes (record { destination = asker; source = identity.mac; tag = None; content = RealTime frame_id answer })
-
--- what the settings are asked for: the blocks of a Set, in order
-abbrev pub items_for : Service → Asked → List SetItem
-items_for service.Set request = plan_of false request
-items_for service.Get request = []
-items_for service.Identify request = []
-
-abbrev pub items_of : Heard → List SetItem
-items_of (Asks asker request) = items_for request.service request
-items_of Ticks = []
-items_of Unreadable = []
-items_of Elsewhere = []
-
--- what a device sends after an event, what it says of it, and the lamp
-pub record Finished : Type 0 where
-  pub frames : List (List ℕ)
-  pub note : Note
-  pub lamp : ℕ
+-- What an event comes to, judged on the state before it: refused, with the note that says why; a Set, whose blocks are
+-- asked of the settings; or a move, after which the rest is this and these messages are sent.
+pub data Judged : Type 0 where
+  Refuses : (note : Note) → Judged
+  Sets : (asker : Mac) → (request : Asked) → (in_operation : Bool) → Judged
+  Moves : (rest : Rest) → (sent : List Sent) → Judged
 
 -- An Identify request is answered by identity and running settings where it matches, and else not at all.
-abbrev pub identified : Identity → Settings → ℕ → Mac → Asked → Finished
-identified identity running lamp asker request =
-    if matches identity running request
-    then record { frames = answer_frame identity asker 65279 (identify_bytes identity running request.xid) ∷ []; note = note.Done; lamp = lamp }
-    else record { frames = []; note = note.Filter; lamp = lamp }
+abbrev pub identified : Identity → Live → Mac → Asked → Judged
+identified identity live asker request =
+    if matches identity live.values.running request
+    then Moves live.rest (IdentifyAnswer asker live.values.running request.xid ∷ [])
+    else Refuses note.Filter
+
+-- a request, by its service; no application relation exists
+abbrev pub judged_request : Identity → Live → Mac → Service → Asked → Judged
+judged_request identity live asker service.Identify request = identified identity live asker request
+judged_request identity live asker service.Get request = Moves live.rest (GetAnswer asker live.values.running request ∷ [])
+judged_request identity live asker service.Set request = Sets asker request false
+
+-- a unit of time later
+abbrev pub ticked : Rest → Rest
+ticked rest = record { lamp = rest.lamp - 1 }
+
+abbrev pub judged : Identity → Live → Heard → Judged
+judged identity live (Asks asker request) = judged_request identity live asker request.service request
+judged identity live Ticks = Moves (ticked live.rest) []
+judged identity live Unreadable = Refuses note.Fault
+judged identity live Elsewhere = Refuses note.NotMine
+
+-- what the settings are asked for: the blocks of a Set, in order
+abbrev pub items_in : Judged → List SetItem
+items_in (Refuses note) = []
+items_in (Sets asker request in_operation) = plan_of in_operation request
+items_in (Moves rest sent) = []
+
+abbrev pub items_of : Identity → Live → Heard → List SetItem
+items_of identity live heard = items_in (judged identity live heard)
 
 -- the lamp flashes for 3 seconds: 96,000 units
 abbrev pub lamp_after : ℕ → Asked → ℕ
 lamp_after lamp request = if signals request then 96000 else lamp
 
-abbrev pub answered : Identity → Settings → ℕ → Mac → Service → Asked → List BlockError → Finished
-answered identity running lamp asker service.Identify request answers = identified identity running lamp asker request
-answered identity running lamp asker service.Get request answers =
-    record { frames = answer_frame identity asker 65277 (get_bytes identity running request) ∷ []; note = note.Done; lamp = lamp }
-answered identity running lamp asker service.Set request answers =
-    record { frames = answer_frame identity asker 65277 (set_bytes request answers) ∷ []; note = note.Done; lamp = lamp_after lamp request }
+-- what comes of an event beside the settings: the rest, the messages that are sent, and what is said of the event
+pub record Finished : Type 0 where
+  pub rest : Rest
+  pub sent : List Sent
+  pub note : Note
 
--- what comes of an event beside the settings, given the settings that run after it and the answers to its blocks
-abbrev pub finished : Identity → Settings → ℕ → Heard → List BlockError → Finished
-finished identity running lamp (Asks asker request) answers = answered identity running lamp asker request.service request answers
-finished identity running lamp Ticks answers = record { frames = []; note = note.Done; lamp = lamp - 1 }
-finished identity running lamp Unreadable answers = record { frames = []; note = note.Fault; lamp = lamp }
-finished identity running lamp Elsewhere answers = record { frames = []; note = note.NotMine; lamp = lamp }
+-- what comes of what was judged, given the answers to its items
+abbrev pub finished : Rest → Judged → List BlockError → Finished
+finished rest (Refuses note) answers = record { rest = rest; sent = []; note = note }
+finished rest (Sets asker request in_operation) answers =
+    record { rest = record { lamp = lamp_after rest.lamp request }; sent = SetAnswer asker request answers ∷ []; note = note.Done }
+finished rest (Moves moved sent) answers = record { rest = moved; sent = sent; note = note.Done }
 
--- a step: what changes, what is sent, what is said of the event, and the commands that were accepted
+-- A step: what changes, the messages that are sent and their frames, what is said of the event, and the commands that
+-- were accepted.
 pub record Stepped : Type 0 where
   pub live : Live
+  pub sent : List Sent
   pub frames : List (List ℕ)
   pub note : Note
   pub accepted : List Accepted
 
+-- what was judged is asked of the settings, and finished by their answers
+unfoldable pub judged_step : List Outcome → Identity → Live → Judged → Stepped
+judged_step outcomes identity live what =
+    let settled = carried outcomes live.values (items_in what) in
+    let end = finished live.rest what settled.answers in
+    record {
+      live = record { values = settled.values; rest = end.rest };
+      sent = end.sent;
+      frames = map (bytes_of identity) end.sent;
+      note = end.note;
+      accepted = settled.accepted;
+    }
+
 unfoldable pub heard_step : List Outcome → Identity → Live → Heard → Stepped
-heard_step outcomes identity live heard =
-    let settled = carried outcomes live.values (items_of heard) in
-    let end = finished identity settled.values.running live.lamp heard settled.answers in
-    record { live = record { values = settled.values; lamp = end.lamp }; frames = end.frames; note = end.note; accepted = settled.accepted }
+heard_step outcomes identity live heard = judged_step outcomes identity live (judged identity live heard)
 
 -- one step, with an outcome for each command
 abbrev pub step_of : List Outcome → Identity → Live → Event → Stepped

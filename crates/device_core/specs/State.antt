@@ -5,10 +5,14 @@ use Rattle.pn_values.specs.declared.real.Real.{Real}
 use Rattle.settings_store.specs.State as store
 use Rattle.settings_store.specs.State.{Values}
 
--- what changes from event to event: the settings, and for how many units the lamp still flashes
+-- what a device keeps beside its settings, and loses with its power: for how many units the lamp still flashes
+pub record Rest : Type 0 where
+  pub lamp : ℕ
+
+-- what changes from event to event: the settings, and the rest
 pub record Live : Type 0 where
   pub values : Values
-  pub lamp : ℕ
+  pub rest : Rest
 
 -- the flash, what the device is, and what changes
 pub record State (F : Type 0) : Type 0 where

@@ -3,18 +3,20 @@ use Rattle.std.specs.Prelude.{◌≡◌, ◌+◌, length, ℕ, true, false, List
 use Rattle.flash_model.specs.Image.{Image}
 use Rattle.pn_values.specs.declared.mac.Mac.{Mac}
 use Rattle.pn_values.specs.declared.identity.Identity.{Identity}
-use Rattle.settings_store.specs.State as store
+use Rattle.pn_values.specs.declared.settings.Settings.{Settings}
 use Rattle.settings_store.specs.Machine.{Outcome}
 use Rattle.settings_store.specs.Legal.{CrashSafe}
 use Rattle.settings_store.specs.Carries.{IsCaused, OneByOne, Holds}
+use Rattle.dcp_core.specs.declared.request.Service.TheVariants.{Identify}
 use Rattle.dcp_core.specs.Request.{Asked}
 use Rattle.dcp_core.specs.Identify.{matches, identify_bytes}
 use Rattle.device_core.specs.declared.event.Event.{Event}
 use Rattle.device_core.specs.declared.event.Note.{Note}
 use Rattle.device_core.specs.declared.event.Note.TheVariants.{Done, Filter}
-use Rattle.device_core.specs.State.{State, store_of}
-use Rattle.device_core.specs.Heard.{Heard, heard_of}
-use Rattle.device_core.specs.Machine.{items_of, heard_step, step_of, first_step, later_steps, run_of, answer_frame}
+use Rattle.device_core.specs.State.{State, Live, store_of}
+use Rattle.device_core.specs.Sent.{answer_frame}
+use Rattle.device_core.specs.Heard.{Heard, Asks, heard_of}
+use Rattle.device_core.specs.Machine.{Stepped, items_of, heard_step, step_of, first_step, later_steps, run_of}
 
 -- what a device is does not change
 pub record IsSame {F : Type 0} (old new : State F) : Type 0 where
@@ -31,7 +33,7 @@ pub record Steps {F : Type 0} (image : F → Image) (failures : F → ℕ) (old 
   pub frames : sent ≡ (heard_step outcomes old.identity old.live heard).frames
   pub note : said ≡ (heard_step outcomes old.identity old.live heard).note
   pub caused : IsCaused outcomes (failures old.flash) (failures new.flash) old.live.values new.live.values
-  pub placed : OneByOne image failures outcomes (store_of old) (items_of heard) (store_of new)
+  pub placed : OneByOne image failures outcomes (store_of old) (items_of old.identity old.live heard) (store_of new)
   pub safe : CrashSafe old.live.values.has_failed old.live.values.stored (heard_step outcomes old.identity old.live heard).accepted (image old.flash) (image new.flash)
   pub holds : Holds (image new.flash) new.live.values
   pub untouched : (heard_step outcomes old.identity old.live heard).accepted ≡ [] → new.flash ≡ old.flash
@@ -44,6 +46,22 @@ pub record Identifies {F : Type 0} (old : State F) (asker : Mac) (request : Aske
       (said ≡ Done) × (sent ≡ answer_frame old.identity asker 65279 (identify_bytes old.identity old.live.values.running request.xid) ∷ [])
   pub filtered : matches old.identity old.live.values.running request ≡ false → (said ≡ Filter) × (sent ≡ [])
 
+-- The step of an Identify request: nothing changes, and it is answered where it matches identity and these settings, by them
+-- alone, and else not at all.
+pub record IsIdentified (identity : Identity) (settings : Settings) (live : Live) (asker : Mac) (request : Asked) (step : Stepped) : Type 0 where
+  pub unchanged : step.live ≡ live
+  pub none_accepted : step.accepted ≡ []
+  pub answered : matches identity settings request ≡ true →
+      (step.note ≡ Done) × (step.frames ≡ answer_frame identity asker 65279 (identify_bytes identity settings request.xid) ∷ [])
+  pub filtered : matches identity settings request ≡ false → (step.note ≡ Filter) × (step.frames ≡ [])
+
+-- Identify is answered by identity and these settings alone: so is each event that is heard as an Identify request, whoever
+-- asks, whatever the flash would do.
+abbrev pub AnswersBy : Identity → Settings → Live → Type 0
+AnswersBy identity settings live = (outcomes : List Outcome) (event : Event) (asker : Mac) (request : Asked)
+    → heard_of identity event ≡ Asks asker request → request.service ≡ Identify
+    → IsIdentified identity settings live asker request (step_of outcomes identity live event)
+
 -- what a run hands on of a step: its frames, unless power is lost
 pub record HandsOn {F : Type 0} (image : F → Image) (failures : F → ℕ) (old : State F) (heard : Heard) (before now : List (List ℕ)) (new : State F) : Type 0 where
   pub sent : List (List ℕ)
@@ -51,12 +69,15 @@ pub record HandsOn {F : Type 0} (image : F → Image) (failures : F → ℕ) (ol
   pub steps : Steps image failures old heard sent said new
   pub handed_on : now ≡ before ++ (if new.live.values.is_lost then [] else sent)
 
--- The events one by one: the items of each begin with the flash and the values that the event before it left.
-abbrev pub EventByEvent : {F : Type 0} → (F → Image) → (F → ℕ) → List (List Outcome) → Identity → store.State F → List Event → store.State F → Type 0
-EventByEvent image failures outcomes identity old [] new = new ≡ old
-EventByEvent {F} image failures outcomes identity old (event ∷ events) new =
-    (between : store.State F) × OneByOne image failures (first_step outcomes) old (items_of (heard_of identity event)) between
-    × EventByEvent image failures (later_steps outcomes) identity between events new
+-- The events one by one: each is judged on the state that the events before it made, and its items begin with the flash
+-- that the event before it left.
+abbrev pub EventByEvent : {F : Type 0} → (F → Image) → (F → ℕ) → List (List Outcome) → Identity → F → Live → List Event → F → Type 0
+EventByEvent image failures outcomes identity old live [] new = new ≡ old
+EventByEvent {F} image failures outcomes identity old live (event ∷ events) new =
+    let next = (step_of (first_step outcomes) identity live event).live in
+    (between : F) × OneByOne image failures (first_step outcomes) (record { flash = old; values = live.values })
+    (items_of identity live (heard_of identity event)) (record { flash = between; values = next.values })
+    × EventByEvent image failures (later_steps outcomes) identity between next events new
 
 -- Steps after one another, for some outcomes of each, which have their cause, each in its own item of its own event; where
 -- no command is accepted the flash is left alone. Before and now are what the sink has taken; once power is lost it takes no
@@ -67,7 +88,7 @@ pub record Runs {F : Type 0} (image : F → Image) (failures : F → ℕ) (old :
   pub live : new.live ≡ (run_of outcomes old.identity old.live events).live
   pub frames : now ≡ before ++ (run_of outcomes old.identity old.live events).frames
   pub caused : IsCaused outcomes (failures old.flash) (failures new.flash) old.live.values new.live.values
-  pub placed : EventByEvent image failures outcomes old.identity (store_of old) events (store_of new)
+  pub placed : EventByEvent image failures outcomes old.identity old.flash old.live events new.flash
   pub safe : CrashSafe old.live.values.has_failed old.live.values.stored (run_of outcomes old.identity old.live events).accepted (image old.flash) (image new.flash)
   pub holds : Holds (image new.flash) new.live.values
   pub untouched : (run_of outcomes old.identity old.live events).accepted ≡ [] → new.flash ≡ old.flash

@@ -32,7 +32,7 @@ impl<F: Flash<S>, const S: usize> Model for Device<F, S> {
       flash = device.store.flash;
       identity = device.identity;
       real = device.real;
-      live = record { values = device.store.values; lamp = device.lamp };
+      live = record { values = device.store.values; rest = record { lamp = device.lamp } };
     } };
 
     ghost invariant = { λ device. Holds (F.image device.store.flash) device.store.values };
@@ -90,7 +90,7 @@ impl<F: Flash<S>, const S: usize> Device<F, S> {
 
     /// For how many units the lamp still flashes.
     pub fn lamp(&self) -> u32
-        ensures { result ≡ self.now.live.lamp }
+        ensures { result ≡ self.now.live.rest.lamp }
     {
         self.lamp
     }

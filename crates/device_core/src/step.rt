@@ -4,10 +4,10 @@ ghost use Rattle.pn_values.specs.declared.mac.Mac.{Mac};
 ghost use Rattle.settings_store.specs.Carries.{Holds};
 ghost use Rattle.dcp_core.specs.Reading.{request_of};
 ghost use Rattle.dcp_core.specs.Request.{Asked, asked};
-ghost use Rattle.dcp_core.specs.Get.{get_bytes};
 ghost use Rattle.device_core.specs.Heard.{Asks, heard_of, heard_request};
 ghost use Rattle.device_core.specs.Hearing.{meaning_of};
-ghost use Rattle.device_core.specs.Machine.{answer_frame, identified, lamp_after as lamp_of};
+ghost use Rattle.device_core.specs.Sent.{GetAnswer, answer_frame, bytes_of};
+ghost use Rattle.device_core.specs.Machine.{identified, ticked, finished, lamp_after as lamp_of};
 ghost use Rattle.device_core.specs.Steps.{Steps, Identifies, IsExactStep};
 
 use crate::carrying::carry_out;
@@ -95,7 +95,7 @@ impl<F: Flash<S>, const S: usize> Device<F, S> {
 
     // A unit of time is over.
     fn tick(&mut self) -> Note
-        ensures lamp { self.new ≡ record self.old { live = record { values = self.old.live.values; lamp = self.old.live.lamp - 1 } } }
+        ensures rest { self.new ≡ record self.old { live = record { values = self.old.live.values; rest = ticked self.old.live.rest } } }
         ensures note { result ≡ Note.Done }
     {
         self.lamp = self.lamp.saturating_sub(1);
@@ -117,9 +117,9 @@ impl<F: Flash<S>, const S: usize> Device<F, S> {
 
     // An Identify request (IEC 61158-6-10, 4.3.2.3).
     fn identify(&self, asker: Mac, request: &Request<'_>, outbox: &mut Outbox) -> Note
-        ensures frames { map (λ frame. frame.items) outbox.new.items
-            ≡ (identified self.now.identity self.now.live.values.running self.now.live.lamp asker (asked request.now)).frames }
-        ensures note { result ≡ (identified self.now.identity self.now.live.values.running self.now.live.lamp asker (asked request.now)).note }
+        ensures frames { let end = finished self.now.live.rest (identified self.now.identity self.now.live asker (asked request.now)) [] in
+            map (λ frame. frame.items) outbox.new.items ≡ map (bytes_of self.now.identity) end.sent }
+        ensures note { result ≡ (finished self.now.live.rest (identified self.now.identity self.now.live asker (asked request.now)) []).note }
     {
         let running = self.store.running();
         if !identify_matches(&self.identity, running, request) {
@@ -140,7 +140,7 @@ impl<F: Flash<S>, const S: usize> Device<F, S> {
     // A Get (4.3.2.4).
     fn get(&self, asker: Mac, request: &Request<'_>, outbox: &mut Outbox) -> Note
         ensures frames { map (λ frame. frame.items) outbox.new.items
-            ≡ answer_frame self.now.identity asker 65277 (get_bytes self.now.identity self.now.live.values.running (asked request.now)) ∷ [] }
+            ≡ bytes_of self.now.identity (GetAnswer asker self.now.live.values.running (asked request.now)) ∷ [] }
         ensures note { result ≡ Note.Done }
     {
         let answer = get_answer(&self.identity, self.store.running(), request);

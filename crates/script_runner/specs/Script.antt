@@ -39,7 +39,7 @@ unfoldable pub said : Live → Command → Answer
 said live (Frame bytes) = step_answer (step_of [] demo live (event.Frame (record { items = take 1519 bytes })))
 said live Restart = record { live = started live.values.stored live.values.room; text = boot_line None }
 said live (Tick units) = tick_answer (ticked units live)
-said live Show = record { live = live; text = shown live.values.running live.values.stored live.lamp }
+said live Show = record { live = live; text = shown live.values.running live.values.stored live.rest.lamp }
 said live (Arm order) = record { live = live; text = [] }
 
 -- what a line does; None where it is refused

@@ -1,10 +1,10 @@
--- What cannot be read asks nothing of the flash and sends nothing.
+-- What cannot be read is refused.
 use Rattle.std.proofs.Common.{ap, map, refl}
+use Rattle.device_core.specs.declared.event.Note.TheVariants.{Fault}
 use Rattle.device_core.specs.Heard.{Unreadable}
-use Rattle.device_core.proofs.Steps.{quiet_steps}
+use Rattle.device_core.proofs.Steps.{refuses_steps}
 use Rattle.device_core.proofs.device.Device.read_and_serve.Goals as goal
 
 pub returns-in-Err-clause-steps : goal.returns-in-Err-clause-steps
 returns-in-Err-clause-steps g c = rw (rw c.in-Err.is at c.read_request.ensures.exact)
-    (quiet_steps g.F.Flash.image g.F.Flash.failures c.args.self.now c.args.self.now Unreadable _ _ c.requires.stored refl refl (record { identity = refl; real = refl }) refl
-    (ap (map (λ frame. frame.items)) c.clear.ensures) refl)
+    (refuses_steps g.F.Flash.image g.F.Flash.failures c.args.self.now Unreadable Fault _ _ c.requires.stored refl (ap (map (λ frame. frame.items)) c.clear.ensures) refl)
