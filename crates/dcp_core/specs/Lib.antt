@@ -1,3 +1,4 @@
+pub mod DcpFault
 pub mod Kinds
 pub mod Request
 pub mod Format

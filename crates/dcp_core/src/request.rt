@@ -1,4 +1,7 @@
 // Requests.
+ghost use Rattle.std.specs.Prelude.{◌≡◌};
+ghost use Rattle.dcp_core.specs.DcpFault.{number_of};
+
 use crate::Kind;
 use arrayvec::ArrayVec;
 
@@ -11,6 +14,15 @@ pub enum DcpFault {
     Service = 2,
     /// A block or pair is not whole, there are more than 16, or a block of a Set has no BlockQualifier.
     Block = 3,
+}
+
+impl DcpFault {
+    /// Its number, 1 to 3.
+    pub fn number(self) -> u8
+        ensures { result ≡ number_of self }
+    {
+        self as u8
+    }
 }
 
 /// ServiceID.

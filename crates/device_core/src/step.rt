@@ -18,7 +18,7 @@ use dcp_core::{
     read_request, set_answer,
 };
 use flash_model::Flash;
-use frame_codec::{DCP_GET_SET, DCP_IDENTIFY_RESPONSE, Layered, Outbox, Payload, put_alone};
+use frame_codec::{DCP_GET_SET, DCP_IDENTIFY_RESPONSE, Layered, Outbox, Payload};
 use pn_values::{Identity, Mac};
 
 /// For how many units of 31.25 microseconds the lamp flashes after a Signal: 3 seconds.
@@ -186,5 +186,6 @@ fn send(identity: &Identity, asker: Mac, frame_id: u16, answer: &Answer, outbox:
             body: answer.as_slice(),
         },
     };
-    put_alone(&layered, outbox);
+    outbox.clear();
+    outbox.put(&layered);
 }

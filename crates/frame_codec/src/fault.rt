@@ -1,3 +1,7 @@
+// What can be wrong with a frame.
+ghost use Rattle.std.specs.Prelude.{◌≡◌};
+ghost use Rattle.frame_codec.specs.FrameFault.{number_of};
+
 /// Why octets are no frame. The outermost layer is judged first.
 #[derive(Clone, Copy, Debug, PartialEq, Eq)]
 pub enum FrameFault {
@@ -9,4 +13,13 @@ pub enum FrameFault {
     Tag = 3,
     /// The EtherType is none that this station reads.
     EtherType = 4,
+}
+
+impl FrameFault {
+    /// Its number, 1 to 4.
+    pub fn number(self) -> u8
+        ensures { result ≡ number_of self }
+    {
+        self as u8
+    }
 }

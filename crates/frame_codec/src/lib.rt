@@ -7,6 +7,7 @@ mod frame_id;
 mod layered;
 mod limits;
 mod link;
+mod outbox;
 mod reading;
 mod writing;
 
@@ -15,6 +16,7 @@ pub use frame_id::{
     ALARM_HIGH, ALARM_LOW, DCP_GET_SET, DCP_IDENTIFY_REQUEST, DCP_IDENTIFY_RESPONSE,
 };
 pub use layered::{Layered, Payload};
-pub use limits::{Bytes, Frame, Outbox};
+pub use limits::{Bytes, Frame};
+pub use outbox::Outbox;
 pub use reading::read;
-pub use writing::{put_alone, write};
+pub use writing::write;

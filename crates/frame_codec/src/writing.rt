@@ -1,11 +1,11 @@
 //! From layers to octets.
-ghost use Rattle.std.specs.Prelude.{◌≡◌, ◌+◌, ◌-◌, ◌≢◌, ◌≤◌, List, ℕ, [], ◌∷◌, ◌++◌, length, map, replicate, Ok};
+ghost use Rattle.std.specs.Prelude.{◌≡◌, ◌+◌, ◌-◌, ◌≢◌, ◌≤◌, List, ℕ, [], ◌++◌, length, replicate, Ok};
 ghost use Rattle.arrayvec.specs.ArrayVec.{array_vec_len};
 ghost use Rattle.frame_codec.specs.Meaning.{content_of, meaning_of};
 ghost use Rattle.frame_codec.specs.Frame.{IsFrame, FitsFrame, content_size, content_under, frame_of, frame_bytes, layers, link, longest, padding_of, tag_and_type, type_of, vlan, with_behind};
 
 use crate::link::{Link, PROFINET, VLAN};
-use crate::{Frame, Layered, Outbox, Payload};
+use crate::{Frame, Layered, Payload};
 use arrayvec::ArrayVec;
 use wire::{append, append_u16};
 
@@ -95,7 +95,7 @@ fn pad(frame: &mut Frame)
 }
 
 /// Appends the layers, and behind them zeros up to 60 octets, to an empty frame.
-fn fill(frame: &mut Frame, layered: &Layered)
+pub(crate) fn fill(frame: &mut Frame, layered: &Layered)
     requires empty { array_vec_len frame.old ≡ 0 }
     requires room { FitsFrame (meaning_of layered.now) }
     ensures sent { frame.new.items ≡ layers.write (meaning_of layered.now) ++ padding_of (meaning_of layered.now) }
@@ -123,18 +123,4 @@ pub fn write(layered: &Layered) -> Frame
     let mut frame = ArrayVec::new();
     fill(&mut frame, layered);
     frame
-}
-
-/// Puts a frame into the box, alone. Where a frame stood in it, its room is used again.
-pub fn put_alone(layered: &Layered, outbox: &mut Outbox)
-    requires { FitsFrame (meaning_of layered.now) }
-    ensures { map (λ frame. frame.items) outbox.new.items ≡ frame_bytes (meaning_of layered.now) ∷ [] }
-{
-    outbox.truncate(1);
-    if let [frame] = outbox.as_mut_slice() {
-        frame.clear();
-        fill(frame, layered);
-    } else {
-        outbox.push(write(layered));
-    }
 }

@@ -4,7 +4,9 @@ use dcp_core::{
     DcpFault, Kind, Outcome, ResponseBlock, ResponseBlocks, Service, get_answer, identify_answer,
     identify_matches, read_answer, read_request, set_answer, set_plan,
 };
-use pn_values::{BlockError, Command, Identity, Mac, SetItem, Settings};
+use pn_values::{BlockError, Command, Identity, IpSuite, Mac, SetItem, Settings};
+use station_names::check;
+use std::test::Fail;
 
 const GET_SET: u16 = 0xFEFD;
 
@@ -77,6 +79,94 @@ fn gets_each_pair_once(rt: HostRuntime) {
         0, 0, 0, 0, 5, 4, 0, 3, 3, 1, 1, 0,
     ];
     assert!(rt; answer.as_slice() == expected.as_slice());
+}
+
+/// A device at this address.
+fn at_192_168_0_2() -> Result<Settings, Fail> {
+    let suite = IpSuite::new([192, 168, 0, 2], [255, 255, 255, 0], [192, 168, 0, 1]);
+    Ok(Settings {
+        suite: suite.ok_or("a suite")?,
+        ..Settings::factory()
+    })
+}
+
+#[test]
+fn answers_identify_with_its_address(rt: HostRuntime) -> Result<(), Fail> {
+    let settings = Settings {
+        name: check(b"pump-1").ok().ok_or("a name")?,
+        ..at_192_168_0_2()?
+    };
+    let answer = identify_answer(&demo(), &settings, 0x1122_3344);
+    let expected = [
+        5, 1, 0x11, 0x22, 0x33, 0x44, 0, 0, 0, 0x64, // the header
+        2, 1, 0, 9, 0, 0, b'p', b'n', b'-', b'd', b'e', b'm', b'o', 0, // the station type
+        2, 2, 0, 8, 0, 0, b'p', b'u', b'm', b'p', b'-', b'1', // the name
+        2, 3, 0, 6, 0, 0, 1, 0x23, 4, 0x56, // the device
+        2, 4, 0, 4, 0, 0, 1, 0, // its role
+        2, 5, 0, 26, 0, 0, 1, 1, 1, 2, 2, 1, 2, 2, 2, 3, 2, 4, 2, 5, 2, 7, 5, 3, 5, 4, 5, 5, 5, 6, // its options
+        2, 7, 0, 4, 0, 0, 0, 1, // its instance
+        1, 2, 0, 14, 0, 1, 192, 168, 0, 2, 255, 255, 255, 0, 192, 168, 0, 1, // the address: BlockInfo 1
+    ];
+    assert!(rt; answer.as_slice() == expected.as_slice());
+    Ok(())
+}
+
+#[test]
+fn gets_an_address_that_is_set(rt: HostRuntime) -> Result<(), Fail> {
+    let asked_for = [3, 0, 0, 0, 0, 3, 0, 0, 0, 2, 1, 2];
+    let request = read_request(GET_SET, &asked_for).ok().ok_or("a request")?;
+    let answer = get_answer(&demo(), &at_192_168_0_2()?, &request);
+    let expected = [
+        3, 1, 0, 0, 0, 3, 0, 0, 0, 18, 1, 2, 0, 14, 0, 1, 192, 168, 0, 2, 255, 255, 255, 0, 192,
+        168, 0, 1,
+    ];
+    assert!(rt; answer.as_slice() == expected.as_slice());
+    Ok(())
+}
+
+/// Sets no name and the suite 192.168.0.2, and resets the texts.
+const NAME_SUITE_AND_RESET: [u8; 40] = [
+    4, 0, 0, 0, 0, 9, 0, 0, 0, 30, 2, 2, 0, 2, 0, 1, 1, 2, 0, 14, 0, 1, 192, 168, 0, 2, 255, 255,
+    255, 0, 0, 0, 0, 0, 5, 6, 0, 2, 0, 2,
+];
+
+#[test]
+fn answers_a_set_that_is_not_stored(rt: HostRuntime) -> Result<(), Fail> {
+    let request = read_request(GET_SET, &NAME_SUITE_AND_RESET)
+        .ok()
+        .ok_or("a request")?;
+    let mut answers = ArrayVec::new();
+    for error in [
+        BlockError::Exhausted,
+        BlockError::Local,
+        BlockError::InOperation,
+    ] {
+        let _ = answers.try_push(error);
+    }
+    let answer = set_answer(&request, &answers);
+    let expected = [
+        4, 1, 0, 0, 0, 9, 0, 0, 0, 24, // the header
+        5, 4, 0, 3, 2, 2, 4, 0, // there is no room
+        5, 4, 0, 3, 1, 2, 5, 0, // it could not be stored
+        5, 4, 0, 3, 5, 6, 6, 0, // not while the device operates
+    ];
+    assert!(rt; answer.as_slice() == expected.as_slice());
+    Ok(())
+}
+
+#[test]
+fn plans_a_signal(rt: HostRuntime) -> Result<(), Fail> {
+    let flash = [4, 0, 0, 0, 0, 2, 0, 0, 0, 8, 5, 3, 0, 4, 0, 0, 1, 0];
+    let request = read_request(GET_SET, &flash).ok().ok_or("a request")?;
+    assert!(rt; matches!(set_plan(&request, true).as_slice(), [SetItem::Signal]));
+    Ok(())
+}
+
+#[test]
+fn faults_are_numbered(rt: HostRuntime) {
+    assert_eq!(rt; DcpFault::Length.number(), 1);
+    assert_eq!(rt; DcpFault::Service.number(), 2);
+    assert_eq!(rt; DcpFault::Block.number(), 3);
 }
 
 #[test]

@@ -141,13 +141,57 @@ fn writes_padded(rt: HostRuntime) {
     assert_eq!(rt; write(&identify(Some(0xC000), &body)).len(), 1518);
 }
 
+/// What is read of the frame at this place of a box.
+fn read_at(outbox: &Outbox, place: usize) -> Option<Result<Layered<'_>, FrameFault>> {
+    outbox
+        .as_slice()
+        .get(place)
+        .map(|frame| read(frame.as_slice()))
+}
+
 #[test]
-fn outbox_of_frames(rt: HostRuntime) {
+fn four_frames_in_a_box(rt: HostRuntime) {
+    let body = [7; 100];
     let mut outbox = Outbox::new();
-    outbox.push(write(&identify(None, &BODY)));
-    assert_eq!(rt; outbox.len(), 1);
+    assert_eq!(rt; outbox.len(), 0);
+    outbox.put(&identify(None, &body[..90]));
+    outbox.put(&identify(Some(0), &body[..91]));
+    outbox.put(&identify(None, &body[..92]));
+    assert!(rt; !outbox.is_full());
+    outbox.put(&identify(Some(7), &body));
+    assert!(rt; outbox.is_full());
+    assert_eq!(rt; read_at(&outbox, 0), Some(Ok(identify(None, &body[..90]))));
     assert_eq!(rt;
-        read(outbox.as_slice()[0].as_slice()),
-        Ok(identify(None, &outbox.as_slice()[0].as_slice()[16..]))
+        read_at(&outbox, 1),
+        Some(Ok(identify(Some(0), &body[..91])))
     );
+    assert_eq!(rt; read_at(&outbox, 2), Some(Ok(identify(None, &body[..92]))));
+    assert_eq!(rt; read_at(&outbox, 3), Some(Ok(identify(Some(7), &body))));
+    assert_eq!(rt; read_at(&outbox, 4), None);
+}
+
+#[test]
+fn a_box_that_is_used_again(rt: HostRuntime) {
+    let body = [7; 100];
+    let mut outbox = Outbox::new();
+    outbox.put(&identify(Some(0), &body));
+    outbox.put(&identify(None, &body));
+    outbox.clear();
+    assert_eq!(rt; read_at(&outbox, 0), None);
+    outbox.put(&identify(None, &body[..45]));
+    assert_eq!(rt; outbox.len(), 1);
+    assert_eq!(rt; read_at(&outbox, 0), Some(Ok(identify(None, &body[..45]))));
+}
+
+#[test]
+fn faults_of_frames_are_numbered(rt: HostRuntime) {
+    let faults = [
+        (FrameFault::TooShort, 1),
+        (FrameFault::TooLong, 2),
+        (FrameFault::Tag, 3),
+        (FrameFault::EtherType, 4),
+    ];
+    for (fault, number) in faults {
+        assert_eq!(rt; fault.number(), number, "{fault:?}");
+    }
 }
