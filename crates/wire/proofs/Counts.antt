@@ -2,11 +2,11 @@
 use Rattle.std.proofs.Common.{◌≡◌, ℕ, zero, suc, ◌-◌, ◌+◌, ◌<◌, ◌≤◌, List, [], ◌∷◌, ◌++◌, length, take, drop, get_or, Result, Ok, Err, refl, sym, ap, subst, ◌∙◌, append_assoc, arith}
 use Rattle.std.specs.Prelude.{nat_lt}
 use Rattle.std.proofs.lemmas.List.{append-nil, length-append, take_more, drop_more, drop_all}
-use Rattle.wire.specs.Codec.{Codec, IsSound, ◌>>=◌}
+use Rattle.wire.specs.Codec.{Codec, IsSound, IsOnward, ◌>>=◌}
 use Rattle.wire.specs.Counted.{SpellEach, write_each, size_each, FitsEach, read_each, listed, counted, bounded}
 use Rattle.wire.proofs.Fields.{bind_ok, ok_is}
-use Rattle.wire.proofs.Joined.{then_by_sound, seen_sound}
-use Rattle.wire.proofs.Judged.{checked_sound}
+use Rattle.wire.proofs.Joined.{then_by_sound, then_by_onward, seen_sound, seen_onward}
+use Rattle.wire.proofs.Judged.{checked_sound, checked_onward}
 
 module _ {F A : Type 0} (item : List A → Codec F A) (sound : (before : List A) → IsSound (item before)) where
   pub each_takes : (count : ℕ) (before : List A) (bytes : List ℕ) (values : List A) (rest : List ℕ)
@@ -65,6 +65,24 @@ module _ {F A : Type 0} (item : List A → Codec F A) (sound : (before : List A)
 
   pub bounded_sound : (most : ℕ) (full : F) (before : List A) → IsSound (bounded most full item before)
   bounded_sound most full before = checked_sound (λ value. nat_lt (length before) most) full (item before) (sound before)
+
+module _ {F A : Type 0} (item : List A → Codec F A) (items : (before : List A) → IsOnward (item before)) where
+  pub each_onward : (before : List A) (bytes : List ℕ) (values : List A) (rest more : List ℕ)
+      → SpellEach item before bytes values rest → SpellEach item before (bytes ++ more) values (rest ++ more)
+  each_onward before bytes [] rest more s = ap (λ (xs : List ℕ). xs ++ more) s
+  each_onward before bytes (value ∷ values) rest more s =
+      (s.0 ++ more, (items before).onward bytes value s.0 more s.1, each_onward (before ++ value ∷ []) s.0 values rest more s.2)
+
+  pub listed_onward : (count : ℕ) → IsOnward (listed item count)
+  listed_onward count = record {
+    onward = λ bytes values rest more s. (s.0, each_onward [] bytes values rest more s.1);
+  }
+
+  pub counted_onward : (counts : Codec F ℕ) → IsOnward counts → IsOnward (counted counts item)
+  counted_onward counts inner = seen_onward _ _ _ (then_by_onward _ _ inner (λ count. listed_onward count))
+
+  pub bounded_onward : (most : ℕ) (full : F) (before : List A) → IsOnward (bounded most full item before)
+  bounded_onward most full before = checked_onward (λ value. nat_lt (length before) most) full (item before) (items before)
 
 -- ---- a loop that reads so many values
 

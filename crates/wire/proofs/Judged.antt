@@ -4,7 +4,7 @@ use Rattle.std.specs.Prelude.{IsSomeAnd}
 use Rattle.std.specs.Option.{option_map_or}
 use Rattle.std.proofs.lemmas.Bool.{eqb-true}
 use Rattle.std.proofs.lemmas.List.{nil_from_length}
-use Rattle.wire.specs.Codec.{Codec, Whole, IsSound, IsSoundWhole, ◌>>=◌}
+use Rattle.wire.specs.Codec.{Codec, Whole, IsSound, IsSoundWhole, IsOnward, ◌>>=◌}
 use Rattle.wire.specs.Checks.{or_fault, checked, named, closed, variant}
 use Rattle.wire.proofs.Fields.{bind_ok, ok_is}
 
@@ -25,6 +25,11 @@ checked_sound {F = F} {A = A} test fault codec sound = record {
   sized = sound.sized;
 }
 
+pub checked_onward : {F A : Type 0} (test : A → Bool) (fault : F) (codec : Codec F A) → IsOnward codec → IsOnward (checked test fault codec)
+checked_onward test fault codec inner = record {
+  onward = λ bytes value rest more s. (s.0, inner.onward bytes value rest more s.1);
+}
+
 module _ {F A B : Type 0} (to : A → Option B) (from : B → A) (fault : F) (codec : Codec F A) where
   has_name : (o : Option B) (value : B) → or_fault fault o ≡ Ok value → o ≡ Some value
   has_name (Some x) value e = ap (λ v. Some v) (ok_is {F = F} x value e)
@@ -41,6 +46,11 @@ module _ {F A B : Type 0} (to : A → Option B) (from : B → A) (fault : F) (co
     written = λ value rest fits. (from value, back value, sound.written (from value) rest fits);
     local = λ value rest. sound.local (from value) rest;
     sized = λ value rest. sound.sized (from value) rest;
+  }
+
+  pub named_onward : IsOnward codec → IsOnward (named to from fault codec)
+  named_onward inner = record {
+    onward = λ bytes value rest more s. (s.0, s.1, inner.onward bytes s.0 rest more s.2);
   }
 
 pub closed_sound : {F A : Type 0} (more : F) (codec : Codec F A) → IsSound codec → IsSoundWhole (closed more codec)

@@ -5,11 +5,11 @@ use Rattle.std.proofs.lemmas.Bool.{lt-ltb}
 use Rattle.std.proofs.lemmas.List.{append-nil, length-append, take_at, drop_at, length-take, take-append-drop, drop_more, nil_from_length}
 use Rattle.std.proofs.lemmas.List.Sums.{sum_by-cons}
 use Rattle.std.proofs.Math.Nat.{add-mul}
-use Rattle.wire.specs.Codec.{Codec, IsSound, ◌>>=◌}
+use Rattle.wire.specs.Codec.{Codec, IsSound, IsOnward, ◌>>=◌}
 use Rattle.wire.specs.Counted.{SpellEach, write_each, size_each, FitsEach, bounded}
 use Rattle.wire.specs.Nested.{read_inner, SpellOuter, write_outer, size_outer, FitsOuter, read_outer, nested, flat_bytes, flat_size, nested_bytes, nested_size, FitsNested}
 use Rattle.wire.proofs.Fields.{bind_ok, ok_is}
-use Rattle.wire.proofs.Counts.{each_written, each_local, each_sized}
+use Rattle.wire.proofs.Counts.{each_written, each_local, each_sized, each_onward}
 
 -- ---- the inner entries: reading behind others is reading them, and putting them behind those
 
@@ -164,6 +164,26 @@ module _ {F H S : Type 0} (header : List H → Codec F H) (count_of : H → ℕ)
         ∙ ap (λ (xs : List ℕ). xs ++ rest) (sym (sound.local (length value.0) (write_outer header count_of item [] [] value.0 value.1 [])));
     sized = λ value rest.
         omega (arith, sound.sized (length value.0) (write_outer header count_of item [] [] value.0 value.1 rest), outer_sized [] [] value.0 value.1 rest);
+  }
+
+module _ {F H S : Type 0} (header : List H → Codec F H) (count_of : H → ℕ) (item : ℕ → List S → Codec F S)
+    (headers : (before : List H) → IsOnward (header before)) (items : (start : ℕ) (before : List S) → IsOnward (item start before)) where
+  outer_onward : (first : List H) (second : List S) (bytes : List ℕ) (entries : List H) (inner : List S) (rest more : List ℕ)
+      → SpellOuter header count_of item first second bytes entries inner rest → SpellOuter header count_of item first second (bytes ++ more) entries inner (rest ++ more)
+  outer_onward first second bytes [] inner rest more s = (s.0, ap (λ (xs : List ℕ). xs ++ more) s.1)
+  outer_onward first second bytes (entry ∷ entries) inner rest more s =
+      let own = take (count_of entry) inner in (
+        s.0 ++ more,
+        s.1 ++ more,
+        (headers first).onward bytes entry s.0 more s.2,
+        s.3,
+        each_onward (item (length second)) (items (length second)) second s.0 own s.1 more s.4,
+        outer_onward (first ++ entry ∷ []) (second ++ own) s.1 entries (drop (count_of entry) inner) rest more s.5,
+      )
+
+  pub nested_onward : (counts : Codec F ℕ) → IsOnward counts → IsOnward (nested header count_of item counts)
+  nested_onward counts inner = record {
+    onward = λ bytes value rest more s. (s.0 ++ more, inner.onward bytes (length value.0) s.0 more s.1, outer_onward [] [] s.0 value.0 value.1 rest more s.2);
   }
 
 -- ---- a loop that reads the inner entries
