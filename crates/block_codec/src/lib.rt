@@ -45,6 +45,3 @@ pub use record_blocks::{
     Im2, Im3, Im4, ImFilterData, IodReadReq, IodReadRes, IodWriteReq, IodWriteRes,
 };
 pub use writing::{block_len, write_block};
-
-#[cfg(test)]
-mod tests;

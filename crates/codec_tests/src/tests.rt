@@ -1,3 +1,6 @@
 // A module for each codec, by what it reads and writes.
+mod blocks;
 mod dcp;
+mod fields;
 mod frames;
+mod records;

@@ -10,6 +10,3 @@ mod writing;
 pub use fault::RecordFault;
 pub use reading::read_record;
 pub use writing::read_write;
-
-#[cfg(test)]
-mod tests;

@@ -14,7 +14,7 @@
 //! The laws that tie the four together are proved once for each combinator, and are one record: `IsSound` of a `Codec`
 //! and `IsSoundWhole` of a `Whole`. What is read is spelled so (`takes`), what is spelled so is read (`again`), what is
 //! written is spelled (`written`), and so long (`sized`). `IsOnward` says that what spells a value does so with anything
-//! behind it; it holds of all but `padding`, which looks for the end.
+//! behind it: proofs/ has it for each `Codec` of the table below but `padding`, which looks for the end.
 //!
 //! # How a format is stated
 //!
@@ -62,8 +62,8 @@
 //! | `refused fault`, `pick test one other` | a `Whole`: none; the one or the other |
 //! | `seen_whole to from whole` | as `seen` |
 //!
-//! Its proof is the same term once more, with `_sound` at each name (proofs/ of this crate): `seen_sound` asks that `to`
-//! undoes `from`, mostly `λ _. refl`, and `filled_sound` that each value takes at least a byte.
+//! Its proof is the same term once more, with `_sound` at each name, or `_onward` (proofs/ of this crate): `seen_sound` asks
+//! that `to` undoes `from`, mostly `λ _. refl`, and `filled_sound` that each value takes at least a byte.
 //!
 //! ```antt
 //! head_sound : IsSound head
@@ -106,6 +106,3 @@ mod writing;
 
 pub use reading::{octets_at, skip, split, u8_at, u16_at, u32_at};
 pub use writing::{append, append_u8, append_u16, append_u32};
-
-#[cfg(test)]
-mod tests;

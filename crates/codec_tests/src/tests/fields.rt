@@ -1,22 +1,41 @@
-use super::*;
+// The fields that all formats are made of.
 use arrayvec::ArrayVec;
+use wire::{
+    append, append_u8, append_u16, append_u32, octets_at, skip, split, u8_at, u16_at, u32_at,
+};
 
 /// Octets that differ from each other.
 const OCTETS: [u8; 7] = [0x12, 0x34, 0x56, 0x78, 0x9A, 0xBC, 0xDE];
 
 #[test]
-fn reads_fields(rt: HostRuntime) {
+fn splits_octets(rt: HostRuntime) {
     assert_eq!(rt;
         split(&OCTETS, 3, "short"),
         Ok((&OCTETS[..3], &OCTETS[3..]))
     );
     assert_eq!(rt; split(&OCTETS, 8, "short"), Err("short"));
+}
+
+#[test]
+fn reads_a_number_of_one_octet(rt: HostRuntime) {
     assert_eq!(rt; u8_at(&OCTETS, 1), Ok((0x12, &OCTETS[1..])));
     assert_eq!(rt; u8_at(&[], 1), Err(1));
+}
+
+#[test]
+fn reads_a_number_of_two_octets(rt: HostRuntime) {
     assert_eq!(rt; u16_at(&OCTETS, 1), Ok((0x1234, &OCTETS[2..])));
     assert_eq!(rt; u16_at(&OCTETS[..1], 1), Err(1));
+}
+
+#[test]
+fn reads_a_number_of_four_octets(rt: HostRuntime) {
     assert_eq!(rt; u32_at(&OCTETS, 1), Ok((0x1234_5678, &OCTETS[4..])));
     assert_eq!(rt; u32_at(&OCTETS[..3], 1), Err(1));
+}
+
+#[test]
+fn reads_octets(rt: HostRuntime) {
     assert_eq!(rt;
         octets_at::<6, u8>(&OCTETS, 1),
         Ok(([0x12, 0x34, 0x56, 0x78, 0x9A, 0xBC], &OCTETS[6..]))

@@ -1,0 +1,356 @@
+// PROFINET blocks, by the tables of IEC 61158-6-10, 5.2. The program block_table compares what each kind is with results of
+// a reference model; here is what its lines do not show.
+use arrayvec::ArrayVec;
+use block_codec::{
+    AlarmData, AlarmNotification, Block, BlockFault, BlockReader, BlockRoom, BlockType, block_len,
+    read_block, write_block,
+};
+
+/// An ARBlockReq of station `plc`.
+const AR_BLOCK_REQ: [u8; 61] = [
+    0x01, 0x01, 0x00, 0x39, 0x01, 0x00, 0x00, 0x01, 0x11, 0x11, 0x11, 0x11, 0x11, 0x11, 0x11, 0x11,
+    0x11, 0x11, 0x11, 0x11, 0x11, 0x11, 0x11, 0x22, 0x00, 0x01, 0x02, 0x00, 0x00, 0x00, 0x00, 0x02,
+    0x33, 0x33, 0x33, 0x33, 0x33, 0x33, 0x33, 0x33, 0x33, 0x33, 0x33, 0x33, 0x33, 0x33, 0x33, 0x33,
+    0x00, 0x00, 0x00, 0x11, 0x02, 0x58, 0x88, 0x92, 0x00, 0x03, 0x70, 0x6c, 0x63,
+];
+
+/// An input with four data objects and one IOCS.
+const IOCR_BLOCK_REQ: [u8; 84] = [
+    0x01, 0x02, 0x00, 0x50, 0x01, 0x00, 0x00, 0x01, 0x00, 0x01, 0x88, 0x92, 0x00, 0x00, 0x00, 0x01,
+    0x00, 0x28, 0xc0, 0x01, 0x00, 0x20, 0x00, 0x01, 0x00, 0x01, 0x00, 0x00, 0xff, 0xff, 0xff, 0xff,
+    0x00, 0x03, 0x00, 0x03, 0xc0, 0x00, 0x00, 0x00, 0x00, 0x00, 0x00, 0x00, 0x00, 0x01, 0x00, 0x00,
+    0x00, 0x00, 0x00, 0x04, 0x00, 0x00, 0x00, 0x01, 0x00, 0x00, 0x00, 0x00, 0x80, 0x00, 0x00, 0x01,
+    0x00, 0x00, 0x80, 0x01, 0x00, 0x02, 0x00, 0x01, 0x00, 0x01, 0x00, 0x03, 0x00, 0x01, 0x00, 0x02,
+    0x00, 0x01, 0x00, 0x06,
+];
+
+/// An AlarmCRBlockReq.
+const ALARM_CR_BLOCK_REQ: [u8; 26] = [
+    0x01, 0x03, 0x00, 0x16, 0x01, 0x00, 0x00, 0x01, 0x88, 0x92, 0x00, 0x00, 0x00, 0x00, 0x00, 0x01,
+    0x00, 0x03, 0x00, 0x01, 0x00, 0xc8, 0xc0, 0x00, 0xa0, 0x00,
+];
+
+/// An AlarmCRBlockRes.
+const ALARM_CR_BLOCK_RES: [u8; 12] = [
+    0x81, 0x03, 0x00, 0x08, 0x01, 0x00, 0x00, 0x01, 0x00, 0x01, 0x00, 0xc8,
+];
+
+/// A module with an input of two octets, and one without data.
+const EXPECTED: [u8; 64] = [
+    0x01, 0x04, 0x00, 0x3c, 0x01, 0x00, 0x00, 0x02, 0x00, 0x00, 0x00, 0x00, 0x00, 0x01, 0x00, 0x00,
+    0x00, 0x10, 0x00, 0x00, 0x00, 0x01, 0x00, 0x01, 0x00, 0x00, 0x00, 0x10, 0x00, 0x01, 0x00, 0x01,
+    0x00, 0x02, 0x01, 0x01, 0x00, 0x00, 0x00, 0x00, 0x00, 0x02, 0x00, 0x00, 0x00, 0x30, 0x00, 0x00,
+    0x00, 0x01, 0x00, 0x01, 0x00, 0x00, 0x00, 0x30, 0x00, 0x00, 0x00, 0x01, 0x00, 0x00, 0x01, 0x01,
+];
+
+/// A wrong submodule and an empty slot.
+const MODULE_DIFF: [u8; 50] = [
+    0x81, 0x04, 0x00, 0x2e, 0x01, 0x00, 0x00, 0x01, 0x00, 0x00, 0x00, 0x00, 0x00, 0x02, 0x00, 0x02,
+    0x00, 0x00, 0x00, 0x20, 0x00, 0x01, 0x00, 0x01, 0x00, 0x01, 0x00, 0x00, 0x00, 0x20, 0x90, 0x00,
+    0x00, 0x03, 0x00, 0x00, 0x00, 0x00, 0x00, 0x00, 0x00, 0x01, 0x00, 0x01, 0x00, 0x00, 0x00, 0x00,
+    0x98, 0x00,
+];
+
+/// ApplicationReady.
+const APPLICATION_READY: [u8; 32] = [
+    0x01, 0x12, 0x00, 0x1c, 0x01, 0x00, 0x00, 0x00, 0x11, 0x11, 0x11, 0x11, 0x11, 0x11, 0x11, 0x11,
+    0x11, 0x11, 0x11, 0x11, 0x11, 0x11, 0x11, 0x22, 0x00, 0x01, 0x00, 0x00, 0x00, 0x02, 0x00, 0x00,
+];
+
+/// A PrmEnd's answer.
+const PRM_END_RES: [u8; 32] = [
+    0x81, 0x10, 0x00, 0x1c, 0x01, 0x00, 0x00, 0x00, 0x11, 0x11, 0x11, 0x11, 0x11, 0x11, 0x11, 0x11,
+    0x11, 0x11, 0x11, 0x11, 0x11, 0x11, 0x11, 0x22, 0x00, 0x01, 0x00, 0x00, 0x00, 0x08, 0x00, 0x00,
+];
+
+/// I&M0 of a device with blank texts.
+const IM0: [u8; 60] = [
+    0x00, 0x20, 0x00, 0x38, 0x01, 0x00, 0x01, 0x23, 0x20, 0x20, 0x20, 0x20, 0x20, 0x20, 0x20, 0x20,
+    0x20, 0x20, 0x20, 0x20, 0x20, 0x20, 0x20, 0x20, 0x20, 0x20, 0x20, 0x20, 0x20, 0x20, 0x20, 0x20,
+    0x20, 0x20, 0x20, 0x20, 0x20, 0x20, 0x20, 0x20, 0x20, 0x20, 0x20, 0x20, 0x00, 0x00, 0x56, 0x00,
+    0x00, 0x00, 0x00, 0x00, 0x00, 0x00, 0x00, 0x00, 0x01, 0x01, 0x00, 0x0e,
+];
+
+/// I&M0FilterData of the device.
+const FILTER_DEVICE: [u8; 28] = [
+    0x00, 0x32, 0x00, 0x18, 0x01, 0x00, 0x00, 0x01, 0x00, 0x00, 0x00, 0x00, 0x00, 0x01, 0x00, 0x00,
+    0x00, 0x00, 0x00, 0x01, 0x00, 0x01, 0x00, 0x01, 0x00, 0x00, 0x00, 0x01,
+];
+
+/// I&M2.
+const IM2: [u8; 22] = [
+    0x00, 0x22, 0x00, 0x12, 0x01, 0x00, 0x32, 0x30, 0x32, 0x34, 0x2d, 0x30, 0x35, 0x2d, 0x30, 0x36,
+    0x20, 0x30, 0x37, 0x3a, 0x30, 0x38,
+];
+
+/// PrmEnd.
+const PRM_END: [u8; 32] = [
+    0x01, 0x10, 0x00, 0x1c, 0x01, 0x00, 0x00, 0x00, 0x11, 0x11, 0x11, 0x11, 0x11, 0x11, 0x11, 0x11,
+    0x11, 0x11, 0x11, 0x11, 0x11, 0x11, 0x11, 0x22, 0x00, 0x01, 0x00, 0x00, 0x00, 0x01, 0x00, 0x00,
+];
+
+/// A process alarm with four octets of data.
+const ALARM_NOTIFICATION: [u8; 32] = [
+    0x00, 0x01, 0x00, 0x1c, 0x01, 0x00, 0x00, 0x02, 0x00, 0x00, 0x00, 0x00, 0x00, 0x01, 0x00, 0x02,
+    0x00, 0x00, 0x00, 0x10, 0x00, 0x00, 0x00, 0x30, 0x00, 0x07, 0x00, 0x01, 0xde, 0xad, 0xbe, 0xef,
+];
+
+/// What a reader gives next: a type, or why there is none; None at the end.
+fn next_of(reader: &mut BlockReader) -> Option<Result<BlockType, BlockFault>> {
+    match reader.next(&mut BlockRoom::new()) {
+        Some(Ok(block)) => Some(Ok(block.block_type())),
+        Some(Err(fault)) => Some(Err(fault)),
+        None => None,
+    }
+}
+
+/// Two blocks, and octets of no known type.
+fn three() -> ArrayVec<u8, 64> {
+    let mut bytes = ArrayVec::new();
+    let _ = bytes.try_extend_from_slice(&IM2);
+    let _ = bytes.try_extend_from_slice(&PRM_END);
+    let _ = bytes.try_extend_from_slice(&[0xff, 0xff, 0, 0]);
+    bytes
+}
+
+#[test]
+fn blocks_are_read_one_behind_the_other(rt: HostRuntime) {
+    let bytes = three();
+    let mut reader = BlockReader::new(bytes.as_slice());
+    assert_eq!(rt; next_of(&mut reader), Some(Ok(BlockType::Im2)));
+    assert_eq!(rt; reader.rest().len(), 36);
+    assert_eq!(rt; next_of(&mut reader), Some(Ok(BlockType::PrmEnd)));
+    assert_eq!(rt; reader.rest().len(), 4);
+}
+
+#[test]
+fn a_reader_stays_at_a_fault(rt: HostRuntime) {
+    let mut reader = BlockReader::new(&[0xff, 0xff, 0, 0, 1, 2, 3]);
+    assert_eq!(rt; next_of(&mut reader), Some(Err(BlockFault::Kind)));
+    assert_eq!(rt; reader.rest().len(), 7);
+    assert_eq!(rt; next_of(&mut reader), None);
+    assert_eq!(rt; reader.rest().len(), 7);
+}
+
+#[test]
+fn a_reader_ends_where_the_octets_do(rt: HostRuntime) {
+    let mut reader = BlockReader::new(&PRM_END);
+    assert_eq!(rt; next_of(&mut reader), Some(Ok(BlockType::PrmEnd)));
+    assert_eq!(rt; next_of(&mut reader), None);
+}
+
+/// A process alarm with this data.
+fn alarm(alarm_data: AlarmData) -> AlarmNotification {
+    AlarmNotification {
+        alarm_type: 2,
+        api: 0,
+        slot_number: 1,
+        subslot_number: 2,
+        module_ident_number: 0x10,
+        submodule_ident_number: 0x30,
+        alarm_specifier: 7,
+        alarm_data,
+    }
+}
+
+#[test]
+fn an_alarm_is_written(rt: HostRuntime) {
+    let block = Block::AlarmNotification(alarm(AlarmData::new(&[0xde, 0xad, 0xbe, 0xef])));
+    let mut out: ArrayVec<u8, 32> = ArrayVec::new();
+    if block_len(&block) <= 32 {
+        write_block(&mut out, &block);
+    }
+    assert_eq!(rt; out.as_slice(), ALARM_NOTIFICATION.as_slice());
+}
+
+#[test]
+fn an_alarm_has_at_most_65511_octets_of_data(rt: HostRuntime) {
+    let octets = [0xa5; 65511];
+    let block = Block::AlarmNotification(alarm(AlarmData::new(&octets)));
+    assert_eq!(rt; block_len(&block), 65539);
+}
+
+/// A PrmEnd whose BlockLength, of all its octets or of few, is this, with these octets behind it.
+fn cut(length: u8, body: &[u8]) -> Option<BlockFault> {
+    let mut bytes: ArrayVec<u8, 64> = ArrayVec::new();
+    let _ = bytes.try_extend_from_slice(&[1, 0x10, 0, length]);
+    let _ = bytes.try_extend_from_slice(body);
+    read_block(bytes.as_slice(), &mut BlockRoom::new()).err()
+}
+
+#[test]
+fn a_version_is_judged_before_what_is_missing_behind_it(rt: HostRuntime) {
+    assert_eq!(rt; cut(1, &[2]), Some(BlockFault::Version(2)));
+    assert_eq!(rt; cut(1, &[1]), Some(BlockFault::Length));
+    assert_eq!(rt; cut(2, &[1, 7]), Some(BlockFault::Version(3)));
+    assert_eq!(rt; cut(2, &[1]), Some(BlockFault::Truncated));
+}
+
+/// Why octets are no block.
+fn fault_of(bytes: &[u8]) -> Option<BlockFault> {
+    read_block(bytes, &mut BlockRoom::new()).err()
+}
+
+/// Why a block is none where the two octets at a place are this number.
+fn with_number(bytes: &[u8], place: usize, number: u16) -> Option<BlockFault> {
+    let mut changed: ArrayVec<u8, 128> = ArrayVec::new();
+    let _ = changed.try_extend_from_slice(bytes);
+    for (octet, value) in changed.iter_mut().skip(place).zip(number.to_be_bytes()) {
+        *octet = value;
+    }
+    fault_of(changed.as_slice())
+}
+
+/// Whether the field at a place is accepted from the least to the greatest number, and refused by its number beside them.
+fn is_ranged(bytes: &[u8], place: usize, least: u16, greatest: u16, field: u8) -> bool {
+    let refused = Some(BlockFault::Field(field));
+    let below = least.checked_sub(1);
+    let above = greatest.checked_add(1);
+    with_number(bytes, place, least).is_none()
+        && with_number(bytes, place, greatest).is_none()
+        && below.is_none_or(|number| with_number(bytes, place, number) == refused)
+        && above.is_none_or(|number| with_number(bytes, place, number) == refused)
+}
+
+#[test]
+fn ranges_of_a_relation(rt: HostRuntime) {
+    for (place, least, greatest, field) in [(6, 1, 1, 4), (52, 1, 1000, 10)] {
+        assert!(rt;
+            is_ranged(&AR_BLOCK_REQ, place, least, greatest, field),
+            "{field}"
+        );
+    }
+    assert!(rt; is_ranged(&APPLICATION_READY, 28, 2, 2, 8));
+    assert!(rt; is_ranged(&PRM_END_RES, 28, 8, 8, 8));
+}
+
+#[test]
+fn ranges_of_cyclic_frames(rt: HostRuntime) {
+    for (place, least, greatest, field) in [
+        (6, 1, 2, 4),
+        (10, 0x8892, 0x8892, 6),
+        (16, 40, 1440, 8),
+        (18, 0x8000, 0xBBFF, 9),
+        (18, 0xC000, 0xF7FF, 9),
+        (20, 1, 128, 10),
+        (22, 1, 512, 11),
+        (34, 1, 7680, 16),
+        (44, 1, 1, 19),
+        (46, 0, 0, 20),
+        (48, 0, 0, 20),
+    ] {
+        assert!(rt;
+            is_ranged(&IOCR_BLOCK_REQ, place, least, greatest, field),
+            "{field}"
+        );
+    }
+}
+
+#[test]
+fn ranges_of_alarms(rt: HostRuntime) {
+    for (place, least, greatest, field) in [
+        (6, 1, 1, 4),
+        (8, 0x8892, 0x8892, 5),
+        (14, 1, 0xFFFF, 7),
+        (16, 1, 15, 8),
+        (20, 200, 1432, 10),
+    ] {
+        assert!(rt;
+            is_ranged(&ALARM_CR_BLOCK_REQ, place, least, greatest, field),
+            "{field}"
+        );
+    }
+    assert!(rt; is_ranged(&ALARM_CR_BLOCK_RES, 8, 1, 1, 5));
+    assert!(rt; is_ranged(&ALARM_CR_BLOCK_RES, 10, 200, 200, 6));
+    assert!(rt; is_ranged(&ALARM_NOTIFICATION, 26, 1, 1, 11));
+}
+
+#[test]
+fn ranges_of_modules(rt: HostRuntime) {
+    for (place, least, greatest, field) in [
+        (8, 0, 0, 5),
+        (10, 0, 0, 5),
+        (32, 0, 1440, 14),
+        (60, 0, 0, 14),
+    ] {
+        assert!(rt;
+            is_ranged(&EXPECTED, place, least, greatest, field),
+            "{field}"
+        );
+    }
+    assert!(rt; is_ranged(&MODULE_DIFF, 6, 1, 1, 4));
+    assert!(rt; is_ranged(&FILTER_DEVICE, 6, 1, 1, 4));
+}
+
+#[test]
+fn ranges_of_identification(rt: HostRuntime) {
+    assert!(rt; is_ranged(&IM0, 50, 0, 0, 9));
+    assert!(rt; is_ranged(&IM0, 56, 0x0101, 0x0101, 12));
+    assert!(rt; is_ranged(&IM0, 58, 0x000E, 0x000E, 13));
+}
+
+#[test]
+fn fields_that_are_no_ranges(rt: HostRuntime) {
+    let cases: [(&[u8], usize, u16, u8); 8] = [
+        (&AR_BLOCK_REQ, 26, 0x0300, 7),
+        (&AR_BLOCK_REQ, 56, 241, 12),
+        (&IOCR_BLOCK_REQ, 14, 0, 7),
+        (&IOCR_BLOCK_REQ, 14, 3, 7),
+        (&EXPECTED, 40, 1, 6),
+        (&EXPECTED, 30, 2, 13),
+        (&EXPECTED, 34, 0x0201, 15),
+        (&EXPECTED, 62, 0x0100, 16),
+    ];
+    for (bytes, place, number, field) in cases {
+        assert_eq!(rt;
+            with_number(bytes, place, number),
+            Some(BlockFault::Field(field))
+        );
+    }
+}
+
+/// An ARBlockReq for the ARUUID of zeros.
+fn without_uuid() -> [u8; 61] {
+    let mut bytes = AR_BLOCK_REQ;
+    for octet in &mut bytes[8..24] {
+        *octet = 0;
+    }
+    bytes
+}
+
+/// A module in slot 1 with the subslot 1, twice.
+const REPEATED: [u8; 50] = [
+    0x01, 0x04, 0x00, 0x2e, 0x01, 0x00, 0x00, 0x01, 0x00, 0x00, 0x00, 0x00, 0x00, 0x01, 0x00, 0x00,
+    0x00, 0x10, 0x00, 0x00, 0x00, 0x02, 0x00, 0x01, 0x00, 0x00, 0x00, 0x10, 0x00, 0x00, 0x00, 0x01,
+    0x00, 0x00, 0x01, 0x01, 0x00, 0x01, 0x00, 0x00, 0x00, 0x10, 0x00, 0x00, 0x00, 0x01, 0x00, 0x00,
+    0x01, 0x01,
+];
+
+#[test]
+fn no_uuid_of_zeros_and_no_subslot_twice(rt: HostRuntime) {
+    assert_eq!(rt; fault_of(&without_uuid()), Some(BlockFault::Field(5)));
+    assert_eq!(rt; fault_of(&REPEATED), Some(BlockFault::Field(10)));
+    assert_eq!(rt; with_number(&REPEATED, 36, 2), None);
+}
+
+/// An input IOCRBlockReq with so many data objects and no IOCS.
+fn input_of(objects: u16) -> ArrayVec<u8, 2048> {
+    let mut bytes = ArrayVec::new();
+    let length = 50u16.wrapping_add(objects.wrapping_mul(6));
+    let _ = bytes.try_extend_from_slice(&[0x01, 0x02]);
+    let _ = bytes.try_extend_from_slice(&length.to_be_bytes());
+    let _ = bytes.try_extend_from_slice(&IOCR_BLOCK_REQ[4..50]);
+    let _ = bytes.try_extend_from_slice(&objects.to_be_bytes());
+    for place in 0..objects {
+        let _ = bytes.try_extend_from_slice(&[0, 1, 0, 1]);
+        let _ = bytes.try_extend_from_slice(&place.to_be_bytes());
+    }
+    let _ = bytes.try_extend_from_slice(&[0, 0]);
+    bytes
+}
+
+#[test]
+fn a_257th_data_object_is_one_too_many(rt: HostRuntime) {
+    assert_eq!(rt; fault_of(input_of(256).as_slice()), None);
+    assert_eq!(rt; fault_of(input_of(257).as_slice()), Some(BlockFault::Count));
+}

@@ -1,0 +1,203 @@
+// The records of identification and maintenance.
+use arrayvec::ArrayVec;
+use im_records::{RecordFault, read_record, read_write};
+use pn_values::{Identity, Mac, Padded, Real, RealModule, RealSubmodule, Settings};
+
+/// Record 0xF840 of the demo device: 0x0030 with its three modules, and 0x0032 with the access point.
+const FILTER: [u8; 96] = [
+    0x00, 0x30, 0x00, 0x40, 0x01, 0x00, 0x00, 0x01, 0x00, 0x00, 0x00, 0x00, 0x00, 0x03, 0x00, 0x00,
+    0x00, 0x00, 0x00, 0x01, 0x00, 0x03, 0x00, 0x01, 0x00, 0x00, 0x00, 0x01, 0x80, 0x00, 0x00, 0x00,
+    0x00, 0x02, 0x80, 0x01, 0x00, 0x00, 0x00, 0x03, 0x00, 0x01, 0x00, 0x00, 0x00, 0x10, 0x00, 0x01,
+    0x00, 0x01, 0x00, 0x00, 0x00, 0x10, 0x00, 0x02, 0x00, 0x00, 0x00, 0x20, 0x00, 0x01, 0x00, 0x01,
+    0x00, 0x00, 0x00, 0x20, 0x00, 0x32, 0x00, 0x18, 0x01, 0x00, 0x00, 0x01, 0x00, 0x00, 0x00, 0x00,
+    0x00, 0x01, 0x00, 0x00, 0x00, 0x00, 0x00, 0x01, 0x00, 0x01, 0x00, 0x01, 0x00, 0x00, 0x00, 0x01,
+];
+
+/// The same record of a device with one module in slot 3, and one in slot 4 that has no submodule.
+const FILTER_OF_ONE: [u8; 42] = [
+    0x00, 0x30, 0x00, 0x18, 0x01, 0x00, 0x00, 0x01, 0x00, 0x00, 0x00, 0x00, 0x00, 0x01, 0x00, 0x03,
+    0x00, 0x00, 0x00, 0x20, 0x00, 0x01, 0x00, 0x01, 0x00, 0x00, 0x00, 0x21, 0x00, 0x32, 0x00, 0x0A,
+    0x01, 0x00, 0x00, 0x01, 0x00, 0x00, 0x00, 0x00, 0x00, 0x00,
+];
+
+/// I&M0 of the station below.
+const IM0: [u8; 60] =
+    *b"\x00\x20\x00\x38\x01\x00\x01\x23order number 0123456serial number 01\x0A\x0BV\x01\x02\x03\x00\x00\x0C\x0D\x0E\x0F\x01\x01\x00\x0E";
+
+/// I&M1 to I&M3 of the settings below.
+const IM1: [u8; 60] =
+    *b"\x00\x21\x00\x38\x01\x00the function of this station is.between press and oven";
+
+const IM2: [u8; 22] = *b"\x00\x22\x00\x12\x01\x002024-05-06 07:08";
+
+const IM3: [u8; 60] =
+    *b"\x00\x23\x00\x38\x01\x00what its user has to say of it in fifty-four octets so";
+
+/// A station whose numbers and texts all differ.
+fn identity() -> Identity {
+    Identity {
+        mac: Mac {
+            octets: [2, 0, 0, 0, 0, 1],
+        },
+        station_type: ArrayVec::new(),
+        vendor_id: 0x0123,
+        device_id: 0x0456,
+        instance: 1,
+        order_id: *b"order number 0123456",
+        serial_number: *b"serial number 01",
+        hardware_revision: 0x0A0B,
+        software_revision: [b'V', 1, 2, 3],
+        profile_id: 0x0C0D,
+        profile_specific_type: 0x0E0F,
+    }
+}
+
+/// Settings whose texts all differ.
+fn settings() -> Settings {
+    Settings {
+        im1: Padded::new(*b"the function of this station is.between press and oven"),
+        im2: Padded::new(*b"2024-05-06 07:08"),
+        im3: Padded::new(*b"what its user has to say of it in fifty-four octets so"),
+        ..Settings::factory()
+    }
+}
+
+/// A module with these submodules.
+fn module(slot: u16, ident: u32, parts: &[(u16, u32)]) -> RealModule {
+    let mut submodules: ArrayVec<RealSubmodule, 4> = ArrayVec::new();
+    for (subslot, ident) in parts {
+        let _ = submodules.try_push(RealSubmodule {
+            subslot: *subslot,
+            ident: *ident,
+            input: 0,
+            output: 0,
+            parameters: ArrayVec::new(),
+        });
+    }
+    RealModule {
+        slot,
+        ident,
+        submodules,
+    }
+}
+
+/// An access point with its interface and a port, and two modules.
+fn real() -> Real {
+    let mut modules = ArrayVec::new();
+    modules.push(module(0, 1, &[(1, 1), (0x8000, 2), (0x8001, 3)]));
+    modules.push(module(1, 16, &[(1, 16)]));
+    modules.push(module(2, 32, &[(1, 32)]));
+    Real { modules }
+}
+
+/// Whether these octets are what is read.
+fn reads(index: u16, slot: u16, subslot: u16, octets: &[u8]) -> bool {
+    match read_record(index, slot, subslot, &identity(), &real(), &settings()) {
+        Some(found) => found.as_slice() == octets,
+        None => false,
+    }
+}
+
+#[test]
+fn reads_identification(rt: HostRuntime) {
+    assert!(rt; reads(0xAFF0, 0, 0x8001, &IM0));
+    assert!(rt; reads(0xAFF0, 2, 1, &IM0));
+}
+
+#[test]
+fn reads_each_text(rt: HostRuntime) {
+    assert!(rt; reads(0xAFF1, 0, 1, &IM1));
+    assert!(rt; reads(0xAFF2, 0, 1, &IM2));
+    assert!(rt; reads(0xAFF3, 0, 1, &IM3));
+}
+
+/// I&M2 as it leaves the factory: spaces.
+const SPACES: [u8; 22] = *b"\x00\x22\x00\x12\x01\x00                ";
+
+#[test]
+fn reads_texts_of_spaces(rt: HostRuntime) {
+    let found = read_record(0xAFF2, 0, 1, &identity(), &real(), &Settings::factory());
+    assert_eq!(rt;
+        found.map(|octets| octets.as_slice() == SPACES.as_slice()),
+        Some(true)
+    );
+}
+
+#[test]
+fn reads_what_is_plugged_in(rt: HostRuntime) {
+    assert!(rt; reads(0xF840, 7, 7, &FILTER));
+}
+
+#[test]
+fn lists_no_module_without_a_submodule(rt: HostRuntime) {
+    let mut modules = ArrayVec::new();
+    modules.push(module(3, 32, &[(1, 33)]));
+    modules.push(module(4, 48, &[]));
+    let found = read_record(0xF840, 0, 1, &identity(), &Real { modules }, &settings());
+    assert_eq!(rt;
+        found.map(|octets| octets.as_slice() == FILTER_OF_ONE.as_slice()),
+        Some(true)
+    );
+}
+
+#[test]
+fn reads_no_others(rt: HostRuntime) {
+    for (index, slot, subslot) in [
+        (0xAFF0, 3, 1),
+        (0xAFF0, 1, 2),
+        (0xAFF1, 1, 1),
+        (0xAFF3, 0, 0x8000),
+        (0xAFF4, 0, 1),
+        (0x0001, 0, 1),
+    ] {
+        let found = read_record(index, slot, subslot, &identity(), &real(), &settings());
+        assert!(rt; found.is_none());
+    }
+}
+
+/// The settings of the factory as a written record leaves them.
+fn set_by(index: u16, bytes: &[u8]) -> Settings {
+    match read_write(index, bytes) {
+        Ok(command) => command.show(Settings::factory()),
+        Err(_) => Settings::factory(),
+    }
+}
+
+#[test]
+fn sets_the_text_of_its_index(rt: HostRuntime) {
+    assert_eq!(rt; set_by(0xAFF1, &IM1).im1.as_bytes(), &IM1[6..]);
+    assert_eq!(rt; set_by(0xAFF2, &IM2).im2.as_bytes(), &IM2[6..]);
+    assert_eq!(rt; set_by(0xAFF3, &IM3).im3.as_bytes(), &IM3[6..]);
+}
+
+/// The number of the fault that a record has.
+fn fault_of(index: u16, bytes: &[u8]) -> Option<u8> {
+    read_write(index, bytes).err().map(|fault| fault.number())
+}
+
+#[test]
+fn takes_no_record_of_another_length(rt: HostRuntime) {
+    let mut long = [0; 23];
+    long[..22].copy_from_slice(&IM2);
+    assert_eq!(rt; fault_of(0xAFF2, &IM2[..21]), Some(2));
+    assert_eq!(rt; fault_of(0xAFF2, &long), Some(2));
+    assert_eq!(rt; fault_of(0xAFF1, &IM2), Some(2));
+    assert_eq!(rt; fault_of(0xAFF3, &[]), Some(2));
+}
+
+#[test]
+fn takes_no_block_of_another_kind(rt: HostRuntime) {
+    for (place, octet) in [(0, 0x80), (1, 0x21), (2, 1), (3, 0x38), (4, 2), (5, 1)] {
+        let mut other = IM2;
+        other[place] = octet;
+        assert_eq!(rt; fault_of(0xAFF2, &other), Some(3), "at {place}");
+    }
+    assert_eq!(rt; fault_of(0xAFF3, &IM1), Some(3));
+}
+
+#[test]
+fn takes_no_other_index(rt: HostRuntime) {
+    assert_eq!(rt; fault_of(0xAFF0, &IM0), Some(1));
+    assert_eq!(rt; fault_of(0xF840, &[]), Some(1));
+    assert_eq!(rt; read_write(0xAFF5, &IM3).err(), Some(RecordFault::Index));
+}
