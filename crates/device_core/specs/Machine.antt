@@ -1,15 +1,17 @@
 -- One step of a device, and a run of steps, given what becomes of each call that stores a command.
-use Rattle.std.specs.Prelude.{◌-◌, ℕ, Bool, false, List, [], ◌∷◌, ◌++◌, map, if◌then◌else◌}
+use Rattle.std.specs.Prelude.{◌-◌, ℕ, Bool, true, false, List, [], ◌∷◌, ◌++◌, map, if◌then◌else◌}
+use Rattle.std.specs.List.{list_any}
 use Rattle.pn_values.specs.declared.mac.Mac.{Mac}
 use Rattle.pn_values.specs.declared.identity.Identity.{Identity}
 use Rattle.pn_values.specs.declared.set_item.SetItem.{SetItem}
+use Rattle.pn_values.specs.declared.set_item.SetItem.TheVariants.{Ask, Signal, Answer}
 use Rattle.pn_values.specs.declared.set_item.BlockError.{BlockError}
 use Rattle.settings_store.specs.Machine.{Outcome, Accepted, carried}
 use Rattle.dcp_core.specs.declared.request.Service.{Service}
 use Rattle.dcp_core.specs.declared.request.Service.TheVariants as service
 use Rattle.dcp_core.specs.Request.{Asked}
 use Rattle.dcp_core.specs.Identify.{matches}
-use Rattle.dcp_core.specs.Set.{plan_of, signals}
+use Rattle.dcp_core.specs.Set.{plan_of}
 use Rattle.device_core.specs.declared.event.Event.{Event}
 use Rattle.device_core.specs.declared.event.Note.{Note}
 use Rattle.device_core.specs.declared.event.Note.TheVariants as note
@@ -56,9 +58,15 @@ items_in (Moves rest sent) = []
 abbrev pub items_of : Identity → Live → Heard → List SetItem
 items_of identity live heard = items_in (judged identity live heard)
 
--- the lamp flashes for 3 seconds: 96,000 units
-abbrev pub lamp_after : ℕ → Asked → ℕ
-lamp_after lamp request = if signals request then 96000 else lamp
+-- whether an item has the lamp flash
+abbrev pub is_signal : SetItem → Bool
+is_signal Signal = true
+is_signal (Ask command) = false
+is_signal (Answer answer) = false
+
+-- the lamp after some items: a Signal among them has it flash for 3 seconds, 96,000 units
+abbrev pub lamp_after : ℕ → List SetItem → ℕ
+lamp_after lamp items = if list_any is_signal items then 96000 else lamp
 
 -- what comes of an event beside the settings: the rest, the messages that are sent, and what is said of the event
 pub record Finished : Type 0 where
@@ -70,7 +78,7 @@ pub record Finished : Type 0 where
 abbrev pub finished : Rest → Judged → List BlockError → Finished
 finished rest (Refuses note) answers = record { rest = rest; sent = []; note = note }
 finished rest (Sets asker request in_operation) answers =
-    record { rest = record { lamp = lamp_after rest.lamp request }; sent = SetAnswer asker request answers ∷ []; note = note.Done }
+    record { rest = record { lamp = lamp_after rest.lamp (plan_of in_operation request) }; sent = SetAnswer asker request answers ∷ []; note = note.Done }
 finished rest (Moves moved sent) answers = record { rest = moved; sent = sent; note = note.Done }
 
 -- A step: what changes, the messages that are sent and their frames, what is said of the event, and the commands that

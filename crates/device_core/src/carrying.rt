@@ -1,29 +1,25 @@
-//! The blocks of a Set, carried out.
-ghost use Rattle.std.specs.Prelude.{◌≡◌, false};
+//! The items of a Set, carried out.
+ghost use Rattle.std.specs.Prelude.{◌≡◌, ◌≤◌, length};
 ghost use Rattle.settings_store.specs.Carries.{Carries, Holds};
-ghost use Rattle.dcp_core.specs.Request.{asked};
-ghost use Rattle.dcp_core.specs.Set.{plan_of};
 
 use arrayvec::ArrayVec;
-use dcp_core::{Request, plan_block};
 use flash_model::Flash;
-use pn_values::BlockError;
+use pn_values::{BlockError, SetItem};
 use settings_store::Store;
 
-/// Carries the blocks of a Set out in order, each by itself, and says how each came out. No application relation exists.
+/// Carries items out in order, each by itself, and says how each came out.
 pub(crate) fn carry_out<F: Flash<S>, const S: usize>(
     store: &mut Store<F, S>,
-    request: &Request<'_>,
+    items: &[SetItem],
 ) -> ArrayVec<BlockError, 16>
-    requires { Holds (F.image store.old.flash) store.old.values }
-    ensures carries { Carries F.image F.failures store.old (plan_of false (asked request.now)) result.items store.new }
+    requires few { length items.now ≤ 16 }
+    requires stored { Holds (F.image store.old.flash) store.old.values }
+    ensures carries { Carries F.image F.failures store.old items.now result.items store.new }
     ensures reliable { F.is_reliable store.old.flash → F.is_reliable store.new.flash × (store.new.values.has_failed ≡ store.old.values.has_failed) }
 {
-    let blocks = request.blocks.as_slice();
     let mut answers = ArrayVec::new();
-    for block in blocks {
-        let item = plan_block(block, false);
-        let answer = store.carry(&item);
+    for item in items {
+        let answer = store.carry(item);
         answers.push(answer);
     }
     answers

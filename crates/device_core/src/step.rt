@@ -1,5 +1,6 @@
 // One step: what an event is, and what comes of it.
 ghost use Rattle.std.specs.Prelude.{◌≡◌, ◌≢◌, ◌<◌, ◌-◌, ◌^◌, [], ◌∷◌, true, false, map};
+ghost use Rattle.std.specs.List.{list_any};
 ghost use Rattle.pn_values.specs.declared.mac.Mac.{Mac};
 ghost use Rattle.settings_store.specs.Carries.{Holds};
 ghost use Rattle.dcp_core.specs.Reading.{request_of};
@@ -7,19 +8,19 @@ ghost use Rattle.dcp_core.specs.Request.{Asked, asked};
 ghost use Rattle.device_core.specs.Heard.{Asks, heard_of, heard_request};
 ghost use Rattle.device_core.specs.Hearing.{meaning_of};
 ghost use Rattle.device_core.specs.Sent.{GetAnswer, answer_frame, bytes_of};
-ghost use Rattle.device_core.specs.Machine.{identified, ticked, finished, lamp_after as lamp_of};
+ghost use Rattle.device_core.specs.Machine.{identified, ticked, finished, is_signal, lamp_after as lamp_of};
 ghost use Rattle.device_core.specs.Steps.{Steps, Identifies, IsExactStep};
 
 use crate::carrying::carry_out;
 use crate::hearing::{Heard, hear};
 use crate::{Device, Event, Note};
 use dcp_core::{
-    Answer, Request, Service, get_answer, has_signal, identify_answer, identify_matches,
-    read_request, set_answer,
+    Answer, Request, Service, get_answer, identify_answer, identify_matches, read_request,
+    set_answer, set_plan,
 };
 use flash_model::Flash;
 use frame_codec::{DCP_GET_SET, DCP_IDENTIFY_RESPONSE, Layered, Outbox, Payload};
-use pn_values::{Identity, Mac};
+use pn_values::{Identity, Mac, SetItem};
 
 /// For how many units of 31.25 microseconds the lamp flashes after a Signal: 3 seconds.
 const LAMP_UNITS: u32 = 96_000;
@@ -154,23 +155,27 @@ impl<F: Flash<S>, const S: usize> Device<F, S> {
         ensures steps { Steps F.image F.failures self.old (Asks asker (asked request.now)) (map (λ frame. frame.items) outbox.new.items) result self.new }
         ensures reliable { F.is_reliable self.old.flash → F.is_reliable self.new.flash × (self.new.live.values.has_failed ≡ self.old.live.values.has_failed) }
     {
-        let answers = carry_out(&mut self.store, request);
-        self.lamp = lamp_after(self.lamp, request);
+        let plan = set_plan(request, false);
+        let answers = carry_out(&mut self.store, plan.as_slice());
+        self.lamp = lamp_after(self.lamp, plan.as_slice());
         let answer = set_answer(request, &answers);
         send(&self.identity, asker, DCP_GET_SET, &answer, outbox);
         Note::Done
     }
 }
 
-// For how many units the lamp flashes after a Set, where it flashed for so many before.
-fn lamp_after(lamp: u32, request: &Request<'_>) -> u32
-    ensures { result ≡ lamp_of lamp (asked request.now) }
+// For how many units the lamp flashes after these items, where it flashed for so many before.
+fn lamp_after(lamp: u32, items: &[SetItem]) -> u32
+    ensures { result ≡ lamp_of lamp items.now }
 {
-    if has_signal(request) {
-        LAMP_UNITS
-    } else {
-        lamp
-    }
+    if has_signal(items) { LAMP_UNITS } else { lamp }
+}
+
+// Whether an item has the lamp flash.
+fn has_signal(items: &[SetItem]) -> bool
+    ensures { result ≡ list_any is_signal items.now }
+{
+    items.iter().any(|item| matches!(item, SetItem::Signal))
 }
 
 // Puts a DCP answer to the station that asked into the box, alone.
