@@ -14,6 +14,3 @@ pub use device::Device;
 pub use event::{Event, Note};
 pub use headline::cycle;
 pub use sink::Sink;
-
-#[cfg(test)]
-mod tests;

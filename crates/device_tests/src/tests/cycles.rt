@@ -1,0 +1,64 @@
+//! A cycle of the device, and the start after it.
+use crate::tests::stations::{DONE, IDENTIFY, frame, identity, no_modules, set_pump};
+use device_core::{Event, Sink, cycle};
+use flash_model::{MemoryFlash, Sector};
+use frame_codec::Frame;
+use std::process::Abort;
+use std::test::Fail;
+
+// What is handed on, kept in memory.
+#[derive(Drop)]
+struct Taken<'a, R: Abort> {
+    rt: &'a R,
+    frames: Vec<Frame>,
+}
+
+impl<R: Abort> Sink for Taken<'_, R> {
+    ghost use Rattle.std.specs.Prelude.{map};
+
+    ghost taken = { λ sink. map (λ frame. frame.items) sink.frames.items };
+
+    fn take(&mut self, frame: &Frame) {
+        let mut copy = Frame::new();
+        let _ = copy.try_extend_from_slice(frame.as_slice());
+        self.frames.push(copy).expect(self.rt, "memory");
+    }
+}
+
+#[test]
+fn a_cycle_with_a_loss(rt: HostRuntime) -> Result<(), Fail> {
+    let mut sink = Taken {
+        rt: &rt,
+        frames: Vec::new(rt.alloc()),
+    };
+    let mut flash = MemoryFlash::<768>::blank();
+    // The third call of the second commit.
+    flash.fuse(5, [0x55; 8]);
+    let events = [
+        set_pump(b'1'),
+        Event::Tick,
+        set_pump(b'2'),
+        frame(&IDENTIFY),
+    ];
+    let device = cycle(
+        identity(),
+        no_modules(),
+        flash,
+        &events,
+        &mut sink,
+        |mut flash| {
+            flash.power_up();
+            flash
+        },
+    )
+    .ok()
+    .ok_or("starts again")?;
+    assert_eq!(rt; device.running().name.as_bytes(), b"pump-1".as_slice());
+    let second = device.flash().sector(Sector::Second);
+    assert_eq!(rt; second.get(511).copied(), Some(0xAA));
+    assert_eq!(rt; device.lamp(), 0);
+    assert_eq!(rt; sink.frames.len(), 1);
+    let first = sink.frames.first();
+    assert!(rt; first.is_some_and(|sent| sent.as_slice().starts_with(&DONE)));
+    Ok(())
+}
