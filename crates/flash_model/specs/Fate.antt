@@ -20,6 +20,12 @@ armed_after false None = None
 armed_after false (Some (Cut zero mask)) = None
 armed_after false (Some (Cut (suc after) mask)) = Some (Cut after mask)
 
+-- whether power is lost behind a call
+abbrev pub lost_after : Fate → Bool
+lost_after Passes = false
+lost_after (Tears mask) = true
+lost_after Fails = true
+
 -- where the mask has a 0 the old bit, and where it has a 1 the new one
 abbrev pub torn_byte : ℕ → ℕ → ℕ → ℕ
 torn_byte old new mask = bit_or (bit_and old (255 - mask)) (bit_and new mask)

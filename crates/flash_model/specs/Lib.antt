@@ -1,3 +1,5 @@
+pub mod Asked
+pub mod Calls
 pub mod Fate
 pub mod Image
 pub mod Memory

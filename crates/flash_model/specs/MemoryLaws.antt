@@ -1,6 +1,9 @@
 -- The laws of the trait at a flash in memory, from what its type keeps.
-use Rattle.std.specs.Prelude.{◌≡◌, ℕ, false}
+use Rattle.std.specs.Prelude.{◌≡◌, ℕ, false, List, [], ◌∷◌, ◌++◌, refl}
+use Rattle.std.proofs.Common.{ap, sym, ◌∙◌}
 use Rattle.flash_model.specs.declared.memory.MemoryFlash.{MemoryFlash}
+use Rattle.flash_model.specs.Asked.{Chip, chip_of, after_call, after_calls, IsAsked}
+use Rattle.flash_model.specs.Calls.{Call}
 use Rattle.flash_model.specs.Image.{IsImage, IsSectorSize}
 use Rattle.flash_model.specs.Memory.{image_of, is_powerless, IsReliable}
 
@@ -15,3 +18,16 @@ IsSectorSize-of flash = flash.sector_size
 -- a flash that is reliable has power
 pub has_power-of : {S : ℕ} (flash : MemoryFlash S) → IsReliable flash → is_powerless flash ≡ false
 has_power-of flash reliable = reliable.0
+
+-- without a call nothing changes
+pub asked_nothing-of : {S : ℕ} (flash : MemoryFlash S) → IsAsked flash [] flash
+asked_nothing-of flash = refl
+
+-- some calls, and then more
+pub after_calls-append : (chip : Chip) (front back : List Call) → after_calls chip (front ++ back) ≡ after_calls (after_calls chip front) back
+after_calls-append chip [] back = refl
+after_calls-append chip (call ∷ front) back = after_calls-append (after_call chip call) front back
+
+pub asked_more-of : {S : ℕ} (old between new : MemoryFlash S) (front back : List Call) → IsAsked old front between → IsAsked between back new → IsAsked old (front ++ back) new
+asked_more-of old between new front back first second =
+    second ∙ ap (λ chip. after_calls chip back) first ∙ sym (after_calls-append (chip_of old) front back)

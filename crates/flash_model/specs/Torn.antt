@@ -14,22 +14,18 @@ pub record AreBetween (old new bytes : List ℕ) : Type 0 where
   pub length : length bytes ≡ length old
   pub each : (k : ℕ) → IsBetween (slice_index old k) (slice_index new k) (slice_index bytes k)
 
--- A call on the places from start to end of a sector failed, which would have made it finished: inside the range each
+-- A call on the places from start to end of these bytes failed, which would have made them finished: inside the range each
 -- bit is old or as finished, and all else is as it was.
-pub record Torn (sector : Sector) (start end : ℕ) (finished : List ℕ) (old new : Image) : Type 0 where
-  pub other : sector_of new (other sector) ≡ sector_of old (other sector)
-  pub length : length (sector_of new sector) ≡ length (sector_of old sector)
-  pub before : take start (sector_of new sector) ≡ take start (sector_of old sector)
-  pub behind : drop end (sector_of new sector) ≡ drop end (sector_of old sector)
-  pub inside : (k : ℕ) → start ≤ k → k < end →
-      IsBetween (slice_index (sector_of old sector) k) (slice_index finished k) (slice_index (sector_of new sector) k)
-
--- The same of the bytes of that sector alone.
 pub record TornSector (start end : ℕ) (finished old new : List ℕ) : Type 0 where
   pub length : length new ≡ length old
   pub before : take start new ≡ take start old
   pub behind : drop end new ≡ drop end old
   pub inside : (k : ℕ) → start ≤ k → k < end → IsBetween (slice_index old k) (slice_index finished k) (slice_index new k)
+
+-- The same of a sector of an image: the other sector is as it was.
+pub record Torn (sector : Sector) (start end : ℕ) (finished : List ℕ) (old new : Image) : Type 0 where
+  pub other : sector_of new (other sector) ≡ sector_of old (other sector)
+  pub here : TornSector start end finished (sector_of old sector) (sector_of new sector)
 
 -- A call failed: the count of failures rose, or stands where 64 bits count no further.
 abbrev pub HasRisen : ℕ → ℕ → Type 0

@@ -1,5 +1,6 @@
 // What a flash does, whether its calls end or fail.
-ghost use Rattle.std.specs.Prelude.{◌≡◌, ◌+◌, ◌≤◌, ℕ, Bool, length, slice_range, IsOk, OnOk, OnErr, true, false};
+ghost use Rattle.std.specs.Prelude.{◌≡◌, ◌+◌, ◌≤◌, ◌++◌, ℕ, Bool, List, [], ◌∷◌, length, slice_range, IsOk, OnOk, OnErr, true, false};
+ghost use Rattle.flash_model.specs.Calls.{Call, Programs, Erases, Arms};
 ghost use Rattle.flash_model.specs.Image.{Image, IsImage, IsSectorSize, sector_of, with_sector, programmed, erased};
 ghost use Rattle.flash_model.specs.Torn.{Torn, HasCause, StaysLost};
 
@@ -37,11 +38,15 @@ pub trait Flash<const S: usize>: Drop {
     /// Where it holds, no call fails: power is there, and nothing was armed. A flash that promises nothing has `⊥`.
     ghost is_reliable: { Self → Type 0 };
 
+    /// The one became the other by these calls, in order, and by no others. A read is none of them.
+    ghost asked: { Self → List Call → Self → Type 0 };
+
     /// Reads the bytes from `place` on.
     fn read(&mut self, sector: Sector, place: usize, buffer: &mut [u8]) -> Result<(), FlashFault>
         requires { place + length buffer.old ≤ S }
         ensures done { OnOk result (buffer.new ≡ slice_range (sector_of (image self.old) sector) place (place + length buffer.old)) }
         ensures same { image self.new ≡ image self.old }
+        ensures calls { asked self.old [] self.new }
         ensures cause { HasCause (failures self.old) (failures self.new) result }
         ensures lost { StaysLost (is_lost self.old) (is_lost self.new) result }
         ensures reliable { is_reliable self.old → IsOk result × is_reliable self.new };
@@ -51,6 +56,7 @@ pub trait Flash<const S: usize>: Drop {
         requires { place + length bytes.now ≤ S }
         ensures done { OnOk result (image self.new ≡ with_sector (image self.old) sector (programmed (sector_of (image self.old) sector) place bytes.now)) }
         ensures torn { OnErr result (Torn sector place (place + length bytes.now) (programmed (sector_of (image self.old) sector) place bytes.now) (image self.old) (image self.new)) }
+        ensures calls { asked self.old (Programs sector place bytes.now ∷ []) self.new }
         ensures cause { HasCause (failures self.old) (failures self.new) result }
         ensures lost { StaysLost (is_lost self.old) (is_lost self.new) result }
         ensures reliable { is_reliable self.old → IsOk result × is_reliable self.new };
@@ -59,6 +65,7 @@ pub trait Flash<const S: usize>: Drop {
     fn erase(&mut self, sector: Sector) -> Result<(), FlashFault>
         ensures done { OnOk result (image self.new ≡ with_sector (image self.old) sector (erased S)) }
         ensures torn { OnErr result (Torn sector 0 S (erased S) (image self.old) (image self.new)) }
+        ensures calls { asked self.old (Erases sector ∷ []) self.new }
         ensures cause { HasCause (failures self.old) (failures self.new) result }
         ensures lost { StaysLost (is_lost self.old) (is_lost self.new) result }
         ensures reliable { is_reliable self.old → IsOk result × is_reliable self.new };
@@ -75,7 +82,8 @@ pub trait Flash<const S: usize>: Drop {
     fn arm(&mut self, order: Order)
         ensures image { image self.new ≡ image self.old }
         ensures failures { failures self.new ≡ failures self.old }
-        ensures lost { is_lost self.new ≡ is_lost self.old };
+        ensures lost { is_lost self.new ≡ is_lost self.old }
+        ensures calls { asked self.old (Arms order ∷ []) self.new };
 
     /// Both sectors have `S` bytes.
     ghost sized: { (flash : Self) → IsImage S (image flash) };
@@ -85,4 +93,10 @@ pub trait Flash<const S: usize>: Drop {
 
     /// A reliable flash has power.
     ghost has_power: { (flash : Self) → is_reliable flash → is_lost flash ≡ false };
+
+    /// Without a call nothing changes.
+    ghost asked_nothing: { (flash : Self) → asked flash [] flash };
+
+    /// Some calls, and then more, are all of them in order.
+    ghost asked_more: { (old between new : Self) (front back : List Call) → asked old front between → asked between back new → asked old (front ++ back) new };
 }

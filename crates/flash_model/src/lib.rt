@@ -5,8 +5,6 @@
 mod fate;
 mod flash;
 mod memory;
-#[cfg(test)]
-mod tests;
 
 pub use flash::{Flash, FlashFault, Order, Sector};
 pub use memory::MemoryFlash;

@@ -1,6 +1,7 @@
 // A flash in memory, whose power can be lost inside a call.
-ghost use Rattle.std.specs.Prelude.{◌≡◌, ◌+◌, ◌≤◌, ◌↔◌, Option, None, Some, true, false, length, slice_range, IsOk, OnOk, OnErr, is_err, min};
+ghost use Rattle.std.specs.Prelude.{◌≡◌, ◌+◌, ◌≤◌, ◌↔◌, Option, None, Some, true, false, [], ◌∷◌, length, slice_range, IsOk, OnOk, OnErr, is_err, min};
 ghost use Rattle.std.proofs.Props.{props};
+ghost use Rattle.flash_model.specs.Calls.{Programs, Erases, Arms};
 ghost use Rattle.flash_model.specs.Image.{IsImage, IsSectorSize, sector_of, with_sector, programmed, erased};
 ghost use Rattle.flash_model.specs.Torn.{Torn, HasRisen, HasCause, StaysLost};
 ghost use Rattle.flash_model.specs.Fate.{sector_after, failures_after};
@@ -142,7 +143,8 @@ impl<const S: usize> MemoryFlash<S> {
 
 impl<const S: usize> Flash<S> for MemoryFlash<S> {
     ghost use Rattle.flash_model.specs.Memory.{image_of, armed_in, failures_of, is_powerless, next_fate, next_armed, IsReliable};
-    ghost use Rattle.flash_model.specs.MemoryLaws.{IsImage-of, IsSectorSize-of, has_power-of};
+    ghost use Rattle.flash_model.specs.Asked.{IsAsked};
+    ghost use Rattle.flash_model.specs.MemoryLaws.{IsImage-of, IsSectorSize-of, has_power-of, asked_nothing-of, asked_more-of};
 
     ghost image = { image_of };
 
@@ -152,6 +154,8 @@ impl<const S: usize> Flash<S> for MemoryFlash<S> {
 
     ghost is_reliable = { IsReliable };
 
+    ghost asked = { IsAsked };
+
     /// Reads the bytes from `place` on. It fails exactly where there is no power, and counts for no order.
     fn read(&mut self, sector: Sector, place: usize, buffer: &mut [u8]) -> Result<(), FlashFault>
         requires { place + length buffer.old ≤ S }
@@ -159,6 +163,7 @@ impl<const S: usize> Flash<S> for MemoryFlash<S> {
         // What the trait asks.
         ensures done { OnOk result (buffer.new ≡ slice_range (sector_of (image_of self.old) sector) place (place + length buffer.old)) }
         ensures same { image_of self.new ≡ image_of self.old }
+        ensures calls { IsAsked self.old [] self.new }
         ensures cause { HasCause (failures_of self.old) (failures_of self.new) result }
         ensures lost { StaysLost (is_powerless self.old) (is_powerless self.new) result }
         ensures reliable { IsReliable self.old → IsOk result × IsReliable self.new }
@@ -186,6 +191,7 @@ impl<const S: usize> Flash<S> for MemoryFlash<S> {
         // What the trait asks.
         ensures done { OnOk result (image_of self.new ≡ with_sector (image_of self.old) sector (programmed (sector_of (image_of self.old) sector) place bytes.now)) }
         ensures torn { OnErr result (Torn sector place (place + length bytes.now) (programmed (sector_of (image_of self.old) sector) place bytes.now) (image_of self.old) (image_of self.new)) }
+        ensures calls { IsAsked self.old (Programs sector place bytes.now ∷ []) self.new }
         ensures cause { HasCause (failures_of self.old) (failures_of self.new) result }
         ensures lost { StaysLost (is_powerless self.old) (is_powerless self.new) result }
         ensures untouched { is_powerless self.old ≡ true → image_of self.new ≡ image_of self.old }
@@ -211,6 +217,7 @@ impl<const S: usize> Flash<S> for MemoryFlash<S> {
         // What the trait asks.
         ensures done { OnOk result (image_of self.new ≡ with_sector (image_of self.old) sector (erased S)) }
         ensures torn { OnErr result (Torn sector 0 S (erased S) (image_of self.old) (image_of self.new)) }
+        ensures calls { IsAsked self.old (Erases sector ∷ []) self.new }
         ensures cause { HasCause (failures_of self.old) (failures_of self.new) result }
         ensures lost { StaysLost (is_powerless self.old) (is_powerless self.new) result }
         ensures untouched { is_powerless self.old ≡ true → image_of self.new ≡ image_of self.old }
@@ -249,6 +256,7 @@ impl<const S: usize> Flash<S> for MemoryFlash<S> {
         ensures image { image_of self.new ≡ image_of self.old }
         ensures failures { failures_of self.new ≡ failures_of self.old }
         ensures lost { is_powerless self.new ≡ is_powerless self.old }
+        ensures calls { IsAsked self.old (Arms order ∷ []) self.new }
 
         // What a flash in memory does beside, exactly.
         ensures armed { armed_in self.new ≡ Some order }
@@ -263,4 +271,8 @@ impl<const S: usize> Flash<S> for MemoryFlash<S> {
     ghost sector_size = { IsSectorSize-of };
 
     ghost has_power = { has_power-of };
+
+    ghost asked_nothing = { asked_nothing-of };
+
+    ghost asked_more = { asked_more-of };
 }

@@ -1,6 +1,7 @@
-pub mod Rising
-pub mod Parts
 pub mod Active
+pub mod Asking
+pub mod Committing
+pub mod Parts
+pub mod Rising
 pub mod Starting
 pub mod Writes
-pub mod Committing

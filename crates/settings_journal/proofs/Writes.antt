@@ -50,7 +50,7 @@ module _ (size : ℕ) (sector : Sector) (old new : Image) (wide : IsSectorSize s
       let e = get_or-take 512 (sector_of new sector) place 0 h in
       let f = get_or-take 512 (sector_of old sector) place 0 h in
       let r = get_or-replicate {A = ℕ} size place 255 0 within in
-      let between = rw r at (torn.inside place (omega arith) within bit) in
+      let between = rw r at (torn.here.inside place (omega arith) within bit) in
       rw (e, f) (between_rises _ _ bit (sector_bytes size old sector sized place) between)
 
   outside : (place bit : ℕ) → 512 ≤ place → bit_at (get_or (head_in new sector) place 0) bit ≡ bit_at (get_or (head_in old sector) place 0) bit
@@ -61,7 +61,7 @@ module _ (size : ℕ) (sector : Sector) (old new : Image) (wide : IsSectorSize s
 
   pub erase_rises : Rises (head_in old sector) (head_in new sector)
   erase_rises = record {
-    length = length-take 512 (sector_of new sector) ∙ ap (min 512) torn.length ∙ sym (length-take 512 (sector_of old sector));
+    length = length-take 512 (sector_of new sector) ∙ ap (min 512) torn.here.length ∙ sym (length-take 512 (sector_of old sector));
     each = λ place bit. elim (cases_lt place 512) [ inl h ↦ inside place bit h | inr h ↦ inl (outside place bit h) ];
   }
 
@@ -93,7 +93,7 @@ pub program_closed : (size : ℕ) (sector : Sector) (erased_image new : Image) (
     → end ≤ 511 → Torn sector 0 end finished erased_image new → gate_of (head_in new sector) ≢ 0
 program_closed size sector image new finished end wide blank before torn e =
     let gate = get_or-take 512 (sector_of new sector) 511 0 (lit< tt) in
-    let here = behind end (sector_of new sector) (sector_of image sector) 511 before torn.behind in
+    let here = behind end (sector_of new sector) (sector_of image sector) 511 before torn.here.behind in
     let one = get_or-replicate {A = ℕ} size 511 255 0 (omega (arith, wide.at_least, wide.whole)) in
     let was = rw blank at here in
     zero≢255 (sym e ∙ gate ∙ was ∙ one)
@@ -146,7 +146,7 @@ pub half_opened : (sector : Sector) (full new : Image) (finished base old : List
     → Torn sector 511 end finished full new → MayLeave old base (head_in new sector)
 half_opened sector full new finished base old end w torn =
     let front : take 383 (sector_of new sector) ≡ base =
-    sym (take-take 383 511 (sector_of new sector) (lit≤ tt)) ∙ ap (take 383) torn.before ∙ take-take 383 511 (sector_of full sector) (lit≤ tt) ∙ w.front in
+    sym (take-take 383 511 (sector_of new sector) (lit≤ tt)) ∙ ap (take 383) torn.here.before ∙ take-take 383 511 (sector_of full sector) (lit≤ tt) ∙ w.front in
     elim (cases_eq (gate_of (head_in new sector)) 0) [
       | inl e ↦ inr (inr (record { holds = front_of_head _ base front; gate = e }))
       | inr ne ↦ inr (inl ne)

@@ -1,6 +1,7 @@
-pub mod State
+pub mod Calls
+pub mod Commit
 pub mod Head
 pub mod Image
-pub mod Start
 pub mod Snapshot
-pub mod Commit
+pub mod Start
+pub mod State

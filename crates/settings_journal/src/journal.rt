@@ -1,9 +1,11 @@
 // The journal: its start, and the commit.
-ghost use Rattle.std.specs.Prelude.{◌≡◌, ◌↔◌, ◌⊎◌, ◌+◌, ◌≤◌, ℕ, true, false, IsTrue, IsErr, IfOk, IfErr, OnOk, OnErr, IsErrOf, MatchResult};
+ghost use Rattle.std.specs.Prelude.{◌≡◌, ◌↔◌, ◌⊎◌, ◌+◌, ◌≤◌, ℕ, List, [], ◌∷◌, true, false, IsTrue, IsErr, IfOk, IfErr, OnOk, OnErr, IsErrOf, MatchResult};
 ghost use Rattle.pn_values.specs.Command.{apply};
 ghost use Rattle.pn_values.specs.Settings.{factory_settings};
 ghost use Rattle.pn_values.specs.declared.settings.Settings.{Settings};
+ghost use Rattle.flash_model.specs.Calls.{Call, Arms};
 ghost use Rattle.flash_model.specs.Image.{erased};
+ghost use Rattle.settings_journal.specs.Calls.{HasCommitCalls};
 ghost use Rattle.settings_journal.specs.Image.{StartsFrom, StartsWith, IsForeign, LeftByDevice, IsGeneration, spare};
 ghost use Rattle.settings_journal.specs.Commit.{IsKept, HasBootCause, HasCommitCause};
 
@@ -79,6 +81,7 @@ impl<F: Flash<S>, const S: usize> Journal<F, S> {
 
         // Nothing is written, and FlashFault is answered where a read fails and only there.
         ensures same { MatchResult result (λ journal. F.image journal.flash ≡ F.image flash) (λ refused. F.image refused.1 ≡ F.image flash) }
+        ensures calls { MatchResult result (λ journal. F.asked flash [] journal.flash) (λ refused. F.asked flash [] refused.1) }
         ensures cause { MatchResult result (λ journal. F.failures journal.flash ≡ F.failures flash)
             (λ refused. HasBootCause refused.0 (F.failures flash) (F.failures refused.1)) }
         ensures lost { MatchResult result (λ journal. F.is_lost journal.flash ≡ false) (λ refused. F.is_lost flash ≡ true → F.is_lost refused.1 ≡ true) }
@@ -141,6 +144,7 @@ impl<F: Flash<S>, const S: usize> Journal<F, S> {
         ensures image { F.image self.new.flash ≡ F.image self.old.flash }
         ensures failures { F.failures self.new.flash ≡ F.failures self.old.flash }
         ensures lost { F.is_lost self.new.flash ≡ F.is_lost self.old.flash }
+        ensures calls { F.asked self.old.flash (Arms order ∷ []) self.new.flash }
     {
         F::arm(&mut self.flash, order);
     }
@@ -171,6 +175,10 @@ impl<F: Flash<S>, const S: usize> Journal<F, S> {
         ensures lost { OnOk result (F.is_lost self.new.flash ≡ false) }
         ensures stays_lost { F.is_lost self.old.flash ≡ true → F.is_lost self.new.flash ≡ true }
         ensures reliable { F.is_reliable self.old.flash → F.is_reliable self.new.flash × (IsErrOf result CommitFault.FlashFault → ⊥) }
+
+        // The calls that it asks of the flash: its own, in order, and no others.
+        ensures calls { (calls : List Call) × F.asked self.old.flash calls self.new.flash
+            × HasCommitCalls result (F.image self.old.flash) self.old.settings self.old.room command.now calls }
 
         // Whichever call failed, with power lost or not: the image is left by this device, and a start on it gives the
         // settings from before or those after the command.

@@ -12,6 +12,3 @@ mod snapshot;
 mod start;
 
 pub use journal::{BootFault, CommitFault, Journal};
-
-#[cfg(test)]
-mod tests;

@@ -4,6 +4,7 @@ use Rattle.std.proofs.lemmas.List.{append-nil}
 use Rattle.pn_values.specs.declared.settings.Settings.{Settings}
 use Rattle.pn_values.specs.declared.set_item.SetItem.{SetItem}
 use Rattle.pn_values.specs.declared.set_item.BlockError.{BlockError}
+use Rattle.flash_model.specs.Calls.{Call}
 use Rattle.flash_model.specs.Image.{Image}
 use Rattle.flash_model.specs.Torn.{HasRisen}
 use Rattle.settings_journal.specs.Image.{LeftByDevice}
@@ -64,9 +65,9 @@ caused_then front back all before mid now old between new quiet first second (in
 caused_then front back all before mid now old between new quiet first second (inr one) (inr two) = cc
 
 -- what carries some items out, and then what carries more out, carries all of them out
-pub carries_then : {F : Type 0} (image : F → Image) (failures : F → ℕ) (old mid new : State F) (items more : List SetItem) (front back : List BlockError)
-    → Carries image failures old items front mid → Carries image failures mid more back new → Carries image failures old (items ++ more) (front ++ back) new
-carries_then image failures old mid new items more front back one two =
+pub carries_then : {F : Type 0} (image : F → Image) (failures : F → ℕ) (asked : F → List Call → F → Type 0) (old mid new : State F) (items more : List SetItem) (front back : List BlockError)
+    → Carries image failures asked old items front mid → Carries image failures asked mid more back new → Carries image failures asked old (items ++ more) (front ++ back) new
+carries_then image failures asked old mid new items more front back one two =
     let m : (carried one.outcomes old.values items).values ≡ mid.values = sym one.values in
     let all : carried (joined one.outcomes two.outcomes items) old.values (items ++ more)
     ≡ followed_by (carried one.outcomes old.values items) (carried two.outcomes mid.values more) =
@@ -82,7 +83,7 @@ carries_then image failures old mid new items more front back one two =
       caused = caused_then one.outcomes two.outcomes (joined one.outcomes two.outcomes items) _ _ _ old.values mid.values new.values
           (joined_quiet one.outcomes two.outcomes items) failed
           (λ h. ap (λ v. v.has_failed) two.values ∙ stays_failed two.outcomes mid.values more h) one.caused two.caused;
-      placed = placed_then image failures one.outcomes two.outcomes old mid new items more one.placed two.placed;
+      placed = placed_then image failures asked one.outcomes two.outcomes old mid new items more one.placed two.placed;
       safe = subst (λ l. CrashSafe old.values.has_failed old.values.stored l (image old.flash) (image new.flash)) (sym (ap (λ r. r.accepted) all))
           (safe_then old.values.has_failed mid.values.has_failed old.values.stored mid.values.stored _ _ (image old.flash) (image mid.flash) (image new.flash) failed
           (failed_accepted two.outcomes mid.values more)

@@ -8,17 +8,19 @@ use Rattle.pn_values.specs.declared.set_item.SetItem.{SetItem}
 use Rattle.pn_values.specs.declared.set_item.SetItem.TheVariants.{Ask, Signal, Answer}
 use Rattle.pn_values.specs.declared.set_item.BlockError.{BlockError}
 use Rattle.pn_values.specs.declared.set_item.BlockError.TheVariants.{Done, Exhausted, Local}
+use Rattle.flash_model.specs.Calls.{Call}
 use Rattle.flash_model.specs.Image.{Image}
 use Rattle.flash_model.specs.Torn.{HasRisen}
+use Rattle.settings_journal.specs.Calls.{CommitCalls, IsFront}
 use Rattle.settings_journal.specs.Commit.{IsKept}
 use Rattle.settings_journal.specs.Image.{StartsWith, LeftByDevice}
 use Rattle.settings_journal.specs.State as journal
 use Rattle.pn_values.specs.declared.settings.Settings.{Settings}
 use Rattle.std.proofs.lemmas.Bool.Decides.{nat_tests}
 use Rattle.settings_store.specs.State.{State, Values}
-use Rattle.settings_store.specs.Machine.{Outcome, Pass, Fault, Carried, answered, accepted, committed, carried_one, first_of}
+use Rattle.settings_store.specs.Machine.{Outcome, Pass, Fault, Accepted, Carried, answered, accepted, committed, carried_one, first_of}
 use Rattle.settings_store.specs.Legal.{CrashSafe}
-use Rattle.settings_store.specs.Carries.{IsCaused, IsCausedAlone, Holds, CarriesOne, Carries}
+use Rattle.settings_store.specs.Carries.{IsCaused, IsCausedAlone, Holds, Asks, CarriesOne, Carries}
 
 committed_failed : (outcome : Outcome) (values : Values) (command : Command) → values.has_failed ≡ true → committed outcome values command ≡ answered Local values
 committed_failed outcome values command failed = cond-true _ _ _ failed
@@ -32,33 +34,34 @@ committed_taken : (outcome : Outcome) (values : Values) (command : Command) → 
 committed_taken outcome values command fine room = cond-false _ _ _ fine ∙ cond-false _ _ _ room
 
 -- one item by itself, by what becomes of it
-one_item : {F : Type 0} (image : F → Image) (failures : F → ℕ) (old new : State F) (item : SetItem) (outcome : Outcome) (one : Carried)
+one_item : {F : Type 0} (image : F → Image) (failures : F → ℕ) (asked : F → List Call → F → Type 0) (old new : State F) (item : SetItem) (outcome : Outcome) (one : Carried)
     → carried_one outcome old.values item ≡ one → new.values ≡ one.values
     → IsCausedAlone (failures old.flash) (failures new.flash) old.values new.values
     → CrashSafe old.values.has_failed old.values.stored one.accepted (image old.flash) (image new.flash)
-    → Holds (image new.flash) new.values → (one.accepted ≡ [] → new.flash ≡ old.flash) → CarriesOne image failures outcome old item new
-one_item image failures old new item outcome one is values caused safe holds untouched = record {
+    → Holds (image new.flash) new.values → ((other : Accepted) → one.accepted ≡ other ∷ [] → Asks image asked other old new) → (one.accepted ≡ [] → new.flash ≡ old.flash) → CarriesOne image failures asked outcome old item new
+one_item image failures asked old new item outcome one is values caused safe holds asks untouched = record {
   values = values ∙ sym (ap (λ r. r.values) is);
   caused = caused;
   safe = subst (λ l. CrashSafe old.values.has_failed old.values.stored l (image old.flash) (image new.flash)) (sym (ap (λ r. r.accepted) is)) safe;
   holds = holds;
+  asks = λ other taken. asks other (sym (ap (λ r. r.accepted) is) ∙ taken);
   untouched = λ none. untouched (sym (ap (λ r. r.accepted) is) ∙ none);
 }
 
 -- one item, by what becomes of it
-of_one : {F : Type 0} (image : F → Image) (failures : F → ℕ) (old new : State F) (item : SetItem) (answer : BlockError) (outcomes : List Outcome) (one : Carried)
+of_one : {F : Type 0} (image : F → Image) (failures : F → ℕ) (asked : F → List Call → F → Type 0) (old new : State F) (item : SetItem) (answer : BlockError) (outcomes : List Outcome) (one : Carried)
     → carried_one (first_of outcomes) old.values item ≡ one → new.values ≡ one.values → one.answers ≡ answer ∷ []
     → IsCaused outcomes (failures old.flash) (failures new.flash) old.values new.values
     → IsCausedAlone (failures old.flash) (failures new.flash) old.values new.values
     → CrashSafe old.values.has_failed old.values.stored one.accepted (image old.flash) (image new.flash)
-    → Holds (image new.flash) new.values → (one.accepted ≡ [] → new.flash ≡ old.flash) → (old.values.is_lost ≡ true → new.values.is_lost ≡ true)
-    → Carries image failures old (item ∷ []) (answer ∷ []) new
-of_one image failures old new item answer outcomes one is values answers caused caused_alone safe holds untouched lost = record {
+    → Holds (image new.flash) new.values → ((other : Accepted) → one.accepted ≡ other ∷ [] → Asks image asked other old new) → (one.accepted ≡ [] → new.flash ≡ old.flash) → (old.values.is_lost ≡ true → new.values.is_lost ≡ true)
+    → Carries image failures asked old (item ∷ []) (answer ∷ []) new
+of_one image failures asked old new item answer outcomes one is values answers caused caused_alone safe holds asks untouched lost = record {
   outcomes = outcomes;
   values = values ∙ sym (ap (λ r. r.values) is);
   answers_are = sym (append-nil _ ∙ ap (λ r. r.answers) is ∙ answers);
   caused = caused;
-  placed = (new, one_item image failures old new item (first_of outcomes) one is values caused_alone safe holds untouched, refl);
+  placed = (new, one_item image failures asked old new item (first_of outcomes) one is values caused_alone safe holds asks untouched, refl);
   safe = subst (λ l. CrashSafe old.values.has_failed old.values.stored l (image old.flash) (image new.flash))
       (sym (append-nil _ ∙ ap (λ r. r.accepted) is)) safe;
   holds = holds;
@@ -67,11 +70,11 @@ of_one image failures old new item answer outcomes one is values answers caused 
 }
 
 -- nothing is stored, and nothing changes
-alone : {F : Type 0} (image : F → Image) (failures : F → ℕ) (state : State F) (item : SetItem) (answer : BlockError)
-    → carried_one Pass state.values item ≡ answered answer state.values → Holds (image state.flash) state.values → Carries image failures state (item ∷ []) (answer ∷ []) state
-alone image failures state item answer is holds =
-    of_one image failures state state item answer [] (answered answer state.values) is refl refl (inl (refl, refl)) (inl (refl, refl))
-    (record { left = λ left. left; legal = λ fine left. inl (state.values.room, holds fine); untouched = λ failed. refl }) holds (λ _. refl) (λ lost. lost)
+alone : {F : Type 0} (image : F → Image) (failures : F → ℕ) (asked : F → List Call → F → Type 0) (state : State F) (item : SetItem) (answer : BlockError)
+    → carried_one Pass state.values item ≡ answered answer state.values → Holds (image state.flash) state.values → Carries image failures asked state (item ∷ []) (answer ∷ []) state
+alone image failures asked state item answer is holds =
+    of_one image failures asked state state item answer [] (answered answer state.values) is refl refl (inl (refl, refl)) (inl (refl, refl))
+    (record { left = λ left. left; legal = λ fine left. inl (state.values.room, holds fine); untouched = λ failed. refl }) holds (λ _ taken. absurd (cc)) (λ _. refl) (λ lost. lost)
 
 -- what a clause sees of a store, by its parts
 abbrev pub seen : {F : Type 0} → (F → Bool) → journal.State F → Settings → State F
@@ -94,41 +97,49 @@ pub is_failed : (b : Bool) → (b ≡ false → ⊥) → b ≡ true
 is_failed true not = refl
 is_failed false not = absurd (not refl)
 
+the_one : (one other : Accepted) → one ∷ [] ≡ other ∷ [] → one ≡ other
+the_one one other e = cc
+
 no_room : (room : ℕ) → (room ≡ 0 → ⊥) → (room == 0) ≡ false
 no_room room some = grind (arith, nat_tests)
 
 -- the call passed, and what it stored is shown
-pub passed : {F : Type 0} (image : F → Image) (failures : F → ℕ) (is_lost : F → Bool) (old new : journal.State F) (before now : Settings) (command : Command)
+pub passed : {F : Type 0} (image : F → Image) (failures : F → ℕ) (asked : F → List Call → F → Type 0) (is_lost : F → Bool) (old new : journal.State F) (before now : Settings) (command : Command)
     → old.has_failed ≡ false → new.has_failed ≡ false → new.settings ≡ apply command old.settings → new.room + 1 ≡ old.room
     → now ≡ show command before → is_lost new.flash ≡ false → failures new.flash ≡ failures old.flash
     → (LeftByDevice (image old.flash) → LeftByDevice (image new.flash))
-    → (new.has_failed ≡ false → StartsWith (image new.flash) new.settings new.room) → (is_lost old.flash ≡ true → is_lost new.flash ≡ true)
-    → Carries image failures (seen is_lost old before) (Ask command ∷ []) (Done ∷ []) (seen is_lost new now)
-passed image failures is_lost old new before now command fine still settings room shown power quiet left stored lost =
+    → (new.has_failed ≡ false → StartsWith (image new.flash) new.settings new.room)
+    → (calls : List Call) → asked old.flash calls new.flash → CommitCalls (image old.flash) old.settings old.room command calls → (is_lost old.flash ≡ true → is_lost new.flash ≡ true)
+    → Carries image failures asked (seen is_lost old before) (Ask command ∷ []) (Done ∷ []) (seen is_lost new now)
+passed image failures asked is_lost old new before now command fine still settings room shown power quiet left stored calls were commit lost =
     let some : (old.room == 0) ≡ false = no_room old.room (λ none. absurd (omega arith)) in
     let taken : new.room ≡ old.room - 1 = omega arith in
     let made : Values = (accepted Pass (seen is_lost old before).values command).values in
     let values : (seen is_lost new now).values ≡ made = cc in
-    of_one image failures (seen is_lost old before) (seen is_lost new now) (Ask command) Done [] (accepted Pass (seen is_lost old before).values command)
+    of_one image failures asked (seen is_lost old before) (seen is_lost new now) (Ask command) Done [] (accepted Pass (seen is_lost old before).values command)
     (committed_taken Pass (seen is_lost old before).values command fine some) values refl (inl (refl, quiet)) (inl (quiet, still ∙ sym fine))
     (record {
       left = left;
       legal = λ _ _. inl (new.room, subst (λ s. StartsWith (image new.flash) s new.room) settings (stored still));
       untouched = λ failed. absurd (cc);
     })
-    stored (λ none. absurd (cc)) lost
+    stored
+    (λ other taken. subst (λ one. Asks image asked one (seen is_lost old before) (seen is_lost new now)) (the_one _ _ taken)
+    (record { commit = calls; calls = calls; of_commit = commit; part = refl; were = were }))
+    (λ none. absurd (cc)) lost
 
 -- a call of the flash failed, and the settings from before or those after are stored
-pub faulted : {F : Type 0} (image : F → Image) (failures : F → ℕ) (is_lost : F → Bool) (old new : journal.State F) (running : Settings) (command : Command)
+pub faulted : {F : Type 0} (image : F → Image) (failures : F → ℕ) (asked : F → List Call → F → Type 0) (is_lost : F → Bool) (old new : journal.State F) (running : Settings) (command : Command)
     → old.has_failed ≡ false → new.has_failed ≡ true → (old.room ≡ 0 → ⊥) → new.settings ≡ old.settings → new.room ≡ old.room
     → HasRisen (failures old.flash) (failures new.flash)
     → (LeftByDevice (image old.flash) → LeftByDevice (image new.flash))
-    → (LeftByDevice (image old.flash) → IsKept (image new.flash) old.settings (apply command old.settings)) → (is_lost old.flash ≡ true → is_lost new.flash ≡ true)
-    → Carries image failures (seen is_lost old running) (Ask command ∷ []) (Local ∷ []) (seen is_lost new running)
-faulted image failures is_lost old new running command fine failed some settings room fault left kept lost =
+    → (LeftByDevice (image old.flash) → IsKept (image new.flash) old.settings (apply command old.settings))
+    → (calls : List Call) → asked old.flash calls new.flash → (all : List Call) → CommitCalls (image old.flash) old.settings old.room command all → IsFront calls all → (is_lost old.flash ≡ true → is_lost new.flash ≡ true)
+    → Carries image failures asked (seen is_lost old running) (Ask command ∷ []) (Local ∷ []) (seen is_lost new running)
+faulted image failures asked is_lost old new running command fine failed some settings room fault left kept calls were all commit part lost =
     let outcome : Outcome = Fault (is_lost new.flash) in
     let values : (seen is_lost new running).values ≡ (accepted outcome (seen is_lost old running).values command).values = cc in
-    of_one image failures (seen is_lost old running) (seen is_lost new running) (Ask command) Local (outcome ∷ [])
+    of_one image failures asked (seen is_lost old running) (seen is_lost new running) (Ask command) Local (outcome ∷ [])
     (accepted outcome (seen is_lost old running).values command)
     (committed_taken outcome (seen is_lost old running).values command fine (no_room old.room some)) values refl (inr (fault, fine, failed)) (inr (fault, fine, failed))
     (record {
@@ -139,37 +150,40 @@ faulted image failures is_lost old new running command fine failed some settings
       ];
       untouched = λ h. absurd (cc);
     })
-    (λ h. absurd (cc)) (λ none. absurd (cc)) lost
+    (λ h. absurd (cc))
+    (λ other taken. subst (λ one. Asks image asked one (seen is_lost old running) (seen is_lost new running)) (the_one _ _ taken)
+    (record { commit = all; calls = calls; of_commit = commit; part = part; were = were }))
+    (λ none. absurd (cc)) lost
 
 -- refused, since a commit failed earlier
-pub refused : {F : Type 0} (image : F → Image) (failures : F → ℕ) (is_lost : F → Bool) (old new : journal.State F) (running : Settings) (command : Command)
-    → new ≡ old → old.has_failed ≡ true → Carries image failures (seen is_lost old running) (Ask command ∷ []) (Local ∷ []) (seen is_lost new running)
-refused image failures is_lost old new running command same failed =
+pub refused : {F : Type 0} (image : F → Image) (failures : F → ℕ) (asked : F → List Call → F → Type 0) (is_lost : F → Bool) (old new : journal.State F) (running : Settings) (command : Command)
+    → new ≡ old → old.has_failed ≡ true → Carries image failures asked (seen is_lost old running) (Ask command ∷ []) (Local ∷ []) (seen is_lost new running)
+refused image failures asked is_lost old new running command same failed =
     let state : State _ = seen is_lost old running in
-    subst (λ j. Carries image failures state (Ask command ∷ []) (Local ∷ []) (seen is_lost j running)) (sym same)
-    (alone image failures state (Ask command) Local (committed_failed Pass state.values command failed) (λ fine. absurd (cc)))
+    subst (λ j. Carries image failures asked state (Ask command ∷ []) (Local ∷ []) (seen is_lost j running)) (sym same)
+    (alone image failures asked state (Ask command) Local (committed_failed Pass state.values command failed) (λ fine. absurd (cc)))
 
 -- refused, since there is no room
-pub full : {F : Type 0} (image : F → Image) (failures : F → ℕ) (is_lost : F → Bool) (old new : journal.State F) (running : Settings) (command : Command)
+pub full : {F : Type 0} (image : F → Image) (failures : F → ℕ) (asked : F → List Call → F → Type 0) (is_lost : F → Bool) (old new : journal.State F) (running : Settings) (command : Command)
     → new ≡ old → old.has_failed ≡ false → old.room ≡ 0 → (old.has_failed ≡ false → StartsWith (image old.flash) old.settings old.room)
-    → Carries image failures (seen is_lost old running) (Ask command ∷ []) (Exhausted ∷ []) (seen is_lost new running)
-full image failures is_lost old new running command same fine none holds =
+    → Carries image failures asked (seen is_lost old running) (Ask command ∷ []) (Exhausted ∷ []) (seen is_lost new running)
+full image failures asked is_lost old new running command same fine none holds =
     let state : State _ = seen is_lost old running in
-    subst (λ j. Carries image failures state (Ask command ∷ []) (Exhausted ∷ []) (seen is_lost j running)) (sym same)
-    (alone image failures state (Ask command) Exhausted (committed_full Pass state.values command fine none) holds)
+    subst (λ j. Carries image failures asked state (Ask command ∷ []) (Exhausted ∷ []) (seen is_lost j running)) (sym same)
+    (alone image failures asked state (Ask command) Exhausted (committed_full Pass state.values command fine none) holds)
 
 -- an answer alone
-pub answers : {F : Type 0} (image : F → Image) (failures : F → ℕ) (state : State F) (answer : BlockError)
-    → Holds (image state.flash) state.values → Carries image failures state (Answer answer ∷ []) (answer ∷ []) state
-answers image failures state answer holds = alone image failures state (Answer answer) answer refl holds
+pub answers : {F : Type 0} (image : F → Image) (failures : F → ℕ) (asked : F → List Call → F → Type 0) (state : State F) (answer : BlockError)
+    → Holds (image state.flash) state.values → Carries image failures asked state (Answer answer ∷ []) (answer ∷ []) state
+answers image failures asked state answer holds = alone image failures asked state (Answer answer) answer refl holds
 
 -- a lamp that is to flash
-pub signals : {F : Type 0} (image : F → Image) (failures : F → ℕ) (state : State F) → Holds (image state.flash) state.values → Carries image failures state (Signal ∷ []) (Done ∷ []) state
-signals image failures state holds = alone image failures state Signal Done refl holds
+pub signals : {F : Type 0} (image : F → Image) (failures : F → ℕ) (asked : F → List Call → F → Type 0) (state : State F) → Holds (image state.flash) state.values → Carries image failures asked state (Signal ∷ []) (Done ∷ []) state
+signals image failures asked state holds = alone image failures asked state Signal Done refl holds
 
 -- nothing to do
-pub nothing : {F : Type 0} (image : F → Image) (failures : F → ℕ) (state : State F) → Holds (image state.flash) state.values → Carries image failures state [] [] state
-nothing image failures state holds = record {
+pub nothing : {F : Type 0} (image : F → Image) (failures : F → ℕ) (asked : F → List Call → F → Type 0) (state : State F) → Holds (image state.flash) state.values → Carries image failures asked state [] [] state
+nothing image failures asked state holds = record {
   outcomes = [];
   values = refl;
   answers_are = refl;

@@ -5,6 +5,3 @@
 mod store;
 
 pub use store::Store;
-
-#[cfg(test)]
-mod tests;

@@ -1,5 +1,6 @@
 // The store: what runs beside what is stored.
 ghost use Rattle.std.specs.Prelude.{◌≡◌, ℕ, true, false, IsErr, IfOk, IfErr, MatchResult, [], ◌∷◌};
+ghost use Rattle.flash_model.specs.Calls.{Arms};
 ghost use Rattle.flash_model.specs.Image.{Image, erased};
 ghost use Rattle.pn_values.specs.Settings.{factory_settings};
 ghost use Rattle.pn_values.specs.declared.settings.Settings.{Settings};
@@ -61,6 +62,7 @@ impl<F: Flash<S>, const S: usize> Store<F, S> {
 
         // Nothing is written, and FlashFault is answered where a read fails and only there.
         ensures same { MatchResult result (λ store. F.image store.flash ≡ F.image flash) (λ refused. F.image refused.1 ≡ F.image flash) }
+        ensures calls { MatchResult result (λ store. F.asked flash [] store.flash) (λ refused. F.asked flash [] refused.1) }
         ensures cause { MatchResult result (λ store. F.failures store.flash ≡ F.failures flash)
             (λ refused. HasBootCause refused.0 (F.failures flash) (F.failures refused.1)) }
         ensures stays_lost { IfErr result (λ refused. F.is_lost flash ≡ true → F.is_lost refused.1 ≡ true) }
@@ -106,6 +108,7 @@ impl<F: Flash<S>, const S: usize> Store<F, S> {
         ensures values { self.new.values ≡ self.old.values }
         ensures image { F.image self.new.flash ≡ F.image self.old.flash }
         ensures failures { F.failures self.new.flash ≡ F.failures self.old.flash }
+        ensures calls { F.asked self.old.flash (Arms order ∷ []) self.new.flash }
     {
         self.journal.arm(order);
     }
@@ -120,7 +123,7 @@ impl<F: Flash<S>, const S: usize> Store<F, S> {
     /// Carries one item of a Set out, and says how it is answered. Items are carried out one after the other, each by
     /// itself.
     pub fn carry(&mut self, item: &SetItem) -> BlockError
-        ensures carries { Carries F.image F.failures self.old (item.now ∷ []) (result ∷ []) self.new }
+        ensures carries { Carries F.image F.failures F.asked self.old (item.now ∷ []) (result ∷ []) self.new }
         ensures reliable { F.is_reliable self.old.flash → F.is_reliable self.new.flash × (self.new.values.has_failed ≡ self.old.values.has_failed) }
     {
         // What the journal keeps holds before the item, too.
@@ -134,7 +137,7 @@ impl<F: Flash<S>, const S: usize> Store<F, S> {
 
     /// Stores what the command asks for, and shows it once it is stored.
     fn commit(&mut self, command: &Command) -> BlockError
-        ensures carries { Carries F.image F.failures self.old (SetItem.Ask command.now ∷ []) (result ∷ []) self.new }
+        ensures carries { Carries F.image F.failures F.asked self.old (SetItem.Ask command.now ∷ []) (result ∷ []) self.new }
         ensures reliable { F.is_reliable self.old.flash → F.is_reliable self.new.flash × (self.new.values.has_failed ≡ self.old.values.has_failed) }
     {
         match self.journal.commit(command) {

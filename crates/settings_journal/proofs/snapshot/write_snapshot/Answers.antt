@@ -1,7 +1,9 @@
 -- What each of the three calls leaves.
-use Rattle.std.proofs.Common.{◌∙◌, ap, inl, inr, arith}
-use Rattle.std.proofs.lemmas.Result.{on_ok_weaker}
+use Rattle.std.proofs.Common.{◌∙◌, ◌∷◌, [], ap, inl, inr, arith}
+use Rattle.std.proofs.lemmas.Result.{on_ok_weaker, err_from_is_err_and}
+use Rattle.flash_model.specs.Calls.{Programs, Erases}
 use Rattle.flash_model.specs.Image.{sector_of}
+use Rattle.settings_journal.proofs.Asking.{front, asked_all}
 use Rattle.settings_journal.proofs.Writes.{IsWritten, sector_with, erase_rises, program_closed, written, opened, half_opened, either}
 use Rattle.settings_journal.proofs.snapshot.write_snapshot.Goals as goal
 use Rattle.settings_journal.proofs.snapshot.write_snapshot.Given as given
@@ -27,3 +29,15 @@ returns-clause-done g c = on_ok_weaker c.program-2.result (opened _ _ _ _ (full 
 pub returns-clause-left : goal.returns-clause-left
 returns-clause-left g c =
     either c.program-2.result (λ e. inr (inr (opened _ _ _ _ (full g c) e))) (half_opened _ _ _ _ _ _ _ (full g c)) c.program-2.ensures.done c.program-2.ensures.torn
+
+pub returns-in_err-program-clause-calls : goal.returns-in_err-program-clause-calls
+returns-in_err-program-clause-calls g c =
+    let both = g.met.F.Flash.asked_more _ _ _ _ _ c.in_ok-erase.ensures.calls c.in_err-program.ensures.calls in
+    let fault = err_from_is_err_and c.from_residual-in_err-program.result c.from_residual-in_err-program.ensures.1 in
+    (_, both, rw fault.1 (front _ (Programs c.args.sector 0 c.args.base.now ∷ []) _))
+
+pub returns-clause-calls : goal.returns-clause-calls
+returns-clause-calls g c =
+    let two = g.met.F.Flash.asked_more _ _ _ _ _ c.in_ok-erase.ensures.calls c.in_ok-program.ensures.calls in
+    let three = g.met.F.Flash.asked_more _ _ _ _ _ two c.program-2.ensures.calls in
+    (_, three, asked_all c.program-2.result _ _)

@@ -1,5 +1,5 @@
 -- What the two heads are read as is so of the image, which both reads left alone; and an image has one start.
-use Rattle.std.proofs.Common.{◌-◌, ◌∙◌, sym, ap}
+use Rattle.std.proofs.Common.{◌-◌, ◌∙◌, [], sym, ap}
 use Rattle.flash_model.specs.declared.flash.Sector.TheVariants.{Second}
 use Rattle.settings_journal.specs.Image.{head_in, StartsFrom, IsForeign}
 use Rattle.settings_journal.proofs.Active.{start_same, left_starts, foreign_none, blank_starts}
@@ -42,3 +42,12 @@ returns-in_default-start_of-clause-blank g c = λ e. blank_starts _ _ (g.met.F.F
 
 pub returns-clause-blank : goal.returns-clause-blank
 returns-clause-blank g c = λ e. blank_starts _ _ (g.met.F.Flash.sector_size c.args.flash) e
+
+pub returns-in_default-read_head-clause-calls : goal.returns-in_default-read_head-clause-calls
+returns-in_default-read_head-clause-calls g c = g.met.F.Flash.asked_more _ _ _ [] [] c.in-Ok.ensures.calls c.in_default-read_head.ensures.calls
+
+pub returns-in_default-start_of-clause-calls : goal.returns-in_default-start_of-clause-calls
+returns-in_default-start_of-clause-calls g c = g.met.F.Flash.asked_more _ _ _ [] [] c.in-Ok.ensures.calls c.in-Ok-read_head.ensures.calls
+
+pub returns-clause-calls : goal.returns-clause-calls
+returns-clause-calls g c = g.met.F.Flash.asked_more _ _ _ [] [] c.in-Ok.ensures.calls c.in-Ok-read_head.ensures.calls

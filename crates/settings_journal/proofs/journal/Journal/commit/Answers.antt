@@ -7,6 +7,8 @@ use Rattle.settings_journal.specs.Image.{head_in, spare}
 use Rattle.settings_journal.specs.Snapshot.{IsSnapshot}
 use Rattle.settings_journal.specs.Commit.{IsKept}
 use Rattle.std.specs.Result.{is_err}
+use Rattle.settings_journal.specs.Calls.{CommitCalls, snapshot_calls}
+use Rattle.settings_journal.proofs.Asking.{commit_calls, asked_done, asked_front}
 use Rattle.settings_journal.proofs.Writes.{done}
 use Rattle.settings_journal.proofs.Committing.{Written, Written-from, snapshot_at, now_starts, now_left, now_kept, now_generation, torn_kept, still_kept}
 use Rattle.settings_journal.proofs.journal.Journal.commit.Goals as goal
@@ -69,3 +71,21 @@ returns-clause-kept g c =
     let w = wrote g wrote_it in
     let next = c.apply-settings.ensures ∙ ap (apply c.args.command.now) c.copy.ensures in
     rw (← c.self.view_is) (λ going left. subst (λ s. IsKept (g.F.Flash.image c.write_snapshot.new.flash) c.self.inside.settings s) next (now_kept _ _ _ _ _ _ w (snapshot g wrote_it (sym c.if-is_err.ensures.value))))
+
+calls_of : (g : given.Over) (c : After-write_snapshot g)
+    → CommitCalls (g.F.Flash.image c.self.inside.flash) c.self.inside.settings (65535 - c.self.inside.generation) c.args.command.now (snapshot_calls c.spare_of-sector.result c.as_slice.result.now)
+calls_of g c =
+    let w = wrote g c in
+    commit_calls _ _ _ _ _ _ _ _ w.starts w.few (c.apply-settings.ensures ∙ ap (apply c.args.command.now) c.copy.ensures) c.spare_of-sector.ensures (c.as_slice.ensures.value ∙ c.encode-base.ensures.value)
+
+pub returns-then-is_err-clause-calls : goal.returns-then-is_err-clause-calls
+returns-then-is_err-clause-calls g c =
+    let wrote_it = (goal.at.returns-then-is_err-clause-calls g c).After-write_snapshot in
+    let part = asked_front c.write_snapshot.result _ _ (sym c.if-is_err.ensures.value) c.write_snapshot.ensures.calls.2 in
+    rw (← c.self.view_is) (_, c.write_snapshot.ensures.calls.1, (_, calls_of g wrote_it, part))
+
+pub returns-clause-calls : goal.returns-clause-calls
+returns-clause-calls g c =
+    let wrote_it = (goal.at.returns-clause-calls g c).After-write_snapshot in
+    let all = asked_done c.write_snapshot.result _ _ (sym c.if-is_err.ensures.value) c.write_snapshot.ensures.calls.2 in
+    rw (← c.self.view_is) (_, c.write_snapshot.ensures.calls.1, rw all (calls_of g wrote_it))

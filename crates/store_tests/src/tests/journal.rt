@@ -1,10 +1,11 @@
 // Images whose bytes were worked out by hand from the layout, and calls at a flash in memory.
-use crate::{BootFault, CommitFault, Journal};
 use flash_model::{MemoryFlash, Order, Sector};
 use pn_values::Command;
+use settings_journal::{BootFault, CommitFault, Journal};
 use station_names::NameFault;
 
-const SIZE: usize = 4096;
+/// The smallest size: room for one slot.
+const SIZE: usize = 768;
 
 // "PNS" and the version; the generation 1, which leaves 65,534; a name of six bytes.
 const FIRST: &[u8; 13] = b"PNS\x01\xFF\xFE\x06pump-1";
@@ -34,27 +35,26 @@ fn sector(front: &[u8; 13], gate: u8) -> [u8; SIZE] {
 }
 
 #[test]
-fn names_are_stored_in_turn(rt: HostRuntime) -> Result<(), std::test::Fail> {
+fn the_first_name_goes_to_the_first_sector(rt: HostRuntime) -> Result<(), std::test::Fail> {
     let mut journal = start(MemoryFlash::blank())?;
     assert_eq!(rt; journal.settings().name.as_bytes().len(), 0);
     journal.commit(&set(b"pump-1")?)?;
-    let first = journal.flash().sector(Sector::First);
-    assert_eq!(rt; &first[..13], FIRST.as_slice());
-    assert_eq!(rt; first[511], 0x00);
-    assert_eq!(rt;
-        journal.flash().sector(Sector::Second),
-        [0xFF; SIZE].as_slice()
-    );
+    let flash = journal.into_flash();
+    assert!(rt; flash.sector(Sector::First).starts_with(FIRST));
+    assert_eq!(rt; flash.sector(Sector::First)[511], 0x00);
+    assert_eq!(rt; flash.sector(Sector::Second), [0xFF; SIZE].as_slice());
+    Ok(())
+}
+
+#[test]
+fn the_next_name_goes_to_the_other_sector(rt: HostRuntime) -> Result<(), std::test::Fail> {
+    let mut journal = start(MemoryFlash::blank())?;
+    journal.commit(&set(b"pump-1")?)?;
     journal.commit(&set(b"pump-2")?)?;
-    assert_eq!(rt;
-        &journal.flash().sector(Sector::First)[..13],
-        FIRST.as_slice()
-    );
-    assert_eq!(rt;
-        &journal.flash().sector(Sector::Second)[..13],
-        SECOND.as_slice()
-    );
-    let again = start(journal.into_flash())?;
+    let flash = journal.into_flash();
+    assert!(rt; flash.sector(Sector::First).starts_with(FIRST));
+    assert!(rt; flash.sector(Sector::Second).starts_with(SECOND));
+    let again = start(flash)?;
     assert_eq!(rt; again.settings().name.as_bytes(), b"pump-2".as_slice());
     assert!(rt; !again.is_exhausted());
     assert!(rt; !again.has_failed());

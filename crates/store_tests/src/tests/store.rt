@@ -1,7 +1,7 @@
 // The store over a flash in memory: what no clause says is that `arm` reaches the flash.
-use crate::Store;
 use flash_model::{MemoryFlash, Order};
 use pn_values::{BlockError, Command, ImValue, Padded, SetItem};
+use settings_store::Store;
 
 /// The smallest size: room for one slot.
 const SIZE: usize = 768;

@@ -1,0 +1,4 @@
+// A module for each crate, by what it is about.
+mod flash;
+mod journal;
+mod store;
