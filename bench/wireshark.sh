@@ -1,6 +1,7 @@
 #!/usr/bin/env bash
-# Runs a script and writes its frames, those that come in and those that are sent, in their order into a capture file for
-# Wireshark; then lists them as tshark reads them. Its status is 1 where a frame is not PN-DCP or is malformed.
+# Runs a script by the proved program, which is proved first where it is not, and writes its frames, those that come in and
+# those that are sent, in their order into a capture file for Wireshark; then lists them as tshark reads them. Its status is
+# 1 where a frame is not PN-DCP or is malformed.
 # Use: bench/wireshark.sh SCRIPT FILE.pcapng. Needs awk, sed, and text2pcap and tshark (Debian: apt-get install tshark).
 set -euo pipefail
 here=$(cd "$(dirname "$0")" && pwd)
@@ -8,7 +9,8 @@ script=$1
 capture=$2
 printed=$(mktemp)
 trap 'rm -f "$printed"' EXIT
-"$here/../pnscript" run < "$script" > "$printed"
+"$here/../pnscript" prove >&2
+"$here/../crates/pnscript/out/pnscript" run < "$script" > "$printed"
 
 # The frames of the script and of its output, one a line in hex, each answer behind its request.
 conversation() {
