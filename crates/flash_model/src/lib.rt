@@ -4,7 +4,9 @@
 
 mod fate;
 mod flash;
+mod lent;
 mod memory;
 
 pub use flash::{Flash, FlashFault, Order, Sector};
+pub use lent::Lent;
 pub use memory::MemoryFlash;
