@@ -1,5 +1,6 @@
 -- A cycle and the start after it, from a start, a run and a start.
 use Rattle.std.proofs.Common.{rules, ◌≡◌, ℕ, false, List, Result, Ok, Err, IsOk, IfOk, IfErr, MatchResult, refl, sym, ap, subst, ◌∙◌, inl, inr}
+use Rattle.flash_model.specs.Calls.{Call}
 use Rattle.flash_model.specs.Image.{Image}
 use Rattle.pn_values.specs.declared.identity.Identity.{Identity}
 use Rattle.pn_values.specs.declared.real.Real.{Real}
@@ -37,12 +38,12 @@ device_of : {F : Type 0} → F → Identity → Real → Settings → ℕ → St
 device_of flash identity real first room = record { flash = flash; identity = identity; real = real; live = started first room }
 
 -- a run from a start is a cycle
-cycled_from : {F : Type 0} (image : F → Image) (failures : F → ℕ) (identity : Identity) (real : Real) (flash begun : F) (first : Settings) (room : ℕ)
+cycled_from : {F : Type 0} (image : F → Image) (failures : F → ℕ) (asked : F → List Call → F → Type 0) (identity : Identity) (real : Real) (flash begun : F) (first : Settings) (room : ℕ)
     (events : List Event) (before now : List (List ℕ)) (ran : State F) → image begun ≡ image flash → failures begun ≡ failures flash
-    → (runs : Runs image failures (device_of begun identity real first room) events before now ran)
-    → Cycled image failures identity flash first room events before now runs.outcomes ran.flash
+    → (runs : Runs image failures asked (device_of begun identity real first room) events before now ran)
+    → Cycled image failures asked identity flash first room events before now runs.outcomes ran.flash
 unfolding device_of
-cycled_from image failures identity real flash begun first room events before now ran same_image same_failures runs =
+cycled_from image failures asked identity real flash begun first room events before now ran same_image same_failures runs =
     let end = cycle_of runs.outcomes identity first room events in
     let values : ran.live.values ≡ end.live.values = ap (λ l. l.values) runs.live in
     record {
@@ -57,25 +58,25 @@ cycled_from image failures identity real flash begun first room events before no
     }
 
 -- the run of a device that started so
-run_from : {F : Type 0} (image : F → Image) (failures : F → ℕ) (identity : Identity) (real : Real) (first : Settings) (room : ℕ) (events : List Event)
+run_from : {F : Type 0} (image : F → Image) (failures : F → ℕ) (asked : F → List Call → F → Type 0) (identity : Identity) (real : Real) (first : Settings) (room : ℕ) (events : List Event)
     (before now : List (List ℕ)) (begun ran : State F) → begun.live ≡ started first room → begun.identity ≡ identity → begun.real ≡ real
-    → Runs image failures begun events before now ran → Runs image failures (device_of begun.flash identity real first room) events before now ran
+    → Runs image failures asked begun events before now ran → Runs image failures asked (device_of begun.flash identity real first room) events before now ran
 unfolding device_of
-run_from image failures identity real first room events before now begun ran live is_identity is_real run =
-    subst (λ s. Runs image failures s events before now ran) (same_state begun (device_of begun.flash identity real first room) refl is_identity is_real live) run
+run_from image failures asked identity real first room events before now begun ran live is_identity is_real run =
+    subst (λ s. Runs image failures asked s events before now ran) (same_state begun (device_of begun.flash identity real first room) refl is_identity is_real live) run
 
-pub cycle_restarts : {F : Type 0} (image : F → Image) (failures : F → ℕ) (power_up : F → F → Type 0) (identity : Identity) (real : Real) (flash : F) (first : Settings) (room : ℕ)
+pub cycle_restarts : {F : Type 0} (image : F → Image) (failures : F → ℕ) (asked : F → List Call → F → Type 0) (power_up : F → F → Type 0) (identity : Identity) (real : Real) (flash : F) (first : Settings) (room : ℕ)
     (events : List Event) (before now : List (List ℕ)) (begun ran : State F) (back : F) (again : State F)
     → begun.live ≡ started first room → begun.identity ≡ identity → begun.real ≡ real → image begun.flash ≡ image flash → failures begun.flash ≡ failures flash
-    → LeftByDevice (image flash) → Runs image failures begun events before now ran → power_up ran.flash back → image back ≡ image ran.flash
+    → LeftByDevice (image flash) → Runs image failures asked begun events before now ran → power_up ran.flash back → image back ≡ image ran.flash
     → ((settings : Settings) (room : ℕ) → StartsWith (image back) settings room → again.live ≡ started settings room)
     → again.live ≡ started again.live.values.stored again.live.values.room → StartsWith (image back) again.live.values.stored again.live.values.room
     → again.identity ≡ ran.identity → again.real ≡ ran.real → image again.flash ≡ image back → failures again.flash ≡ failures back
-    → Restarts image failures power_up identity real flash first room events before now again
+    → Restarts image failures asked power_up identity real flash first room events before now again
 unfolding device_of
-cycle_restarts image failures power_up identity real flash first room events before now begun ran back again live is_identity is_real same_image same_failures left run powered kept known fresh starts same_identity same_real image_is failures_is =
-    let runs = run_from image failures identity real first room events before now begun ran live is_identity is_real run in
-    let cycled = cycled_from image failures identity real flash begun.flash first room events before now ran same_image same_failures runs in
+cycle_restarts image failures asked power_up identity real flash first room events before now begun ran back again live is_identity is_real same_image same_failures left run powered kept known fresh starts same_identity same_real image_is failures_is =
+    let runs = run_from image failures asked identity real first room events before now begun ran live is_identity is_real run in
+    let cycled = cycled_from image failures asked identity real flash begun.flash first room events before now ran same_image same_failures runs in
     let end = cycle_of runs.outcomes identity first room events in
     let values = ap (λ l. l.values) runs.live in
     record {
@@ -99,44 +100,44 @@ cycle_restarts image failures power_up identity real flash first room events bef
     }
 
 -- the same where the start may be refused
-pub restarts_if : {F : Type 0} (image : F → Image) (failures : F → ℕ) (power_up : F → F → Type 0) (identity : Identity) (real : Real) (flash : F) (first : Settings) (room : ℕ)
+pub restarts_if : {F : Type 0} (image : F → Image) (failures : F → ℕ) (asked : F → List Call → F → Type 0) (power_up : F → F → Type 0) (identity : Identity) (real : Real) (flash : F) (first : Settings) (room : ℕ)
     (events : List Event) (before now : List (List ℕ)) (begun ran : State F) (back : F) (again : Result (State F) (BootFault × F))
     → begun.live ≡ started first room → begun.identity ≡ identity → begun.real ≡ real → image begun.flash ≡ image flash → failures begun.flash ≡ failures flash
-    → LeftByDevice (image flash) → Runs image failures begun events before now ran → power_up ran.flash back → image back ≡ image ran.flash
+    → LeftByDevice (image flash) → Runs image failures asked begun events before now ran → power_up ran.flash back → image back ≡ image ran.flash
     → ((settings : Settings) (room : ℕ) → StartsWith (image back) settings room → MatchResult again (λ device. device.live ≡ started settings room) (λ refused. refused.0 ≡ FlashFault))
     → IfOk again (λ device. device.live ≡ started device.live.values.stored device.live.values.room)
     → IfOk again (λ device. StartsWith (image back) device.live.values.stored device.live.values.room)
     → IfOk again (λ device. (device.identity ≡ ran.identity) × (device.real ≡ ran.real))
     → MatchResult again (λ device. image device.flash ≡ image back) (λ refused. image refused.1 ≡ image back)
     → MatchResult again (λ device. failures device.flash ≡ failures back) (λ refused. HasBootCause refused.0 (failures back) (failures refused.1))
-    → IfOk again (λ device. Restarts image failures power_up identity real flash first room events before now device)
-restarts_if image failures power_up identity real flash first room events before now begun ran back (Ok again) live is_identity is_real same_image same_failures left run powered kept known fresh starts same image_is cause =
-    cycle_restarts image failures power_up identity real flash first room events before now begun ran back again live is_identity is_real same_image same_failures left run powered kept
+    → IfOk again (λ device. Restarts image failures asked power_up identity real flash first room events before now device)
+restarts_if image failures asked power_up identity real flash first room events before now begun ran back (Ok again) live is_identity is_real same_image same_failures left run powered kept known fresh starts same image_is cause =
+    cycle_restarts image failures asked power_up identity real flash first room events before now begun ran back again live is_identity is_real same_image same_failures left run powered kept
     known fresh starts same.0 same.1 image_is cause
-restarts_if image failures power_up identity real flash first room events before now begun ran back (Err refused) live is_identity is_real same_image same_failures left run powered kept known fresh starts same image_is cause = tt
+restarts_if image failures asked power_up identity real flash first room events before now begun ran back (Err refused) live is_identity is_real same_image same_failures left run powered kept known fresh starts same image_is cause = tt
 
 -- a start that is refused, from what the start says
-pub refuses_from : {F : Type 0} (image : F → Image) (failures : F → ℕ) (flash : F) (fault : BootFault) (left : F)
-    → HasBootCause fault (failures flash) (failures left) → image left ≡ image flash → (fault ≡ Foreign → IsForeign (image flash)) → Refuses image failures flash fault left
-refuses_from image failures flash fault left cause same foreign = record {
+pub refuses_from : {F : Type 0} (image : F → Image) (failures : F → ℕ) (asked : F → List Call → F → Type 0) (flash : F) (fault : BootFault) (left : F)
+    → HasBootCause fault (failures flash) (failures left) → image left ≡ image flash → (fault ≡ Foreign → IsForeign (image flash)) → Refuses image failures asked flash fault left
+refuses_from image failures asked flash fault left cause same foreign = record {
   cause = cause;
   same = same;
   foreign = λ is. subst IsForeign (sym same) (foreign is);
 }
 
 -- a start after the cycle that is refused
-pub refused_if : {F : Type 0} (image : F → Image) (failures : F → ℕ) (power_up : F → F → Type 0) (identity : Identity) (real : Real) (flash : F) (events : List Event)
+pub refused_if : {F : Type 0} (image : F → Image) (failures : F → ℕ) (asked : F → List Call → F → Type 0) (power_up : F → F → Type 0) (identity : Identity) (real : Real) (flash : F) (events : List Event)
     (before now : List (List ℕ)) (begun ran : State F) (back : F) (again : Result (State F) (BootFault × F))
     → begun.live ≡ started begun.live.values.stored begun.live.values.room → begun.identity ≡ identity → begun.real ≡ real
     → StartsWith (image flash) begun.live.values.stored begun.live.values.room → image begun.flash ≡ image flash → failures begun.flash ≡ failures flash
-    → Runs image failures begun events before now ran → power_up ran.flash back → image back ≡ image ran.flash
+    → Runs image failures asked begun events before now ran → power_up ran.flash back → image back ≡ image ran.flash
     → IfErr again (λ refused. refused.0 ≡ Foreign → IsForeign (image back))
     → MatchResult again (λ device. image device.flash ≡ image back) (λ refused. image refused.1 ≡ image back)
     → MatchResult again (λ device. failures device.flash ≡ failures back) (λ refused. HasBootCause refused.0 (failures back) (failures refused.1))
-    → IfErr again (λ refused. IsRefused image failures power_up identity flash events before now refused.0 refused.1)
-refused_if image failures power_up identity real flash events before now begun ran back (Ok again) live is_identity is_real starts same_image same_failures run powered kept foreign same cause = tt
-refused_if image failures power_up identity real flash events before now begun ran back (Err refused) live is_identity is_real starts same_image same_failures run powered kept foreign same cause =
-    let runs = run_from image failures identity real _ _ events before now begun ran live is_identity is_real run in
+    → IfErr again (λ refused. IsRefused image failures asked power_up identity flash events before now refused.0 refused.1)
+refused_if image failures asked power_up identity real flash events before now begun ran back (Ok again) live is_identity is_real starts same_image same_failures run powered kept foreign same cause = tt
+refused_if image failures asked power_up identity real flash events before now begun ran back (Err refused) live is_identity is_real starts same_image same_failures run powered kept foreign same cause =
+    let runs = run_from image failures asked identity real _ _ events before now begun ran live is_identity is_real run in
     inr (record {
       first = begun.live.values.stored;
       room = begun.live.values.room;
@@ -144,10 +145,10 @@ refused_if image failures power_up identity real flash events before now begun r
       lost = ran.flash;
       back = back;
       starts = starts;
-      cycled = cycled_from image failures identity real flash begun.flash _ _ events before now ran same_image same_failures runs;
+      cycled = cycled_from image failures asked identity real flash begun.flash _ _ events before now ran same_image same_failures runs;
       powered = powered;
       kept = kept;
-      refuses = refuses_from image failures back refused.0 refused.1 cause same foreign;
+      refuses = refuses_from image failures asked back refused.0 refused.1 cause same foreign;
     })
 
 pub never_refused : {F : Type 0} (is_reliable : F → Type 0) (again : Result (State F) (BootFault × F))

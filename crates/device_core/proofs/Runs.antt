@@ -2,6 +2,7 @@
 use Rattle.std.proofs.Common.{◌≡◌, ◌+◌, ◌<◌, length, arith, ℕ, true, false, List, [], ◌∷◌, ◌++◌, if◌then◌else◌, refl, sym, ap, subst, ◌∙◌, inl, inr, append_assoc}
 use Rattle.std.proofs.lemmas.List.{append-nil}
 use Rattle.std.proofs.lemmas.Bool.{cond-true}
+use Rattle.flash_model.specs.Calls.{Call}
 use Rattle.flash_model.specs.Image.{Image}
 use Rattle.settings_store.specs.Carries.{OneByOne, Holds, IsCaused}
 use Rattle.settings_store.specs.State.{Values}
@@ -16,9 +17,9 @@ use Rattle.device_core.proofs.Placed.{placed_more}
 use Rattle.settings_store.proofs.Laws.{safe_then, caused_then, both_empty}
 
 -- no event
-pub no_run : {F : Type 0} (image : F → Image) (failures : F → ℕ) (state : State F) (taken : List (List ℕ)) → Holds (image state.flash) state.live.values
-    → Runs image failures state [] taken taken state
-no_run image failures state taken holds = record {
+pub no_run : {F : Type 0} (image : F → Image) (failures : F → ℕ) (asked : F → List Call → F → Type 0) (state : State F) (taken : List (List ℕ)) → Holds (image state.flash) state.live.values
+    → Runs image failures asked state [] taken taken state
+no_run image failures asked state taken holds = record {
   outcomes = [];
   same = record { identity = refl; real = refl };
   live = refl;
@@ -32,11 +33,11 @@ no_run image failures state taken holds = record {
 }
 
 -- one event more
-pub run_more : {F : Type 0} (image : F → Image) (failures : F → ℕ) (old mid new : State F) (events : List Event) (event : Event) (before between now : List (List ℕ))
-    → Runs image failures old events before between mid → HandsOn image failures mid (heard_of mid.identity event) between now new
-    → Runs image failures old (events ++ event ∷ []) before now new
+pub run_more : {F : Type 0} (image : F → Image) (failures : F → ℕ) (asked : F → List Call → F → Type 0) (old mid new : State F) (events : List Event) (event : Event) (before between now : List (List ℕ))
+    → Runs image failures asked old events before between mid → HandsOn image failures asked mid (heard_of mid.identity event) between now new
+    → Runs image failures asked old (events ++ event ∷ []) before now new
 unfolding then_step
-run_more image failures old mid new events event before between now run on =
+run_more image failures asked old mid new events event before between now run on =
     let step = on.steps in
     let ran : Ran = run_of run.outcomes old.identity old.live events in
     let one : Stepped = step_of step.outcomes old.identity ran.live event in
@@ -61,11 +62,11 @@ run_more image failures old mid new events event before between now run on =
           ∙ append_assoc before ran.frames _ ∙ ap (λ f. before ++ f) (sym (ap (λ r. r.frames) all));
       caused = caused_then run.outcomes step.outcomes (joined run.outcomes events step.outcomes) _ _ _ old.live.values mid.live.values new.live.values
           (joined_quiet run.outcomes events step.outcomes) run_fails failed run.caused step.caused;
-      placed = placed_more image failures run.outcomes step.outcomes old.identity old.flash mid.flash new.flash old.live events event run.placed
-          (subst (λ v. OneByOne image failures step.outcomes (record { flash = mid.flash; values = ran.live.values }) (items_of old.identity ran.live (heard_of old.identity event)) (record { flash = new.flash; values = v }))
+      placed = placed_more image failures asked run.outcomes step.outcomes old.identity old.flash mid.flash new.flash old.live events event run.placed
+          (subst (λ v. OneByOne image failures asked step.outcomes (record { flash = mid.flash; values = ran.live.values }) (items_of old.identity ran.live (heard_of old.identity event)) (record { flash = new.flash; values = v }))
           (ap (λ l. l.values) live)
-          (subst (λ l. OneByOne image failures step.outcomes (record { flash = mid.flash; values = l.values }) (items_of old.identity l (heard_of old.identity event)) (store_of new)) run.live
-          (subst (λ i. OneByOne image failures step.outcomes (store_of mid) (items_of i mid.live (heard_of i event)) (store_of new)) run.same.identity step.placed)));
+          (subst (λ l. OneByOne image failures asked step.outcomes (record { flash = mid.flash; values = l.values }) (items_of old.identity l (heard_of old.identity event)) (store_of new)) run.live
+          (subst (λ i. OneByOne image failures asked step.outcomes (store_of mid) (items_of i mid.live (heard_of i event)) (store_of new)) run.same.identity step.placed)));
       safe = subst (λ a. CrashSafe old.live.values.has_failed old.live.values.stored a (image old.flash) (image new.flash)) (sym (ap (λ r. r.accepted) all))
           (safe_then old.live.values.has_failed mid.live.values.has_failed old.live.values.stored mid.live.values.stored ran.accepted one.accepted
           (image old.flash) (image mid.flash) (image new.flash) run_fails none made run.safe
@@ -81,9 +82,9 @@ run_more image failures old mid new events event before between now run on =
     }
 
 -- a run for no outcomes
-exact_run : {F : Type 0} (image : F → Image) (failures : F → ℕ) (old new : State F) (events : List Event) (before now : List (List ℕ))
-    → (runs : Runs image failures old events before now new) → runs.outcomes ≡ [] → IsExactRun old events before now new
-exact_run image failures old new events before now runs none = record {
+exact_run : {F : Type 0} (image : F → Image) (failures : F → ℕ) (asked : F → List Call → F → Type 0) (old new : State F) (events : List Event) (before now : List (List ℕ))
+    → (runs : Runs image failures asked old events before now new) → runs.outcomes ≡ [] → IsExactRun old events before now new
+exact_run image failures asked old new events before now runs none = record {
   same = runs.same;
   live = runs.live ∙ ap (λ o. (run_of o old.identity old.live events).live) none;
   frames = runs.frames ∙ ap (λ o. before ++ (run_of o old.identity old.live events).frames) none;
@@ -98,19 +99,19 @@ no_fault outcomes before now old new (inl quiet) fine = quiet.0
 no_fault outcomes before now old new (inr fault) fine = cc
 
 -- where no call of the flash failed
-pub run_quietly : {F : Type 0} (image : F → Image) (failures : F → ℕ) (old new : State F) (events : List Event) (before now : List (List ℕ))
-    → Runs image failures old events before now new → failures new.flash ≡ failures old.flash → failures old.flash < 18446744073709551615 → IsExactRun old events before now new
-run_quietly image failures old new events before now runs same below = exact_run image failures old new events before now runs
+pub run_quietly : {F : Type 0} (image : F → Image) (failures : F → ℕ) (asked : F → List Call → F → Type 0) (old new : State F) (events : List Event) (before now : List (List ℕ))
+    → Runs image failures asked old events before now new → failures new.flash ≡ failures old.flash → failures old.flash < 18446744073709551615 → IsExactRun old events before now new
+run_quietly image failures asked old new events before now runs same below = exact_run image failures asked old new events before now runs
     (no_failure runs.outcomes (failures old.flash) (failures new.flash) old.live.values new.live.values runs.caused same below)
 
-pub run_finely : {F : Type 0} (image : F → Image) (failures : F → ℕ) (old new : State F) (events : List Event) (before now : List (List ℕ))
-    → Runs image failures old events before now new → new.live.values.has_failed ≡ false → IsExactRun old events before now new
-run_finely image failures old new events before now runs fine = exact_run image failures old new events before now runs
+pub run_finely : {F : Type 0} (image : F → Image) (failures : F → ℕ) (asked : F → List Call → F → Type 0) (old new : State F) (events : List Event) (before now : List (List ℕ))
+    → Runs image failures asked old events before now new → new.live.values.has_failed ≡ false → IsExactRun old events before now new
+run_finely image failures asked old new events before now runs fine = exact_run image failures asked old new events before now runs
     (no_fault runs.outcomes (failures old.flash) (failures new.flash) old.live.values new.live.values runs.caused fine)
 
-pub run_takes_room : {F : Type 0} (image : F → Image) (failures : F → ℕ) (old new : State F) (events : List Event) (before now : List (List ℕ))
-    → Runs image failures old events before now new → new.live.values.has_failed ≡ false → TakesRoom old events new
-run_takes_room image failures old new events before now runs fine =
-    let exact = run_finely image failures old new events before now runs fine in
+pub run_takes_room : {F : Type 0} (image : F → Image) (failures : F → ℕ) (asked : F → List Call → F → Type 0) (old new : State F) (events : List Event) (before now : List (List ℕ))
+    → Runs image failures asked old events before now new → new.live.values.has_failed ≡ false → TakesRoom old events new
+run_takes_room image failures asked old new events before now runs fine =
+    let exact = run_finely image failures asked old new events before now runs fine in
     ap (λ (live : Live). live.values.room + length (run_of [] old.identity old.live events).accepted) exact.live
     ∙ run_room [] old.identity old.live events (sym (ap (λ (live : Live). live.values.has_failed) exact.live) ∙ fine)

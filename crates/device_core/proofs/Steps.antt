@@ -1,6 +1,7 @@
 -- What a step does, from what its parts do.
 use Rattle.std.proofs.lemmas.Bool.{cond_both}
 use Rattle.std.proofs.Common.{◌≡◌, ◌≢◌, ℕ, Bool, false, List, [], ◌∷◌, map, refl, sym, ap, subst, ◌∙◌, inl}
+use Rattle.flash_model.specs.Calls.{Call}
 use Rattle.flash_model.specs.Image.{Image}
 use Rattle.pn_values.specs.declared.mac.Mac.{Mac}
 use Rattle.pn_values.specs.declared.identity.Identity.{Identity}
@@ -51,10 +52,10 @@ pub record IsQuiet {F : Type 0} (old new : State F) (heard : Heard) (frames : Li
   pub frames_are : frames ≡ map (bytes_of old.identity) (finished old.live.rest (judged old.identity old.live heard) []).sent
   pub note_is : said ≡ (finished old.live.rest (judged old.identity old.live heard) []).note
 
-pub is_quiet_steps : {F : Type 0} (image : F → Image) (failures : F → ℕ) (old new : State F) (heard : Heard) (frames : List (List ℕ)) (said : Note)
-    → Holds (image old.flash) old.live.values → IsQuiet old new heard frames said → Steps image failures old heard frames said new
+pub is_quiet_steps : {F : Type 0} (image : F → Image) (failures : F → ℕ) (asked : F → List Call → F → Type 0) (old new : State F) (heard : Heard) (frames : List (List ℕ)) (said : Note)
+    → Holds (image old.flash) old.live.values → IsQuiet old new heard frames said → Steps image failures asked old heard frames said new
 unfolding quiet_step
-is_quiet_steps image failures old new heard frames said holds parts =
+is_quiet_steps image failures asked old new heard frames said holds parts =
     let quiet = is_quiet [] old.identity old.live heard parts.not_set in
     let flash = parts.flash in
     let live = parts.live in
@@ -66,7 +67,7 @@ is_quiet_steps image failures old new heard frames said holds parts =
       frames = rw quiet parts.frames_are;
       note = rw quiet parts.note_is;
       caused = inl (refl, ap failures flash);
-      placed = subst (λ items. OneByOne image failures [] (store_of old) items (store_of new)) (sym (nothing_asked old.identity old.live heard parts.not_set)) same_store;
+      placed = subst (λ items. OneByOne image failures asked [] (store_of old) items (store_of new)) (sym (nothing_asked old.identity old.live heard parts.not_set)) same_store;
       safe = rw (quiet, flash) (record { left = λ left. left; legal = λ fine left. inl (old.live.values.room, holds fine); untouched = λ failed. refl });
       holds = λ fine. rw (flash, ap (λ l. l.values) live) (holds (sym (ap (λ l. l.values.has_failed) live) ∙ fine));
       untouched = λ _. flash;
@@ -74,13 +75,13 @@ is_quiet_steps image failures old new heard frames said holds parts =
     }
 
 -- what was judged a move
-pub moves_steps : {F : Type 0} (image : F → Image) (failures : F → ℕ) (old new : State F) (heard : Heard) (rest : Rest) (sent : List Sent) (frames : List (List ℕ)) (said : Note)
+pub moves_steps : {F : Type 0} (image : F → Image) (failures : F → ℕ) (asked : F → List Call → F → Type 0) (old new : State F) (heard : Heard) (rest : Rest) (sent : List Sent) (frames : List (List ℕ)) (said : Note)
     → Holds (image old.flash) old.live.values → judged old.identity old.live heard ≡ Moves rest sent
     → new ≡ record old { live = record { values = old.live.values; rest = rest } } → frames ≡ map (bytes_of old.identity) sent → said ≡ note.Done
-    → Steps image failures old heard frames said new
-moves_steps image failures old new heard rest sent frames said holds moves is frames_are done =
+    → Steps image failures asked old heard frames said new
+moves_steps image failures asked old new heard rest sent frames said holds moves is frames_are done =
     let end = ap (λ what. finished old.live.rest what []) moves in
-    is_quiet_steps image failures old new heard frames said holds (record {
+    is_quiet_steps image failures asked old new heard frames said holds (record {
       not_set = ap is_set moves;
       flash = ap (λ s. s.flash) is;
       same = record { identity = ap (λ s. s.identity) is; real = ap (λ s. s.real) is };
@@ -90,12 +91,12 @@ moves_steps image failures old new heard rest sent frames said holds moves is fr
     })
 
 -- what was judged to be refused
-pub refuses_steps : {F : Type 0} (image : F → Image) (failures : F → ℕ) (state : State F) (heard : Heard) (why : Note) (frames : List (List ℕ)) (said : Note)
+pub refuses_steps : {F : Type 0} (image : F → Image) (failures : F → ℕ) (asked : F → List Call → F → Type 0) (state : State F) (heard : Heard) (why : Note) (frames : List (List ℕ)) (said : Note)
     → Holds (image state.flash) state.live.values → judged state.identity state.live heard ≡ Refuses why → frames ≡ [] → said ≡ why
-    → Steps image failures state heard frames said state
-refuses_steps image failures state heard why frames said holds refuses none is =
+    → Steps image failures asked state heard frames said state
+refuses_steps image failures asked state heard why frames said holds refuses none is =
     let end = ap (λ what. finished state.live.rest what []) refuses in
-    is_quiet_steps image failures state state heard frames said holds (record {
+    is_quiet_steps image failures asked state state heard frames said holds (record {
       not_set = ap is_set refuses;
       flash = refl;
       same = record { identity = refl; real = refl };
@@ -110,15 +111,15 @@ identify_leaves : (identity : Identity) (live : Live) (asker : Mac) (request : A
 identify_leaves identity live asker request = cond_both (matches identity live.values.running request) _ _
     (λ what. (is_set what ≡ false) × ((finished live.rest what []).rest ≡ live.rest)) (λ _. (refl, refl)) (λ _. (refl, refl))
 
-pub identify_steps : {F : Type 0} (image : F → Image) (failures : F → ℕ) (state : State F) (asker : Mac) (request : Asked) (frames : List (List ℕ)) (said : Note)
+pub identify_steps : {F : Type 0} (image : F → Image) (failures : F → ℕ) (asked : F → List Call → F → Type 0) (state : State F) (asker : Mac) (request : Asked) (frames : List (List ℕ)) (said : Note)
     → Holds (image state.flash) state.live.values → request.service ≡ service.Identify
     → frames ≡ map (bytes_of state.identity) (finished state.live.rest (identified state.identity state.live asker request) []).sent
     → said ≡ (finished state.live.rest (identified state.identity state.live asker request) []).note
-    → Steps image failures state (Asks asker request) frames said state
-identify_steps image failures state asker request frames said holds identify frames_are note_is =
+    → Steps image failures asked state (Asks asker request) frames said state
+identify_steps image failures asked state asker request frames said holds identify frames_are note_is =
     let is = ap (λ s. judged_request state.identity state.live asker s request) identify in
     let leaves = identify_leaves state.identity state.live asker request in
-    is_quiet_steps image failures state state (Asks asker request) frames said holds (record {
+    is_quiet_steps image failures asked state state (Asks asker request) frames said holds (record {
       not_set = ap is_set is ∙ leaves.0;
       flash = refl;
       same = record { identity = refl; real = refl };
@@ -128,23 +129,23 @@ identify_steps image failures state asker request frames said holds identify fra
     })
 
 -- a Get
-pub get_steps : {F : Type 0} (image : F → Image) (failures : F → ℕ) (state : State F) (asker : Mac) (request : Asked) (frames : List (List ℕ)) (said : Note)
+pub get_steps : {F : Type 0} (image : F → Image) (failures : F → ℕ) (asked : F → List Call → F → Type 0) (state : State F) (asker : Mac) (request : Asked) (frames : List (List ℕ)) (said : Note)
     → Holds (image state.flash) state.live.values → request.service ≡ service.Get
     → frames ≡ bytes_of state.identity (GetAnswer asker state.live.values.running request) ∷ [] → said ≡ note.Done
-    → Steps image failures state (Asks asker request) frames said state
-get_steps image failures state asker request frames said holds get frames_are done =
-    moves_steps image failures state state (Asks asker request) state.live.rest (GetAnswer asker state.live.values.running request ∷ []) frames said holds
+    → Steps image failures asked state (Asks asker request) frames said state
+get_steps image failures asked state asker request frames said holds get frames_are done =
+    moves_steps image failures asked state state (Asks asker request) state.live.rest (GetAnswer asker state.live.values.running request ∷ []) frames said holds
     (ap (λ s. judged_request state.identity state.live asker s request) get) refl frames_are done
 
 -- what was judged a Set
-pub set_steps : {F : Type 0} (image : F → Image) (failures : F → ℕ) (old new : State F) (heard : Heard) (asker : Mac) (request : Asked) (in_operation : Bool) (answers : List BlockError)
+pub set_steps : {F : Type 0} (image : F → Image) (failures : F → ℕ) (asked : F → List Call → F → Type 0) (old new : State F) (heard : Heard) (asker : Mac) (request : Asked) (in_operation : Bool) (answers : List BlockError)
     (frames : List (List ℕ)) (said : Note) → judged old.identity old.live heard ≡ Sets asker request in_operation
-    → Carries image failures (store_of old) (plan_of in_operation request) answers (store_of new)
+    → Carries image failures asked (store_of old) (plan_of in_operation request) answers (store_of new)
     → IsSame old new → new.live.rest ≡ (finished old.live.rest (Sets asker request in_operation) answers).rest
     → frames ≡ bytes_of old.identity (SetAnswer asker request answers) ∷ [] → said ≡ note.Done
-    → Steps image failures old heard frames said new
+    → Steps image failures asked old heard frames said new
 unfolding judged_step
-set_steps image failures old new heard asker request in_operation answers frames said sets carries same rest frames_are done =
+set_steps image failures asked old new heard asker request in_operation answers frames said sets carries same rest frames_are done =
     let is = judged_as carries.outcomes old.identity old.live heard (Sets asker request in_operation) sets in record {
       outcomes = carries.outcomes;
       same = same;
@@ -152,7 +153,7 @@ set_steps image failures old new heard asker request in_operation answers frames
       frames = rw is (frames_are ∙ ap (λ a. bytes_of old.identity (SetAnswer asker request a) ∷ []) carries.answers_are);
       note = rw is done;
       caused = carries.caused;
-      placed = subst (λ what. OneByOne image failures carries.outcomes (store_of old) (items_in what) (store_of new)) (sym sets) carries.placed;
+      placed = subst (λ what. OneByOne image failures asked carries.outcomes (store_of old) (items_in what) (store_of new)) (sym sets) carries.placed;
       safe = rw is carries.safe;
       holds = carries.holds;
       untouched = rw is carries.untouched;
@@ -160,12 +161,12 @@ set_steps image failures old new heard asker request in_operation answers frames
     }
 
 -- a Set of a station
-pub asked_set_steps : {F : Type 0} (image : F → Image) (failures : F → ℕ) (old new : State F) (asker : Mac) (request : Asked) (answers : List BlockError) (frames : List (List ℕ)) (said : Note)
-    → request.service ≡ service.Set → Carries image failures (store_of old) (plan_of false request) answers (store_of new) → IsSame old new
+pub asked_set_steps : {F : Type 0} (image : F → Image) (failures : F → ℕ) (asked : F → List Call → F → Type 0) (old new : State F) (asker : Mac) (request : Asked) (answers : List BlockError) (frames : List (List ℕ)) (said : Note)
+    → request.service ≡ service.Set → Carries image failures asked (store_of old) (plan_of false request) answers (store_of new) → IsSame old new
     → new.live.rest ≡ (finished old.live.rest (Sets asker request false) answers).rest → frames ≡ bytes_of old.identity (SetAnswer asker request answers) ∷ [] → said ≡ note.Done
-    → Steps image failures old (Asks asker request) frames said new
-asked_set_steps image failures old new asker request answers frames said set carries same rest frames_are done =
-    set_steps image failures old new (Asks asker request) asker request false answers frames said
+    → Steps image failures asked old (Asks asker request) frames said new
+asked_set_steps image failures asked old new asker request answers frames said set carries same rest frames_are done =
+    set_steps image failures asked old new (Asks asker request) asker request false answers frames said
     (ap (λ s. judged_request old.identity old.live asker s request) set) carries same rest frames_are done
 
 -- what is not done changes nothing and sends nothing
@@ -184,9 +185,9 @@ refused_heard : (outcomes : List Outcome) (identity : Identity) (live : Live) (h
 unfolding heard_step
 refused_heard outcomes identity live heard refused = refused_judged outcomes identity live (judged identity live heard) refused
 
-pub refused_step : {F : Type 0} (image : F → Image) (failures : F → ℕ) (old new : State F) (heard : Heard) (frames : List (List ℕ)) (said : Note)
-    → Steps image failures old heard frames said new → said ≢ note.Done → (new ≡ old) × (frames ≡ [])
-refused_step image failures old new heard frames said steps refused =
+pub refused_step : {F : Type 0} (image : F → Image) (failures : F → ℕ) (asked : F → List Call → F → Type 0) (old new : State F) (heard : Heard) (frames : List (List ℕ)) (said : Note)
+    → Steps image failures asked old heard frames said new → said ≢ note.Done → (new ≡ old) × (frames ≡ [])
+refused_step image failures asked old new heard frames said steps refused =
     let nothing = refused_heard steps.outcomes old.identity old.live heard (λ done. refused (steps.note ∙ done)) in
     (same_state new old (steps.untouched nothing.none_accepted) steps.same.identity steps.same.real (steps.live ∙ nothing.live_is), steps.frames ∙ nothing.none_sent)
 
@@ -209,9 +210,9 @@ identify_heard outcomes identity live heard asker request is identify =
     (sym (judged_as outcomes identity live heard (identified identity live asker request) (ap (judged identity live) is ∙ ap (λ s. judged_request identity live asker s request) identify)))
     (identify_judged outcomes identity live asker request)
 
-pub identify_step : {F : Type 0} (image : F → Image) (failures : F → ℕ) (old new : State F) (heard : Heard) (frames : List (List ℕ)) (said : Note)
-    → Steps image failures old heard frames said new → (asker : Mac) (request : Asked) → heard ≡ Asks asker request → request.service ≡ service.Identify → Identifies old asker request frames said new
-identify_step image failures old new heard frames said steps asker request is identify =
+pub identify_step : {F : Type 0} (image : F → Image) (failures : F → ℕ) (asked : F → List Call → F → Type 0) (old new : State F) (heard : Heard) (frames : List (List ℕ)) (said : Note)
+    → Steps image failures asked old heard frames said new → (asker : Mac) (request : Asked) → heard ≡ Asks asker request → request.service ≡ service.Identify → Identifies old asker request frames said new
+identify_step image failures asked old new heard frames said steps asker request is identify =
     let one = identify_heard steps.outcomes old.identity old.live heard asker request is identify in
     record {
       unchanged = same_state new old (steps.untouched one.none_accepted) steps.same.identity steps.same.real (steps.live ∙ one.unchanged);

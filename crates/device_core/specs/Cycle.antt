@@ -1,5 +1,6 @@
 -- A cycle of a device, from a start to the next one after a power failure.
 use Rattle.std.specs.Prelude.{◌≡◌, ◌⊎◌, ℕ, false, List, [], ◌∷◌, ◌++◌}
+use Rattle.flash_model.specs.Calls.{Call}
 use Rattle.flash_model.specs.Image.{Image}
 use Rattle.pn_values.specs.declared.identity.Identity.{Identity}
 use Rattle.pn_values.specs.declared.real.Real.{Real}
@@ -36,11 +37,11 @@ IsMadeOf accepted first settings =
 -- The events of a cycle were run, from a start on the flash that gave the first settings, with whatever outcomes the flash
 -- chose for the calls that store: these have their cause, each in its own item, what was sent was handed on, what was left
 -- of the flash is safe, and where no command was accepted it was left as the start left it.
-pub record Cycled {F : Type 0} (image : F → Image) (failures : F → ℕ) (identity : Identity) (flash : F) (first : Settings) (room : ℕ) (events : List Event) (before now : List (List ℕ)) (outcomes : List (List Outcome)) (lost : F) : Type 0 where
+pub record Cycled {F : Type 0} (image : F → Image) (failures : F → ℕ) (asked : F → List Call → F → Type 0) (identity : Identity) (flash : F) (first : Settings) (room : ℕ) (events : List Event) (before now : List (List ℕ)) (outcomes : List (List Outcome)) (lost : F) : Type 0 where
   pub begun : F
   pub begins : (image begun ≡ image flash) × (failures begun ≡ failures flash)
   pub caused : IsCaused outcomes (failures flash) (failures lost) (started first room).values (cycle_of outcomes identity first room events).live.values
-  pub placed : EventByEvent image failures outcomes identity begun (started first room) events lost
+  pub placed : EventByEvent image failures asked outcomes identity begun (started first room) events lost
   pub handed_on : now ≡ before ++ (cycle_of outcomes identity first room events).frames
   pub safe : CrashSafe false first (cycle_of outcomes identity first room events).accepted (image flash) (image lost)
   pub untouched : (cycle_of outcomes identity first room events).accepted ≡ [] → lost ≡ begun
@@ -50,12 +51,12 @@ pub record Cycled {F : Type 0} (image : F → Image) (failures : F → ℕ) (ide
 -- answered 'done', make of the first settings; where no commit failed, just what the cycle stored. Nothing else is left of
 -- the cycle, Identify is answered by those settings and the identity alone, and the image is again one that this device
 -- left. `power_up` relates a flash to itself with its power back.
-pub record Restarts {F : Type 0} (image : F → Image) (failures : F → ℕ) (power_up : F → F → Type 0) (identity : Identity) (real : Real) (flash : F) (first : Settings) (room : ℕ) (events : List Event) (before now : List (List ℕ)) (restarted : State F) : Type 0 where
+pub record Restarts {F : Type 0} (image : F → Image) (failures : F → ℕ) (asked : F → List Call → F → Type 0) (power_up : F → F → Type 0) (identity : Identity) (real : Real) (flash : F) (first : Settings) (room : ℕ) (events : List Event) (before now : List (List ℕ)) (restarted : State F) : Type 0 where
   pub outcomes : List (List Outcome)
   pub lost : F
   pub back : F
   pub powered : power_up lost back
-  pub cycled : Cycled image failures identity flash first room events before now outcomes lost
+  pub cycled : Cycled image failures asked identity flash first room events before now outcomes lost
   pub has : IsMadeOf (cycle_of outcomes identity first room events).accepted first restarted.live.values.stored
   pub clean : (cycle_of outcomes identity first room events).live.values.has_failed ≡ false →
       restarted.live ≡ started (cycle_of outcomes identity first room events).live.values.stored (cycle_of outcomes identity first room events).live.values.room
@@ -68,26 +69,26 @@ pub record Restarts {F : Type 0} (image : F → Image) (failures : F → ℕ) (p
   pub same : (image restarted.flash ≡ image lost) × (failures restarted.flash ≡ failures back)
 
 -- A start was refused for a cause of its own, and no byte changed in it. A flash is foreign where it cannot be read.
-pub record Refuses {F : Type 0} (image : F → Image) (failures : F → ℕ) (flash : F) (fault : BootFault) (left : F) : Type 0 where
+pub record Refuses {F : Type 0} (image : F → Image) (failures : F → ℕ) (asked : F → List Call → F → Type 0) (flash : F) (fault : BootFault) (left : F) : Type 0 where
   pub cause : HasBootCause fault (failures flash) (failures left)
   pub same : image left ≡ image flash
   pub foreign : fault ≡ Foreign → IsForeign (image left)
 
 -- The start after a cycle was refused: the first start gave settings, the events were run, and power came back.
-pub record RefusesAfter {F : Type 0} (image : F → Image) (failures : F → ℕ) (power_up : F → F → Type 0) (identity : Identity) (flash : F) (events : List Event) (before now : List (List ℕ)) (fault : BootFault) (left : F) : Type 0 where
+pub record RefusesAfter {F : Type 0} (image : F → Image) (failures : F → ℕ) (asked : F → List Call → F → Type 0) (power_up : F → F → Type 0) (identity : Identity) (flash : F) (events : List Event) (before now : List (List ℕ)) (fault : BootFault) (left : F) : Type 0 where
   pub first : Settings
   pub room : ℕ
   pub outcomes : List (List Outcome)
   pub lost : F
   pub back : F
   pub starts : StartsWith (image flash) first room
-  pub cycled : Cycled image failures identity flash first room events before now outcomes lost
+  pub cycled : Cycled image failures asked identity flash first room events before now outcomes lost
   pub powered : power_up lost back
   pub kept : image back ≡ image lost
-  pub refuses : Refuses image failures back fault left
+  pub refuses : Refuses image failures asked back fault left
 
 -- A start was refused: the first one, and nothing was handed on, or the one after the cycle.
-abbrev pub IsRefused : {F : Type 0} → (F → Image) → (F → ℕ) → (F → F → Type 0) → Identity → F → List Event → List (List ℕ) → List (List ℕ) → BootFault → F → Type 0
-IsRefused {F} image failures power_up identity flash events before now fault left =
-    ((now ≡ before) × Refuses image failures flash fault left)
-    ⊎ RefusesAfter image failures power_up identity flash events before now fault left
+abbrev pub IsRefused : {F : Type 0} → (F → Image) → (F → ℕ) → (F → List Call → F → Type 0) → (F → F → Type 0) → Identity → F → List Event → List (List ℕ) → List (List ℕ) → BootFault → F → Type 0
+IsRefused {F} image failures asked power_up identity flash events before now fault left =
+    ((now ≡ before) × Refuses image failures asked flash fault left)
+    ⊎ RefusesAfter image failures asked power_up identity flash events before now fault left

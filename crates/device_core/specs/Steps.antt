@@ -1,5 +1,6 @@
 -- What a step and a run do, whatever the flash does.
 use Rattle.std.specs.Prelude.{◌≡◌, ◌+◌, length, ℕ, true, false, List, [], ◌∷◌, ◌++◌, if◌then◌else◌}
+use Rattle.flash_model.specs.Calls.{Call}
 use Rattle.flash_model.specs.Image.{Image}
 use Rattle.pn_values.specs.declared.mac.Mac.{Mac}
 use Rattle.pn_values.specs.declared.identity.Identity.{Identity}
@@ -26,14 +27,14 @@ pub record IsSame {F : Type 0} (old new : State F) : Type 0 where
 -- What was heard is carried out, for some outcomes of the calls that store, which the flash chose: what changes, the frames
 -- and the note are those of the step, the outcomes have their cause, each in its own item, the image is safe and holds what
 -- is stored, where no command is accepted the flash is left alone, and power that is lost stays lost.
-pub record Steps {F : Type 0} (image : F → Image) (failures : F → ℕ) (old : State F) (heard : Heard) (sent : List (List ℕ)) (said : Note) (new : State F) : Type 0 where
+pub record Steps {F : Type 0} (image : F → Image) (failures : F → ℕ) (asked : F → List Call → F → Type 0) (old : State F) (heard : Heard) (sent : List (List ℕ)) (said : Note) (new : State F) : Type 0 where
   pub outcomes : List Outcome
   pub same : IsSame old new
   pub live : new.live ≡ (heard_step outcomes old.identity old.live heard).live
   pub frames : sent ≡ (heard_step outcomes old.identity old.live heard).frames
   pub note : said ≡ (heard_step outcomes old.identity old.live heard).note
   pub caused : IsCaused outcomes (failures old.flash) (failures new.flash) old.live.values new.live.values
-  pub placed : OneByOne image failures outcomes (store_of old) (items_of old.identity old.live heard) (store_of new)
+  pub placed : OneByOne image failures asked outcomes (store_of old) (items_of old.identity old.live heard) (store_of new)
   pub safe : CrashSafe old.live.values.has_failed old.live.values.stored (heard_step outcomes old.identity old.live heard).accepted (image old.flash) (image new.flash)
   pub holds : Holds (image new.flash) new.live.values
   pub untouched : (heard_step outcomes old.identity old.live heard).accepted ≡ [] → new.flash ≡ old.flash
@@ -63,32 +64,32 @@ AnswersBy identity settings live = (outcomes : List Outcome) (event : Event) (as
     → IsIdentified identity settings live asker request (step_of outcomes identity live event)
 
 -- what a run hands on of a step: its frames, unless power is lost
-pub record HandsOn {F : Type 0} (image : F → Image) (failures : F → ℕ) (old : State F) (heard : Heard) (before now : List (List ℕ)) (new : State F) : Type 0 where
+pub record HandsOn {F : Type 0} (image : F → Image) (failures : F → ℕ) (asked : F → List Call → F → Type 0) (old : State F) (heard : Heard) (before now : List (List ℕ)) (new : State F) : Type 0 where
   pub sent : List (List ℕ)
   pub said : Note
-  pub steps : Steps image failures old heard sent said new
+  pub steps : Steps image failures asked old heard sent said new
   pub handed_on : now ≡ before ++ (if new.live.values.is_lost then [] else sent)
 
 -- The events one by one: each is judged on the state that the events before it made, and its items begin with the flash
 -- that the event before it left.
-abbrev pub EventByEvent : {F : Type 0} → (F → Image) → (F → ℕ) → List (List Outcome) → Identity → F → Live → List Event → F → Type 0
-EventByEvent image failures outcomes identity old live [] new = new ≡ old
-EventByEvent {F} image failures outcomes identity old live (event ∷ events) new =
+abbrev pub EventByEvent : {F : Type 0} → (F → Image) → (F → ℕ) → (F → List Call → F → Type 0) → List (List Outcome) → Identity → F → Live → List Event → F → Type 0
+EventByEvent image failures asked outcomes identity old live [] new = new ≡ old
+EventByEvent {F} image failures asked outcomes identity old live (event ∷ events) new =
     let next = (step_of (first_step outcomes) identity live event).live in
-    (between : F) × OneByOne image failures (first_step outcomes) (record { flash = old; values = live.values })
+    (between : F) × OneByOne image failures asked (first_step outcomes) (record { flash = old; values = live.values })
     (items_of identity live (heard_of identity event)) (record { flash = between; values = next.values })
-    × EventByEvent image failures (later_steps outcomes) identity between next events new
+    × EventByEvent image failures asked (later_steps outcomes) identity between next events new
 
 -- Steps after one another, for some outcomes of each, which have their cause, each in its own item of its own event; where
 -- no command is accepted the flash is left alone. Before and now are what the sink has taken; once power is lost it takes no
 -- more.
-pub record Runs {F : Type 0} (image : F → Image) (failures : F → ℕ) (old : State F) (events : List Event) (before now : List (List ℕ)) (new : State F) : Type 0 where
+pub record Runs {F : Type 0} (image : F → Image) (failures : F → ℕ) (asked : F → List Call → F → Type 0) (old : State F) (events : List Event) (before now : List (List ℕ)) (new : State F) : Type 0 where
   pub outcomes : List (List Outcome)
   pub same : IsSame old new
   pub live : new.live ≡ (run_of outcomes old.identity old.live events).live
   pub frames : now ≡ before ++ (run_of outcomes old.identity old.live events).frames
   pub caused : IsCaused outcomes (failures old.flash) (failures new.flash) old.live.values new.live.values
-  pub placed : EventByEvent image failures outcomes old.identity old.flash old.live events new.flash
+  pub placed : EventByEvent image failures asked outcomes old.identity old.flash old.live events new.flash
   pub safe : CrashSafe old.live.values.has_failed old.live.values.stored (run_of outcomes old.identity old.live events).accepted (image old.flash) (image new.flash)
   pub holds : Holds (image new.flash) new.live.values
   pub untouched : (run_of outcomes old.identity old.live events).accepted ≡ [] → new.flash ≡ old.flash

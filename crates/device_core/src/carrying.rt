@@ -14,7 +14,7 @@ pub(crate) fn carry_out<F: Flash<S>, const S: usize>(
 ) -> ArrayVec<BlockError, 16>
     requires few { length items.now ≤ 16 }
     requires stored { Holds (F.image store.old.flash) store.old.values }
-    ensures carries { Carries F.image F.failures store.old items.now result.items store.new }
+    ensures carries { Carries F.image F.failures F.asked store.old items.now result.items store.new }
     ensures reliable { F.is_reliable store.old.flash → F.is_reliable store.new.flash × (store.new.values.has_failed ≡ store.old.values.has_failed) }
 {
     let mut answers = ArrayVec::new();

@@ -1,5 +1,6 @@
 // The device.
-ghost use Rattle.std.specs.Prelude.{◌≡◌, ℕ, true, false, IsErr, IfOk, IfErr, MatchResult};
+ghost use Rattle.std.specs.Prelude.{◌≡◌, ◌∷◌, [], ℕ, true, false, IsErr, IfOk, IfErr, MatchResult};
+ghost use Rattle.flash_model.specs.Calls.{Arms};
 ghost use Rattle.flash_model.specs.Image.{erased};
 ghost use Rattle.pn_values.specs.Settings.{factory_settings};
 ghost use Rattle.pn_values.specs.declared.settings.Settings.{Settings};
@@ -59,6 +60,7 @@ impl<F: Flash<S>, const S: usize> Device<F, S> {
 
         // Nothing is written, and FlashFault is answered where a read fails and only there.
         ensures same { MatchResult result (λ device. F.image device.flash ≡ F.image flash) (λ refused. F.image refused.1 ≡ F.image flash) }
+        ensures calls { MatchResult result (λ device. F.asked flash [] device.flash) (λ refused. F.asked flash [] refused.1) }
         ensures cause { MatchResult result (λ device. F.failures device.flash ≡ F.failures flash)
             (λ refused. HasBootCause refused.0 (F.failures flash) (F.failures refused.1)) }
         ensures reliable { F.is_reliable flash →
@@ -122,6 +124,7 @@ impl<F: Flash<S>, const S: usize> Device<F, S> {
         ensures identity { (self.new.identity ≡ self.old.identity) × (self.new.real ≡ self.old.real) }
         ensures image { F.image self.new.flash ≡ F.image self.old.flash }
         ensures failures { F.failures self.new.flash ≡ F.failures self.old.flash }
+        ensures calls { F.asked self.old.flash (Arms order ∷ []) self.new.flash }
     {
         self.store.arm(order);
     }

@@ -28,7 +28,7 @@ const LAMP_UNITS: u32 = 96_000;
 impl<F: Flash<S>, const S: usize> Device<F, S> {
     /// Takes an event, and puts the frames to be sent into the box, which holds nothing else then.
     pub fn step(&mut self, event: &Event, outbox: &mut Outbox) -> Note
-        ensures steps { Steps F.image F.failures self.old (heard_of self.old.identity event.now) (map (λ frame. frame.items) outbox.new.items) result self.new }
+        ensures steps { Steps F.image F.failures F.asked self.old (heard_of self.old.identity event.now) (map (λ frame. frame.items) outbox.new.items) result self.new }
 
         // With no flash call failing.
         ensures exact { F.failures self.new.flash ≡ F.failures self.old.flash → F.failures self.old.flash < 2 ^ 64 - 1 →
@@ -49,7 +49,7 @@ impl<F: Flash<S>, const S: usize> Device<F, S> {
     // What comes of what was heard.
     fn respond(&mut self, heard: Heard<'_>, outbox: &mut Outbox) -> Note
         requires stored { Holds (F.image self.old.flash) self.old.live.values }
-        ensures steps { Steps F.image F.failures self.old (meaning_of heard.entry) (map (λ frame. frame.items) outbox.new.items) result self.new }
+        ensures steps { Steps F.image F.failures F.asked self.old (meaning_of heard.entry) (map (λ frame. frame.items) outbox.new.items) result self.new }
         ensures reliable { F.is_reliable self.old.flash → F.is_reliable self.new.flash × (self.new.live.values.has_failed ≡ self.old.live.values.has_failed) }
     {
         match heard {
@@ -82,7 +82,7 @@ impl<F: Flash<S>, const S: usize> Device<F, S> {
         outbox: &mut Outbox,
     ) -> Note
         requires stored { Holds (F.image self.old.flash) self.old.live.values }
-        ensures steps { Steps F.image F.failures self.old (heard_request asker (request_of frame_id body.now)) (map (λ frame. frame.items) outbox.new.items) result self.new }
+        ensures steps { Steps F.image F.failures F.asked self.old (heard_request asker (request_of frame_id body.now)) (map (λ frame. frame.items) outbox.new.items) result self.new }
         ensures reliable { F.is_reliable self.old.flash → F.is_reliable self.new.flash × (self.new.live.values.has_failed ≡ self.old.live.values.has_failed) }
     {
         match &read_request(frame_id, body) {
@@ -106,7 +106,7 @@ impl<F: Flash<S>, const S: usize> Device<F, S> {
     // A request of a station.
     fn serve(&mut self, asker: Mac, request: &Request<'_>, outbox: &mut Outbox) -> Note
         requires stored { Holds (F.image self.old.flash) self.old.live.values }
-        ensures steps { Steps F.image F.failures self.old (Asks asker (asked request.now)) (map (λ frame. frame.items) outbox.new.items) result self.new }
+        ensures steps { Steps F.image F.failures F.asked self.old (Asks asker (asked request.now)) (map (λ frame. frame.items) outbox.new.items) result self.new }
         ensures reliable { F.is_reliable self.old.flash → F.is_reliable self.new.flash × (self.new.live.values.has_failed ≡ self.old.live.values.has_failed) }
     {
         match request.service {
@@ -152,7 +152,7 @@ impl<F: Flash<S>, const S: usize> Device<F, S> {
     // A Set (4.3.2.5): its blocks in order, each by itself. No application relation exists.
     fn set(&mut self, asker: Mac, request: &Request<'_>, outbox: &mut Outbox) -> Note
         requires service { request.now.service ≡ Service.Set }
-        ensures steps { Steps F.image F.failures self.old (Asks asker (asked request.now)) (map (λ frame. frame.items) outbox.new.items) result self.new }
+        ensures steps { Steps F.image F.failures F.asked self.old (Asks asker (asked request.now)) (map (λ frame. frame.items) outbox.new.items) result self.new }
         ensures reliable { F.is_reliable self.old.flash → F.is_reliable self.new.flash × (self.new.live.values.has_failed ≡ self.old.live.values.has_failed) }
     {
         let plan = set_plan(request, false);

@@ -7,7 +7,7 @@ use Rattle.device_core.proofs.carrying.carry_out.Goals as goal
 
 pub loop-item-init : goal.loop-item-init
 loop-item-init g c = record {
-  carries = rw c.new-answers.ensures (nothing g.F.Flash.image g.F.Flash.failures c.args.store.now c.requires.stored);
+  carries = rw c.new-answers.ensures (nothing g.F.Flash.image g.F.Flash.failures g.F.Flash.asked c.args.store.now c.requires.stored);
   each = ap length c.new-answers.ensures;
   reliable = λ sound. (sound, refl);
 }
@@ -15,7 +15,7 @@ loop-item-init g c = record {
 pub loop-item-preserved : goal.loop-item-preserved
 loop-item-preserved g c = record {
   carries = rw (take_more c.args.items.now c.loop-item.item-index c.item-item.result c.loop-item-test.true ∙ ap (λ i. take c.loop-item.item-index c.args.items.now ++ i ∷ []) (sym c.item-item.is), c.push.ensures.items)
-      (carries_then g.F.Flash.image g.F.Flash.failures c.args.store.now c.loop-item.store c.carry-answer.new.self _ _ _ _
+      (carries_then g.F.Flash.image g.F.Flash.failures g.F.Flash.asked c.args.store.now c.loop-item.store c.carry-answer.new.self _ _ _ _
       c.loop-item.invariant.carries c.carry-answer.ensures.carries);
   each = omega (arith, c.loop-item.invariant.each, c.push.ensures.len);
   reliable = λ sound.
@@ -26,7 +26,7 @@ loop-item-preserved g c = record {
 
 pub returns-clause-carries : goal.returns-clause-carries
 returns-clause-carries g c =
-    subst (λ items. Carries g.F.Flash.image g.F.Flash.failures c.args.store.now items c.loop-item.answers.items c.loop-item.store)
+    subst (λ items. Carries g.F.Flash.image g.F.Flash.failures g.F.Flash.asked c.args.store.now items c.loop-item.answers.items c.loop-item.store)
     (take_all c.loop-item.item-index c.args.items.now c.loop-item-test.false) c.loop-item.invariant.carries
 
 pub returns-clause-reliable : goal.returns-clause-reliable

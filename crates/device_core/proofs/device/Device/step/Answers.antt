@@ -6,10 +6,10 @@ use Rattle.device_core.proofs.device.Device.step.Goals as goal
 
 pub returns-clause-refused : goal.returns-clause-refused
 returns-clause-refused g c = λ refused.
-    let nothing = refused_step g.F.Flash.image g.F.Flash.failures c.args.self.now c.respond.new.self _ _ _ c.respond.ensures.steps refused in
+    let nothing = refused_step g.F.Flash.image g.F.Flash.failures g.F.Flash.asked c.args.self.now c.respond.new.self _ _ _ c.respond.ensures.steps refused in
     (nothing.0, none_sent _ c.respond.new.outbox.items nothing.1)
 
 pub returns-clause-identify : goal.returns-clause-identify
 returns-clause-identify g c = λ asker request is identify.
-    identify_step g.F.Flash.image g.F.Flash.failures c.args.self.now c.respond.new.self _ _ _ c.respond.ensures.steps asker request
+    identify_step g.F.Flash.image g.F.Flash.failures g.F.Flash.asked c.args.self.now c.respond.new.self _ _ _ c.respond.ensures.steps asker request
     (sym c.hear-heard.ensures ∙ ap (λ s. heard_of s.identity c.args.event.now) c.self.view_is ∙ is) identify
