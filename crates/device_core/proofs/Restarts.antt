@@ -1,5 +1,5 @@
 -- A cycle and the start after it, from a start, a run and a start.
-use Rattle.std.proofs.Common.{rules, ◌≡◌, ℕ, false, List, Result, Ok, Err, IsOk, IfOk, IfErr, MatchResult, refl, sym, ap, subst, ◌∙◌, inl, inr}
+use Rattle.std.proofs.Common.{rules, ◌≡◌, ℕ, false, List, [], Result, Ok, Err, IsOk, IfOk, IfErr, MatchResult, refl, sym, ap, subst, ◌∙◌, inl, inr}
 use Rattle.flash_model.specs.Calls.{Call}
 use Rattle.flash_model.specs.Image.{Image}
 use Rattle.pn_values.specs.declared.identity.Identity.{Identity}
@@ -39,16 +39,16 @@ device_of flash identity real first room = record { flash = flash; identity = id
 
 -- a run from a start is a cycle
 cycled_from : {F : Type 0} (image : F → Image) (failures : F → ℕ) (asked : F → List Call → F → Type 0) (identity : Identity) (real : Real) (flash begun : F) (first : Settings) (room : ℕ)
-    (events : List Event) (before now : List (List ℕ)) (ran : State F) → image begun ≡ image flash → failures begun ≡ failures flash
+    (events : List Event) (before now : List (List ℕ)) (ran : State F) → image begun ≡ image flash → failures begun ≡ failures flash → asked flash [] begun
     → (runs : Runs image failures asked (device_of begun identity real first room) events before now ran)
     → Cycled image failures asked identity flash first room events before now runs.outcomes ran.flash
 unfolding device_of
-cycled_from image failures asked identity real flash begun first room events before now ran same_image same_failures runs =
+cycled_from image failures asked identity real flash begun first room events before now ran same_image same_failures quiet runs =
     let end = cycle_of runs.outcomes identity first room events in
     let values : ran.live.values ≡ end.live.values = ap (λ l. l.values) runs.live in
     record {
       begun = begun;
-      begins = (same_image, same_failures);
+      begins = (same_image, same_failures, quiet);
       caused = subst (λ n. IsCaused runs.outcomes n (failures ran.flash) (started first room).values end.live.values) same_failures
           (subst (λ v. IsCaused runs.outcomes (failures begun) (failures ran.flash) (started first room).values v) values runs.caused);
       placed = runs.placed;
@@ -67,16 +67,16 @@ run_from image failures asked identity real first room events before now begun r
 
 pub cycle_restarts : {F : Type 0} (image : F → Image) (failures : F → ℕ) (asked : F → List Call → F → Type 0) (power_up : F → F → Type 0) (identity : Identity) (real : Real) (flash : F) (first : Settings) (room : ℕ)
     (events : List Event) (before now : List (List ℕ)) (begun ran : State F) (back : F) (again : State F)
-    → begun.live ≡ started first room → begun.identity ≡ identity → begun.real ≡ real → image begun.flash ≡ image flash → failures begun.flash ≡ failures flash
+    → begun.live ≡ started first room → begun.identity ≡ identity → begun.real ≡ real → image begun.flash ≡ image flash → failures begun.flash ≡ failures flash → asked flash [] begun.flash
     → LeftByDevice (image flash) → Runs image failures asked begun events before now ran → power_up ran.flash back → image back ≡ image ran.flash
     → ((settings : Settings) (room : ℕ) → StartsWith (image back) settings room → again.live ≡ started settings room)
     → again.live ≡ started again.live.values.stored again.live.values.room → StartsWith (image back) again.live.values.stored again.live.values.room
-    → again.identity ≡ ran.identity → again.real ≡ ran.real → image again.flash ≡ image back → failures again.flash ≡ failures back
+    → again.identity ≡ ran.identity → again.real ≡ ran.real → image again.flash ≡ image back → failures again.flash ≡ failures back → asked back [] again.flash
     → Restarts image failures asked power_up identity real flash first room events before now again
 unfolding device_of
-cycle_restarts image failures asked power_up identity real flash first room events before now begun ran back again live is_identity is_real same_image same_failures left run powered kept known fresh starts same_identity same_real image_is failures_is =
+cycle_restarts image failures asked power_up identity real flash first room events before now begun ran back again live is_identity is_real same_image same_failures quiet left run powered kept known fresh starts same_identity same_real image_is failures_is none_asked =
     let runs = run_from image failures asked identity real first room events before now begun ran live is_identity is_real run in
-    let cycled = cycled_from image failures asked identity real flash begun.flash first room events before now ran same_image same_failures runs in
+    let cycled = cycled_from image failures asked identity real flash begun.flash first room events before now ran same_image same_failures quiet runs in
     let end = cycle_of runs.outcomes identity first room events in
     let values = ap (λ l. l.values) runs.live in
     record {
@@ -96,13 +96,13 @@ cycle_restarts image failures asked power_up identity real flash first room even
       identity_is = same_identity ∙ runs.same.identity;
       real_is = same_real ∙ runs.same.real;
       left = subst LeftByDevice (sym (image_is ∙ kept)) (cycled.safe.left left);
-      same = (image_is ∙ kept, failures_is);
+      same = (image_is ∙ kept, failures_is, none_asked);
     }
 
 -- the same where the start may be refused
 pub restarts_if : {F : Type 0} (image : F → Image) (failures : F → ℕ) (asked : F → List Call → F → Type 0) (power_up : F → F → Type 0) (identity : Identity) (real : Real) (flash : F) (first : Settings) (room : ℕ)
     (events : List Event) (before now : List (List ℕ)) (begun ran : State F) (back : F) (again : Result (State F) (BootFault × F))
-    → begun.live ≡ started first room → begun.identity ≡ identity → begun.real ≡ real → image begun.flash ≡ image flash → failures begun.flash ≡ failures flash
+    → begun.live ≡ started first room → begun.identity ≡ identity → begun.real ≡ real → image begun.flash ≡ image flash → failures begun.flash ≡ failures flash → asked flash [] begun.flash
     → LeftByDevice (image flash) → Runs image failures asked begun events before now ran → power_up ran.flash back → image back ≡ image ran.flash
     → ((settings : Settings) (room : ℕ) → StartsWith (image back) settings room → MatchResult again (λ device. device.live ≡ started settings room) (λ refused. refused.0 ≡ FlashFault))
     → IfOk again (λ device. device.live ≡ started device.live.values.stored device.live.values.room)
@@ -110,18 +110,20 @@ pub restarts_if : {F : Type 0} (image : F → Image) (failures : F → ℕ) (ask
     → IfOk again (λ device. (device.identity ≡ ran.identity) × (device.real ≡ ran.real))
     → MatchResult again (λ device. image device.flash ≡ image back) (λ refused. image refused.1 ≡ image back)
     → MatchResult again (λ device. failures device.flash ≡ failures back) (λ refused. HasBootCause refused.0 (failures back) (failures refused.1))
+    → MatchResult again (λ device. asked back [] device.flash) (λ refused. asked back [] refused.1)
     → IfOk again (λ device. Restarts image failures asked power_up identity real flash first room events before now device)
-restarts_if image failures asked power_up identity real flash first room events before now begun ran back (Ok again) live is_identity is_real same_image same_failures left run powered kept known fresh starts same image_is cause =
-    cycle_restarts image failures asked power_up identity real flash first room events before now begun ran back again live is_identity is_real same_image same_failures left run powered kept
-    known fresh starts same.0 same.1 image_is cause
-restarts_if image failures asked power_up identity real flash first room events before now begun ran back (Err refused) live is_identity is_real same_image same_failures left run powered kept known fresh starts same image_is cause = tt
+restarts_if image failures asked power_up identity real flash first room events before now begun ran back (Ok again) live is_identity is_real same_image same_failures quiet left run powered kept known fresh starts same image_is cause none_asked =
+    cycle_restarts image failures asked power_up identity real flash first room events before now begun ran back again live is_identity is_real same_image same_failures quiet left run powered kept
+    known fresh starts same.0 same.1 image_is cause none_asked
+restarts_if image failures asked power_up identity real flash first room events before now begun ran back (Err refused) live is_identity is_real same_image same_failures quiet left run powered kept known fresh starts same image_is cause none_asked = tt
 
 -- a start that is refused, from what the start says
 pub refuses_from : {F : Type 0} (image : F → Image) (failures : F → ℕ) (asked : F → List Call → F → Type 0) (flash : F) (fault : BootFault) (left : F)
-    → HasBootCause fault (failures flash) (failures left) → image left ≡ image flash → (fault ≡ Foreign → IsForeign (image flash)) → Refuses image failures asked flash fault left
-refuses_from image failures asked flash fault left cause same foreign = record {
+    → HasBootCause fault (failures flash) (failures left) → image left ≡ image flash → asked flash [] left → (fault ≡ Foreign → IsForeign (image flash)) → Refuses image failures asked flash fault left
+refuses_from image failures asked flash fault left cause same none_asked foreign = record {
   cause = cause;
   same = same;
+  none_asked = none_asked;
   foreign = λ is. subst IsForeign (sym same) (foreign is);
 }
 
@@ -129,14 +131,15 @@ refuses_from image failures asked flash fault left cause same foreign = record {
 pub refused_if : {F : Type 0} (image : F → Image) (failures : F → ℕ) (asked : F → List Call → F → Type 0) (power_up : F → F → Type 0) (identity : Identity) (real : Real) (flash : F) (events : List Event)
     (before now : List (List ℕ)) (begun ran : State F) (back : F) (again : Result (State F) (BootFault × F))
     → begun.live ≡ started begun.live.values.stored begun.live.values.room → begun.identity ≡ identity → begun.real ≡ real
-    → StartsWith (image flash) begun.live.values.stored begun.live.values.room → image begun.flash ≡ image flash → failures begun.flash ≡ failures flash
+    → StartsWith (image flash) begun.live.values.stored begun.live.values.room → image begun.flash ≡ image flash → failures begun.flash ≡ failures flash → asked flash [] begun.flash
     → Runs image failures asked begun events before now ran → power_up ran.flash back → image back ≡ image ran.flash
     → IfErr again (λ refused. refused.0 ≡ Foreign → IsForeign (image back))
     → MatchResult again (λ device. image device.flash ≡ image back) (λ refused. image refused.1 ≡ image back)
     → MatchResult again (λ device. failures device.flash ≡ failures back) (λ refused. HasBootCause refused.0 (failures back) (failures refused.1))
+    → MatchResult again (λ device. asked back [] device.flash) (λ refused. asked back [] refused.1)
     → IfErr again (λ refused. IsRefused image failures asked power_up identity flash events before now refused.0 refused.1)
-refused_if image failures asked power_up identity real flash events before now begun ran back (Ok again) live is_identity is_real starts same_image same_failures run powered kept foreign same cause = tt
-refused_if image failures asked power_up identity real flash events before now begun ran back (Err refused) live is_identity is_real starts same_image same_failures run powered kept foreign same cause =
+refused_if image failures asked power_up identity real flash events before now begun ran back (Ok again) live is_identity is_real starts same_image same_failures quiet run powered kept foreign same cause none_asked = tt
+refused_if image failures asked power_up identity real flash events before now begun ran back (Err refused) live is_identity is_real starts same_image same_failures quiet run powered kept foreign same cause none_asked =
     let runs = run_from image failures asked identity real _ _ events before now begun ran live is_identity is_real run in
     inr (record {
       first = begun.live.values.stored;
@@ -145,10 +148,10 @@ refused_if image failures asked power_up identity real flash events before now b
       lost = ran.flash;
       back = back;
       starts = starts;
-      cycled = cycled_from image failures asked identity real flash begun.flash _ _ events before now ran same_image same_failures runs;
+      cycled = cycled_from image failures asked identity real flash begun.flash _ _ events before now ran same_image same_failures quiet runs;
       powered = powered;
       kept = kept;
-      refuses = refuses_from image failures asked back refused.0 refused.1 cause same foreign;
+      refuses = refuses_from image failures asked back refused.0 refused.1 cause same none_asked foreign;
     })
 
 pub never_refused : {F : Type 0} (is_reliable : F → Type 0) (again : Result (State F) (BootFault × F))

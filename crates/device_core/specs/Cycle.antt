@@ -39,7 +39,7 @@ IsMadeOf accepted first settings =
 -- of the flash is safe, and where no command was accepted it was left as the start left it.
 pub record Cycled {F : Type 0} (image : F → Image) (failures : F → ℕ) (asked : F → List Call → F → Type 0) (identity : Identity) (flash : F) (first : Settings) (room : ℕ) (events : List Event) (before now : List (List ℕ)) (outcomes : List (List Outcome)) (lost : F) : Type 0 where
   pub begun : F
-  pub begins : (image begun ≡ image flash) × (failures begun ≡ failures flash)
+  pub begins : (image begun ≡ image flash) × (failures begun ≡ failures flash) × asked flash [] begun
   pub caused : IsCaused outcomes (failures flash) (failures lost) (started first room).values (cycle_of outcomes identity first room events).live.values
   pub placed : EventByEvent image failures asked outcomes identity begun (started first room) events lost
   pub handed_on : now ≡ before ++ (cycle_of outcomes identity first room events).frames
@@ -66,12 +66,13 @@ pub record Restarts {F : Type 0} (image : F → Image) (failures : F → ℕ) (a
   pub identity_is : restarted.identity ≡ identity
   pub real_is : restarted.real ≡ real
   pub left : LeftByDevice (image restarted.flash)
-  pub same : (image restarted.flash ≡ image lost) × (failures restarted.flash ≡ failures back)
+  pub same : (image restarted.flash ≡ image lost) × (failures restarted.flash ≡ failures back) × asked back [] restarted.flash
 
--- A start was refused for a cause of its own, and no byte changed in it. A flash is foreign where it cannot be read.
+-- A start was refused for a cause of its own; it asked nothing of the flash but reads, and no byte changed. A flash is foreign where it cannot be read.
 pub record Refuses {F : Type 0} (image : F → Image) (failures : F → ℕ) (asked : F → List Call → F → Type 0) (flash : F) (fault : BootFault) (left : F) : Type 0 where
   pub cause : HasBootCause fault (failures flash) (failures left)
   pub same : image left ≡ image flash
+  pub none_asked : asked flash [] left
   pub foreign : fault ≡ Foreign → IsForeign (image left)
 
 -- The start after a cycle was refused: the first start gave settings, the events were run, and power came back.

@@ -12,9 +12,9 @@ returns-clause-headline g c = λ left first room starts.
     let real : c.into_parts-identity.result.1 ≡ c.run.new.self.real = ap (λ t. t.1) parts in
     let powered = rw (ap (λ t. t.2) parts) at c.power_up.ensures in
     restarts_if g.F.Flash.image g.F.Flash.failures g.F.Flash.asked _ c.args.identity c.args.real c.args.flash first room c.args.events.now _ _ c.in_ok-device.device c.run.new.self c.power_up.result c.boot-2.result
-    (c.in_ok-device.ensures.known first room starts) c.in_ok-device.ensures.identity.0 c.in_ok-device.ensures.identity.1 c.in_ok-device.ensures.same c.in_ok-device.ensures.cause
+    (c.in_ok-device.ensures.known first room starts) c.in_ok-device.ensures.identity.0 c.in_ok-device.ensures.identity.1 c.in_ok-device.ensures.same c.in_ok-device.ensures.cause c.in_ok-device.ensures.calls
     left c.run.ensures.runs powered (c.requires.keeps c.run.new.self.flash c.power_up.result powered)
-    c.boot-2.ensures.known c.boot-2.ensures.fresh c.boot-2.ensures.starts (rw (identity, real) at c.boot-2.ensures.identity) c.boot-2.ensures.same c.boot-2.ensures.cause
+    c.boot-2.ensures.known c.boot-2.ensures.fresh c.boot-2.ensures.starts (rw (identity, real) at c.boot-2.ensures.identity) c.boot-2.ensures.same c.boot-2.ensures.cause c.boot-2.ensures.calls
 
 pub returns-clause-left : goal.returns-clause-left
 returns-clause-left g c = λ left.
@@ -27,7 +27,7 @@ returns-in_err-device-clause-refused g c =
     let p = err_from_is_err_and c.from_residual.result c.from_residual.ensures.1 in
     rw (p.1, p.2) (inl (
       refl,
-      refuses_from g.F.Flash.image g.F.Flash.failures g.F.Flash.asked c.args.flash _ _ c.in_err-device.ensures.cause c.in_err-device.ensures.same c.in_err-device.ensures.foreign,
+      refuses_from g.F.Flash.image g.F.Flash.failures g.F.Flash.asked c.args.flash _ _ c.in_err-device.ensures.cause c.in_err-device.ensures.same c.in_err-device.ensures.calls c.in_err-device.ensures.foreign,
     ))
 
 pub returns-clause-refused : goal.returns-clause-refused
@@ -35,8 +35,8 @@ returns-clause-refused g c =
     let parts = c.into_parts-identity.ensures in
     let powered = rw (ap (λ t. t.2) parts) at c.power_up.ensures in
     refused_if g.F.Flash.image g.F.Flash.failures g.F.Flash.asked _ c.args.identity c.args.real c.args.flash c.args.events.now _ _ c.in_ok-device.device c.run.new.self c.power_up.result c.boot-2.result
-    c.in_ok-device.ensures.fresh c.in_ok-device.ensures.identity.0 c.in_ok-device.ensures.identity.1 c.in_ok-device.ensures.starts c.in_ok-device.ensures.same c.in_ok-device.ensures.cause
-    c.run.ensures.runs powered (c.requires.keeps c.run.new.self.flash c.power_up.result powered) c.boot-2.ensures.foreign c.boot-2.ensures.same c.boot-2.ensures.cause
+    c.in_ok-device.ensures.fresh c.in_ok-device.ensures.identity.0 c.in_ok-device.ensures.identity.1 c.in_ok-device.ensures.starts c.in_ok-device.ensures.same c.in_ok-device.ensures.cause c.in_ok-device.ensures.calls
+    c.run.ensures.runs powered (c.requires.keeps c.run.new.self.flash c.power_up.result powered) c.boot-2.ensures.foreign c.boot-2.ensures.same c.boot-2.ensures.cause c.boot-2.ensures.calls
 
 pub returns-clause-reliable : goal.returns-clause-reliable
 returns-clause-reliable g c = λ reliable powers left.
