@@ -7,7 +7,7 @@ use Rattle.flash_model.specs.Image.{Image, erased, IsSectorSize}
 use Rattle.flash_model.specs.declared.flash.Sector.{Sector}
 use Rattle.flash_model.specs.declared.flash.Sector.TheVariants.{First, Second}
 use Rattle.settings_journal.specs.Head.{head_of, gate_of, generation_at, Counts, Spells}
-use Rattle.settings_journal.specs.Image.{head_in, IsActive, IsClosed, StartsFrom, StartsWith, IsForeign, LeftByDevice}
+use Rattle.settings_journal.specs.Image.{head_in, IsActive, IsClosed, StartsFrom, StartsWith, IsForeign, LeftByDevice, capacity}
 use Rattle.settings_journal.proofs.Parts.{Spells-same}
 
 -- one sector is active
@@ -73,7 +73,8 @@ erased_gate size wide e =
     absurd (zero≢255 (sym e ∙ gate))
 
 -- a flash that was never written is as from the factory
-pub blank_starts : (size : ℕ) (image : Image) → IsSectorSize size → image ≡ record { first = erased size; second = erased size } → LeftByDevice image × StartsWith image factory_settings 65535
+pub blank_starts : (size : ℕ) (image : Image) → IsSectorSize size → image ≡ record { first = erased size; second = erased size } → LeftByDevice image × StartsWith image factory_settings (capacity size)
+unfolding capacity
 blank_starts size image wide e =
     let closed : IsClosed image = rw e (record { first = erased_gate size wide; second = erased_gate size wide }) in
     ((None, closed), (None, (closed, refl, refl)))

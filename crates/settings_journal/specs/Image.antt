@@ -1,5 +1,5 @@
 -- What an image of two sectors is to the journal: which sector is active, and what a start makes of it.
-use Rattle.std.specs.Prelude.{◌≡◌, ◌≢◌, ◌⊎◌, ◌-◌, ℕ, List, Option, Some, None}
+use Rattle.std.specs.Prelude.{◌≡◌, ◌≢◌, ◌⊎◌, ◌-◌, ◌≤◌, ℕ, List, Option, Some, None}
 use Rattle.pn_values.specs.Settings.{factory_settings}
 use Rattle.pn_values.specs.declared.settings.Settings.{Settings}
 use Rattle.flash_model.specs.Image.{Image, sector_of, other}
@@ -32,6 +32,14 @@ abbrev pub StartsFrom : Image → Option Sector → Settings → ℕ → Type 0
 StartsFrom image (Some sector) settings room =
     IsActive image sector × Spells (head_in image sector) settings × (room ≡ 65535 - generation_at (head_in image sector))
 StartsFrom image None settings room = IsClosed image × (settings ≡ factory_settings) × (room ≡ 65535)
+
+-- How many commits a blank flash with sectors of this size has room for. Each takes one of the generations.
+unfoldable pub capacity : ℕ → ℕ
+capacity size = 65535
+
+-- a blank flash has room for at least 65,535 commits
+abbrev pub IsAmple : ℕ → Type 0
+IsAmple size = 65535 ≤ capacity size
 
 abbrev pub StartsWith : Image → Settings → ℕ → Type 0
 StartsWith image settings room = (active : Option Sector) × StartsFrom image active settings room

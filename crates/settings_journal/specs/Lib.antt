@@ -1,5 +1,6 @@
 pub mod Calls
 pub mod Commit
+pub mod Faults
 pub mod Head
 pub mod Image
 pub mod Snapshot

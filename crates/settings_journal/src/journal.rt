@@ -6,8 +6,9 @@ ghost use Rattle.pn_values.specs.declared.settings.Settings.{Settings};
 ghost use Rattle.flash_model.specs.Calls.{Call, Arms};
 ghost use Rattle.flash_model.specs.Image.{erased};
 ghost use Rattle.settings_journal.specs.Calls.{HasCommitCalls};
-ghost use Rattle.settings_journal.specs.Image.{StartsFrom, StartsWith, IsForeign, LeftByDevice, IsGeneration, spare};
+ghost use Rattle.settings_journal.specs.Image.{StartsFrom, StartsWith, IsAmple, capacity, IsForeign, LeftByDevice, IsGeneration, spare};
 ghost use Rattle.settings_journal.specs.Commit.{IsKept, HasBootCause, HasCommitCause};
+ghost use Rattle.settings_journal.specs.Faults.{boot_number, commit_number};
 
 use crate::base::encode;
 use crate::snapshot::{read_head, write_snapshot};
@@ -25,6 +26,15 @@ pub enum BootFault {
     Foreign = 2,
 }
 
+impl BootFault {
+    /// Its number, 1 or 2.
+    pub fn number(self) -> u8
+        ensures { result ≡ boot_number self }
+    {
+        self as u8
+    }
+}
+
 /// Why a commit was refused.
 #[derive(Clone, Copy, Debug, PartialEq, Eq)]
 pub enum CommitFault {
@@ -34,6 +44,15 @@ pub enum CommitFault {
     FlashFault = 2,
     /// An earlier commit failed; nothing changed.
     Failed = 3,
+}
+
+impl CommitFault {
+    /// Its number, 1 to 3.
+    pub fn number(self) -> u8
+        ensures { result ≡ commit_number self }
+    {
+        self as u8
+    }
 }
 
 /// The settings of a station, and the flash that keeps them. A clause sees the flash, the settings, how many commits
@@ -61,6 +80,7 @@ impl<F: Flash<S>, const S: usize> Model for Journal<F, S> {
 
 impl<F: Flash<S>, const S: usize> Journal<F, S> {
     /// Reads what the flash keeps, and writes nothing. A refusal hands the flash back.
+    #[tactic(auto, unfolding(crate::specs::Image::capacity))]
     pub fn boot(flash: F) -> Result<Journal<F, S>, (BootFault, F)>
         // What is read there, or what a station leaves the factory with.
         ensures starts { IfOk result (λ journal. StartsWith (F.image flash) journal.settings journal.room) }
@@ -77,7 +97,8 @@ impl<F: Flash<S>, const S: usize> Journal<F, S> {
 
         // A flash that was never written.
         ensures blank { F.image flash ≡ record { first = erased S; second = erased S } →
-            LeftByDevice (F.image flash) × StartsWith (F.image flash) factory_settings 65535 }
+            LeftByDevice (F.image flash) × StartsWith (F.image flash) factory_settings (capacity S) }
+        ensures ample { IsAmple S }
 
         // Nothing is written, and FlashFault is answered where a read fails and only there.
         ensures same { MatchResult result (λ journal. F.image journal.flash ≡ F.image flash) (λ refused. F.image refused.1 ≡ F.image flash) }

@@ -1,6 +1,6 @@
 // Calls whose bytes were computed by hand from the rule of a torn call: the old bit where the mask has a 0, the new one
 // where it has a 1.
-use flash_model::{Flash, FlashFault, MemoryFlash, Order, Sector};
+use flash_model::{Flash, FlashFault, Lent, MemoryFlash, Order, Sector};
 
 /// The smallest size: room for one slot.
 const SIZE: usize = 768;
@@ -146,4 +146,24 @@ fn the_trait_is_met(rt: HostRuntime) {
     assert_eq!(rt; write_and_read(&mut flash, 0x00), Err(FlashFault));
     assert_eq!(rt; Flash::failures(&flash), 1);
     assert!(rt; Flash::is_lost(&flash));
+}
+
+#[test]
+fn what_is_done_to_a_lent_flash_is_done_to_it(rt: HostRuntime) {
+    let mut flash = MemoryFlash::<SIZE>::blank();
+    let mut lent = Lent::new(&mut flash);
+    assert_eq!(rt; write_and_read(&mut lent, 0x5A), Ok(0x5A));
+    Flash::arm(
+        &mut lent,
+        Order::Cut {
+            after: 0,
+            mask: [0xF0; 8],
+        },
+    );
+    assert_eq!(rt; Flash::erase(&mut lent, Sector::Second), Err(FlashFault));
+    assert!(rt; Flash::is_lost(&lent));
+    assert_eq!(rt; Flash::failures(&lent), 1);
+    lent.power_up();
+    assert!(rt; !lent.flash().is_lost());
+    assert_eq!(rt; flash.sector(Sector::Second)[100], 0xFA);
 }

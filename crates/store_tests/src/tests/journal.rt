@@ -1,5 +1,5 @@
 // Images whose bytes were worked out by hand from the layout, and calls at a flash in memory.
-use flash_model::{MemoryFlash, Order, Sector};
+use flash_model::{Lent, MemoryFlash, Order, Sector};
 use pn_values::Command;
 use settings_journal::{BootFault, CommitFault, Journal};
 use station_names::NameFault;
@@ -13,7 +13,8 @@ const FIRST: &[u8; 13] = b"PNS\x01\xFF\xFE\x06pump-1";
 // The same with the generation 2.
 const SECOND: &[u8; 13] = b"PNS\x01\xFF\xFD\x06pump-2";
 
-type Stored = Journal<MemoryFlash<SIZE>, SIZE>;
+/// A journal over a flash that stays where it is.
+type Stored<'a> = Journal<Lent<'a, MemoryFlash<SIZE>>, SIZE>;
 
 fn set(name: &[u8]) -> Result<Command, NameFault> {
     Ok(Command::SetName {
@@ -22,8 +23,8 @@ fn set(name: &[u8]) -> Result<Command, NameFault> {
     })
 }
 
-fn start(flash: MemoryFlash<SIZE>) -> Result<Stored, BootFault> {
-    Journal::boot(flash).map_err(|refused| refused.0)
+fn start(flash: &mut MemoryFlash<SIZE>) -> Result<Stored<'_>, BootFault> {
+    Journal::boot(Lent::new(flash)).map_err(|refused| refused.0)
 }
 
 // A sector with this front and gate, and zeros between them: no address, and texts of zeros.
@@ -36,10 +37,11 @@ fn sector(front: &[u8; 13], gate: u8) -> [u8; SIZE] {
 
 #[test]
 fn the_first_name_goes_to_the_first_sector(rt: HostRuntime) -> Result<(), std::test::Fail> {
-    let mut journal = start(MemoryFlash::blank())?;
+    let mut flash = MemoryFlash::blank();
+    let mut journal = start(&mut flash)?;
     assert_eq!(rt; journal.settings().name.as_bytes().len(), 0);
     journal.commit(&set(b"pump-1")?)?;
-    let flash = journal.into_flash();
+    drop(journal);
     assert!(rt; flash.sector(Sector::First).starts_with(FIRST));
     assert_eq!(rt; flash.sector(Sector::First)[511], 0x00);
     assert_eq!(rt; flash.sector(Sector::Second), [0xFF; SIZE].as_slice());
@@ -48,13 +50,14 @@ fn the_first_name_goes_to_the_first_sector(rt: HostRuntime) -> Result<(), std::t
 
 #[test]
 fn the_next_name_goes_to_the_other_sector(rt: HostRuntime) -> Result<(), std::test::Fail> {
-    let mut journal = start(MemoryFlash::blank())?;
+    let mut flash = MemoryFlash::blank();
+    let mut journal = start(&mut flash)?;
     journal.commit(&set(b"pump-1")?)?;
     journal.commit(&set(b"pump-2")?)?;
-    let flash = journal.into_flash();
+    drop(journal);
     assert!(rt; flash.sector(Sector::First).starts_with(FIRST));
     assert!(rt; flash.sector(Sector::Second).starts_with(SECOND));
-    let again = start(flash)?;
+    let again = start(&mut flash)?;
     assert_eq!(rt; again.settings().name.as_bytes(), b"pump-2".as_slice());
     assert!(rt; !again.is_exhausted());
     assert!(rt; !again.has_failed());
@@ -62,24 +65,37 @@ fn the_next_name_goes_to_the_other_sector(rt: HostRuntime) -> Result<(), std::te
 }
 
 #[test]
-fn a_write_that_is_cut_short_is_not_seen(rt: HostRuntime) -> Result<(), std::test::Fail> {
-    let mut journal = start(MemoryFlash::blank())?;
+fn a_gate_that_half_opens_is_closed(rt: HostRuntime) -> Result<(), std::test::Fail> {
+    let mut flash = MemoryFlash::blank();
+    let mut journal = start(&mut flash)?;
     journal.commit(&set(b"pump-1")?)?;
+    let mask = [0x55; 8];
+    journal.arm(Order::Cut { after: 2, mask });
+    let cut = journal.commit(&set(b"pump-2")?);
+    assert!(rt; matches!(cut, Err(CommitFault::FlashFault)));
+    drop(journal);
+    assert_eq!(rt; flash.sector(Sector::Second)[511], 0xAA);
+    flash.power_up();
+    let journal = start(&mut flash)?;
+    assert_eq!(rt; journal.settings().name.as_bytes(), b"pump-1".as_slice());
+    Ok(())
+}
+
+#[test]
+fn after_a_fault_nothing_is_stored_until_a_start(rt: HostRuntime) -> Result<(), std::test::Fail> {
+    let mut flash = MemoryFlash::blank();
+    let mut journal = start(&mut flash)?;
     let mask = [0x55; 8];
     journal.arm(Order::Cut { after: 2, mask });
     let cut = journal.commit(&set(b"pump-2")?);
     assert!(rt; matches!(cut, Err(CommitFault::FlashFault)));
     assert!(rt; matches!(journal.commit(&set(b"pump-2")?), Err(CommitFault::Failed)));
     assert!(rt; journal.has_failed());
-    assert_eq!(rt; journal.settings().name.as_bytes(), b"pump-1".as_slice());
-    assert_eq!(rt; journal.flash().sector(Sector::Second)[511], 0xAA);
-    let mut flash = journal.into_flash();
+    drop(journal);
     flash.power_up();
-    let mut journal = start(flash)?;
-    assert_eq!(rt; journal.settings().name.as_bytes(), b"pump-1".as_slice());
+    let mut journal = start(&mut flash)?;
     journal.commit(&set(b"pump-3")?)?;
-    let again = start(journal.into_flash())?;
-    assert_eq!(rt; again.settings().name.as_bytes(), b"pump-3".as_slice());
+    assert_eq!(rt; journal.settings().name.as_bytes(), b"pump-3".as_slice());
     Ok(())
 }
 
@@ -94,23 +110,22 @@ fn an_erase_that_is_cut_short_leaves_the_last_settings(
         [0x00, 0x00, 0x00, 0x00, 0xFF, 0xFF, 0x00, 0x00],
     ];
     for mask in masks {
-        let mut journal = start(MemoryFlash::blank())?;
-        journal.commit(&set(b"pump-1")?)?;
-        journal.commit(&set(b"pump-2")?)?;
+        let mut flash = MemoryFlash::from_sectors(sector(FIRST, 0), sector(SECOND, 0));
+        let mut journal = start(&mut flash)?;
         journal.arm(Order::Cut { after: 0, mask });
         let cut = journal.commit(&set(b"pump-3")?);
         assert!(rt; matches!(cut, Err(CommitFault::FlashFault)), "at {mask:?}");
-        let Err((fault, mut flash)) = Journal::boot(journal.into_flash()) else {
-            panic!(rt; "it has no power at {mask:?}");
-        };
-        assert_eq!(rt; fault, BootFault::FlashFault, "at {mask:?}");
-        flash.power_up();
-        let again = start(flash)?;
-        assert_eq!(rt;
-            again.settings().name.as_bytes(),
-            b"pump-2".as_slice(),
+        drop(journal);
+        let without = start(&mut flash);
+        assert!(rt;
+            matches!(without, Err(BootFault::FlashFault)),
             "at {mask:?}"
         );
+        drop(without);
+        flash.power_up();
+        let again = start(&mut flash)?;
+        let name = again.settings().name.as_bytes();
+        assert_eq!(rt; name, b"pump-2".as_slice(), "at {mask:?}");
     }
     Ok(())
 }
@@ -149,7 +164,8 @@ fn what_no_journal_left_is_foreign(rt: HostRuntime) {
         ([0; SIZE], [0; SIZE], "zeros"),
     ];
     for (first, second, what) in images {
-        let answer = start(MemoryFlash::from_sectors(first, second));
+        let mut flash = MemoryFlash::from_sectors(first, second);
+        let answer = start(&mut flash);
         assert!(rt; matches!(answer, Err(BootFault::Foreign)), "at {what}");
     }
 }
@@ -169,7 +185,8 @@ fn the_newest_sector_is_read(rt: HostRuntime) -> Result<(), std::test::Fail> {
         ),
     ];
     for (first, second, name) in images {
-        let journal = start(MemoryFlash::from_sectors(first, second))?;
+        let mut flash = MemoryFlash::from_sectors(first, second);
+        let journal = start(&mut flash)?;
         assert_eq!(rt; journal.settings().name.as_bytes(), name.as_slice());
     }
     Ok(())
@@ -178,14 +195,30 @@ fn the_newest_sector_is_read(rt: HostRuntime) -> Result<(), std::test::Fail> {
 #[test]
 fn the_last_generation_is_kept(rt: HostRuntime) -> Result<(), std::test::Fail> {
     let last = sector(b"PNS\x01\x00\x01\x06pump-1", 0);
-    let mut journal = start(MemoryFlash::from_sectors(last, [0xFF; SIZE]))?;
+    let mut flash = MemoryFlash::from_sectors(last, [0xFF; SIZE]);
+    let mut journal = start(&mut flash)?;
     assert!(rt; !journal.is_exhausted());
     journal.commit(&set(b"pump-2")?)?;
     assert!(rt; journal.is_exhausted());
     let refused = journal.commit(&set(b"pump-3")?);
     assert!(rt; matches!(refused, Err(CommitFault::Exhausted)));
     assert!(rt; !journal.has_failed());
-    let again = start(journal.into_flash())?;
+    drop(journal);
+    let again = start(&mut flash)?;
     assert_eq!(rt; again.settings().name.as_bytes(), b"pump-2".as_slice());
     Ok(())
+}
+
+#[test]
+fn the_numbers_of_refusals(rt: HostRuntime) {
+    for (fault, number) in [(BootFault::FlashFault, 1), (BootFault::Foreign, 2)] {
+        assert_eq!(rt; fault.number(), number);
+    }
+    for (fault, number) in [
+        (CommitFault::Exhausted, 1),
+        (CommitFault::FlashFault, 2),
+        (CommitFault::Failed, 3),
+    ] {
+        assert_eq!(rt; fault.number(), number);
+    }
 }

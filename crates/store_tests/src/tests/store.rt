@@ -1,6 +1,7 @@
-// The store over a flash in memory: what no clause says is that `arm` reaches the flash.
-use flash_model::{MemoryFlash, Order};
+// The store over a flash in memory that stays where it is.
+use flash_model::{Lent, MemoryFlash, Order};
 use pn_values::{BlockError, Command, ImValue, Padded, SetItem};
+use settings_journal::BootFault;
 use settings_store::Store;
 
 /// The smallest size: room for one slot.
@@ -10,30 +11,32 @@ fn date(byte: u8) -> SetItem {
     SetItem::Ask(Command::SetIm(ImValue::Im2(Padded::new([byte; 16]))))
 }
 
-#[test]
-fn what_is_done_is_shown_and_found_again(rt: HostRuntime) {
-    let Ok(mut store) = Store::boot(MemoryFlash::<SIZE>::blank()) else {
-        panic!(rt; "a blank flash starts");
-    };
-    assert_eq!(rt; store.carry(&date(b'1')), BlockError::Done);
-    assert_eq!(rt;
-        store.carry(&SetItem::Answer(BlockError::Value)),
-        BlockError::Value
-    );
-    assert_eq!(rt; store.carry(&date(b'2')), BlockError::Done);
-    assert_eq!(rt; store.running().im2.as_bytes(), [b'2'; 16].as_slice());
-    let Ok(store) = Store::boot(store.into_flash()) else {
-        panic!(rt; "what a commit left starts");
-    };
-    assert_eq!(rt; store.stored().im2.as_bytes(), [b'2'; 16].as_slice());
-    assert_eq!(rt; store.running().im2.as_bytes(), [b'2'; 16].as_slice());
+fn start(
+    flash: &mut MemoryFlash<SIZE>,
+) -> Result<Store<Lent<'_, MemoryFlash<SIZE>>, SIZE>, BootFault> {
+    Store::boot(Lent::new(flash)).map_err(|refused| refused.0)
 }
 
 #[test]
-fn a_loss_of_power_that_was_armed_ends_it(rt: HostRuntime) {
-    let Ok(mut store) = Store::boot(MemoryFlash::<SIZE>::blank()) else {
-        panic!(rt; "a blank flash starts");
-    };
+fn what_is_done_is_shown_and_found_again(rt: HostRuntime) -> Result<(), std::test::Fail> {
+    let mut flash = MemoryFlash::blank();
+    let mut store = start(&mut flash)?;
+    assert_eq!(rt; store.carry(&date(b'1')), BlockError::Done);
+    let answer = SetItem::Answer(BlockError::Value);
+    assert_eq!(rt; store.carry(&answer), BlockError::Value);
+    assert_eq!(rt; store.carry(&date(b'2')), BlockError::Done);
+    assert_eq!(rt; store.running().im2.as_bytes(), [b'2'; 16].as_slice());
+    drop(store);
+    let store = start(&mut flash)?;
+    assert_eq!(rt; store.stored().im2.as_bytes(), [b'2'; 16].as_slice());
+    assert_eq!(rt; store.running().im2.as_bytes(), [b'2'; 16].as_slice());
+    Ok(())
+}
+
+#[test]
+fn a_loss_of_power_that_was_armed_ends_it(rt: HostRuntime) -> Result<(), std::test::Fail> {
+    let mut flash = MemoryFlash::blank();
+    let mut store = start(&mut flash)?;
     store.arm(Order::Cut {
         after: 0,
         mask: [0; 8],
@@ -42,10 +45,9 @@ fn a_loss_of_power_that_was_armed_ends_it(rt: HostRuntime) {
     assert_eq!(rt; store.carry(&date(b'2')), BlockError::Local);
     assert!(rt; store.is_lost());
     assert_eq!(rt; store.running().im2.as_bytes(), [b' '; 16].as_slice());
-    let mut flash = store.into_flash();
+    drop(store);
     flash.power_up();
-    let Ok(store) = Store::boot(flash) else {
-        panic!(rt; "what a torn erase left starts");
-    };
+    let store = start(&mut flash)?;
     assert_eq!(rt; store.stored().im2.as_bytes(), [b' '; 16].as_slice());
+    Ok(())
 }
