@@ -1,5 +1,6 @@
 #!/usr/bin/env python3
-"""Counts the instructions of reading and of writing the blocks of a Connect, and the room that a block takes on the stack.
+"""Counts the instructions of reading and of writing the blocks of a Connect and a PrmEnd, and the room that a block takes on
+the stack. Its status is 1 where a figure passes its bound.
 
 The blocks are made here from the tables of IEC 61158-6-10, 5.2, and not by the writer that is measured: the Connect to a
 station whose access point has three submodules, with a module of two octets of input and one of two octets of output.
@@ -17,6 +18,8 @@ import sys
 ROOT = pathlib.Path(__file__).parent.parent
 PROGRAM = ROOT / "crates/block_bench/out/block_bench"
 MOST_INSTRUCTIONS = 60_000
+# of a block without lists, which needs no room
+MOST_OF_ONE = 2_000
 MOST_ON_THE_STACK = 16 * 1024
 TURNS = 100
 
@@ -85,17 +88,22 @@ def connect():
     return b"".join(blocks + [expected_block(*module) for module in MODULES])
 
 
-def instructions(reads, writes):
-    """The instructions of a run that reads the blocks and writes them so many times."""
+def prm_end():
+    """A block without lists: SessionKey 1, ControlCommand PrmEnd."""
+    return block(0x0110, struct.pack(">H16sHHHH", 0, AR_UUID, 1, 0, 1, 0))
+
+
+def instructions(octets, reads, writes):
+    """The instructions of a run that reads these blocks and writes them so many times."""
     ran = subprocess.run(
         ["valgrind", "--tool=callgrind", "--callgrind-out-file=/dev/null", PROGRAM, str(reads), str(writes)],
-        input=connect(), capture_output=True, check=True)
+        input=octets, capture_output=True, check=True)
     return int(re.search(rb"Collected : (\d+)", ran.stderr)[1])
 
 
-def each(reads, writes):
+def each(octets, reads, writes):
     """The instructions of one turn: what twice as many take beyond what half of them take."""
-    once, twice = (instructions(1 + reads * n * TURNS, 1 + writes * n * TURNS) for n in (1, 2))
+    once, twice = (instructions(octets, 1 + reads * n * TURNS, 1 + writes * n * TURNS) for n in (1, 2))
     return (twice - once) / TURNS
 
 
@@ -115,14 +123,19 @@ def main():
     if sys.argv[1:] == ["--octets"]:
         print(connect().hex())
         return
-    size = len(connect())
-    for name, turns in (("read", (1, 0)), ("write", (0, 1))):
-        print(f"to {name} the blocks of a Connect, {size} octets: {each(*turns):.0f} instructions (at most {MOST_INSTRUCTIONS})")
+    measured = []
+    for what, octets, bound in (("the blocks of a Connect", connect(), MOST_INSTRUCTIONS), ("a PrmEnd, which has no lists", prm_end(), MOST_OF_ONE)):
+        for verb, turns in (("read", (1, 0)), ("write", (0, 1))):
+            measured.append((f"instructions to {verb} {what}, {len(octets)} octets", round(each(octets, *turns)), bound))
     said = subprocess.run([PROGRAM, "1", "1"], input=connect(), capture_output=True, check=True).stdout.decode()
-    block, room = (int(octets) for octets in re.search(r"a block (\d+) octets, the room for its lists (\d+)", said).groups())
+    if "as they came: true" not in said:
+        sys.exit(f"the blocks are not written as they came: {said}")
+    measured.append(("octets of a block in memory", int(re.search(r"a block (\d+) octets", said)[1]), MOST_ON_THE_STACK))
     frame, name = largest_frame()
-    print(f"the largest value on the stack, the room for a block with lists: {max(block, room)} octets (at most {MOST_ON_THE_STACK}); "
-          f"a block: {block}; the largest frame, of {name}: {frame}")
+    measured.append((f"octets of the largest frame on the stack, of {name}", frame, MOST_ON_THE_STACK))
+    for what, figure, bound in measured:
+        print(f"{figure} {what} (at most {bound}){'' if figure <= bound else ': PASSED'}")
+    sys.exit(1 if any(figure > bound for _, figure, bound in measured) else 0)
 
 
 if __name__ == "__main__":

@@ -1,11 +1,11 @@
 //! What the benchmark of blocks runs (bench/blocks.py). `block_bench READ WRITE` reads the blocks on standard input READ
 //! times and writes them WRITE times. It prints how many octets they are in all those readings, how many are written in
-//! the end and whether they are those that came, and how large a block and the room for its lists are in memory.
+//! the end and whether they are those that came, and how large a block is in memory.
 #![tactic(auto)]
 
 mod turns;
 
-use block_codec::{Block, BlockRoom};
+use block_codec::Block;
 use std::io::{self, Read};
 use std::process::ExitCode;
 use std::{env, mem};
@@ -30,11 +30,7 @@ fn main(rt: HostRuntime) -> io::Result<ExitCode> {
         "{octets} octets read; {} octets written, as they came: {same}",
         out.len()
     )?;
-    println!(rt;
-        "in memory: a block {} octets, the room for its lists {}",
-        mem::size_of::<Block>(),
-        mem::size_of::<BlockRoom>()
-    )?;
+    println!(rt; "in memory: a block {} octets", mem::size_of::<Block>())?;
     Ok(ExitCode::SUCCESS)
 }
 

@@ -1,6 +1,6 @@
 // Blocks that are read and written again and again.
 use arrayvec::ArrayVec;
-use block_codec::{Block, BlockReader, BlockRoom, block_len, write_block};
+use block_codec::{Block, BlockReader, block_len, write_block};
 
 /// Room for the blocks of a call.
 pub(crate) type Octets = ArrayVec<u8, 4096>;
@@ -16,11 +16,10 @@ pub(crate) fn read_times(bytes: &[u8], times: u32) -> usize {
 
 /// Reads blocks to the end, or to the first fault, and says how many octets they take.
 fn read(bytes: &[u8]) -> usize {
-    let mut room = BlockRoom::new();
     let mut reader = BlockReader::new(bytes);
     let mut octets: usize = 0;
     for _ in 0..bytes.len() {
-        match reader.next(&mut room) {
+        match reader.next() {
             Some(Ok(block)) => octets = octets.wrapping_add(octets_of(&block)),
             Some(Err(_)) | None => return octets,
         }
@@ -36,10 +35,9 @@ fn octets_of(block: &Block) -> usize {
 
 /// Reads the blocks once, and writes each so many times in one place.
 pub(crate) fn write_times(out: &mut Octets, bytes: &[u8], times: u32) {
-    let mut room = BlockRoom::new();
     let mut reader = BlockReader::new(bytes);
     for _ in 0..bytes.len() {
-        match reader.next(&mut room) {
+        match reader.next() {
             Some(Ok(block)) => write(out, &block, times),
             Some(Err(_)) | None => return,
         }

@@ -2,7 +2,7 @@
 ghost use Rattle.std.specs.Prelude.{◌≡◌};
 ghost use Rattle.block_codec.specs.Block.{kind_of};
 
-use crate::{BlockType, Lent};
+use crate::BlockType;
 use connect_blocks::{
     AlarmCrBlockReq, AlarmCrBlockRes, ArBlockReq, ArBlockRes, ControlBlock, IocrBlockReq,
     IocrBlockRes,
@@ -13,7 +13,7 @@ use record_blocks::{
     IodWriteReq, IodWriteRes,
 };
 
-/// A block, with the fields of its kind. One with lists lies elsewhere, so that none is large.
+/// A block, with the fields of its kind. Lists stay where they lie, so that none is large.
 #[derive(Drop)]
 pub enum Block<'a> {
     /// 0x0101
@@ -21,7 +21,7 @@ pub enum Block<'a> {
     /// 0x8101
     ArBlockRes(ArBlockRes),
     /// 0x0102
-    IocrBlockReq(Lent<'a, IocrBlockReq>),
+    IocrBlockReq(IocrBlockReq<'a>),
     /// 0x8102
     IocrBlockRes(IocrBlockRes),
     /// 0x0103
@@ -29,9 +29,9 @@ pub enum Block<'a> {
     /// 0x8103
     AlarmCrBlockRes(AlarmCrBlockRes),
     /// 0x0104
-    ExpectedSubmoduleBlockReq(Lent<'a, ExpectedSubmoduleBlockReq>),
+    ExpectedSubmoduleBlockReq(ExpectedSubmoduleBlockReq<'a>),
     /// 0x8104
-    ModuleDiffBlock(Lent<'a, ModuleDiffBlock>),
+    ModuleDiffBlock(ModuleDiffBlock<'a>),
     /// 0x0110
     PrmEnd(ControlBlock),
     /// 0x8110
@@ -63,9 +63,9 @@ pub enum Block<'a> {
     /// 0x0024
     Im4(Im4),
     /// 0x0030
-    ImFilterDataSubmodule(Lent<'a, ImFilterData>),
+    ImFilterDataSubmodule(ImFilterData<'a>),
     /// 0x0032
-    ImFilterDataDevice(Lent<'a, ImFilterData>),
+    ImFilterDataDevice(ImFilterData<'a>),
     /// 0x0001
     AlarmNotification(AlarmNotification<'a>),
     /// 0x8001

@@ -2,7 +2,7 @@
 ghost use Rattle.std.specs.Prelude.{◌≡◌, ◌↔◌, ◌⊎◌, ℕ, List, true, false, [], IsNone};
 ghost use Rattle.block_codec.specs.Reader.{AreBlocks, Gave, GivesNext};
 
-use crate::{Block, BlockFault, BlockRoom, read_block};
+use crate::{Block, BlockFault, read_block};
 use std::marker::Model;
 
 /// Reads blocks one behind the other, to the end or to the first fault.
@@ -31,10 +31,8 @@ impl<'a> BlockReader<'a> {
         }
     }
 
-    /// The next block, which lies in the room if it has lists, or why there is none; None at the end and after a fault.
-    pub fn next<'r>(&mut self, room: &'r mut BlockRoom) -> Option<Result<Block<'r>, BlockFault>>
-    where
-        'a: 'r,
+    /// The next block, or why there is none; None at the end and after a fault.
+    pub fn next(&mut self) -> Option<Result<Block<'a>, BlockFault>>
         // At the end and after a fault there is none.
         ensures ends { IsNone result ↔ ((self.old.rest ≡ []) ⊎ (self.old.has_failed ≡ true)) }
         // A block is what the octets at the front are; at a fault it stays.
@@ -45,7 +43,7 @@ impl<'a> BlockReader<'a> {
         if self.rest.is_empty() || self.has_failed {
             return None;
         }
-        match read_block(self.rest, room) {
+        match read_block(self.rest) {
             Ok((block, rest)) => {
                 self.rest = rest;
                 Some(Ok(block))

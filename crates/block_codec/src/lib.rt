@@ -2,39 +2,34 @@
 //! beyond DCP is blocks: a BlockType, a BlockLength, a version, and the fields of that kind.
 //!
 //! ```text
-//! let mut room = BlockRoom::new();
 //! let mut reader = BlockReader::new(octets);
-//! while let Some(block) = reader.next(&mut room) {
+//! while let Some(block) = reader.next() {
 //!     match block? {
 //!         Block::ArBlockReq(request) => self.asked_by(&request.cm_initiator_mac_add),
-//!         Block::IocrBlockReq(request) => self.places(request.io_data_objects.as_slice()),
+//!         Block::IocrBlockReq(request) => self.places(&request.io_data_objects),
 //!         _ => {}
 //!     }
 //! }
 //! ```
 //!
-//! A block with lists takes some KiB: it is read into the room and lies there until the next one is read, and one that is
-//! written is [`Lent`] by whoever has it. Nothing large is copied.
+//! Lists stay where they lie: in the octets that were read, or in lists that are lent by whoever writes them. No block is
+//! large, and any number of them can be held at once.
 #![tactic(auto)]
 
 mod block;
 mod block_reader;
-mod block_room;
 mod block_type;
-mod lent;
 mod reading;
 mod writing;
 
 pub use block::Block;
 pub use block_fields::BlockFault;
 pub use block_reader::BlockReader;
-pub use block_room::BlockRoom;
 pub use block_type::BlockType;
 pub use connect_blocks::{
-    AlarmCrBlockReq, AlarmCrBlockRes, ArBlockReq, ArBlockRes, ControlBlock, IoObject, IocrBlockReq,
-    IocrBlockRes, IocrType, RtClass,
+    AlarmCrBlockReq, AlarmCrBlockRes, ArBlockReq, ArBlockRes, ControlBlock, IoObject, IoObjects,
+    IocrBlockReq, IocrBlockRes, IocrType, RtClass,
 };
-pub use lent::Lent;
 pub use module_blocks::{
     DiffModule, DiffModules, DiffSubmodule, ExpectedModule, ExpectedModules, ExpectedSubmodule,
     ExpectedSubmoduleBlockReq, ModuleDiffBlock, SubmoduleData,

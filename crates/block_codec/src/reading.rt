@@ -1,31 +1,23 @@
 //! From octets to a block.
 ghost use Rattle.std.specs.Prelude.{◌≡◌, ◌≤◌, ◌++◌, ℕ, List, [], length, IfOk};
 ghost use Rattle.wire.specs.Codec.{Gives};
-ghost use Rattle.block_fields.specs.Fields.{body};
-ghost use Rattle.connect_blocks.specs.Iocr.{iocr_block_req};
-ghost use Rattle.module_blocks.specs.Expected.{expected};
-ghost use Rattle.module_blocks.specs.ModuleDiff.{module_diff};
-ghost use Rattle.record_blocks.specs.FilterData.{filter_data};
 ghost use Rattle.block_codec.specs.Block.{IsBlock, block, block_of, body_of, fields_of, front};
 
-use crate::{Block, BlockFault, BlockRoom, BlockType, Lent};
+use crate::{Block, BlockFault, BlockType};
 use connect_blocks::{
-    IocrBlockReq, alarm_cr_block_req_at, alarm_cr_block_res_at, ar_block_req_at, ar_block_res_at,
-    control_at, fill_iocr_block_req, iocr_block_res_at,
+    alarm_cr_block_req_at, alarm_cr_block_res_at, ar_block_req_at, ar_block_res_at, control_at,
+    iocr_block_req_at, iocr_block_res_at,
 };
-use module_blocks::{ExpectedSubmoduleBlockReq, ModuleDiffBlock, fill_expected, fill_module_diff};
+use module_blocks::{expected_at, module_diff_at};
 use record_blocks::{
-    ImFilterData, alarm_ack_at, alarm_notification_at, fill_filter_data, im0_at, im1_at, im2_at,
-    im3_at, im4_at, iod_read_req_at, iod_read_res_at, iod_write_req_at, iod_write_res_at,
+    alarm_ack_at, alarm_notification_at, filter_data_at, im0_at, im1_at, im2_at, im3_at, im4_at,
+    iod_read_req_at, iod_read_res_at, iod_write_req_at, iod_write_res_at,
 };
 use wire::{split, u16_at};
 
-/// Reads the block at the front: it, and the octets behind it. One with lists is read into the room, and lies there. The
-/// first fault counts: Truncated, Kind, and then the fields of the kind in their order.
-pub fn read_block<'a: 'r, 'r>(
-    bytes: &'a [u8],
-    room: &'r mut BlockRoom,
-) -> Result<(Block<'r>, &'a [u8]), BlockFault>
+/// Reads the block at the front: it, and the octets behind it. Its lists stay where they lie. The first fault counts:
+/// Truncated, Kind, and then the fields of the kind in their order.
+pub fn read_block(bytes: &[u8]) -> Result<(Block<'_>, &[u8]), BlockFault>
     // What is read is spelled so.
     ensures found { IfOk result (λ x. IsBlock bytes.now x.0 x.1.now) }
     // What is spelled so is read, and as nothing else.
@@ -35,61 +27,50 @@ pub fn read_block<'a: 'r, 'r>(
     // Which fault it is.
     ensures exact { Gives (λ x. (x.0, x.1.now)) result (block_of bytes.now) }
 {
-    block_at(bytes, room)
+    block_at(bytes)
 }
 
 /// A block, and what is behind it.
 #[tactic(auto, unfolding(crate::specs::Block::block_of, crate::specs::Block::block))]
-fn block_at<'a: 'r, 'r>(
-    bytes: &'a [u8],
-    room: &'r mut BlockRoom,
-) -> Result<(Block<'r>, &'a [u8]), BlockFault>
+fn block_at(bytes: &[u8]) -> Result<(Block<'_>, &[u8]), BlockFault>
     ensures { Gives (λ x. (x.0, x.1.now)) result (block_of bytes.now) }
 {
     let (number, rest) = u16_at(bytes, BlockFault::Truncated)?;
     let (length, rest) = u16_at(rest, BlockFault::Truncated)?;
     let (body, behind) = split(rest, length as usize, BlockFault::Truncated)?;
-    let block = body_at(BlockType::of(number), body, room)?;
+    let block = body_at(BlockType::of(number), body)?;
     Ok((block, behind))
 }
 
 /// What BlockLength counts, if the type is one.
 #[tactic(auto, unfolding(crate::specs::Block::body_of))]
-fn body_at<'r>(
-    kind: Option<BlockType>,
-    body: &'r [u8],
-    room: &'r mut BlockRoom,
-) -> Result<Block<'r>, BlockFault>
+fn body_at(kind: Option<BlockType>, body: &[u8]) -> Result<Block<'_>, BlockFault>
     requires { length body.now ≤ 65535 }
     ensures { Gives (λ x. x) result ((body_of kind).read body.now) }
 {
     match kind {
-        Some(kind) => fields_at(kind, body, room),
+        Some(kind) => fields_at(kind, body),
         None => Err(BlockFault::Kind),
     }
 }
 
 /// What BlockLength counts, of a known type.
 #[tactic(auto, unfolding(crate::specs::Block::fields_of))]
-fn fields_at<'r>(
-    kind: BlockType,
-    body: &'r [u8],
-    room: &'r mut BlockRoom,
-) -> Result<Block<'r>, BlockFault>
+fn fields_at(kind: BlockType, body: &[u8]) -> Result<Block<'_>, BlockFault>
     requires { length body.now ≤ 65535 }
     ensures { Gives (λ x. x) result ((fields_of kind).read body.now) }
 {
     Ok(match kind {
         BlockType::ArBlockReq => Block::ArBlockReq(ar_block_req_at(body)?),
         BlockType::ArBlockRes => Block::ArBlockRes(ar_block_res_at(body)?),
-        BlockType::IocrBlockReq => Block::IocrBlockReq(iocr_block_req(body, room)?),
+        BlockType::IocrBlockReq => Block::IocrBlockReq(iocr_block_req_at(body)?),
         BlockType::IocrBlockRes => Block::IocrBlockRes(iocr_block_res_at(body)?),
         BlockType::AlarmCrBlockReq => Block::AlarmCrBlockReq(alarm_cr_block_req_at(body)?),
         BlockType::AlarmCrBlockRes => Block::AlarmCrBlockRes(alarm_cr_block_res_at(body)?),
         BlockType::ExpectedSubmoduleBlockReq => {
-            Block::ExpectedSubmoduleBlockReq(expected_submodule_block_req(body, room)?)
+            Block::ExpectedSubmoduleBlockReq(expected_at(body)?)
         }
-        BlockType::ModuleDiffBlock => Block::ModuleDiffBlock(module_diff_block(body, room)?),
+        BlockType::ModuleDiffBlock => Block::ModuleDiffBlock(module_diff_at(body)?),
         BlockType::PrmEnd => Block::PrmEnd(control_at(body, None)?),
         BlockType::PrmEndRes => Block::PrmEndRes(control_at(body, Some(8))?),
         BlockType::ApplicationReady => Block::ApplicationReady(control_at(body, Some(2))?),
@@ -105,59 +86,9 @@ fn fields_at<'r>(
         BlockType::Im2 => Block::Im2(im2_at(body)?),
         BlockType::Im3 => Block::Im3(im3_at(body)?),
         BlockType::Im4 => Block::Im4(im4_at(body)?),
-        BlockType::ImFilterDataSubmodule => {
-            Block::ImFilterDataSubmodule(im_filter_data(body, room)?)
-        }
-        BlockType::ImFilterDataDevice => Block::ImFilterDataDevice(im_filter_data(body, room)?),
+        BlockType::ImFilterDataSubmodule => { Block::ImFilterDataSubmodule(filter_data_at(body)?) }
+        BlockType::ImFilterDataDevice => Block::ImFilterDataDevice(filter_data_at(body)?),
         BlockType::AlarmNotification => Block::AlarmNotification(alarm_notification_at(body)?),
         BlockType::AlarmAck => Block::AlarmAck(alarm_ack_at(body)?),
     })
-}
-
-/// What BlockLength counts of an IOCRBlockReq, which lies in the room.
-fn iocr_block_req<'r>(
-    octets: &[u8],
-    room: &'r mut BlockRoom,
-) -> Result<Lent<'r, IocrBlockReq>, BlockFault>
-    ensures { Gives (λ x. x) result ((body iocr_block_req).read octets.now) }
-{
-    let block = room.iocr_block_req();
-    fill_iocr_block_req(octets, block)?;
-    Ok(Lent::new(block))
-}
-
-/// What BlockLength counts of an ExpectedSubmoduleBlockReq, which lies in the room.
-fn expected_submodule_block_req<'r>(
-    octets: &[u8],
-    room: &'r mut BlockRoom,
-) -> Result<Lent<'r, ExpectedSubmoduleBlockReq>, BlockFault>
-    ensures { Gives (λ x. x) result ((body expected).read octets.now) }
-{
-    let block = room.expected_submodule_block_req();
-    fill_expected(octets, block)?;
-    Ok(Lent::new(block))
-}
-
-/// What BlockLength counts of a ModuleDiffBlock, which lies in the room.
-fn module_diff_block<'r>(
-    octets: &[u8],
-    room: &'r mut BlockRoom,
-) -> Result<Lent<'r, ModuleDiffBlock>, BlockFault>
-    ensures { Gives (λ x. x) result ((body module_diff).read octets.now) }
-{
-    let block = room.module_diff_block();
-    fill_module_diff(octets, block)?;
-    Ok(Lent::new(block))
-}
-
-/// What BlockLength counts of an I&M0FilterData, which lies in the room.
-fn im_filter_data<'r>(
-    octets: &[u8],
-    room: &'r mut BlockRoom,
-) -> Result<Lent<'r, ImFilterData>, BlockFault>
-    ensures { Gives (λ x. x) result ((body filter_data).read octets.now) }
-{
-    let block = room.im_filter_data();
-    fill_filter_data(octets, block)?;
-    Ok(Lent::new(block))
 }

@@ -49,47 +49,6 @@ macro_rules! read_body {
     }};
 }
 
-/// Reads what BlockLength counts into a struct that is there already: the version, the fields of a list, and nothing behind
-/// these. It is for a kind with lists, which are filled where they lie.
-#[macro_export]
-macro_rules! fill_body {
-    ([$bytes:expr, $value:ident] $name:ident { $($fields:tt)* }) => {{
-        let rest = $crate::version_at($bytes)?;
-        $crate::fill_fields!(@ rest $value $($fields)*)
-    }};
-}
-
-/// Reads the fields of a list into a struct, one behind the other, and nothing behind them; or the first fault.
-#[macro_export]
-macro_rules! fill_fields {
-    (@ $rest:ident $value:ident _: $kind:ident $($args:literal)*, $($fields:tt)*) => {{
-        let $rest = $crate::pass_field!($rest $kind $($args)*)?;
-        $crate::fill_fields!(@ $rest $value $($fields)*)
-    }};
-    (@ $rest:ident $value:ident $field:ident: list ($fill:ident, $put:ident, $len:ident), $($fields:tt)*) => {{
-        let $rest = $fill($rest, &mut $value.$field)?;
-        $crate::fill_fields!(@ $rest $value $($fields)*)
-    }};
-    (@ $rest:ident $value:ident $field:ident: ($read:ident, $put:ident, $len:ident), $($fields:tt)*) => {{
-        let ($field, $rest) = $read($rest)?;
-        $value.$field = $field;
-        $crate::fill_fields!(@ $rest $value $($fields)*)
-    }};
-    (@ $rest:ident $value:ident $field:ident: $kind:ident by $read:ident($($more:expr),*), $($fields:tt)*) => {{
-        let ($field, $rest) = $read($rest, $($more),*)?;
-        $value.$field = $field;
-        $crate::fill_fields!(@ $rest $value $($fields)*)
-    }};
-    (@ $rest:ident $value:ident $field:ident: $kind:ident $($args:literal)*, $($fields:tt)*) => {{
-        let ($field, $rest) = $crate::read_field!($rest $kind $($args)*)?;
-        $value.$field = $field;
-        $crate::fill_fields!(@ $rest $value $($fields)*)
-    }};
-    (@ $rest:ident $value:ident) => {
-        $crate::ended($rest)
-    };
-}
-
 /// What is behind a field with no name.
 #[macro_export]
 macro_rules! pass_field {
@@ -143,7 +102,7 @@ macro_rules! put_fields {
         $crate::put_blank!($out $kind $($args)*);
         $crate::put_fields!(@ $out $value $($fields)*)
     }};
-    (@ $out:ident $value:ident $field:ident: $(list)? ($read:ident, $put:ident, $len:ident), $($fields:tt)*) => {{
+    (@ $out:ident $value:ident $field:ident: ($read:ident, $put:ident, $len:ident), $($fields:tt)*) => {{
         $put($out, &$value.$field);
         $crate::put_fields!(@ $out $value $($fields)*)
     }};
@@ -212,7 +171,7 @@ macro_rules! len_fields {
     ([$value:ident] $name:ident { $($fields:tt)* }) => {
         $crate::len_fields!(@ $value 0usize, $($fields)*)
     };
-    (@ $value:ident $sum:expr, $field:ident: $(list)? ($read:ident, $put:ident, $len:ident), $($fields:tt)*) => {
+    (@ $value:ident $sum:expr, $field:ident: ($read:ident, $put:ident, $len:ident), $($fields:tt)*) => {
         $crate::len_fields!(@ $value $sum + $len(&$value.$field), $($fields)*)
     };
     (@ $value:ident $sum:expr, $field:ident: $kind:ident by $read:ident($($more:expr),*), $($fields:tt)*) => {

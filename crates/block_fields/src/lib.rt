@@ -18,9 +18,9 @@
 //! }
 //! ```
 //!
-//! `control_fields!(read_fields [bytes])` reads them, `control_fields!(put_fields [out, value])` appends them, and
-//! `control_fields!(len_fields [value])` is how many octets they take. A kind with lists is large: `fill_body [bytes, value]`
-//! reads its fields, and what is around them, into a value that is there already.
+//! `control_fields!(read_fields [bytes])` reads them, `control_fields!(read_body [bytes])` them and what is around them,
+//! `control_fields!(put_fields [out, value])` appends them, and `control_fields!(len_fields [value])` is how many octets they
+//! take. A long list is written in parts, each with a struct of its own that is read, and whose fields the kind has too.
 //!
 //! | in the list | what it is |
 //! |---|---|
@@ -33,7 +33,6 @@
 //! | `_: blank N` | N octets that are not looked at, and written 0 |
 //! | `name: KIND by READ(..)` | a field of that kind, which a function reads |
 //! | `name: (READ, PUT, LEN)` | what functions read, put and count |
-//! | `name: list (FILL, PUT, LEN)` | a list that functions fill, put and count |
 #![tactic(auto)]
 
 mod fault;

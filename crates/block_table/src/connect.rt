@@ -1,7 +1,7 @@
 // The fields of the blocks of an application relation.
 use crate::table::{Table, numbers};
 use block_codec::{
-    AlarmCrBlockReq, ArBlockReq, ArBlockRes, ControlBlock, IoObject, IocrBlockReq, IocrBlockRes,
+    AlarmCrBlockReq, ArBlockReq, ArBlockRes, ControlBlock, IoObjects, IocrBlockReq, IocrBlockRes,
     IocrType, RtClass,
 };
 use std::alloc::AllocError;
@@ -34,8 +34,8 @@ pub(crate) fn iocr_block_req(block: &IocrBlockReq, table: &mut Table) -> Result<
     table.count("class", class_number(block.iocr_properties))?;
     table.field("multicast", &block.iocr_multicast_mac_add.octets)?;
     iocr_numbers(block, table)?;
-    objects("data_object", block.io_data_objects.as_slice(), table)?;
-    objects("iocs", block.iocs.as_slice(), table)
+    objects("data_object", &block.io_data_objects, table)?;
+    objects("iocs", &block.iocs, table)
 }
 
 fn type_number(kind: IocrType) -> u8 {
@@ -57,16 +57,18 @@ fn iocr_numbers(block: &IocrBlockReq, table: &mut Table) -> Result<(), AllocErro
         frame_send_offset watchdog_factor data_hold_factor iocr_tag_header)
 }
 
-fn objects(name: &str, objects: &[IoObject], table: &mut Table) -> Result<(), AllocError> {
-    for object in objects {
-        table.entry(
-            name,
-            &[
-                object.slot_number,
-                object.subslot_number,
-                object.frame_offset,
-            ],
-        )?;
+fn objects(name: &str, objects: &IoObjects, table: &mut Table) -> Result<(), AllocError> {
+    for index in 0..objects.len() {
+        if let Some(object) = objects.get(index) {
+            table.entry(
+                name,
+                &[
+                    object.slot_number,
+                    object.subslot_number,
+                    object.frame_offset,
+                ],
+            )?;
+        }
     }
     Ok(())
 }

@@ -20,7 +20,6 @@ mod records;
 mod row;
 mod table;
 
-use block_codec::BlockRoom;
 use row::{Octets, row};
 use std::io::{self, ErrorKind, Write};
 use table::Table;
@@ -28,13 +27,12 @@ use table::Table;
 fn main(rt: HostRuntime) -> io::Result<()> {
     let lines = io::read_to_string(rt.alloc(), rt.reader())?;
     let mut table = Table::new(rt.alloc());
-    let mut room = BlockRoom::new();
     let mut written = Octets::new();
     for line in lines.lines() {
         let Ok(octets) = hex::decode(rt.alloc(), line) else {
             return Err(io::Error::from(ErrorKind::InvalidData));
         };
-        row(octets.as_slice(), &mut room, &mut written, &mut table)?;
+        row(octets.as_slice(), &mut written, &mut table)?;
     }
     io::writer(&rt).write_all(table.as_bytes())
 }

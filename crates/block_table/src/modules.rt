@@ -1,5 +1,6 @@
 // The fields of the blocks that list modules and their submodules.
 use crate::table::{Table, numbers};
+use arrayvec::ArrayVec;
 use block_codec::{
     DiffModule, DiffSubmodule, ExpectedModule, ExpectedSubmodule, ExpectedSubmoduleBlockReq,
     FilterModule, FilterSubmodule, ImFilterData, ModuleDiffBlock,
@@ -11,10 +12,13 @@ pub(crate) fn expected(
     block: &ExpectedSubmoduleBlockReq,
     table: &mut Table,
 ) -> Result<(), AllocError> {
-    for module in block.modules.modules.as_slice() {
+    let mut modules = ArrayVec::new();
+    let mut submodules = ArrayVec::new();
+    block.modules.copy_to(&mut modules, &mut submodules);
+    for module in modules.as_slice() {
         expected_module(module, table)?;
     }
-    for submodule in block.modules.submodules.as_slice() {
+    for submodule in submodules.as_slice() {
         expected_submodule(submodule, table)?;
     }
     Ok(())
@@ -55,10 +59,13 @@ fn octets_of(length: Option<u16>) -> i64 {
 /// 0x8104
 pub(crate) fn module_diff(block: &ModuleDiffBlock, table: &mut Table) -> Result<(), AllocError> {
     table.count("api", block.api)?;
-    for module in block.modules.modules.as_slice() {
+    let mut modules = ArrayVec::new();
+    let mut submodules = ArrayVec::new();
+    block.modules.copy_to(&mut modules, &mut submodules);
+    for module in modules.as_slice() {
         diff_module(module, table)?;
     }
-    for submodule in block.modules.submodules.as_slice() {
+    for submodule in submodules.as_slice() {
         diff_submodule(submodule, table)?;
     }
     Ok(())
@@ -90,10 +97,13 @@ fn diff_submodule(submodule: &DiffSubmodule, table: &mut Table) -> Result<(), Al
 /// 0x0030 and 0x0032
 pub(crate) fn filter_data(block: &ImFilterData, table: &mut Table) -> Result<(), AllocError> {
     table.count("api", block.api)?;
-    for module in block.modules.modules.as_slice() {
+    let mut modules = ArrayVec::new();
+    let mut submodules = ArrayVec::new();
+    block.modules.copy_to(&mut modules, &mut submodules);
+    for module in modules.as_slice() {
         filter_module(module, table)?;
     }
-    for submodule in block.modules.submodules.as_slice() {
+    for submodule in submodules.as_slice() {
         filter_submodule(submodule, table)?;
     }
     Ok(())

@@ -2,7 +2,7 @@
 use crate::table::Table;
 use crate::{connect, modules, records};
 use arrayvec::ArrayVec;
-use block_codec::{Block, BlockFault, BlockRoom, block_len, read_block, write_block};
+use block_codec::{Block, BlockFault, block_len, read_block, write_block};
 use std::alloc::AllocError;
 
 /// Room for a block, written: its type, its length, and what a length of two octets can count.
@@ -11,11 +11,10 @@ pub(crate) type Octets = ArrayVec<u8, 65539>;
 /// Reads a block, and appends to the table what it is. It is written again into `written`.
 pub(crate) fn row(
     octets: &[u8],
-    room: &mut BlockRoom,
     written: &mut Octets,
     table: &mut Table,
 ) -> Result<(), AllocError> {
-    match read_block(octets, room) {
+    match read_block(octets) {
         Ok((block, rest)) => {
             head(&block, rest, written, table)?;
             fields(&block, table)

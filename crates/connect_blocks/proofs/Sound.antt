@@ -13,7 +13,8 @@ use Rattle.connect_blocks.specs.declared.iocr.IocrType.{IocrType}
 use Rattle.connect_blocks.specs.declared.iocr.IocrType.TheVariants.{Input, Output}
 use Rattle.connect_blocks.specs.declared.iocr.RtClass.{RtClass}
 use Rattle.connect_blocks.specs.declared.iocr.RtClass.TheVariants.{Class1, Class2}
-use Rattle.connect_blocks.specs.Iocr.{io_object, next_object, io_objects, iocr_type_of, number_of_iocr, iocr_type, rt_class_of, number_of_class, rt_class, is_frame_id, frame_id, iocr_block_req, iocr_block_res}
+use Rattle.connect_blocks.specs.Objects.{io_object, next_object, io_objects}
+use Rattle.connect_blocks.specs.Iocr.{iocr_type_of, number_of_iocr, iocr_type, rt_class_of, number_of_class, rt_class, is_frame_id, frame_id, iocr_head, iocr_times, iocr_places, iocr_block_req, iocr_block_res}
 use Rattle.connect_blocks.specs.ArBlock.{is_some_uuid, ar_uuid, is_unicast, initiator_mac, station_name, ar_block_req, ar_block_res}
 use Rattle.connect_blocks.specs.AlarmCr.{alarm_cr_block_req, alarm_cr_block_res}
 use Rattle.connect_blocks.specs.Control.{is_command, command, control}
@@ -75,7 +76,7 @@ alarm_cr_block_res_sound = seen_sound _ _ _ (λ _. refl) (then_by_sound _ _ (unc
 
 -- ---- IOCRBlockReq and IOCRBlockRes
 
-io_object_sound : IsSound io_object
+pub io_object_sound : IsSound io_object
 unfolding io_object
 io_object_sound = seen_sound _ _ _ (λ _. refl) (then_by_sound _ _ (numeral_sound 2) (λ _. then_by_sound _ _ (numeral_sound 2) (λ _. numeral_sound 2)))
 
@@ -85,7 +86,7 @@ next_object_sound before = bounded_sound (λ _. io_object) (λ _. io_object_soun
 
 io_objects_sound : IsSound io_objects
 unfolding io_objects
-io_objects_sound = seen_sound _ _ _ (λ _. refl) (counted_sound next_object next_object_sound two (numeral_sound 2))
+io_objects_sound = counted_sound next_object next_object_sound two (numeral_sound 2)
 
 iocr_type_sound : IsSound iocr_type
 unfolding iocr_type
@@ -107,15 +108,26 @@ frame_id_sound : (kind : IocrType) → IsSound (frame_id kind)
 unfolding frame_id
 frame_id_sound kind = checked_sound (is_frame_id kind) (Field 9) two (numeral_sound 2)
 
+iocr_head_sound : IsSound iocr_head
+unfolding iocr_head
+iocr_head_sound = seen_sound _ _ _ (λ _. refl) (then_by_sound _ _ iocr_type_sound (λ kind. then_by_sound _ _ (numeral_sound 2)
+    (λ _. then_by_sound _ _ (fixed_sound 6 0x8892) (λ _. then_by_sound _ _ rt_class_sound (λ _. then_by_sound _ _ (ranged_sound 8 40 1440)
+    (λ _. frame_id_sound kind))))))
+
+iocr_times_sound : IsSound iocr_times
+unfolding iocr_times
+iocr_times_sound = seen_sound _ _ _ (λ _. refl) (then_by_sound _ _ (ranged_sound 10 1 128) (λ _. then_by_sound _ _ (ranged_sound 11 1 512)
+    (λ _. then_by_sound _ _ (numeral_sound 2) (λ _. then_by_sound _ _ (numeral_sound 2) (λ _. then_by_sound _ _ (numeral_sound 4)
+    (λ _. then_by_sound _ _ (numeral_sound 2) (λ _. ranged_sound 16 1 7680)))))))
+
+iocr_places_sound : IsSound iocr_places
+unfolding iocr_places
+iocr_places_sound = seen_sound _ _ _ (λ _. refl) (then_by_sound _ _ (numeral_sound 2) (λ _. then_by_sound _ _ mac_sound
+    (λ _. then_by_sound _ _ (fixed_sound 19 1) (λ _. then_by_sound _ _ (fixed_four_sound 20 0) (λ _. then_by_sound _ _ io_objects_sound (λ _. io_objects_sound))))))
+
 pub iocr_block_req_sound : IsSound iocr_block_req
 unfolding iocr_block_req
-iocr_block_req_sound = seen_sound _ _ _ (λ _. refl) (then_by_sound _ _ iocr_type_sound (λ kind. then_by_sound _ _ (numeral_sound 2)
-    (λ _. then_by_sound _ _ (fixed_sound 6 0x8892) (λ _. then_by_sound _ _ rt_class_sound (λ _. then_by_sound _ _ (ranged_sound 8 40 1440)
-    (λ _. then_by_sound _ _ (frame_id_sound kind) (λ _. then_by_sound _ _ (ranged_sound 10 1 128) (λ _. then_by_sound _ _ (ranged_sound 11 1 512)
-    (λ _. then_by_sound _ _ (numeral_sound 2) (λ _. then_by_sound _ _ (numeral_sound 2) (λ _. then_by_sound _ _ (numeral_sound 4)
-    (λ _. then_by_sound _ _ (numeral_sound 2) (λ _. then_by_sound _ _ (ranged_sound 16 1 7680) (λ _. then_by_sound _ _ (numeral_sound 2)
-    (λ _. then_by_sound _ _ mac_sound (λ _. then_by_sound _ _ (fixed_sound 19 1) (λ _. then_by_sound _ _ (fixed_four_sound 20 0)
-    (λ _. then_by_sound _ _ io_objects_sound (λ _. io_objects_sound)))))))))))))))))))
+iocr_block_req_sound = seen_sound _ _ _ (λ _. refl) (then_by_sound _ _ iocr_head_sound (λ _. then_by_sound _ _ iocr_times_sound (λ _. iocr_places_sound)))
 
 pub iocr_block_res_sound : IsSound iocr_block_res
 unfolding iocr_block_res

@@ -1,36 +1,22 @@
 -- IOCRBlockReq and IOCRBlockRes (IEC 61158-6-10, 5.2.4.3 and 5.2.4.4).
-use Rattle.std.specs.Prelude.{◌≡◌, ◌%◌, ◌==◌, ◌≤◌, ◌&&◌, ◌||◌, ℕ, Bool, true, List, nat_le, Option, Some, None, if◌then◌else◌}
-use Rattle.arrayvec.specs.ArrayVec.{ArrayVec, array_vec_len}
+use Rattle.std.specs.Prelude.{◌≡◌, ◌%◌, ◌==◌, ◌≤◌, ◌&&◌, ◌||◌, ℕ, Bool, true, nat_le, Option, Some, None, if◌then◌else◌}
 use Rattle.pn_values.specs.declared.mac.Mac.{Mac}
 use Rattle.wire.specs.Codec.{Codec}
 use Rattle.wire.specs.Formats.{◌⨾◌, then_by, seen}
 use Rattle.wire.specs.Checks.{checked, named}
-use Rattle.wire.specs.Counted.{counted, bounded}
 use Rattle.block_fields.specs.declared.fault.BlockFault.{BlockFault}
-use Rattle.block_fields.specs.declared.fault.BlockFault.TheVariants.{Count, Field}
+use Rattle.block_fields.specs.declared.fault.BlockFault.TheVariants.{Field}
 use Rattle.block_fields.specs.Fields.{two, four, ranged, fixed, fixed_four, mac}
-use Rattle.connect_blocks.specs.declared.io_object.IoObject.{IoObject}
 use Rattle.connect_blocks.specs.declared.iocr.IocrType.{IocrType}
 use Rattle.connect_blocks.specs.declared.iocr.IocrType.TheVariants.{Input, Output}
 use Rattle.connect_blocks.specs.declared.iocr.RtClass.{RtClass}
 use Rattle.connect_blocks.specs.declared.iocr.RtClass.TheVariants.{Class1, Class2}
 use Rattle.connect_blocks.specs.declared.iocr.IocrBlockReq.{IocrBlockReq}
+use Rattle.connect_blocks.specs.declared.iocr.IocrHead.{IocrHead}
+use Rattle.connect_blocks.specs.declared.iocr.IocrTimes.{IocrTimes}
+use Rattle.connect_blocks.specs.declared.iocr.IocrPlaces.{IocrPlaces}
 use Rattle.connect_blocks.specs.declared.iocr.IocrBlockRes.{IocrBlockRes}
-
--- ---- lists of places in a frame
-
--- SlotNumber, SubslotNumber, FrameOffset
-unfoldable pub io_object : Codec BlockFault IoObject
-io_object = seen (λ x. record { slot_number = x.0; subslot_number = x.1.0; frame_offset = x.1.1 })
-    (λ object. (object.slot_number, (object.subslot_number, object.frame_offset))) (two ⨾ two ⨾ two)
-
--- one behind others, of at most 256
-unfoldable pub next_object : List IoObject → Codec BlockFault IoObject
-next_object before = bounded 256 Count (λ _. io_object) before
-
--- a number of them, and they
-unfoldable pub io_objects : Codec BlockFault (ArrayVec IoObject)
-io_objects = seen (λ objects. record { items = objects }) (λ list. list.items) (counted two next_object)
+use Rattle.connect_blocks.specs.Objects.{io_objects}
 
 -- ---- fields
 
@@ -67,66 +53,86 @@ frame_id kind = checked (is_frame_id kind) (Field 9) two
 
 -- ---- the blocks
 
--- from IOCRType to the IOCS, field by field
+-- from IOCRType to FrameID
+unfoldable pub iocr_head : Codec BlockFault IocrHead
+iocr_head = seen
+    (λ x. record { iocr_type = x.0; iocr_reference = x.1.0; iocr_properties = x.1.1.1.0; data_length = x.1.1.1.1.0; frame_id = x.1.1.1.1.1 })
+    (λ head. (head.iocr_type, (head.iocr_reference, (tt, (head.iocr_properties, (head.data_length, head.frame_id))))))
+    (then_by iocr_type (λ kind. two ⨾ fixed 6 0x8892 ⨾ rt_class ⨾ ranged 8 40 1440 ⨾ frame_id kind))
+
+-- from SendClockFactor to DataHoldFactor
+unfoldable pub iocr_times : Codec BlockFault IocrTimes
+iocr_times = seen
+    (λ x. record {
+      send_clock_factor = x.0;
+      reduction_ratio = x.1.0;
+      phase = x.1.1.0;
+      sequence = x.1.1.1.0;
+      frame_send_offset = x.1.1.1.1.0;
+      watchdog_factor = x.1.1.1.1.1.0;
+      data_hold_factor = x.1.1.1.1.1.1;
+    })
+    (λ times. (
+      times.send_clock_factor,
+      (times.reduction_ratio, (times.phase, (times.sequence, (times.frame_send_offset, (times.watchdog_factor, times.data_hold_factor))))),
+    ))
+    (ranged 10 1 128 ⨾ ranged 11 1 512 ⨾ two ⨾ two ⨾ four ⨾ two ⨾ ranged 16 1 7680)
+
+-- from IOCRTagHeader to the IOCS, with one API, 0
+unfoldable pub iocr_places : Codec BlockFault IocrPlaces
+iocr_places = seen
+    (λ x. record { iocr_tag_header = x.0; iocr_multicast_mac_add = x.1.0; io_data_objects = x.1.1.1.1.0; iocs = x.1.1.1.1.1 })
+    (λ places. (places.iocr_tag_header, (places.iocr_multicast_mac_add, (tt, (tt, (places.io_data_objects, places.iocs))))))
+    (two ⨾ mac ⨾ fixed 19 1 ⨾ fixed_four 20 0 ⨾ io_objects ⨾ io_objects)
+
+-- all its fields
 unfoldable pub iocr_block_req : Codec BlockFault IocrBlockReq
 iocr_block_req = seen
     (λ x. record {
-      iocr_type = x.0;
-      iocr_reference = x.1.0;
-      iocr_properties = x.1.1.1.0;
-      data_length = x.1.1.1.1.0;
-      frame_id = x.1.1.1.1.1.0;
-      send_clock_factor = x.1.1.1.1.1.1.0;
-      reduction_ratio = x.1.1.1.1.1.1.1.0;
-      phase = x.1.1.1.1.1.1.1.1.0;
-      sequence = x.1.1.1.1.1.1.1.1.1.0;
-      frame_send_offset = x.1.1.1.1.1.1.1.1.1.1.0;
-      watchdog_factor = x.1.1.1.1.1.1.1.1.1.1.1.0;
-      data_hold_factor = x.1.1.1.1.1.1.1.1.1.1.1.1.0;
-      iocr_tag_header = x.1.1.1.1.1.1.1.1.1.1.1.1.1.0;
-      iocr_multicast_mac_add = x.1.1.1.1.1.1.1.1.1.1.1.1.1.1.0;
-      io_data_objects = x.1.1.1.1.1.1.1.1.1.1.1.1.1.1.1.1.1.0;
-      iocs = x.1.1.1.1.1.1.1.1.1.1.1.1.1.1.1.1.1.1;
+      iocr_type = x.0.iocr_type;
+      iocr_reference = x.0.iocr_reference;
+      iocr_properties = x.0.iocr_properties;
+      data_length = x.0.data_length;
+      frame_id = x.0.frame_id;
+      send_clock_factor = x.1.0.send_clock_factor;
+      reduction_ratio = x.1.0.reduction_ratio;
+      phase = x.1.0.phase;
+      sequence = x.1.0.sequence;
+      frame_send_offset = x.1.0.frame_send_offset;
+      watchdog_factor = x.1.0.watchdog_factor;
+      data_hold_factor = x.1.0.data_hold_factor;
+      iocr_tag_header = x.1.1.iocr_tag_header;
+      iocr_multicast_mac_add = x.1.1.iocr_multicast_mac_add;
+      io_data_objects = x.1.1.io_data_objects;
+      iocs = x.1.1.iocs;
     })
     (λ block. (
-      block.iocr_type,
+      record {
+        iocr_type = block.iocr_type;
+        iocr_reference = block.iocr_reference;
+        iocr_properties = block.iocr_properties;
+        data_length = block.data_length;
+        frame_id = block.frame_id;
+      },
       (
-        block.iocr_reference,
-        (
-          tt,
-          (
-            block.iocr_properties,
-            (
-              block.data_length,
-              (
-                block.frame_id,
-                (
-                  block.send_clock_factor,
-                  (
-                    block.reduction_ratio,
-                    (
-                      block.phase,
-                      (
-                        block.sequence,
-                        (
-                          block.frame_send_offset,
-                          (
-                            block.watchdog_factor,
-                            (block.data_hold_factor, (block.iocr_tag_header, (block.iocr_multicast_mac_add, (tt, (tt, (block.io_data_objects, block.iocs)))))),
-                          ),
-                        ),
-                      ),
-                    ),
-                  ),
-                ),
-              ),
-            ),
-          ),
-        ),
+        record {
+          send_clock_factor = block.send_clock_factor;
+          reduction_ratio = block.reduction_ratio;
+          phase = block.phase;
+          sequence = block.sequence;
+          frame_send_offset = block.frame_send_offset;
+          watchdog_factor = block.watchdog_factor;
+          data_hold_factor = block.data_hold_factor;
+        },
+        record {
+          iocr_tag_header = block.iocr_tag_header;
+          iocr_multicast_mac_add = block.iocr_multicast_mac_add;
+          io_data_objects = block.io_data_objects;
+          iocs = block.iocs;
+        },
       ),
     ))
-    (then_by iocr_type (λ kind. two ⨾ fixed 6 0x8892 ⨾ rt_class ⨾ ranged 8 40 1440 ⨾ frame_id kind ⨾ ranged 10 1 128 ⨾ ranged 11 1 512
-    ⨾ two ⨾ two ⨾ four ⨾ two ⨾ ranged 16 1 7680 ⨾ two ⨾ mac ⨾ fixed 19 1 ⨾ fixed_four 20 0 ⨾ io_objects ⨾ io_objects))
+    (iocr_head ⨾ iocr_times ⨾ iocr_places)
 
 -- its fields are accepted
 pub record IsIocrBlockReq (block : IocrBlockReq) : Type 0 where

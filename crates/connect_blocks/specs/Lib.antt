@@ -2,3 +2,5 @@ pub mod Control
 pub mod ArBlock
 pub mod AlarmCr
 pub mod Iocr
+pub mod Objects
+pub mod Places

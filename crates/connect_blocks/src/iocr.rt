@@ -3,13 +3,13 @@ ghost use Rattle.std.specs.Prelude.{◌≡◌, ◌+◌, ◌≤◌, ◌++◌, Lis
 ghost use Rattle.arrayvec.specs.ArrayVec.{array_vec_len};
 ghost use Rattle.wire.specs.Codec.{Gives};
 ghost use Rattle.block_fields.specs.Fields.{body};
-ghost use Rattle.connect_blocks.specs.Iocr.{iocr_type, rt_class, frame_id, iocr_block_req, iocr_block_res, IsIocrBlockReq};
+ghost use Rattle.connect_blocks.specs.Iocr.{iocr_type, rt_class, frame_id, iocr_head, iocr_times, iocr_places, iocr_block_req, iocr_block_res, IsIocrBlockReq};
 
-use crate::io_object::{IoObject, fill_io_objects, io_objects_len, put_io_objects};
+use crate::io_objects::{IoObjects, io_objects_at, io_objects_len, put_io_objects};
 use arrayvec::ArrayVec;
 use block_fields::{
-    BlockFault, append_u16, append_u32, fill_body, len_fields, put_fields, read_body, u16_at,
-    u32_at,
+    BlockFault, append_u16, append_u32, ended, len_fields, put_fields, read_body, read_fields,
+    u16_at, u32_at, version_at,
 };
 use pn_values::Mac;
 
@@ -33,7 +33,7 @@ pub enum RtClass {
 
 /// 0x0102: IOCRBlockReq (IEC 61158-6-10, 5.2.4.3), of LT 0x8892, with one API, 0.
 #[derive(Drop)]
-pub struct IocrBlockReq {
+pub struct IocrBlockReq<'a> {
     /// IOCRType.
     pub iocr_type: IocrType,
     /// IOCRReference.
@@ -63,20 +63,49 @@ pub struct IocrBlockReq {
     /// IOCRMulticastMACAdd.
     pub iocr_multicast_mac_add: Mac,
     /// The IODataObjects.
-    pub io_data_objects: ArrayVec<IoObject, 256>,
+    pub io_data_objects: IoObjects<'a>,
     /// The IOCS.
-    pub iocs: ArrayVec<IoObject, 256>,
+    pub iocs: IoObjects<'a>,
 }
 
-macro_rules! iocr_block_req_fields {
+/// What comes first in an IOCRBlockReq.
+#[derive(Clone, Copy)]
+struct IocrHead {
+    iocr_type: IocrType,
+    iocr_reference: u16,
+    iocr_properties: RtClass,
+    data_length: u16,
+    frame_id: u16,
+}
+
+macro_rules! iocr_head_fields {
     ($with:ident $args:tt) => {
-        $with! { $args IocrBlockReq {
+        $with! { $args IocrHead {
             iocr_type: (iocr_type_at, put_iocr_type, iocr_type_len),
             iocr_reference: u16,
             _: fixed 0x8892 6,
             iocr_properties: (rt_class_at, put_rt_class, rt_class_len),
             data_length: ranged 40 1440 8,
             frame_id: u16 by frame_id_at(iocr_type),
+        } }
+    };
+}
+
+/// What an IOCRBlockReq says of time.
+#[derive(Clone, Copy)]
+struct IocrTimes {
+    send_clock_factor: u16,
+    reduction_ratio: u16,
+    phase: u16,
+    sequence: u16,
+    frame_send_offset: u32,
+    watchdog_factor: u16,
+    data_hold_factor: u16,
+}
+
+macro_rules! iocr_times_fields {
+    ($with:ident $args:tt) => {
+        $with! { $args IocrTimes {
             send_clock_factor: ranged 1 128 10,
             reduction_ratio: ranged 1 512 11,
             phase: u16,
@@ -84,12 +113,28 @@ macro_rules! iocr_block_req_fields {
             frame_send_offset: u32,
             watchdog_factor: u16,
             data_hold_factor: ranged 1 7680 16,
+        } }
+    };
+}
+
+/// What comes last in an IOCRBlockReq.
+#[derive(Drop)]
+struct IocrPlaces<'a> {
+    iocr_tag_header: u16,
+    iocr_multicast_mac_add: Mac,
+    io_data_objects: IoObjects<'a>,
+    iocs: IoObjects<'a>,
+}
+
+macro_rules! iocr_places_fields {
+    ($with:ident $args:tt) => {
+        $with! { $args IocrPlaces {
             iocr_tag_header: u16,
             iocr_multicast_mac_add: mac,
             _: fixed 1 19,
             _: fixed_four 0 20,
-            io_data_objects: list (fill_io_objects, put_io_objects, io_objects_len),
-            iocs: list (fill_io_objects, put_io_objects, io_objects_len),
+            io_data_objects: (io_objects_at, put_io_objects, io_objects_len),
+            iocs: (io_objects_at, put_io_objects, io_objects_len),
         } }
     };
 }
@@ -182,56 +227,82 @@ fn frame_id_at(bytes: &[u8], kind: IocrType) -> Result<(u16, &[u8]), BlockFault>
     }
 }
 
-impl Default for IocrBlockReq {
-    /// An input with no places, whose numbers are all 0.
-    fn default() -> IocrBlockReq {
-        IocrBlockReq {
-            iocr_type: IocrType::Input,
-            iocr_reference: 0,
-            iocr_properties: RtClass::Class1,
-            data_length: 0,
-            frame_id: 0,
-            send_clock_factor: 0,
-            reduction_ratio: 0,
-            phase: 0,
-            sequence: 0,
-            frame_send_offset: 0,
-            watchdog_factor: 0,
-            data_hold_factor: 0,
-            iocr_tag_header: 0,
-            iocr_multicast_mac_add: Mac { octets: [0; 6] },
-            io_data_objects: ArrayVec::new(),
-            iocs: ArrayVec::new(),
-        }
-    }
+/// From IOCRType to FrameID, and what is behind them.
+#[tactic(auto, unfolding(crate::specs::Iocr::iocr_head))]
+fn iocr_head_at(bytes: &[u8]) -> Result<(IocrHead, &[u8]), BlockFault>
+    ensures { Gives (λ x. (x.0, x.1.now)) result (iocr_head.read bytes.now) }
+{
+    iocr_head_fields!(read_fields[bytes])
 }
 
-/// Reads what BlockLength counts of an IOCRBlockReq, to the last octet. At a fault the value is any.
-#[tactic(auto, unfolding(block_fields::specs::Fields::body, crate::specs::Iocr::iocr_block_req))]
-pub fn fill_iocr_block_req(bytes: &[u8], value: &mut IocrBlockReq) -> Result<(), BlockFault>
-    ensures { Gives (λ _. value.new) result ((body iocr_block_req).read bytes.now) }
+/// From SendClockFactor to DataHoldFactor, and what is behind them.
+#[tactic(auto, unfolding(crate::specs::Iocr::iocr_times))]
+fn iocr_times_at(bytes: &[u8]) -> Result<(IocrTimes, &[u8]), BlockFault>
+    ensures { Gives (λ x. (x.0, x.1.now)) result (iocr_times.read bytes.now) }
 {
-    iocr_block_req_fields!(fill_body [bytes, value])
+    iocr_times_fields!(read_fields[bytes])
+}
+
+/// From IOCRTagHeader to the IOCS, and what is behind them.
+#[tactic(auto, unfolding(crate::specs::Iocr::iocr_places))]
+fn iocr_places_at(bytes: &[u8]) -> Result<(IocrPlaces<'_>, &[u8]), BlockFault>
+    ensures { Gives (λ x. (x.0, x.1.now)) result (iocr_places.read bytes.now) }
+{
+    iocr_places_fields!(read_fields[bytes])
+}
+
+/// What BlockLength counts of an IOCRBlockReq, to the last octet.
+#[tactic(auto, unfolding(block_fields::specs::Fields::body, crate::specs::Iocr::iocr_block_req))]
+pub fn iocr_block_req_at(bytes: &[u8]) -> Result<IocrBlockReq<'_>, BlockFault>
+    ensures { Gives (λ x. x) result ((body iocr_block_req).read bytes.now) }
+{
+    let rest = version_at(bytes)?;
+    let (head, rest) = iocr_head_at(rest)?;
+    let (times, rest) = iocr_times_at(rest)?;
+    let (places, rest) = iocr_places_at(rest)?;
+    ended(rest)?;
+    Ok(IocrBlockReq {
+        iocr_type: head.iocr_type,
+        iocr_reference: head.iocr_reference,
+        iocr_properties: head.iocr_properties,
+        data_length: head.data_length,
+        frame_id: head.frame_id,
+        send_clock_factor: times.send_clock_factor,
+        reduction_ratio: times.reduction_ratio,
+        phase: times.phase,
+        sequence: times.sequence,
+        frame_send_offset: times.frame_send_offset,
+        watchdog_factor: times.watchdog_factor,
+        data_hold_factor: times.data_hold_factor,
+        iocr_tag_header: places.iocr_tag_header,
+        iocr_multicast_mac_add: places.iocr_multicast_mac_add,
+        io_data_objects: places.io_data_objects,
+        iocs: places.iocs,
+    })
 }
 
 /// Appends the fields of an IOCRBlockReq. There must be room.
-#[tactic(auto, unfolding(crate::specs::Iocr::iocr_block_req, crate::specs::Iocr::frame_id))]
+#[tactic(auto, unfolding(crate::specs::Iocr::iocr_block_req, crate::specs::Iocr::iocr_head, crate::specs::Iocr::iocr_times, crate::specs::Iocr::iocr_places, crate::specs::Iocr::frame_id))]
 pub fn put_iocr_block_req<const N: usize>(out: &mut ArrayVec<u8, N>, value: &IocrBlockReq)
     requires { array_vec_len out.old + iocr_block_req.size value.now ≤ N }
     ensures items { (tail : List ℕ) → out.new.items ++ tail ≡ out.old.items ++ iocr_block_req.write value.now tail }
     ensures len { array_vec_len out.new ≡ array_vec_len out.old + iocr_block_req.size value.now }
     ensures fits { IsIocrBlockReq value.now → iocr_block_req.Fits value.now }
 {
-    iocr_block_req_fields!(put_fields [out, value]);
+    iocr_head_fields!(put_fields [out, value]);
+    iocr_times_fields!(put_fields [out, value]);
+    iocr_places_fields!(put_fields [out, value]);
 }
 
 /// How many octets the fields of an IOCRBlockReq take.
-#[tactic(auto, unfolding(crate::specs::Iocr::iocr_block_req, crate::specs::Iocr::frame_id))]
+#[tactic(auto, unfolding(crate::specs::Iocr::iocr_block_req, crate::specs::Iocr::iocr_head, crate::specs::Iocr::iocr_times, crate::specs::Iocr::iocr_places, crate::specs::Iocr::frame_id))]
 pub fn iocr_block_req_len(value: &IocrBlockReq) -> usize
     ensures size { result ≡ iocr_block_req.size value.now }
     ensures few { result ≤ 4000 }
 {
-    iocr_block_req_fields!(len_fields[value])
+    let head = iocr_head_fields!(len_fields[value]);
+    let times = iocr_times_fields!(len_fields[value]);
+    head + times + iocr_places_fields!(len_fields[value])
 }
 
 /// 0x8102: IOCRBlockRes (IEC 61158-6-10, 5.2.4.4).

@@ -6,6 +6,7 @@ mod alarm_cr;
 mod ar_block;
 mod control;
 mod io_object;
+mod io_objects;
 mod iocr;
 
 pub use alarm_cr::{
@@ -18,7 +19,8 @@ pub use ar_block::{
 };
 pub use control::{ControlBlock, control_at, control_len, put_control};
 pub use io_object::IoObject;
+pub use io_objects::IoObjects;
 pub use iocr::{
-    IocrBlockReq, IocrBlockRes, IocrType, RtClass, fill_iocr_block_req, iocr_block_req_len,
+    IocrBlockReq, IocrBlockRes, IocrType, RtClass, iocr_block_req_at, iocr_block_req_len,
     iocr_block_res_at, iocr_block_res_len, put_iocr_block_req, put_iocr_block_res,
 };

@@ -3,9 +3,9 @@ use Rattle.std.specs.Prelude.{◌==◌, ◌++◌, ℕ, List, [], ◌∷◌, leng
 use Rattle.pn_values.specs.declared.real.Real.{Real}
 use Rattle.pn_values.specs.declared.real.RealModule.{RealModule}
 use Rattle.pn_values.specs.declared.real.RealSubmodule.{RealSubmodule}
+use Rattle.module_lists.specs.Lists.{Listed}
 use Rattle.record_blocks.specs.declared.filter_data.FilterModule.{FilterModule}
 use Rattle.record_blocks.specs.declared.filter_data.FilterSubmodule.{FilterSubmodule}
-use Rattle.record_blocks.specs.declared.filter_data.FilterModules.{FilterModules}
 use Rattle.record_blocks.specs.declared.filter_data.ImFilterData.{ImFilterData}
 use Rattle.block_codec.specs.declared.block.Block.TheVariants as is
 use Rattle.block_codec.specs.Block.{block_bytes}
@@ -50,18 +50,18 @@ device_in [] = None
 device_in (entry ∷ entries) = if entry.slot == 0 then ident_or entry.ident (ident_in 1 entry.submodules.items) (device_in entries) else device_in entries
 
 -- the entries of the device alone
-abbrev pub device_entries : Option (ℕ × ℕ) → FilterModules
+abbrev pub device_entries : Option (ℕ × ℕ) → Listed FilterModule FilterSubmodule
 device_entries (Some idents) = record {
-  modules = record { items = record { slot_number = 0; module_ident_number = idents.0; number_of_submodules = 1 } ∷ [] };
-  submodules = record { items = record { subslot_number = 1; submodule_ident_number = idents.1 } ∷ [] };
+  modules = record { slot_number = 0; module_ident_number = idents.0; number_of_submodules = 1 } ∷ [];
+  submodules = record { subslot_number = 1; submodule_ident_number = idents.1 } ∷ [];
 }
-device_entries None = record { modules = record { items = [] }; submodules = record { items = [] } }
+device_entries None = record { modules = []; submodules = [] }
 
 -- I&M0FilterData of all submodules
 abbrev pub all_of : Real → ImFilterData
 all_of real = record {
   api = 0;
-  modules = record { modules = record { items = modules_in real.modules.items }; submodules = record { items = submodules_in real.modules.items } };
+  modules = record { modules = modules_in real.modules.items; submodules = submodules_in real.modules.items };
 }
 
 -- I&M0FilterData of the device

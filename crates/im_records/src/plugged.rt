@@ -1,13 +1,11 @@
 //! I&M0FilterData of a device.
-ghost use Rattle.std.specs.Prelude.{◌≡◌, ◌+◌, ◌≤◌, ◌++◌, length};
+ghost use Rattle.std.specs.Prelude.{◌≡◌, ◌+◌, ◌≤◌, ◌++◌, [], length};
 ghost use Rattle.arrayvec.specs.ArrayVec.{array_vec_len};
 ghost use Rattle.record_blocks.specs.FilterData.{filter_data};
 ghost use Rattle.im_records.specs.Plugged.{device_entries, device_in, device_of, all_of, filter_record, ident_in, modules_in, parts_in, submodules_in};
 
 use arrayvec::ArrayVec;
-use block_codec::{
-    Block, FilterModule, FilterModules, FilterSubmodule, ImFilterData, Lent, write_block,
-};
+use block_codec::{Block, FilterModule, FilterModules, FilterSubmodule, ImFilterData, write_block};
 use pn_values::{Real, RealModule, RealSubmodule};
 use record_blocks::filter_data_len;
 
@@ -16,32 +14,42 @@ use record_blocks::filter_data_len;
 pub(crate) fn filter_of(real: &Real) -> ArrayVec<u8, 1024>
     ensures { result.items ≡ filter_record real.now }
 {
+    let mut modules = ArrayVec::new();
+    let mut submodules = ArrayVec::new();
+    push_all(&mut modules, &mut submodules, real);
     let all = ImFilterData {
         api: 0,
-        modules: all_entries(real),
+        modules: FilterModules::lent(&modules, &submodules),
     };
+    let mut device_modules = ArrayVec::new();
+    let mut device_submodules = ArrayVec::new();
+    push_device(&mut device_modules, &mut device_submodules, device_of(real));
     let device = ImFilterData {
         api: 0,
-        modules: entries_of_device(device_of(real)),
+        modules: FilterModules::lent(&device_modules, &device_submodules),
     };
     // what counts their octets says that there is room for them
     let _all_size = filter_data_len(&all);
     let _device_size = filter_data_len(&device);
     let mut out = ArrayVec::new();
-    write_block(&mut out, &Block::ImFilterDataSubmodule(Lent::new(&all)));
-    write_block(&mut out, &Block::ImFilterDataDevice(Lent::new(&device)));
+    write_block(&mut out, &Block::ImFilterDataSubmodule(all));
+    write_block(&mut out, &Block::ImFilterDataDevice(device));
     out
 }
 
-/// The entries of all modules that have a submodule, and of their submodules.
-fn all_entries(real: &Real) -> FilterModules
-    ensures modules { result.modules.items ≡ modules_in real.now.modules.items }
-    ensures submodules { result.submodules.items ≡ submodules_in real.now.modules.items }
-    ensures few_modules { length result.modules.items ≤ 16 }
-    ensures few_submodules { length result.submodules.items ≤ 64 }
+/// Appends the entries of all modules that have a submodule, and of their submodules, to empty lists.
+fn push_all(
+    modules: &mut ArrayVec<FilterModule, 256>,
+    submodules: &mut ArrayVec<FilterSubmodule, 256>,
+    real: &Real,
+)
+    requires no_modules { modules.old.items ≡ [] }
+    requires no_submodules { submodules.old.items ≡ [] }
+    ensures modules { modules.new.items ≡ modules_in real.now.modules.items }
+    ensures submodules { submodules.new.items ≡ submodules_in real.now.modules.items }
+    ensures few_modules { length modules.new.items ≤ 16 }
+    ensures few_submodules { length submodules.new.items ≤ 64 }
 {
-    let mut modules = ArrayVec::new();
-    let mut submodules = ArrayVec::new();
     for entry in real.modules.as_slice() {
         if !entry.submodules.is_empty() {
             modules.push(FilterModule {
@@ -50,11 +58,7 @@ fn all_entries(real: &Real) -> FilterModules
                 number_of_submodules: entry.submodules.len() as u16,
             });
         }
-        push_parts(&mut submodules, entry.submodules.as_slice());
-    }
-    FilterModules {
-        modules,
-        submodules,
+        push_parts(submodules, entry.submodules.as_slice());
     }
 }
 
@@ -98,31 +102,28 @@ fn ident_of(entry: &RealModule, subslot: u16) -> Option<u32>
     None
 }
 
-/// The entries of the device alone.
-fn entries_of_device(idents: Option<(u32, u32)>) -> FilterModules
-    ensures value { result ≡ device_entries idents }
-    ensures few_modules { length result.modules.items ≤ 1 }
-    ensures few_submodules { length result.submodules.items ≤ 1 }
+/// Appends the entries of the device alone to empty lists.
+fn push_device(
+    modules: &mut ArrayVec<FilterModule, 256>,
+    submodules: &mut ArrayVec<FilterSubmodule, 256>,
+    idents: Option<(u32, u32)>,
+)
+    requires no_modules { modules.old.items ≡ [] }
+    requires no_submodules { submodules.old.items ≡ [] }
+    ensures modules { modules.new.items ≡ (device_entries idents).modules }
+    ensures submodules { submodules.new.items ≡ (device_entries idents).submodules }
+    ensures few_modules { length modules.new.items ≤ 1 }
+    ensures few_submodules { length submodules.new.items ≤ 1 }
 {
-    let mut modules = ArrayVec::new();
-    let mut submodules = ArrayVec::new();
-    let Some((module_ident, submodule_ident)) = idents else {
-        return FilterModules {
-            modules,
-            submodules,
-        };
-    };
-    modules.push(FilterModule {
-        slot_number: 0,
-        module_ident_number: module_ident,
-        number_of_submodules: 1,
-    });
-    submodules.push(FilterSubmodule {
-        subslot_number: 1,
-        submodule_ident_number: submodule_ident,
-    });
-    FilterModules {
-        modules,
-        submodules,
+    if let Some((module_ident, submodule_ident)) = idents {
+        modules.push(FilterModule {
+            slot_number: 0,
+            module_ident_number: module_ident,
+            number_of_submodules: 1,
+        });
+        submodules.push(FilterSubmodule {
+            subslot_number: 1,
+            submodule_ident_number: submodule_ident,
+        });
     }
 }

@@ -9,11 +9,10 @@ use Rattle.std.proofs.lemmas.List.Folds.{list_any-append}
 use Rattle.std.proofs.lemmas.List.Sums.{sum_by-cons}
 use Rattle.wire.specs.Counted.{FitsEach}
 use Rattle.wire.specs.Nested.{FitsOuter, FitsNested}
-use Rattle.module_lists.specs.Lists.{next_entry, module_list}
+use Rattle.module_lists.specs.Lists.{Listed, next_entry, module_list, listed_modules}
 use Rattle.module_blocks.specs.declared.submodule_data.SubmoduleData.{SubmoduleData}
 use Rattle.module_blocks.specs.declared.expected.ExpectedModule.{ExpectedModule}
 use Rattle.module_blocks.specs.declared.expected.ExpectedSubmodule.{ExpectedSubmodule}
-use Rattle.module_blocks.specs.declared.expected.ExpectedModules.{ExpectedModules}
 use Rattle.module_blocks.specs.Expected.{description_kind, description, no_data, data_of, submodule_data, new_slot, new_subslot, expected_module, expected_submodule, own_of, expected_modules, IsShort, SubslotsDiffer, IsExpected, SubmoduleFits}
 
 -- ---- numbers that differ
@@ -115,27 +114,23 @@ all_fit first second (entry ∷ modules) submodules room places counted new slot
     )
 
 -- what is accepted can be written
-pub modules_fit : (value : ExpectedModules) → length value.modules.items ≤ 256 → length value.submodules.items ≤ 256 → IsExpected value
-    → FitsNested (expected_module []).Fits own_of SubmoduleFits value.modules.items value.submodules.items → expected_modules.Fits value
-unfolding expected_modules module_list
+pub modules_fit : (value : Listed ExpectedModule ExpectedSubmodule) → length value.modules ≤ 256 → length value.submodules ≤ 256 → IsExpected value
+    → FitsNested (expected_module []).Fits own_of SubmoduleFits value.modules value.submodules → expected_modules.Fits value
+unfolding expected_modules listed_modules module_list
 modules_fit value few places is fits = (
   omega (arith, few),
-  all_fit [] [] value.modules.items value.submodules.items (omega (arith, few)) (omega (arith, places)) is.counted
-      (new_first (λ entry. entry.slot_number) value.modules.items) is.slots is.subslots is.short fits,
+  all_fit [] [] value.modules value.submodules (omega (arith, few)) (omega (arith, places)) is.counted
+      (new_first (λ entry. entry.slot_number) value.modules) is.slots is.subslots is.short fits,
 )
 
 -- ---- two modules, one with an input of two octets and one without data
 
-two_modules : (slot : ℕ) → ExpectedModules
+two_modules : (slot : ℕ) → Listed ExpectedModule ExpectedSubmodule
 two_modules slot = record {
-  modules = record {
-    items = record { slot_number = 1; module_ident_number = 0x10; module_properties = 0; number_of_submodules = 1 }
-        ∷ record { slot_number = slot; module_ident_number = 0x30; module_properties = 0; number_of_submodules = 1 } ∷ [];
-  };
-  submodules = record {
-    items = record { subslot_number = 1; submodule_ident_number = 0x10; io_data = record { input = Some 2; output = None } }
-        ∷ record { subslot_number = 1; submodule_ident_number = 0x30; io_data = record { input = None; output = None } } ∷ [];
-  };
+  modules = record { slot_number = 1; module_ident_number = 0x10; module_properties = 0; number_of_submodules = 1 }
+      ∷ record { slot_number = slot; module_ident_number = 0x30; module_properties = 0; number_of_submodules = 1 } ∷ [];
+  submodules = record { subslot_number = 1; submodule_ident_number = 0x10; io_data = record { input = Some 2; output = None } }
+      ∷ record { subslot_number = 1; submodule_ident_number = 0x30; io_data = record { input = None; output = None } } ∷ [];
 }
 
 -- in slots 1 and 2 they are accepted

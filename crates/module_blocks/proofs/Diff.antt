@@ -4,9 +4,11 @@ use Rattle.wire.specs.Codec.{IsSound}
 use Rattle.wire.specs.Nested.{FitsNested}
 use Rattle.wire.proofs.Joined.{then_by_sound, seen_sound}
 use Rattle.block_fields.proofs.Sound.{numeral_sound, fixed_sound}
-use Rattle.module_lists.proofs.Taken.{modules_sound}
+use Rattle.module_lists.proofs.Taken.{listed_sound}
 use Rattle.module_lists.proofs.Written.{modules_few as few, modules_fit as fit}
-use Rattle.module_blocks.specs.declared.module_diff.DiffModules.{DiffModules}
+use Rattle.module_lists.specs.Lists.{Listed}
+use Rattle.module_blocks.specs.declared.module_diff.DiffModule.{DiffModule}
+use Rattle.module_blocks.specs.declared.module_diff.DiffSubmodule.{DiffSubmodule}
 use Rattle.module_blocks.specs.ModuleDiff.{diff_module, diff_submodule, own_of, diff_modules, module_diff, IsCounted}
 
 -- ---- the law
@@ -21,7 +23,7 @@ diff_submodule_sound = seen_sound _ _ _ (λ _. refl) (then_by_sound _ _ (numeral
 
 diff_modules_sound : IsSound diff_modules
 unfolding diff_modules
-diff_modules_sound = seen_sound _ _ _ (λ _. refl) (modules_sound (λ _. diff_module) own_of (λ _. diff_submodule) (λ _. diff_module_sound) (λ _. diff_submodule_sound))
+diff_modules_sound = listed_sound (λ _. diff_module) own_of (λ _. diff_submodule) (λ _. diff_module_sound) (λ _. diff_submodule_sound)
 
 pub module_diff_sound : IsSound module_diff
 unfolding module_diff
@@ -30,12 +32,12 @@ module_diff_sound = seen_sound _ _ _ (λ _. refl) (then_by_sound _ _ (fixed_soun
 -- ---- what is written
 
 -- 10 octets a module and 8 a submodule, and the count
-pub modules_few : (value : DiffModules) → diff_modules.size value ≤ 2 + (length value.modules.items * 10 + length value.submodules.items * 8)
+pub modules_few : (value : Listed DiffModule DiffSubmodule) → diff_modules.size value ≤ 2 + (length value.modules * 10 + length value.submodules * 8)
 unfolding diff_modules diff_module diff_submodule
-modules_few value = few (λ _. diff_module) own_of (λ _. diff_submodule) 10 8 (λ _ _. omega arith) (λ _ _. omega arith) value.modules.items value.submodules.items
+modules_few value = few (λ _. diff_module) own_of (λ _. diff_submodule) 10 8 (λ _ _. omega arith) (λ _ _. omega arith) value
 
 -- modules that count the submodules that there are, and whose fields fit, can be written
-pub modules_fit : (value : DiffModules) → length value.modules.items ≤ 256 → length value.submodules.items ≤ 256 → IsCounted value
-    → FitsNested diff_module.Fits own_of diff_submodule.Fits value.modules.items value.submodules.items → diff_modules.Fits value
+pub modules_fit : (value : Listed DiffModule DiffSubmodule) → length value.modules ≤ 256 → length value.submodules ≤ 256 → IsCounted value
+    → FitsNested diff_module.Fits own_of diff_submodule.Fits value.modules value.submodules → diff_modules.Fits value
 unfolding diff_modules
-modules_fit value few_modules few_submodules counted fits = fit diff_module own_of diff_submodule value.modules.items value.submodules.items few_modules few_submodules counted fits
+modules_fit value few_modules few_submodules counted fits = fit diff_module own_of diff_submodule value few_modules few_submodules counted fits

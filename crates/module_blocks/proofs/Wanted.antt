@@ -6,12 +6,12 @@ use Rattle.wire.proofs.Judged.{checked_sound}
 use Rattle.block_fields.specs.declared.fault.BlockFault.TheVariants.{Field}
 use Rattle.block_fields.specs.Fields.{two}
 use Rattle.block_fields.proofs.Sound.{numeral_sound, ranged_sound, fixed_one_sound, fixed_four_sound}
-use Rattle.module_lists.proofs.Taken.{modules_sound}
+use Rattle.module_lists.specs.Lists.{Listed}
+use Rattle.module_lists.proofs.Taken.{listed_sound}
 use Rattle.module_lists.proofs.Written.{modules_few as few}
 use Rattle.module_blocks.specs.declared.submodule_data.SubmoduleData.{SubmoduleData}
 use Rattle.module_blocks.specs.declared.expected.ExpectedModule.{ExpectedModule}
 use Rattle.module_blocks.specs.declared.expected.ExpectedSubmodule.{ExpectedSubmodule}
-use Rattle.module_blocks.specs.declared.expected.ExpectedModules.{ExpectedModules}
 use Rattle.module_blocks.specs.Expected.{description_kind, description, no_data, data_of, submodule_data, data_size, new_slot, new_subslot, expected_module, expected_submodule, own_of, expected_modules, expected}
 
 -- ---- the law
@@ -53,7 +53,7 @@ expected_submodule_sound before = seen_sound _ _ _ (λ _. refl) (then_by_sound _
 
 expected_modules_sound : IsSound expected_modules
 unfolding expected_modules
-expected_modules_sound = seen_sound _ _ _ (λ _. refl) (modules_sound expected_module own_of expected_submodule expected_module_sound expected_submodule_sound)
+expected_modules_sound = listed_sound expected_module own_of expected_submodule expected_module_sound expected_submodule_sound
 
 pub expected_sound : IsSound expected
 unfolding expected
@@ -83,7 +83,7 @@ data_few value = by value.input value.output
     by (Some i) (Some o) = omega arith
 
 -- 14 octets a module and at most 20 a submodule, and the count
-pub modules_few : (value : ExpectedModules) → expected_modules.size value ≤ 2 + (length value.modules.items * 14 + length value.submodules.items * 20)
+pub modules_few : (value : Listed ExpectedModule ExpectedSubmodule) → expected_modules.size value ≤ 2 + (length value.modules * 14 + length value.submodules * 20)
 unfolding expected_modules expected_module expected_submodule new_slot new_subslot
 modules_few value =
-    few expected_module own_of expected_submodule 14 20 (λ _ _. omega arith) (λ _ entry. omega (arith, data_sized entry.io_data, data_few entry.io_data)) value.modules.items value.submodules.items
+    few expected_module own_of expected_submodule 14 20 (λ _ _. omega arith) (λ _ entry. omega (arith, data_sized entry.io_data, data_few entry.io_data)) value

@@ -8,11 +8,10 @@ use Rattle.wire.specs.Checks.{checked}
 use Rattle.block_fields.specs.declared.fault.BlockFault.{BlockFault}
 use Rattle.block_fields.specs.declared.fault.BlockFault.TheVariants.{Field}
 use Rattle.block_fields.specs.Fields.{two, four, ranged, fixed_one, fixed_four}
-use Rattle.module_lists.specs.Lists.{module_list, WritesAlike}
+use Rattle.module_lists.specs.Lists.{Listed, listed_modules, WritesAlike}
 use Rattle.module_blocks.specs.declared.expected.ExpectedModule.{ExpectedModule}
 use Rattle.module_blocks.specs.declared.submodule_data.SubmoduleData.{SubmoduleData}
 use Rattle.module_blocks.specs.declared.expected.ExpectedSubmodule.{ExpectedSubmodule}
-use Rattle.module_blocks.specs.declared.expected.ExpectedModules.{ExpectedModules}
 use Rattle.module_blocks.specs.declared.expected.ExpectedSubmoduleBlockReq.{ExpectedSubmoduleBlockReq}
 
 -- ---- what a submodule has in cyclic frames
@@ -98,11 +97,8 @@ expected_submodule_alike = record { write = λ before entry rest. refl; size = �
 -- ---- the block
 
 -- NumberOfAPIs, and each module with its submodules
-unfoldable pub expected_modules : Codec BlockFault ExpectedModules
-expected_modules = seen
-    (λ x. record { modules = record { items = x.0 }; submodules = record { items = x.1 } })
-    (λ value. (value.modules.items, value.submodules.items))
-    (module_list expected_module own_of expected_submodule)
+unfoldable pub expected_modules : Codec BlockFault (Listed ExpectedModule ExpectedSubmodule)
+expected_modules = listed_modules expected_module own_of expected_submodule
 
 unfoldable pub expected : Codec BlockFault ExpectedSubmoduleBlockReq
 expected = seen (λ x. record { modules = x }) (λ block. block.modules) expected_modules
@@ -120,11 +116,11 @@ SubslotsDiffer (entry ∷ modules) submodules =
     IsDistinct (λ one other. one.subslot_number == other.subslot_number) (take (own_of entry) submodules) × SubslotsDiffer modules (drop (own_of entry) submodules)
 
 -- the modules count the submodules that there are, no SlotNumber stands twice, and none of the data is too long
-pub record IsExpected (value : ExpectedModules) : Type 0 where
-  pub counted : sum_by own_of value.modules.items ≡ length value.submodules.items
-  pub slots : IsDistinct (λ one other. one.slot_number == other.slot_number) value.modules.items
-  pub subslots : SubslotsDiffer value.modules.items value.submodules.items
-  pub short : AllByRecursion (λ entry. IsShort entry.io_data) value.submodules.items
+pub record IsExpected (value : Listed ExpectedModule ExpectedSubmodule) : Type 0 where
+  pub counted : sum_by own_of value.modules ≡ length value.submodules
+  pub slots : IsDistinct (λ one other. one.slot_number == other.slot_number) value.modules
+  pub subslots : SubslotsDiffer value.modules value.submodules
+  pub short : AllByRecursion (λ entry. IsShort entry.io_data) value.submodules
 
 -- its fields are accepted
 abbrev pub IsExpectedSubmoduleBlockReq : ExpectedSubmoduleBlockReq → Type 0

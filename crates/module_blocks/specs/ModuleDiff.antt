@@ -5,10 +5,9 @@ use Rattle.wire.specs.Codec.{Codec}
 use Rattle.wire.specs.Formats.{◌⨾◌, seen}
 use Rattle.block_fields.specs.declared.fault.BlockFault.{BlockFault}
 use Rattle.block_fields.specs.Fields.{two, four, fixed}
-use Rattle.module_lists.specs.Lists.{module_list}
+use Rattle.module_lists.specs.Lists.{Listed, listed_modules}
 use Rattle.module_blocks.specs.declared.module_diff.DiffModule.{DiffModule}
 use Rattle.module_blocks.specs.declared.module_diff.DiffSubmodule.{DiffSubmodule}
-use Rattle.module_blocks.specs.declared.module_diff.DiffModules.{DiffModules}
 use Rattle.module_blocks.specs.declared.module_diff.ModuleDiffBlock.{ModuleDiffBlock}
 
 -- ---- one entry
@@ -34,11 +33,8 @@ own_of entry = entry.number_of_submodules
 -- ---- the block
 
 -- NumberOfModules, and each module with its submodules
-unfoldable pub diff_modules : Codec BlockFault DiffModules
-diff_modules = seen
-    (λ x. record { modules = record { items = x.0 }; submodules = record { items = x.1 } })
-    (λ value. (value.modules.items, value.submodules.items))
-    (module_list (λ _. diff_module) own_of (λ _. diff_submodule))
+unfoldable pub diff_modules : Codec BlockFault (Listed DiffModule DiffSubmodule)
+diff_modules = listed_modules (λ _. diff_module) own_of (λ _. diff_submodule)
 
 -- NumberOfAPIs 1, API and the modules
 unfoldable pub module_diff : Codec BlockFault ModuleDiffBlock
@@ -46,8 +42,8 @@ module_diff = seen (λ x. record { api = x.1.0; modules = x.1.1 }) (λ block. (t
     (fixed 4 1 ⨾ four ⨾ diff_modules)
 
 -- the modules count the submodules that there are
-abbrev pub IsCounted : DiffModules → Type 0
-IsCounted value = sum_by own_of value.modules.items ≡ length value.submodules.items
+abbrev pub IsCounted : Listed DiffModule DiffSubmodule → Type 0
+IsCounted value = sum_by own_of value.modules ≡ length value.submodules
 
 -- its fields are accepted
 abbrev pub IsModuleDiff : ModuleDiffBlock → Type 0

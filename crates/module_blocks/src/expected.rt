@@ -10,8 +10,8 @@ use crate::submodule_data::{
     SubmoduleData, put_submodule_data, submodule_data_at, submodule_data_len,
 };
 use arrayvec::ArrayVec;
-use block_fields::{BlockFault, fill_body, len_fields, put_fields, read_fields, u16_at};
-use module_lists::{Entry, Module, Put, fill_modules, modules_len, put_modules};
+use block_fields::{BlockFault, len_fields, put_fields, read_body, read_fields, u16_at};
+use module_lists::{Entry, Module, Modules, Put, modules_len, put_modules};
 
 /// A module that is expected in a slot, with its API, 0.
 #[derive(Clone, Copy, Default)]
@@ -59,26 +59,20 @@ macro_rules! expected_submodule_fields {
     };
 }
 
-/// The modules that are expected.
-#[derive(Default, Drop)]
-pub struct ExpectedModules {
-    /// The modules, at most 256.
-    pub modules: ArrayVec<ExpectedModule, 256>,
-    /// The submodules of all of them, at most 256: first those of the first module.
-    pub submodules: ArrayVec<ExpectedSubmodule, 256>,
-}
+/// The modules that are expected, each with its submodules: at most 256 modules and 256 submodules.
+pub type ExpectedModules<'a> = Modules<'a, ExpectedModule, ExpectedSubmodule>;
 
 /// 0x0104: ExpectedSubmoduleBlockReq (IEC 61158-6-10, 5.2.4.5).
-#[derive(Default, Drop)]
-pub struct ExpectedSubmoduleBlockReq {
+#[derive(Drop)]
+pub struct ExpectedSubmoduleBlockReq<'a> {
     /// The modules, each with its submodules.
-    pub modules: ExpectedModules,
+    pub modules: ExpectedModules<'a>,
 }
 
 macro_rules! expected_fields {
     ($with:ident $args:tt) => {
         $with! { $args ExpectedSubmoduleBlockReq {
-            modules: list (fill_expected_modules, put_expected_modules, expected_modules_len),
+            modules: (expected_modules_at, put_expected_modules, expected_modules_len),
         } }
     };
 }
@@ -183,23 +177,22 @@ impl<const N: usize> Put<N> for ExpectedSubmodule {
     }
 }
 
-/// Reads NumberOfAPIs and the entries of modules and submodules into these lists: what is behind them.
+/// NumberOfAPIs and the entries of modules and submodules, and what is behind them.
 #[tactic(auto, unfolding(crate::specs::Expected::expected_modules))]
-fn fill_expected_modules<'a>(
-    bytes: &'a [u8],
-    value: &mut ExpectedModules,
-) -> Result<&'a [u8], BlockFault>
-    ensures { Gives (λ rest. (value.new, rest.now)) result (expected_modules.read bytes.now) }
+fn expected_modules_at(bytes: &[u8]) -> Result<(ExpectedModules<'_>, &[u8]), BlockFault>
+    ensures { Gives (λ x. (x.0, x.1.now)) result (expected_modules.read bytes.now) }
 {
-    fill_modules(bytes, &mut value.modules, &mut value.submodules)
+    let mut modules = ArrayVec::new();
+    let mut submodules = ArrayVec::new();
+    Modules::at(bytes, &mut modules, &mut submodules)
 }
 
-/// Reads what BlockLength counts of an ExpectedSubmoduleBlockReq, to the last octet. At a fault the value is any.
+/// What BlockLength counts of an ExpectedSubmoduleBlockReq, to the last octet.
 #[tactic(auto, unfolding(block_fields::specs::Fields::body, crate::specs::Expected::expected))]
-pub fn fill_expected(bytes: &[u8], value: &mut ExpectedSubmoduleBlockReq) -> Result<(), BlockFault>
-    ensures { Gives (λ _. value.new) result ((body expected).read bytes.now) }
+pub fn expected_at(bytes: &[u8]) -> Result<ExpectedSubmoduleBlockReq<'_>, BlockFault>
+    ensures { Gives (λ x. x) result ((body expected).read bytes.now) }
 {
-    expected_fields!(fill_body [bytes, value])
+    expected_fields!(read_body[bytes])
 }
 
 /// Appends NumberOfAPIs and the entries of modules and submodules. There must be room.
@@ -210,7 +203,9 @@ fn put_expected_modules<const N: usize>(out: &mut ArrayVec<u8, N>, value: &Expec
     ensures len { array_vec_len out.new ≡ array_vec_len out.old + expected_modules.size value.now }
     ensures fits { IsExpected value.now → expected_modules.Fits value.now }
 {
-    put_modules(out, &value.modules, &value.submodules);
+    let mut modules = ArrayVec::new();
+    let mut submodules = ArrayVec::new();
+    put_modules(out, value, &mut modules, &mut submodules);
 }
 
 /// How many octets NumberOfAPIs and the entries of modules and submodules take.
@@ -219,7 +214,7 @@ fn expected_modules_len(value: &ExpectedModules) -> usize
     ensures size { result ≡ expected_modules.size value.now }
     ensures few { result ≤ 8706 }
 {
-    modules_len(&value.modules, &value.submodules)
+    modules_len(value)
 }
 
 /// Appends the fields of a ExpectedSubmoduleBlockReq. There must be room.

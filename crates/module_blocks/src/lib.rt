@@ -8,11 +8,11 @@ mod module_diff;
 mod submodule_data;
 
 pub use expected::{
-    ExpectedModule, ExpectedModules, ExpectedSubmodule, ExpectedSubmoduleBlockReq, expected_len,
-    fill_expected, put_expected,
+    ExpectedModule, ExpectedModules, ExpectedSubmodule, ExpectedSubmoduleBlockReq, expected_at,
+    expected_len, put_expected,
 };
 pub use module_diff::{
-    DiffModule, DiffModules, DiffSubmodule, ModuleDiffBlock, fill_module_diff, module_diff_len,
+    DiffModule, DiffModules, DiffSubmodule, ModuleDiffBlock, module_diff_at, module_diff_len,
     put_module_diff,
 };
 pub use submodule_data::SubmoduleData;

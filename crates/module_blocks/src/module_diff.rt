@@ -7,8 +7,8 @@ ghost use Rattle.module_lists.specs.Lists.{flat_alike};
 ghost use Rattle.module_blocks.specs.ModuleDiff.{module_diff, diff_module, diff_modules, diff_submodule, own_of, IsCounted, IsModuleDiff};
 
 use arrayvec::ArrayVec;
-use block_fields::{BlockFault, fill_body, len_fields, put_fields, read_fields};
-use module_lists::{Entry, Module, Put, fill_modules, modules_len, put_modules};
+use block_fields::{BlockFault, len_fields, put_fields, read_body, read_fields};
+use module_lists::{Entry, Module, Modules, Put, modules_len, put_modules};
 
 /// A module that differs.
 #[derive(Clone, Copy, Default)]
@@ -55,22 +55,16 @@ macro_rules! diff_submodule_fields {
     };
 }
 
-/// The modules that differ.
-#[derive(Default, Drop)]
-pub struct DiffModules {
-    /// The modules, at most 256.
-    pub modules: ArrayVec<DiffModule, 256>,
-    /// The submodules of all of them, at most 256: first those of the first module.
-    pub submodules: ArrayVec<DiffSubmodule, 256>,
-}
+/// The modules that differ, each with its submodules: at most 256 modules and 256 submodules.
+pub type DiffModules<'a> = Modules<'a, DiffModule, DiffSubmodule>;
 
 /// 0x8104: ModuleDiffBlock (IEC 61158-6-10, 5.2.4.11), of NumberOfAPIs 1.
-#[derive(Default, Drop)]
-pub struct ModuleDiffBlock {
+#[derive(Drop)]
+pub struct ModuleDiffBlock<'a> {
     /// API.
     pub api: u32,
     /// The modules, each with its submodules.
-    pub modules: DiffModules,
+    pub modules: DiffModules<'a>,
 }
 
 macro_rules! module_diff_fields {
@@ -78,7 +72,7 @@ macro_rules! module_diff_fields {
         $with! { $args ModuleDiffBlock {
             _: fixed 1 4,
             api: u32,
-            modules: list (fill_diff_modules, put_diff_modules, diff_modules_len),
+            modules: (diff_modules_at, put_diff_modules, diff_modules_len),
         } }
     };
 }
@@ -139,20 +133,22 @@ impl<const N: usize> Put<N> for DiffSubmodule {
     }
 }
 
-/// Reads NumberOfModules and the entries of modules and submodules into these lists: what is behind them.
+/// NumberOfModules and the entries of modules and submodules, and what is behind them.
 #[tactic(auto, unfolding(crate::specs::ModuleDiff::diff_modules))]
-fn fill_diff_modules<'a>(bytes: &'a [u8], value: &mut DiffModules) -> Result<&'a [u8], BlockFault>
-    ensures { Gives (λ rest. (value.new, rest.now)) result (diff_modules.read bytes.now) }
+fn diff_modules_at(bytes: &[u8]) -> Result<(DiffModules<'_>, &[u8]), BlockFault>
+    ensures { Gives (λ x. (x.0, x.1.now)) result (diff_modules.read bytes.now) }
 {
-    fill_modules(bytes, &mut value.modules, &mut value.submodules)
+    let mut modules = ArrayVec::new();
+    let mut submodules = ArrayVec::new();
+    Modules::at(bytes, &mut modules, &mut submodules)
 }
 
-/// Reads what BlockLength counts of a ModuleDiffBlock, to the last octet. At a fault the value is any.
+/// What BlockLength counts of a ModuleDiffBlock, to the last octet.
 #[tactic(auto, unfolding(block_fields::specs::Fields::body, crate::specs::ModuleDiff::module_diff))]
-pub fn fill_module_diff(bytes: &[u8], value: &mut ModuleDiffBlock) -> Result<(), BlockFault>
-    ensures { Gives (λ _. value.new) result ((body module_diff).read bytes.now) }
+pub fn module_diff_at(bytes: &[u8]) -> Result<ModuleDiffBlock<'_>, BlockFault>
+    ensures { Gives (λ x. x) result ((body module_diff).read bytes.now) }
 {
-    module_diff_fields!(fill_body [bytes, value])
+    module_diff_fields!(read_body[bytes])
 }
 
 /// Appends NumberOfModules and the entries of modules and submodules. There must be room.
@@ -163,7 +159,9 @@ fn put_diff_modules<const N: usize>(out: &mut ArrayVec<u8, N>, value: &DiffModul
     ensures len { array_vec_len out.new ≡ array_vec_len out.old + diff_modules.size value.now }
     ensures fits { IsCounted value.now → diff_modules.Fits value.now }
 {
-    put_modules(out, &value.modules, &value.submodules);
+    let mut modules = ArrayVec::new();
+    let mut submodules = ArrayVec::new();
+    put_modules(out, value, &mut modules, &mut submodules);
 }
 
 /// How many octets NumberOfModules and the entries of modules and submodules take.
@@ -172,7 +170,7 @@ fn diff_modules_len(value: &DiffModules) -> usize
     ensures size { result ≡ diff_modules.size value.now }
     ensures few { result ≤ 4610 }
 {
-    modules_len(&value.modules, &value.submodules)
+    modules_len(value)
 }
 
 /// Appends the fields of a ModuleDiffBlock. There must be room.

@@ -1,13 +1,14 @@
 -- The lists are sound, and reading goes on behind an entry or ends at a fault.
-use Rattle.std.proofs.Common.{◌≡◌, ℕ, ◌+◌, ◌<◌, List, [], ◌∷◌, ◌++◌, length, drop, Ok, Err}
+use Rattle.std.proofs.Common.{◌≡◌, ℕ, ◌+◌, ◌<◌, List, [], ◌∷◌, ◌++◌, length, drop, Ok, Err, refl}
 use Rattle.wire.specs.Codec.{Codec, IsSound}
 use Rattle.wire.proofs.Counts.{bounded_sound}
+use Rattle.wire.proofs.Joined.{seen_sound}
 use Rattle.wire.proofs.Nesting.{nested_sound, inner_goes_on, inner_fails, inner_ends, outer_goes_on, outer_fails, outer_fails_inside, outer_ends}
 use Rattle.block_fields.specs.declared.fault.BlockFault.{BlockFault}
 use Rattle.block_fields.specs.declared.fault.BlockFault.TheVariants.{Count}
 use Rattle.block_fields.specs.Fields.{two}
 use Rattle.block_fields.proofs.Sound.{numeral_sound}
-use Rattle.module_lists.specs.Lists.{next_entry, module_list, submodules_read, modules_read}
+use Rattle.module_lists.specs.Lists.{next_entry, module_list, listed_modules, submodules_read, modules_read}
 
 next_sound : {E : Type 0} (format : List E → Codec BlockFault E) → ((before : List E) → IsSound (format before)) → (start : ℕ) (before : List E)
     → IsSound (next_entry format start before)
@@ -29,9 +30,13 @@ module _ {S : Type 0} (item : List S → Codec BlockFault S) (start : ℕ) (befo
   submodules_end left h = inner_ends (next_entry item start) before bytes left h
 
 module _ {M S : Type 0} (head : List M → Codec BlockFault M) (own : M → ℕ) (item : List S → Codec BlockFault S) where
-  pub modules_sound : ((before : List M) → IsSound (head before)) → ((before : List S) → IsSound (item before)) → IsSound (module_list head own item)
+  modules_sound : ((before : List M) → IsSound (head before)) → ((before : List S) → IsSound (item before)) → IsSound (module_list head own item)
   unfolding module_list
   modules_sound heads items = nested_sound (next_entry head 0) own (next_entry item) (next_sound head heads 0) (next_sound item items) two (numeral_sound 2)
+
+  pub listed_sound : ((before : List M) → IsSound (head before)) → ((before : List S) → IsSound (item before)) → IsSound (listed_modules head own item)
+  unfolding listed_modules
+  listed_sound heads items = seen_sound _ _ _ (λ _. refl) (modules_sound heads items)
 
   pub modules_go_on : (modules : List M) (submodules more : List S) (bytes behind rest : List ℕ) (entry : M) (left n : ℕ) → left ≡ n + 1
       → (next_entry head 0 modules).read bytes ≡ Ok (entry, behind) → submodules_read item (length submodules) (own entry) submodules behind ≡ Ok (more, rest)

@@ -7,7 +7,7 @@ use Rattle.wire.proofs.Nesting.{outer_flat, outer_flat_size, outer_few, outer_bo
 use Rattle.block_fields.specs.declared.fault.BlockFault.{BlockFault}
 use Rattle.block_fields.specs.declared.fault.BlockFault.TheVariants.{Count}
 use Rattle.block_fields.specs.Fields.{number_bytes}
-use Rattle.module_lists.specs.Lists.{next_entry, module_list, submodules_size, modules_bytes, modules_size, WritesAlike}
+use Rattle.module_lists.specs.Lists.{Listed, next_entry, module_list, listed_modules, submodules_size, modules_bytes, modules_size, WritesAlike}
 
 -- the first of the submodules that are left
 pub first_inner : {S : Type 0} (item : List S → Codec BlockFault S) (submodules : List S) (i : ℕ) (d : S) → i < length submodules
@@ -40,17 +40,17 @@ module _ {M S : Type 0} (head : List M → Codec BlockFault M) (own : M → ℕ)
 
   -- how many they are at most, where a module takes at most so many, and a submodule
   pub modules_few : (head_most most : ℕ) → ((before : List M) (entry : M) → (head before).size entry ≤ head_most) → ((before : List S) (entry : S) → (item before).size entry ≤ most)
-      → (modules : List M) (submodules : List S) → (module_list head own item).size (modules, submodules) ≤ 2 + (length modules * head_most + length submodules * most)
-  unfolding module_list next_entry
-  modules_few head_most most heads items modules submodules =
-      omega (arith, outer_few (next_entry head 0) own (next_entry item) head_most most heads (λ start before. items (drop start before)) [] [] modules submodules)
+      → (value : Listed M S) → (listed_modules head own item).size value ≤ 2 + (length value.modules * head_most + length value.submodules * most)
+  unfolding listed_modules module_list next_entry
+  modules_few head_most most heads items value =
+      omega (arith, outer_few (next_entry head 0) own (next_entry item) head_most most heads (λ start before. items (drop start before)) [] [] value.modules value.submodules)
 
 -- modules that count the submodules that there are, and whose fields fit, can be written where none of them hangs on those before
-pub modules_fit : {M S : Type 0} (head : Codec BlockFault M) (own : M → ℕ) (item : Codec BlockFault S) (modules : List M) (submodules : List S)
-    → length modules ≤ 256 → length submodules ≤ 256 → sum_by own modules ≡ length submodules → FitsNested head.Fits own item.Fits modules submodules
-    → (module_list (λ _. head) own (λ _. item)).Fits (modules, submodules)
-unfolding module_list next_entry
-modules_fit head own item modules submodules few places counted fits = (
+pub modules_fit : {M S : Type 0} (head : Codec BlockFault M) (own : M → ℕ) (item : Codec BlockFault S) (value : Listed M S)
+    → length value.modules ≤ 256 → length value.submodules ≤ 256 → sum_by own value.modules ≡ length value.submodules
+    → FitsNested head.Fits own item.Fits value.modules value.submodules → (listed_modules (λ _. head) own (λ _. item)).Fits value
+unfolding listed_modules module_list next_entry
+modules_fit head own item value few places counted fits = (
   omega (arith, few),
-  outer_bounded head own item 256 Count [] [] modules submodules (omega (arith, few)) (omega (arith, places)) counted fits,
+  outer_bounded head own item 256 Count [] [] value.modules value.submodules (omega (arith, few)) (omega (arith, places)) counted fits,
 )

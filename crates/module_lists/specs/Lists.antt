@@ -1,11 +1,22 @@
 -- Modules, each with its submodules behind it. The submodules of all modules stand in one list, those of the first module first.
-use Rattle.std.specs.Prelude.{◌≡◌, refl, ℕ, List, [], drop, Result}
+use Rattle.std.specs.Prelude.{◌≡◌, refl, ℕ, List, [], drop, Result, Ok, Err}
 use Rattle.wire.specs.Codec.{Codec}
+use Rattle.wire.specs.Formats.{seen}
 use Rattle.wire.specs.Counted.{bounded}
 use Rattle.wire.specs.Nested.{nested, read_inner, read_outer, flat_bytes, flat_size, nested_bytes, nested_size}
 use Rattle.block_fields.specs.declared.fault.BlockFault.{BlockFault}
 use Rattle.block_fields.specs.declared.fault.BlockFault.TheVariants.{Count}
 use Rattle.block_fields.specs.Fields.{two}
+
+-- modules with their submodules
+pub record Listed (M S : Type 0) : Type 0 where
+  pub modules : List M
+  pub submodules : List S
+
+-- what is read at the front, or this where nothing can be read
+abbrev pub front_or : {A : Type 0} → A → Result (A × List ℕ) BlockFault → A
+front_or other (Ok x) = x.0
+front_or other (Err fault) = other
 
 -- one more entry behind these, of which there are at most 256; those that judge it begin at a place
 unfoldable pub next_entry : {E : Type 0} → (List E → Codec BlockFault E) → ℕ → List E → Codec BlockFault E
@@ -35,6 +46,14 @@ module _ {M S : Type 0} (head : List M → Codec BlockFault M) (own : M → ℕ)
   -- a count of modules, and each with its submodules: a module is judged by all before it, a submodule by those of its module
   unfoldable pub module_list : Codec BlockFault (List M × List S)
   module_list = nested (next_entry head 0) own (next_entry item) two
+
+  -- the same as a value with names for its lists
+  unfoldable pub listed_modules : Codec BlockFault (Listed M S)
+  listed_modules = seen (λ x. record { modules = x.0; submodules = x.1 }) (λ value. (value.modules, value.submodules)) module_list
+
+  -- the modules at the front of octets
+  unfoldable pub modules_in : List ℕ → Listed M S
+  modules_in bytes = front_or (record { modules = []; submodules = [] }) (listed_modules.read bytes)
 
   -- so many modules with their submodules behind those before them
   unfoldable pub modules_read : ℕ → List M → List S → List ℕ → Result ((List M × List S) × List ℕ) BlockFault

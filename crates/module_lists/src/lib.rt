@@ -4,9 +4,9 @@
 #![tactic(auto)]
 
 mod entry;
+mod modules;
 mod reading;
 mod writing;
 
 pub use entry::{Entry, Module, Put};
-pub use reading::fill_modules;
-pub use writing::{modules_len, put_modules};
+pub use modules::{Modules, modules_len, put_modules};

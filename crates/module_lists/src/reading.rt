@@ -68,7 +68,7 @@ fn modules_at<'a, M: Module, S: Entry>(
 
 /// Reads a count of modules, and each with its submodules, into these lists: what is behind them. At a fault they are any.
 #[tactic(auto, unfolding(crate::specs::Lists::module_list, crate::specs::Lists::modules_read))]
-pub fn fill_modules<'a, M: Module, S: Entry>(
+pub(crate) fn fill_modules<'a, M: Module, S: Entry>(
     bytes: &'a [u8],
     modules: &mut ArrayVec<M, 256>,
     submodules: &mut ArrayVec<S, 256>,

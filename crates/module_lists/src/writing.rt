@@ -44,20 +44,19 @@ fn put_entries<const N: usize, M: Module + Put<N>, S: Put<N>>(
 }
 
 /// Appends a count of modules, and each with as many of the submodules as it counts. There must be room.
-pub fn put_modules<const N: usize, M: Module + Put<N>, S: Put<N>>(
+pub(crate) fn put_lists<const N: usize, M: Module + Put<N>, S: Put<N>>(
     out: &mut ArrayVec<u8, N>,
-    modules: &ArrayVec<M, 256>,
-    submodules: &ArrayVec<S, 256>,
+    modules: &[M],
+    submodules: &[S],
 )
-    requires { array_vec_len out.old + (module_list M.format M.own S.format).size (modules.now.items, submodules.now.items) ≤ N }
-    ensures items { (tail : List ℕ) → out.new.items ++ tail ≡ out.old.items ++ (module_list M.format M.own S.format).write (modules.now.items, submodules.now.items) tail }
-    ensures len { array_vec_len out.new ≡ array_vec_len out.old + (module_list M.format M.own S.format).size (modules.now.items, submodules.now.items) }
-    ensures fits { FitsNested M.fits M.own S.fits modules.now.items submodules.now.items }
-    ensures few_modules { length modules.now.items ≤ 256 }
-    ensures few_submodules { length submodules.now.items ≤ 256 }
+    requires room { array_vec_len out.old + (module_list M.format M.own S.format).size (modules.now, submodules.now) ≤ N }
+    requires few { length modules.now ≤ 256 }
+    ensures items { (tail : List ℕ) → out.new.items ++ tail ≡ out.old.items ++ (module_list M.format M.own S.format).write (modules.now, submodules.now) tail }
+    ensures len { array_vec_len out.new ≡ array_vec_len out.old + (module_list M.format M.own S.format).size (modules.now, submodules.now) }
+    ensures fits { FitsNested M.fits M.own S.fits modules.now submodules.now }
 {
     append_u16(out, modules.len() as u16);
-    put_entries(out, modules.as_slice(), submodules.as_slice());
+    put_entries(out, modules, submodules);
 }
 
 /// How many octets the entries of submodules take.
@@ -93,13 +92,10 @@ fn entries_len<M: Module, S: Entry>(modules: &[M], submodules: &[S]) -> usize
 }
 
 /// How many octets a count of modules takes, and each of them with its submodules.
-pub fn modules_len<M: Module, S: Entry>(
-    modules: &ArrayVec<M, 256>,
-    submodules: &ArrayVec<S, 256>,
-) -> usize
-    ensures size { result ≡ (module_list M.format M.own S.format).size (modules.now.items, submodules.now.items) }
-    ensures few_modules { length modules.now.items ≤ 256 }
-    ensures few_submodules { length submodules.now.items ≤ 256 }
+pub(crate) fn lists_len<M: Module, S: Entry>(modules: &[M], submodules: &[S]) -> usize
+    requires modules { length modules.now ≤ 256 }
+    requires submodules { length submodules.now ≤ 256 }
+    ensures { result ≡ (module_list M.format M.own S.format).size (modules.now, submodules.now) }
 {
-    2 + entries_len(modules.as_slice(), submodules.as_slice())
+    2 + entries_len(modules, submodules)
 }

@@ -4,9 +4,11 @@ use Rattle.wire.specs.Codec.{IsSound}
 use Rattle.wire.specs.Nested.{FitsNested}
 use Rattle.wire.proofs.Joined.{then_by_sound, seen_sound}
 use Rattle.block_fields.proofs.Sound.{numeral_sound, fixed_sound}
-use Rattle.module_lists.proofs.Taken.{modules_sound}
+use Rattle.module_lists.proofs.Taken.{listed_sound}
 use Rattle.module_lists.proofs.Written.{modules_few as few, modules_fit as fit}
-use Rattle.record_blocks.specs.declared.filter_data.FilterModules.{FilterModules}
+use Rattle.module_lists.specs.Lists.{Listed}
+use Rattle.record_blocks.specs.declared.filter_data.FilterModule.{FilterModule}
+use Rattle.record_blocks.specs.declared.filter_data.FilterSubmodule.{FilterSubmodule}
 use Rattle.record_blocks.specs.FilterData.{filter_module, filter_submodule, own_of, filter_modules, filter_data, IsCounted}
 
 -- ---- the law
@@ -21,7 +23,7 @@ filter_submodule_sound = seen_sound _ _ _ (λ _. refl) (then_by_sound _ _ (numer
 
 filter_modules_sound : IsSound filter_modules
 unfolding filter_modules
-filter_modules_sound = seen_sound _ _ _ (λ _. refl) (modules_sound (λ _. filter_module) own_of (λ _. filter_submodule) (λ _. filter_module_sound) (λ _. filter_submodule_sound))
+filter_modules_sound = listed_sound (λ _. filter_module) own_of (λ _. filter_submodule) (λ _. filter_module_sound) (λ _. filter_submodule_sound)
 
 pub filter_data_sound : IsSound filter_data
 unfolding filter_data
@@ -30,12 +32,12 @@ filter_data_sound = seen_sound _ _ _ (λ _. refl) (then_by_sound _ _ (fixed_soun
 -- ---- what is written
 
 -- 8 octets a module and 6 a submodule, and the count
-pub modules_few : (value : FilterModules) → filter_modules.size value ≤ 2 + (length value.modules.items * 8 + length value.submodules.items * 6)
+pub modules_few : (value : Listed FilterModule FilterSubmodule) → filter_modules.size value ≤ 2 + (length value.modules * 8 + length value.submodules * 6)
 unfolding filter_modules filter_module filter_submodule
-modules_few value = few (λ _. filter_module) own_of (λ _. filter_submodule) 8 6 (λ _ _. omega arith) (λ _ _. omega arith) value.modules.items value.submodules.items
+modules_few value = few (λ _. filter_module) own_of (λ _. filter_submodule) 8 6 (λ _ _. omega arith) (λ _ _. omega arith) value
 
 -- modules that count the submodules that there are, and whose fields fit, can be written
-pub modules_fit : (value : FilterModules) → length value.modules.items ≤ 256 → length value.submodules.items ≤ 256 → IsCounted value
-    → FitsNested filter_module.Fits own_of filter_submodule.Fits value.modules.items value.submodules.items → filter_modules.Fits value
+pub modules_fit : (value : Listed FilterModule FilterSubmodule) → length value.modules ≤ 256 → length value.submodules ≤ 256 → IsCounted value
+    → FitsNested filter_module.Fits own_of filter_submodule.Fits value.modules value.submodules → filter_modules.Fits value
 unfolding filter_modules
-modules_fit value few_modules few_submodules counted fits = fit filter_module own_of filter_submodule value.modules.items value.submodules.items few_modules few_submodules counted fits
+modules_fit value few_modules few_submodules counted fits = fit filter_module own_of filter_submodule value few_modules few_submodules counted fits

@@ -4,7 +4,7 @@ use Rattle.wire.specs.Codec.{IsSound, IsSoundWhole}
 use Rattle.wire.proofs.Joined.{then_by_sound, seen_sound}
 use Rattle.wire.proofs.Wholes.{everything_sound, ends_by_sound, seen_whole_sound}
 use Rattle.block_fields.proofs.Sound.{numeral_sound, octets_sound, blank_sound, fixed_sound}
-use Rattle.record_blocks.specs.Im0.{im0}
+use Rattle.record_blocks.specs.Im0.{im0, im0_order, im0_revision}
 use Rattle.record_blocks.specs.Im1.{im1}
 use Rattle.record_blocks.specs.Im2.{im2}
 use Rattle.record_blocks.specs.Im3.{im3}
@@ -12,14 +12,21 @@ use Rattle.record_blocks.specs.Im4.{im4}
 use Rattle.record_blocks.specs.ReadRecord.{iod_read_req, iod_read_res}
 use Rattle.record_blocks.specs.WriteRecord.{iod_write_req, iod_write_res}
 use Rattle.record_blocks.specs.AlarmAck.{alarm_ack}
-use Rattle.record_blocks.specs.AlarmNotification.{alarm_notification}
+use Rattle.record_blocks.specs.AlarmNotification.{alarm_notification, alarm_place, alarm_subject}
+
+im0_order_sound : IsSound im0_order
+unfolding im0_order
+im0_order_sound = seen_sound _ _ _ (λ _. refl) (then_by_sound _ _ (numeral_sound 2) (λ _. then_by_sound _ _ (octets_sound 20) (λ _. octets_sound 16)))
+
+im0_revision_sound : IsSound im0_revision
+unfolding im0_revision
+im0_revision_sound = seen_sound _ _ _ (λ _. refl) (then_by_sound _ _ (numeral_sound 2) (λ _. then_by_sound _ _ (octets_sound 4)
+    (λ _. then_by_sound _ _ (fixed_sound 9 0) (λ _. then_by_sound _ _ (numeral_sound 2) (λ _. then_by_sound _ _ (numeral_sound 2)
+    (λ _. then_by_sound _ _ (fixed_sound 12 0x0101) (λ _. fixed_sound 13 0x000E)))))))
 
 pub im0_sound : IsSound im0
 unfolding im0
-im0_sound = seen_sound _ _ _ (λ _. refl) (then_by_sound _ _ (numeral_sound 2) (λ _. then_by_sound _ _ (octets_sound 20)
-    (λ _. then_by_sound _ _ (octets_sound 16) (λ _. then_by_sound _ _ (numeral_sound 2) (λ _. then_by_sound _ _ (octets_sound 4)
-    (λ _. then_by_sound _ _ (fixed_sound 9 0) (λ _. then_by_sound _ _ (numeral_sound 2) (λ _. then_by_sound _ _ (numeral_sound 2)
-    (λ _. then_by_sound _ _ (fixed_sound 12 0x0101) (λ _. fixed_sound 13 0x000E))))))))))
+im0_sound = seen_sound _ _ _ (λ _. refl) (then_by_sound _ _ im0_order_sound (λ _. im0_revision_sound))
 
 pub im1_sound : IsSound im1
 unfolding im1
@@ -72,9 +79,16 @@ alarm_ack_sound = seen_sound _ _ _ (λ _. refl) (then_by_sound _ _ (numeral_soun
     (λ _. then_by_sound _ _ (numeral_sound 2) (λ _. then_by_sound _ _ (numeral_sound 2) (λ _. then_by_sound _ _ (numeral_sound 2)
     (λ _. numeral_sound 4))))))
 
+alarm_place_sound : IsSound alarm_place
+unfolding alarm_place
+alarm_place_sound = seen_sound _ _ _ (λ _. refl) (then_by_sound _ _ (numeral_sound 2) (λ _. then_by_sound _ _ (numeral_sound 4)
+    (λ _. then_by_sound _ _ (numeral_sound 2) (λ _. numeral_sound 2))))
+
+alarm_subject_sound : IsSound alarm_subject
+unfolding alarm_subject
+alarm_subject_sound = seen_sound _ _ _ (λ _. refl) (then_by_sound _ _ (numeral_sound 4) (λ _. then_by_sound _ _ (numeral_sound 4)
+    (λ _. then_by_sound _ _ (numeral_sound 2) (λ _. fixed_sound 11 1))))
+
 pub alarm_notification_sound : IsSoundWhole alarm_notification
 unfolding alarm_notification
-alarm_notification_sound = seen_whole_sound _ _ _ (λ _. refl) (ends_by_sound _ _ (then_by_sound _ _ (numeral_sound 2) (λ _. then_by_sound _ _ (numeral_sound 4)
-    (λ _. then_by_sound _ _ (numeral_sound 2) (λ _. then_by_sound _ _ (numeral_sound 2) (λ _. then_by_sound _ _ (numeral_sound 4)
-    (λ _. then_by_sound _ _ (numeral_sound 4) (λ _. then_by_sound _ _ (numeral_sound 2) (λ _. fixed_sound 11 1))))))))
-    (λ _. everything_sound))
+alarm_notification_sound = seen_whole_sound _ _ _ (λ _. refl) (ends_by_sound _ _ (then_by_sound _ _ alarm_place_sound (λ _. alarm_subject_sound)) (λ _. everything_sound))

@@ -5,10 +5,9 @@ use Rattle.wire.specs.Codec.{Codec}
 use Rattle.wire.specs.Formats.{◌⨾◌, seen}
 use Rattle.block_fields.specs.declared.fault.BlockFault.{BlockFault}
 use Rattle.block_fields.specs.Fields.{two, four, fixed}
-use Rattle.module_lists.specs.Lists.{module_list}
+use Rattle.module_lists.specs.Lists.{Listed, listed_modules}
 use Rattle.record_blocks.specs.declared.filter_data.FilterModule.{FilterModule}
 use Rattle.record_blocks.specs.declared.filter_data.FilterSubmodule.{FilterSubmodule}
-use Rattle.record_blocks.specs.declared.filter_data.FilterModules.{FilterModules}
 use Rattle.record_blocks.specs.declared.filter_data.ImFilterData.{ImFilterData}
 
 -- ---- one entry
@@ -34,11 +33,8 @@ own_of entry = entry.number_of_submodules
 -- ---- the block
 
 -- NumberOfModules, and each module with its submodules
-unfoldable pub filter_modules : Codec BlockFault FilterModules
-filter_modules = seen
-    (λ x. record { modules = record { items = x.0 }; submodules = record { items = x.1 } })
-    (λ value. (value.modules.items, value.submodules.items))
-    (module_list (λ _. filter_module) own_of (λ _. filter_submodule))
+unfoldable pub filter_modules : Codec BlockFault (Listed FilterModule FilterSubmodule)
+filter_modules = listed_modules (λ _. filter_module) own_of (λ _. filter_submodule)
 
 -- NumberOfAPIs 1, API and the modules
 unfoldable pub filter_data : Codec BlockFault ImFilterData
@@ -46,8 +42,8 @@ filter_data = seen (λ x. record { api = x.1.0; modules = x.1.1 }) (λ block. (t
     (fixed 4 1 ⨾ four ⨾ filter_modules)
 
 -- the modules count the submodules that there are
-abbrev pub IsCounted : FilterModules → Type 0
-IsCounted value = sum_by own_of value.modules.items ≡ length value.submodules.items
+abbrev pub IsCounted : Listed FilterModule FilterSubmodule → Type 0
+IsCounted value = sum_by own_of value.modules ≡ length value.submodules
 
 -- its fields are accepted
 abbrev pub IsFilterData : ImFilterData → Type 0

@@ -1,9 +1,8 @@
 //! The data of an alarm.
-ghost use Rattle.std.specs.Prelude.{◌≡◌, ◌+◌, ◌≤◌, ◌++◌, List, ℕ, [], length, IsOkAnd};
+ghost use Rattle.std.specs.Prelude.{◌≡◌, ◌+◌, ◌≤◌, ◌++◌, List, ℕ, length};
 ghost use Rattle.arrayvec.specs.ArrayVec.{array_vec_len};
 
 use arrayvec::ArrayVec;
-use block_fields::BlockFault;
 use std::marker::Model;
 
 /// The data of an alarm, in place: any octets, at most as many as a BlockLength can count behind the other fields.
@@ -38,14 +37,6 @@ impl<'a> AlarmData<'a> {
     {
         self.octets
     }
-}
-
-/// All the octets as data, and nothing behind them.
-pub(crate) fn alarm_data_at(bytes: &[u8]) -> Result<(AlarmData<'_>, &[u8]), BlockFault>
-    requires { length bytes.now ≤ 65511 }
-    ensures { IsOkAnd result (λ x. (x.0 ≡ bytes.now) × (x.1.now ≡ [])) }
-{
-    Ok((AlarmData::new(bytes), &[]))
 }
 
 /// Appends the data. There must be room.

@@ -1,14 +1,14 @@
 //! An alarm.
-ghost use Rattle.std.specs.Prelude.{◌≡◌, ◌+◌, ◌≤◌, ◌++◌, List, ℕ, length};
+ghost use Rattle.std.specs.Prelude.{◌≡◌, ◌+◌, ◌≤◌, ◌++◌, List, ℕ, length, IfOk};
 ghost use Rattle.arrayvec.specs.ArrayVec.{array_vec_len};
 ghost use Rattle.wire.specs.Codec.{Gives};
 ghost use Rattle.block_fields.specs.Fields.{open_body};
-ghost use Rattle.record_blocks.specs.AlarmNotification.{alarm_notification};
+ghost use Rattle.record_blocks.specs.AlarmNotification.{alarm_notification, alarm_place, alarm_subject};
 
 use crate::AlarmData;
-use crate::alarm_data::{alarm_data_at, alarm_data_len, put_alarm_data};
+use crate::alarm_data::{alarm_data_len, put_alarm_data};
 use arrayvec::ArrayVec;
-use block_fields::{BlockFault, len_fields, put_fields, read_body};
+use block_fields::{BlockFault, len_fields, put_fields, read_fields, version_at};
 
 /// 0x0001: AlarmNotification (IEC 61158-6-10, 5.2.5): what happened in a submodule. UserStructureIdentifier is 1.
 #[derive(Drop)]
@@ -31,47 +31,104 @@ pub struct AlarmNotification<'a> {
     pub alarm_data: AlarmData<'a>,
 }
 
-macro_rules! alarm_notification_fields {
+/// What happened, and in which subslot.
+#[derive(Clone, Copy)]
+struct AlarmPlace {
+    alarm_type: u16,
+    api: u32,
+    slot_number: u16,
+    subslot_number: u16,
+}
+
+macro_rules! alarm_place_fields {
     ($with:ident $args:tt) => {
-        $with! { $args AlarmNotification {
+        $with! { $args AlarmPlace {
             alarm_type: u16,
             api: u32,
             slot_number: u16,
             subslot_number: u16,
-            module_ident_number: u32,
-            submodule_ident_number: u32,
-            alarm_specifier: u16,
-            _: fixed 1 11,
-            alarm_data: (alarm_data_at, put_alarm_data, alarm_data_len),
         } }
     };
 }
 
+/// What is plugged in there, and how the data is meant.
+#[derive(Clone, Copy)]
+struct AlarmSubject {
+    module_ident_number: u32,
+    submodule_ident_number: u32,
+    alarm_specifier: u16,
+}
+
+macro_rules! alarm_subject_fields {
+    ($with:ident $args:tt) => {
+        $with! { $args AlarmSubject {
+            module_ident_number: u32,
+            submodule_ident_number: u32,
+            alarm_specifier: u16,
+            _: fixed 1 11,
+        } }
+    };
+}
+
+/// From AlarmType to SubslotNumber, and what is behind them.
+#[tactic(auto, using(block_fields::proofs::Left::number_left), unfolding(crate::specs::AlarmNotification::alarm_place))]
+fn alarm_place_at(bytes: &[u8]) -> Result<(AlarmPlace, &[u8]), BlockFault>
+    ensures read { Gives (λ x. (x.0, x.1.now)) result (alarm_place.read bytes.now) }
+    ensures left { IfOk result (λ x. length bytes.now ≡ 10 + length x.1.now) }
+{
+    alarm_place_fields!(read_fields[bytes])
+}
+
+/// From ModuleIdentNumber to UserStructureIdentifier, and what is behind them.
+#[tactic(auto, using(block_fields::proofs::Left::number_left, block_fields::proofs::Left::fixed_left), unfolding(crate::specs::AlarmNotification::alarm_subject))]
+fn alarm_subject_at(bytes: &[u8]) -> Result<(AlarmSubject, &[u8]), BlockFault>
+    ensures read { Gives (λ x. (x.0, x.1.now)) result (alarm_subject.read bytes.now) }
+    ensures left { IfOk result (λ x. length bytes.now ≡ 12 + length x.1.now) }
+{
+    alarm_subject_fields!(read_fields[bytes])
+}
+
 /// What BlockLength counts of an AlarmNotification, to the last octet. It counts at most 65,535.
-#[tactic(auto, using(block_fields::proofs::Left::number_left, block_fields::proofs::Left::fixed_left, block_fields::proofs::Left::version_left), unfolding(block_fields::specs::Fields::open_body, crate::specs::AlarmNotification::alarm_notification))]
+#[tactic(auto, using(block_fields::proofs::Left::version_left), unfolding(block_fields::specs::Fields::open_body, crate::specs::AlarmNotification::alarm_notification))]
 pub fn alarm_notification_at(bytes: &[u8]) -> Result<AlarmNotification<'_>, BlockFault>
     requires { length bytes.now ≤ 65535 }
     ensures { Gives (λ x. x) result ((open_body alarm_notification).read bytes.now) }
 {
-    alarm_notification_fields!(read_body[bytes])
+    let rest = version_at(bytes)?;
+    let (place, rest) = alarm_place_at(rest)?;
+    let (subject, rest) = alarm_subject_at(rest)?;
+    Ok(AlarmNotification {
+        alarm_type: place.alarm_type,
+        api: place.api,
+        slot_number: place.slot_number,
+        subslot_number: place.subslot_number,
+        module_ident_number: subject.module_ident_number,
+        submodule_ident_number: subject.submodule_ident_number,
+        alarm_specifier: subject.alarm_specifier,
+        alarm_data: AlarmData::new(rest),
+    })
 }
 
 /// Appends the fields of an AlarmNotification. There must be room.
-#[tactic(auto, unfolding(crate::specs::AlarmNotification::alarm_notification))]
+#[tactic(auto, unfolding(crate::specs::AlarmNotification::alarm_notification, crate::specs::AlarmNotification::alarm_place, crate::specs::AlarmNotification::alarm_subject))]
 pub fn put_alarm_notification<const N: usize>(out: &mut ArrayVec<u8, N>, value: &AlarmNotification)
     requires { array_vec_len out.old + alarm_notification.size value.now ≤ N }
     ensures items { out.new.items ≡ out.old.items ++ alarm_notification.write value.now }
     ensures len { array_vec_len out.new ≡ array_vec_len out.old + alarm_notification.size value.now }
     ensures fits { alarm_notification.Fits value.now }
 {
-    alarm_notification_fields!(put_fields [out, value]);
+    alarm_place_fields!(put_fields [out, value]);
+    alarm_subject_fields!(put_fields [out, value]);
+    put_alarm_data(out, &value.alarm_data);
 }
 
 /// How many octets the fields of an AlarmNotification take.
-#[tactic(auto, unfolding(crate::specs::AlarmNotification::alarm_notification))]
+#[tactic(auto, unfolding(crate::specs::AlarmNotification::alarm_notification, crate::specs::AlarmNotification::alarm_place, crate::specs::AlarmNotification::alarm_subject))]
 pub fn alarm_notification_len(value: &AlarmNotification) -> usize
     ensures size { result ≡ alarm_notification.size value.now }
     ensures few { result ≤ 65533 }
 {
-    alarm_notification_fields!(len_fields[value])
+    let place = alarm_place_fields!(len_fields[value]);
+    let subject = alarm_subject_fields!(len_fields[value]);
+    place + subject + alarm_data_len(&value.alarm_data)
 }

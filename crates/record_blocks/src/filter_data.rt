@@ -7,8 +7,8 @@ ghost use Rattle.module_lists.specs.Lists.{flat_alike};
 ghost use Rattle.record_blocks.specs.FilterData.{filter_data, filter_module, filter_modules, filter_submodule, own_of, IsCounted, IsFilterData};
 
 use arrayvec::ArrayVec;
-use block_fields::{BlockFault, fill_body, len_fields, put_fields, read_fields};
-use module_lists::{Entry, Module, Put, fill_modules, modules_len, put_modules};
+use block_fields::{BlockFault, len_fields, put_fields, read_body, read_fields};
+use module_lists::{Entry, Module, Modules, Put, modules_len, put_modules};
 
 /// A module that an I&M0FilterData lists.
 #[derive(Clone, Copy, Default)]
@@ -49,22 +49,16 @@ macro_rules! filter_submodule_fields {
     };
 }
 
-/// The modules that an I&M0FilterData lists.
-#[derive(Default, Drop)]
-pub struct FilterModules {
-    /// The modules, at most 256.
-    pub modules: ArrayVec<FilterModule, 256>,
-    /// The submodules of all of them, at most 256: first those of the first module.
-    pub submodules: ArrayVec<FilterSubmodule, 256>,
-}
+/// The modules that an I&M0FilterData lists, each with its submodules: at most 256 modules and 256 submodules.
+pub type FilterModules<'a> = Modules<'a, FilterModule, FilterSubmodule>;
 
 /// 0x0030 and 0x0032: I&M0FilterData (IEC 61158-6-10, 5.2.3.22), of NumberOfAPIs 1.
-#[derive(Default, Drop)]
-pub struct ImFilterData {
+#[derive(Drop)]
+pub struct ImFilterData<'a> {
     /// API.
     pub api: u32,
     /// The modules, each with its submodules.
-    pub modules: FilterModules,
+    pub modules: FilterModules<'a>,
 }
 
 macro_rules! filter_data_fields {
@@ -72,7 +66,7 @@ macro_rules! filter_data_fields {
         $with! { $args ImFilterData {
             _: fixed 1 4,
             api: u32,
-            modules: list (fill_filter_modules, put_filter_modules, filter_modules_len),
+            modules: (filter_modules_at, put_filter_modules, filter_modules_len),
         } }
     };
 }
@@ -133,23 +127,22 @@ impl<const N: usize> Put<N> for FilterSubmodule {
     }
 }
 
-/// Reads NumberOfModules and the entries of modules and submodules into these lists: what is behind them.
+/// NumberOfModules and the entries of modules and submodules, and what is behind them.
 #[tactic(auto, unfolding(crate::specs::FilterData::filter_modules))]
-fn fill_filter_modules<'a>(
-    bytes: &'a [u8],
-    value: &mut FilterModules,
-) -> Result<&'a [u8], BlockFault>
-    ensures { Gives (λ rest. (value.new, rest.now)) result (filter_modules.read bytes.now) }
+fn filter_modules_at(bytes: &[u8]) -> Result<(FilterModules<'_>, &[u8]), BlockFault>
+    ensures { Gives (λ x. (x.0, x.1.now)) result (filter_modules.read bytes.now) }
 {
-    fill_modules(bytes, &mut value.modules, &mut value.submodules)
+    let mut modules = ArrayVec::new();
+    let mut submodules = ArrayVec::new();
+    Modules::at(bytes, &mut modules, &mut submodules)
 }
 
-/// Reads what BlockLength counts of an I&M0FilterData, to the last octet. At a fault the value is any.
+/// What BlockLength counts of an I&M0FilterData, to the last octet.
 #[tactic(auto, unfolding(block_fields::specs::Fields::body, crate::specs::FilterData::filter_data))]
-pub fn fill_filter_data(bytes: &[u8], value: &mut ImFilterData) -> Result<(), BlockFault>
-    ensures { Gives (λ _. value.new) result ((body filter_data).read bytes.now) }
+pub fn filter_data_at(bytes: &[u8]) -> Result<ImFilterData<'_>, BlockFault>
+    ensures { Gives (λ x. x) result ((body filter_data).read bytes.now) }
 {
-    filter_data_fields!(fill_body [bytes, value])
+    filter_data_fields!(read_body[bytes])
 }
 
 /// Appends NumberOfModules and the entries of modules and submodules. There must be room.
@@ -160,7 +153,9 @@ fn put_filter_modules<const N: usize>(out: &mut ArrayVec<u8, N>, value: &FilterM
     ensures len { array_vec_len out.new ≡ array_vec_len out.old + filter_modules.size value.now }
     ensures fits { IsCounted value.now → filter_modules.Fits value.now }
 {
-    put_modules(out, &value.modules, &value.submodules);
+    let mut modules = ArrayVec::new();
+    let mut submodules = ArrayVec::new();
+    put_modules(out, value, &mut modules, &mut submodules);
 }
 
 /// How many octets NumberOfModules and the entries of modules and submodules take.
@@ -168,9 +163,9 @@ fn put_filter_modules<const N: usize>(out: &mut ArrayVec<u8, N>, value: &FilterM
 fn filter_modules_len(value: &FilterModules) -> usize
     ensures size { result ≡ filter_modules.size value.now }
     ensures few { result ≤ 3586 }
-    ensures most { result ≤ 2 + 8 * length value.now.modules.items + 6 * length value.now.submodules.items }
+    ensures most { result ≤ 2 + 8 * length value.now.modules + 6 * length value.now.submodules }
 {
-    modules_len(&value.modules, &value.submodules)
+    modules_len(value)
 }
 
 /// Appends the fields of an I&M0FilterData. There must be room.
@@ -189,7 +184,7 @@ pub fn put_filter_data<const N: usize>(out: &mut ArrayVec<u8, N>, value: &ImFilt
 pub fn filter_data_len(value: &ImFilterData) -> usize
     ensures size { result ≡ filter_data.size value.now }
     ensures few { result ≤ 3592 }
-    ensures most { result ≤ 8 + 8 * length value.now.modules.modules.items + 6 * length value.now.modules.submodules.items }
+    ensures most { result ≤ 8 + 8 * length value.now.modules.modules + 6 * length value.now.modules.submodules }
 {
     filter_data_fields!(len_fields[value])
 }

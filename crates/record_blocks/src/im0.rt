@@ -3,10 +3,10 @@ ghost use Rattle.std.specs.Prelude.{◌≡◌, ◌+◌, ◌≤◌, ◌++◌, Lis
 ghost use Rattle.arrayvec.specs.ArrayVec.{array_vec_len};
 ghost use Rattle.wire.specs.Codec.{Gives};
 ghost use Rattle.block_fields.specs.Fields.{body};
-ghost use Rattle.record_blocks.specs.Im0.{im0};
+ghost use Rattle.record_blocks.specs.Im0.{im0, im0_order, im0_revision};
 
 use arrayvec::ArrayVec;
-use block_fields::{BlockFault, len_fields, put_fields, read_body};
+use block_fields::{BlockFault, ended, len_fields, put_fields, read_fields, version_at};
 
 /// 0x0020: I&M0 (IEC 61158-6-10, 5.2.3.22), of IM_RevisionCounter 0, IM_Version 1.1 and an IM_Supported of I&M1 to I&M3.
 #[derive(Clone, Copy)]
@@ -27,12 +27,36 @@ pub struct Im0 {
     pub im_profile_specific_type: u16,
 }
 
-macro_rules! im0_fields {
+/// Which device it is.
+#[derive(Clone, Copy)]
+struct Im0Order {
+    vendor_id: u16,
+    order_id: [u8; 20],
+    im_serial_number: [u8; 16],
+}
+
+macro_rules! im0_order_fields {
     ($with:ident $args:tt) => {
-        $with! { $args Im0 {
+        $with! { $args Im0Order {
             vendor_id: u16,
             order_id: octets 20,
             im_serial_number: octets 16,
+        } }
+    };
+}
+
+/// Of which revision and profile it is.
+#[derive(Clone, Copy)]
+struct Im0Revision {
+    im_hardware_revision: u16,
+    im_software_revision: [u8; 4],
+    im_profile_id: u16,
+    im_profile_specific_type: u16,
+}
+
+macro_rules! im0_revision_fields {
+    ($with:ident $args:tt) => {
+        $with! { $args Im0Revision {
             im_hardware_revision: u16,
             im_software_revision: octets 4,
             _: fixed 0 9,
@@ -44,30 +68,63 @@ macro_rules! im0_fields {
     };
 }
 
+/// From VendorIDHigh to IM_Serial_Number, and what is behind them.
+#[tactic(auto, unfolding(crate::specs::Im0::im0_order))]
+fn im0_order_at(bytes: &[u8]) -> Result<(Im0Order, &[u8]), BlockFault>
+    ensures { Gives (λ x. (x.0, x.1.now)) result (im0_order.read bytes.now) }
+{
+    im0_order_fields!(read_fields[bytes])
+}
+
+/// From IM_Hardware_Revision to IM_Supported, and what is behind them.
+#[tactic(auto, unfolding(crate::specs::Im0::im0_revision))]
+fn im0_revision_at(bytes: &[u8]) -> Result<(Im0Revision, &[u8]), BlockFault>
+    ensures { Gives (λ x. (x.0, x.1.now)) result (im0_revision.read bytes.now) }
+{
+    im0_revision_fields!(read_fields[bytes])
+}
+
 /// What BlockLength counts of an I&M0, to the last octet.
 #[tactic(auto, unfolding(block_fields::specs::Fields::body, crate::specs::Im0::im0))]
 pub fn im0_at(bytes: &[u8]) -> Result<Im0, BlockFault>
     ensures { Gives (λ x. x) result ((body im0).read bytes.now) }
 {
-    im0_fields!(read_body[bytes])
+    let rest = version_at(bytes)?;
+    let (order, rest) = im0_order_at(rest)?;
+    let (revision, rest) = im0_revision_at(rest)?;
+    ended(rest)?;
+    let order_id = order.order_id;
+    let im_serial_number = order.im_serial_number;
+    let im_software_revision = revision.im_software_revision;
+    Ok(Im0 {
+        vendor_id: order.vendor_id,
+        order_id,
+        im_serial_number,
+        im_hardware_revision: revision.im_hardware_revision,
+        im_software_revision,
+        im_profile_id: revision.im_profile_id,
+        im_profile_specific_type: revision.im_profile_specific_type,
+    })
 }
 
 /// Appends the fields of an I&M0. There must be room.
-#[tactic(auto, unfolding(crate::specs::Im0::im0))]
+#[tactic(auto, unfolding(crate::specs::Im0::im0, crate::specs::Im0::im0_order, crate::specs::Im0::im0_revision))]
 pub fn put_im0<const N: usize>(out: &mut ArrayVec<u8, N>, value: &Im0)
     requires { array_vec_len out.old + im0.size value.now ≤ N }
     ensures items { (tail : List ℕ) → out.new.items ++ tail ≡ out.old.items ++ im0.write value.now tail }
     ensures len { array_vec_len out.new ≡ array_vec_len out.old + im0.size value.now }
     ensures fits { im0.Fits value.now }
 {
-    im0_fields!(put_fields [out, value]);
+    im0_order_fields!(put_fields [out, value]);
+    im0_revision_fields!(put_fields [out, value]);
 }
 
 /// How many octets the fields of an I&M0 take.
-#[tactic(auto, unfolding(crate::specs::Im0::im0))]
+#[tactic(auto, unfolding(crate::specs::Im0::im0, crate::specs::Im0::im0_order, crate::specs::Im0::im0_revision))]
 pub fn im0_len(value: &Im0) -> usize
     ensures size { result ≡ im0.size value.now }
     ensures few { result ≡ 54 }
 {
-    im0_fields!(len_fields[value])
+    let order = im0_order_fields!(len_fields[value]);
+    order + im0_revision_fields!(len_fields[value])
 }

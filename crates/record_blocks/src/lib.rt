@@ -20,7 +20,7 @@ pub use alarm_notification::{
     AlarmNotification, alarm_notification_at, alarm_notification_len, put_alarm_notification,
 };
 pub use filter_data::{
-    FilterModule, FilterModules, FilterSubmodule, ImFilterData, fill_filter_data, filter_data_len,
+    FilterModule, FilterModules, FilterSubmodule, ImFilterData, filter_data_at, filter_data_len,
     put_filter_data,
 };
 pub use im0::{Im0, im0_at, im0_len, put_im0};

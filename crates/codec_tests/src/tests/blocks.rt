@@ -2,8 +2,8 @@
 // a reference model; here is what its lines do not show.
 use arrayvec::ArrayVec;
 use block_codec::{
-    AlarmData, AlarmNotification, Block, BlockFault, BlockReader, BlockRoom, BlockType, block_len,
-    read_block, write_block,
+    AlarmData, AlarmNotification, Block, BlockFault, BlockReader, BlockType, block_len, read_block,
+    write_block,
 };
 
 /// An ARBlockReq of station `plc`.
@@ -97,7 +97,7 @@ const ALARM_NOTIFICATION: [u8; 32] = [
 
 /// What a reader gives next: a type, or why there is none; None at the end.
 fn next_of(reader: &mut BlockReader) -> Option<Result<BlockType, BlockFault>> {
-    match reader.next(&mut BlockRoom::new()) {
+    match reader.next() {
         Some(Ok(block)) => Some(Ok(block.block_type())),
         Some(Err(fault)) => Some(Err(fault)),
         None => None,
@@ -175,7 +175,7 @@ fn cut(length: u8, body: &[u8]) -> Option<BlockFault> {
     let mut bytes: ArrayVec<u8, 64> = ArrayVec::new();
     let _ = bytes.try_extend_from_slice(&[1, 0x10, 0, length]);
     let _ = bytes.try_extend_from_slice(body);
-    read_block(bytes.as_slice(), &mut BlockRoom::new()).err()
+    read_block(bytes.as_slice()).err()
 }
 
 #[test]
@@ -188,7 +188,7 @@ fn a_version_is_judged_before_what_is_missing_behind_it(rt: HostRuntime) {
 
 /// Why octets are no block.
 fn fault_of(bytes: &[u8]) -> Option<BlockFault> {
-    read_block(bytes, &mut BlockRoom::new()).err()
+    read_block(bytes).err()
 }
 
 /// Why a block is none where the two octets at a place are this number.

@@ -1,7 +1,7 @@
 -- the entries so far, and those of the modules that are left
 use Rattle.std.proofs.Common.{◌≡◌, ◌*◌, ◌≤◌, ◌++◌, length, drop}
 use Rattle.im_records.specs.Plugged.{modules_in, submodules_in}
-use Rattle.im_records.proofs.plugged.all_entries.Given as goal
+use Rattle.im_records.proofs.plugged.push_all.Given as goal
 
 abbrev pub invariant-loop-entry : goal.invariant-loop-entry
 invariant-loop-entry l = record {

@@ -1,6 +1,6 @@
 use Rattle.std.proofs.Common.{arith}
 use Rattle.module_lists.proofs.Written.{modules_sized, modules_written}
-use Rattle.module_lists.proofs.writing.put_modules.Goals as goal
+use Rattle.module_lists.proofs.writing.put_lists.Goals as goal
 
 pub append_u16-requires : goal.append_u16-requires
 append_u16-requires g c =
