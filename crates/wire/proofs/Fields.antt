@@ -1,5 +1,5 @@
 -- The fields that formats are made of are sound.
-use Rattle.std.proofs.Common.{◌≡◌, ℕ, ◌≤◌, Bool, true, false, cond, ltb, List, [], ◌++◌, length, take, drop, replicate, Result, Ok, Err, refl, sym, ap, ◌∙◌, append_assoc, arith}
+use Rattle.std.proofs.Common.{◌≡◌, ℕ, ◌≤◌, Bool, true, false, cond, ltb, List, [], ◌∷◌, ◌++◌, length, take, drop, replicate, Result, Ok, Err, refl, sym, ap, ◌∙◌, append_assoc, arith}
 use Rattle.std.proofs.lemmas.Bool.{ltb-false, le-ltb}
 use Rattle.std.proofs.lemmas.List.{append-nil, take_at, drop_at, take-append-drop, length-append, length-take, length-replicate}
 use Rattle.byteorder.specs.Endian.{big_number, big_bytes}
@@ -86,3 +86,9 @@ pub number_onward : {F : Type 0} (short : F) (size : ℕ) → IsOnward (number s
 number_onward short size = record {
   onward = λ bytes value rest more s. (s.0, s.1, ap (λ (xs : List ℕ). xs ++ more) s.2 ∙ append_assoc s.0 rest more, s.3);
 }
+
+-- padding is not so: it takes fewer bytes only where it finds the end
+pub padding_finds_the_end : {F : Type 0} → IsOnward (padding {F = F} 1) → ⊥
+padding_finds_the_end inner = something (inner.onward [] tt [] (0 ∷ []) refl) where
+  something : {x : ℕ} {xs : List ℕ} → x ∷ xs ≡ [] → ⊥
+  something e = cc
