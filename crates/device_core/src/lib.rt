@@ -2,6 +2,7 @@
 #![tactic(auto)]
 
 mod carrying;
+mod dcp;
 mod device;
 mod event;
 mod headline;

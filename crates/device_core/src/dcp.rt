@@ -1,0 +1,139 @@
+// The requests of DCP: Identify, Get and Set (IEC 61158-6-10, 4.3).
+ghost use Rattle.std.specs.Prelude.{◌≡◌, ◌<◌, [], ◌∷◌, ◌++◌, map};
+ghost use Rattle.std.specs.List.{list_any};
+ghost use Rattle.arrayvec.specs.ArrayVec.{array_vec_len};
+ghost use Rattle.settings_store.specs.Carries.{Holds};
+ghost use Rattle.dcp_core.specs.Reading.{request_of};
+ghost use Rattle.dcp_core.specs.Request.{asked};
+ghost use Rattle.device_core.specs.Heard.{Asks, heard_request};
+ghost use Rattle.device_core.specs.Sent.{GetAnswer, answer_frame, bytes_of};
+ghost use Rattle.device_core.specs.Machine.{identified, finished, is_signal, lamp_after as lamp_of};
+ghost use Rattle.device_core.specs.Steps.{Steps};
+
+use crate::carrying::carry_out;
+use crate::{Device, Note};
+use dcp_core::{
+    Answer, Request, Service, get_answer, identify_answer, identify_matches, read_request,
+    set_answer, set_plan,
+};
+use flash_model::Flash;
+use frame_codec::{DCP_GET_SET, DCP_IDENTIFY_RESPONSE, Layered, Outbox, Payload};
+use pn_values::{Identity, Mac, SetItem};
+
+/// For how many units of 31.25 microseconds the lamp flashes after a Signal: 3 seconds.
+const LAMP_UNITS: u32 = 96_000;
+
+impl<F: Flash<S>, const S: usize> Device<F, S> {
+    // What a station asks behind a FrameID.
+    pub(crate) fn read_and_serve(
+        &mut self,
+        asker: Mac,
+        frame_id: u16,
+        body: &[u8],
+        outbox: &mut Outbox,
+    ) -> Note
+        requires stored { Holds (F.image self.old.flash) self.old.live.values }
+        requires empty { outbox.old.items ≡ [] }
+        ensures steps { Steps F.image F.failures F.asked self.old (heard_request asker (request_of frame_id body.now)) (map (λ frame. frame.items) outbox.new.items) result self.new }
+        ensures reliable { F.is_reliable self.old.flash → F.is_reliable self.new.flash × (self.new.live.values.has_failed ≡ self.old.live.values.has_failed) }
+    {
+        match &read_request(frame_id, body) {
+            Ok(request) => self.serve(asker, request, outbox),
+            Err(_) => Note::Fault,
+        }
+    }
+
+    // A request of a station.
+    fn serve(&mut self, asker: Mac, request: &Request<'_>, outbox: &mut Outbox) -> Note
+        requires stored { Holds (F.image self.old.flash) self.old.live.values }
+        requires empty { outbox.old.items ≡ [] }
+        ensures steps { Steps F.image F.failures F.asked self.old (Asks asker (asked request.now)) (map (λ frame. frame.items) outbox.new.items) result self.new }
+        ensures reliable { F.is_reliable self.old.flash → F.is_reliable self.new.flash × (self.new.live.values.has_failed ≡ self.old.live.values.has_failed) }
+    {
+        match request.service {
+            Service::Identify => self.identify(asker, request, outbox),
+            Service::Get => self.get(asker, request, outbox),
+            Service::Set => self.set(asker, request, outbox),
+        }
+    }
+
+    // An Identify request (IEC 61158-6-10, 4.3.2.3).
+    fn identify(&self, asker: Mac, request: &Request<'_>, outbox: &mut Outbox) -> Note
+        requires { outbox.old.items ≡ [] }
+        ensures frames { let end = finished self.now.live.rest (identified self.now.identity self.now.live asker (asked request.now)) [] in
+            map (λ frame. frame.items) outbox.new.items ≡ map (bytes_of self.now.identity) end.sent }
+        ensures note { result ≡ (finished self.now.live.rest (identified self.now.identity self.now.live asker (asked request.now)) []).note }
+    {
+        let running = self.store.running();
+        if !identify_matches(&self.identity, running, request) {
+            return Note::Filter;
+        }
+        let answer = identify_answer(&self.identity, running, request.xid);
+        send(
+            &self.identity,
+            asker,
+            DCP_IDENTIFY_RESPONSE,
+            &answer,
+            outbox,
+        );
+        Note::Done
+    }
+
+    // A Get (4.3.2.4).
+    fn get(&self, asker: Mac, request: &Request<'_>, outbox: &mut Outbox) -> Note
+        requires { outbox.old.items ≡ [] }
+        ensures frames { map (λ frame. frame.items) outbox.new.items
+            ≡ bytes_of self.now.identity (GetAnswer asker self.now.live.values.running (asked request.now)) ∷ [] }
+        ensures note { result ≡ Note.Done }
+    {
+        let answer = get_answer(&self.identity, self.store.running(), request);
+        send(&self.identity, asker, DCP_GET_SET, &answer, outbox);
+        Note::Done
+    }
+
+    // A Set (4.3.2.5): its blocks in order, each by itself. No application relation exists.
+    fn set(&mut self, asker: Mac, request: &Request<'_>, outbox: &mut Outbox) -> Note
+        requires service { request.now.service ≡ Service.Set }
+        requires empty { outbox.old.items ≡ [] }
+        ensures steps { Steps F.image F.failures F.asked self.old (Asks asker (asked request.now)) (map (λ frame. frame.items) outbox.new.items) result self.new }
+        ensures reliable { F.is_reliable self.old.flash → F.is_reliable self.new.flash × (self.new.live.values.has_failed ≡ self.old.live.values.has_failed) }
+    {
+        let plan = set_plan(request, false);
+        let answers = carry_out(&mut self.store, plan.as_slice());
+        self.lamp = lamp_after(self.lamp, plan.as_slice());
+        let answer = set_answer(request, &answers);
+        send(&self.identity, asker, DCP_GET_SET, &answer, outbox);
+        Note::Done
+    }
+}
+
+// For how many units the lamp flashes after these items, where it flashed for so many before.
+fn lamp_after(lamp: u32, items: &[SetItem]) -> u32
+    ensures { result ≡ lamp_of lamp items.now }
+{
+    if has_signal(items) { LAMP_UNITS } else { lamp }
+}
+
+// Whether an item has the lamp flash.
+fn has_signal(items: &[SetItem]) -> bool
+    ensures { result ≡ list_any is_signal items.now }
+{
+    items.iter().any(|item| matches!(item, SetItem::Signal))
+}
+
+// Puts a DCP answer to the station that asked into the box, behind what is in it.
+fn send(identity: &Identity, asker: Mac, frame_id: u16, answer: &Answer, outbox: &mut Outbox)
+    requires { array_vec_len outbox.old < 4 }
+    ensures { map (λ frame. frame.items) outbox.new.items ≡ map (λ frame. frame.items) outbox.old.items ++ answer_frame identity.now asker frame_id answer.now.items ∷ [] }
+{
+    let layered = Layered {
+        destination: asker,
+        source: identity.mac,
+        tag: None,
+        payload: Payload::RealTime {
+            frame_id,
+            body: answer.as_slice(),
+        },
+    };
+    outbox.put(&layered);
+}
