@@ -5,7 +5,7 @@ ghost use Rattle.flash_model.specs.Image.{erased};
 ghost use Rattle.pn_values.specs.Settings.{factory_settings};
 ghost use Rattle.pn_values.specs.declared.settings.Settings.{Settings};
 ghost use Rattle.settings_journal.specs.Commit.{HasBootCause};
-ghost use Rattle.settings_journal.specs.Image.{StartsWith, IsForeign, LeftByDevice};
+ghost use Rattle.settings_journal.specs.Image.{StartsWith, IsAmple, capacity, IsForeign, LeftByDevice};
 ghost use Rattle.device_core.specs.Cycle.{started};
 
 use flash_model::{Flash, Order};
@@ -52,7 +52,8 @@ impl<F: Flash<S>, const S: usize> Device<F, S> {
             MatchResult result (λ device. device.live ≡ started settings room) (λ refused. refused.0 ≡ BootFault.FlashFault) }
         ensures left { LeftByDevice (F.image flash) → IfErr result (λ refused. refused.0 ≡ BootFault.FlashFault) }
         ensures blank { F.image flash ≡ record { first = erased S; second = erased S } →
-            LeftByDevice (F.image flash) × StartsWith (F.image flash) factory_settings 65535 }
+            LeftByDevice (F.image flash) × StartsWith (F.image flash) factory_settings (capacity S) }
+        ensures ample { IsAmple S }
 
         // Foreign is what cannot be read, and nothing else.
         ensures foreign { IfErr result (λ refused. refused.0 ≡ BootFault.Foreign → IsForeign (F.image flash)) }

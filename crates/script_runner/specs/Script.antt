@@ -2,6 +2,7 @@
 use Rattle.std.specs.Prelude.{◌+◌, ℕ, zero, suc, List, [], ◌∷◌, ◌++◌, take, Option, Some, None}
 use Rattle.std.specs.Str.Lines.{lines}
 use Rattle.pn_values.specs.Settings.{factory_settings}
+use Rattle.settings_journal.specs.Image.{capacity}
 use Rattle.device_core.specs.declared.event.Event.TheVariants as event
 use Rattle.device_core.specs.declared.event.Note.TheVariants.{Done}
 use Rattle.device_core.specs.State.{Live}
@@ -73,7 +74,7 @@ refused_from n (line ∷ lines) = number_or (meaning_of line) n (refused_from (n
 
 -- a device as it leaves the factory
 abbrev pub factory_device : Live
-factory_device = started factory_settings 65535
+factory_device = started factory_settings (capacity 4096)
 
 -- what a script prints
 unfoldable pub output_of : List ℕ → List ℕ
