@@ -3,4 +3,5 @@ mod blocks;
 mod dcp;
 mod fields;
 mod frames;
+mod lists;
 mod records;
