@@ -4,7 +4,7 @@
 The answer has to be `pnscript: out of memory`, status 4 and a front of the output, or the unchanged output. The scripts
 are the program's stored run and the examples. Needs a C compiler (cc) and the GNU C library.
 
-Use: bench/allocations.py [PROGRAM]   (the built one if left out). Prints a line for each script, with how many allocations
+Use: bench/allocations.py [PROGRAM]   (the proved one if left out). Prints a line for each script, with how many allocations
 were refused in turn; its status is 1 if an answer is wrong.
 """
 
@@ -13,6 +13,8 @@ import os
 import subprocess
 import sys
 import tempfile
+
+from program import proved
 
 HERE = os.path.dirname(os.path.abspath(__file__))
 TOP = os.path.dirname(HERE)
@@ -50,15 +52,8 @@ def fail_each(program, shim, mark, script, whole):
         short += answer.returncode == 4
 
 
-def build():
-    """The program, built if it has to be."""
-    launcher = os.path.join(TOP, "pnscript")
-    subprocess.run([launcher, "run"], stdin=subprocess.DEVNULL, stdout=subprocess.DEVNULL, check=True)
-    return os.path.join(CRATE, "out", "pnscript")
-
-
 def main():
-    program = sys.argv[1] if len(sys.argv) > 1 else build()
+    program = sys.argv[1] if len(sys.argv) > 1 else proved()
     stored = read(os.path.join(CRATE, "stdin"))
     scripts = [("the stored run", stored, read(os.path.join(CRATE, "stdout")))]
     for path in sorted(glob.glob(os.path.join(TOP, "examples", "*.txt"))):

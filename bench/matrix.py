@@ -6,12 +6,13 @@ away and gives it back, and asks what the name is. It has to be that of the last
 stopped; and the new one exactly where the mask lets the last call of the commit open the gate, whose one byte goes from
 FF to 00: where the mask's first byte is FF.
 
-Use: bench/matrix.py [PROGRAM]   (./pnscript if left out). Prints how many runs are right; its status is 1 if one is not.
+Use: bench/matrix.py [PROGRAM]   (the proved one if left out). Prints how many runs are right; its status is 1 if one is not.
 """
 
-import os
 import subprocess
 import sys
+
+from program import proved
 
 SETS = 40
 CALLS = 3  # of a commit: erase the sector that does not count, write it, open its gate
@@ -54,8 +55,7 @@ def is_right(lines, calls, mask):
 
 
 def main():
-    here = os.path.dirname(os.path.abspath(__file__))
-    program = sys.argv[1] if len(sys.argv) > 1 else os.path.join(here, "..", "pnscript")
+    program = sys.argv[1] if len(sys.argv) > 1 else proved()
     runs, right = 0, 0
     for mask in MASKS:
         for calls in range(SETS * CALLS):

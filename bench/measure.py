@@ -1,4 +1,7 @@
-"""Times, peak memory and instruction counts of the program, beside a plain Rust program on the same scripts."""
+"""Times, peak memory and instruction counts of the program, beside a plain Rust program on the same scripts.
+
+Prints a line for each figure, with the bound that it is to keep. The status is 1 where one passes its bound.
+"""
 
 import os
 import re
@@ -12,9 +15,20 @@ SET_REFUSED = "frame 0200000000010200000000028892fefd040000000002000000080202000
 GET_16 = "frame 0200000000010200000000028892fefd03000000000300000020" + "0101010202010202020302040205020705030504" + "050505060301040106020909" + "\n"
 TICK = "tick 100\n"
 
+# The head of a frame for another station.
+NOT_MINE = "frame 0200000000030200000000028892fefd"
+
 # A Set of a name of 240 bytes.
 SET_LONGEST = "frame 0200000000010200000000028892fefd040000000002000000f6020200f20001" + ".".join(
     n * 63 for n in "abc").encode().hex() + "2e" + 48 * "64" + "\n"
+
+# Of the program's run on a script, beside the plain program's: times as long, and peak memory in MiB.
+MOST_TIMES = 3
+MOST_MEMORY = 24
+
+# Instructions for each byte of a line: to read its hex, and to print it.
+MOST_TO_READ = 6
+MOST_TO_PRINT = 6
 
 # What a step is measured on: a line of a script, how many steps it makes, and how many instructions a step may take.
 STEPS = (
@@ -31,26 +45,44 @@ DEVICE_STEP = r"device_core::\S*\bstep"
 SCRIPT_STEP = r"script_runner::session::step"
 
 
+def keeps(name, figure, bound):
+    """Whether a figure keeps its bound. Says so where it does not."""
+    if figure <= bound:
+        return True
+    print(f"PASSES ITS BOUND: {name}: {figure:.4g}, at most {bound}")
+    return False
+
+
 def run(program, words, script):
-    """The time of one run, and its peak memory in KiB."""
-    with open(script, "rb") as stdin, open(os.devnull, "wb") as stdout:
+    """The time of one run."""
+    with open(script, "rb") as stdin:
         before = time.monotonic()
-        child = subprocess.Popen([program, *words], stdin=stdin, stdout=stdout)
-        _, status, usage = os.wait4(child.pid, 0)
-        took = time.monotonic() - before
-    if status != 0:
-        raise SystemExit(f"{program}: status {status} on {script}")
-    return took, usage.ru_maxrss
+        subprocess.run([program, *words], stdin=stdin, stdout=subprocess.DEVNULL, check=True)
+        return time.monotonic() - before
 
 
 def side_by_side(program, echo, script):
-    """The least times of both programs, which run in turn, so that both meet the machine as busy as it is; and the peak
-    memory of the first in KiB."""
-    ours, plain = [], []
-    for _ in range(9):
-        ours.append(run(program, ["run"], script))
-        plain.append(run(echo, [], script))
-    return min(took for took, _ in ours), min(took for took, _ in plain), max(peak for _, peak in ours)
+    """The least times of both programs, which run in turn, so that both meet the machine as busy as it is."""
+    pairs = [(run(program, ["run"], script), run(echo, [], script)) for _ in range(9)]
+    return [min(times) for times in zip(*pairs)]
+
+
+def peak(helper, program, script):
+    """The peak memory of the program itself, in MiB."""
+    with open(script, "rb") as stdin:
+        ran = subprocess.run([helper, program, "run"], stdin=stdin, stdout=subprocess.DEVNULL,
+                             stderr=subprocess.PIPE, check=True)
+    return int(ran.stderr) / 1024
+
+
+def print_script(program, echo, helper, name, script):
+    """Time and memory of one script. Says whether both keep their bounds."""
+    ours, plain = side_by_side(program, echo, script)
+    memory = peak(helper, program, script)
+    print(f"{name}: {ours:.3f} s, a plain program {plain:.3f} s: {ours / plain:.2f} times (at most {MOST_TIMES}); "
+          f"peak {memory:.1f} MiB (at most {MOST_MEMORY})")
+    is_fast = keeps(f"the time of {name}", ours / plain, MOST_TIMES)
+    return keeps(f"the memory of {name}", memory, MOST_MEMORY) and is_fast
 
 
 def inclusive(listing, name):
@@ -85,41 +117,60 @@ def sent(program, line):
     return sum(len(out) // 2 - 2 for out in printed.split(b"\n") if out.startswith(b"out "))
 
 
+def printing(program, file):
+    """The instructions of the printing of a byte, by two Identify answers that differ by 240 bytes. None where the
+    compiler made no function of a step and its printing."""
+    longer, shorter = (each(program, front, IDENTIFY, 1, file)[1] for front in (SET_LONGEST, ""))
+    return None if longer is None or shorter is None else (longer - shorter) / 240
+
+
+def reading(program, file):
+    """The instructions of the reading of a byte, by two frames for another station that differ by 1,000 bytes."""
+    longer, shorter = (each(program, "", NOT_MINE + octets * "5a" + "\n", 1, file)[2] for octets in (1400, 400))
+    return (longer - shorter) / 1000
+
+
+def print_hex(program, file):
+    """What hex takes. Says whether it keeps its bounds."""
+    read, printed = reading(program, file), printing(program, file)
+    print(f"a byte of a frame's line: {read:.1f} instructions to read it (at most {MOST_TO_READ})")
+    is_kept = keeps("the reading of a byte", read, MOST_TO_READ)
+    if printed is None:
+        return is_kept
+    print(f"a byte of a frame that is sent: {printed:.1f} instructions to make and print it (at most {MOST_TO_PRINT})")
+    return keeps("the printing of a byte", printed, MOST_TO_PRINT) and is_kept
+
+
 def print_step(program, file, name, line, steps, bound):
-    """The instructions of a step. Where it is no function of its own, the printing of its bytes is taken off as it is
-    found by two Identify answers that differ by 240 bytes."""
+    """The instructions of a step. Where it is no function of its own, the printing of its bytes is taken off. Says whether
+    they keep the bound."""
     step, printing_too, whole = each(program, "", line, steps, file)
     if step is not None:
         print(f"{name}: {step:.0f} instructions a step (at most {bound}); {whole:.0f} with all of its line")
-        return
+        return keeps(name, step, bound)
     if printing_too is None:
         print(f"{name}: {whole:.0f} instructions with all of its line (a step: at most {bound})")
-        return
-    longer, shorter = (each(program, front, IDENTIFY, 1, file)[1] for front in (SET_LONGEST, ""))
+        return keeps(name, whole, bound)
     octets = sent(program, line)
-    step = printing_too - octets * (longer - shorter) / 240
+    step = printing_too - octets * printing(program, file)
     print(f"{name}: about {step:.0f} instructions a step (at most {bound}); {printing_too:.0f} with the printing of "
           f"{octets} bytes, {whole:.0f} with all of its line")
-
-
-def is_known(program, line):
-    return subprocess.run([program, "run"], input=line.encode(), capture_output=True).returncode == 0
+    return keeps(name, step, bound)
 
 
 def main():
-    program, echo, build = sys.argv[1:]
-    frames = os.path.join(build, "frames.txt")
-    empty = os.path.join(build, "empty.txt")
-    with open(frames, "w") as out:
-        out.write(IDENTIFY * 200_000)
-    with open(empty, "w") as out:
-        out.write("\n" * 16_777_216)
-    for name, script in (("200,000 Identify frames", frames), ("16 MiB of empty lines", empty)):
-        ours, plain, peak = side_by_side(program, echo, script)
-        print(f"{name}: {ours:.3f} s, a plain program {plain:.3f} s: {ours / plain:.2f} times (at most 3); peak {peak / 1024:.1f} MiB (at most 48)")
-    for name, line, steps, bound in STEPS:
-        if is_known(program, line):
-            print_step(program, os.path.join(build, "callgrind.out"), name, line, steps, bound)
+    program, echo, helper, build = sys.argv[1:]
+    scripts = {"200,000 Identify frames": IDENTIFY * 200_000, "16 MiB of empty lines": "\n" * 16_777_216}
+    kept = []
+    for number, (name, text) in enumerate(scripts.items()):
+        script = os.path.join(build, f"script{number}.txt")
+        with open(script, "w", encoding="ascii") as out:
+            out.write(text)
+        kept.append(print_script(program, echo, helper, name, script))
+    file = os.path.join(build, "callgrind.out")
+    kept.append(print_hex(program, file))
+    kept += [print_step(program, file, *step) for step in STEPS]
+    return 0 if all(kept) else 1
 
 
-main()
+sys.exit(main())
