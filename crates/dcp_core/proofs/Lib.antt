@@ -1,7 +1,6 @@
 pub mod Lists
 pub mod Pairs
 pub mod Sound
-pub mod Valid
 pub mod Every
 pub mod AnswerSound
 pub mod AnswerWritten

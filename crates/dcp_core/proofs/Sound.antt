@@ -11,7 +11,7 @@ use Rattle.dcp_core.specs.declared.request.DcpFault.TheVariants as fault
 use Rattle.dcp_core.specs.declared.request.Service.{Service}
 use Rattle.dcp_core.specs.declared.request.Service.TheVariants.{Get, Set, Identify}
 use Rattle.dcp_core.specs.Request.{Asked, AskedBlock}
-use Rattle.dcp_core.specs.Format.{viewed, viewed_whole, at_least, kind, pair, block, block_of, blocks_of, id_of, data_of, service_of, header_and_data, request}
+use Rattle.dcp_core.specs.Format.{viewed, viewed_whole, at_least, kind, pair, block, block_of, blocks_of, id_of, data_of, service_of, delay_under, header_and_data, request}
 use Rattle.dcp_core.specs.Reading.{IsRequest, request_of}
 
 -- ---- the formats of this crate
@@ -94,14 +94,14 @@ request_sound : (frame_id : ℕ) → IsSoundWhole (request frame_id)
 unfolding request header_and_data
 request_sound frame_id = loose_sound _ (seen_sound _ _ _ (λ _. refl) (then_by_sound _ _
     (then_by_sound _ _ (number_sound fault.Length 1) (λ _. then_by_sound _ _ (number_sound fault.Length 1)
-    (λ _. then_by_sound _ _ (number_sound fault.Length 4) (λ _. unchecked_sound fault.Length 2 0))))
+    (λ _. then_by_sound _ _ (number_sound fault.Length 4) (λ _. unchecked_sound fault.Length 2 (delay_under frame_id)))))
     (λ head. framed_sound _ _ _ (number_sound fault.Length 2) (data_sound (service_of frame_id head.0 head.1.0)))))
 
 onward : (frame_id : ℕ) → IsOnward (header_and_data frame_id)
 unfolding header_and_data
 onward frame_id = seen_onward _ (λ (asked : Asked). ((id_of asked.service, (0, (asked.xid, tt))), (asked.service, asked.blocks))) _ (then_by_onward _ _
     (then_by_onward _ _ (number_onward fault.Length 1) (λ _. then_by_onward _ _ (number_onward fault.Length 1)
-    (λ _. then_by_onward _ _ (number_onward fault.Length 4) (λ _. unchecked_onward fault.Length 2 0))))
+    (λ _. then_by_onward _ _ (number_onward fault.Length 4) (λ _. unchecked_onward fault.Length 2 (delay_under frame_id)))))
     (λ head. framed_onward _ fault.Length (data_of (service_of frame_id head.0 head.1.0)) (number_onward fault.Length 2)))
 
 -- bytes that are read as a request spell it

@@ -100,12 +100,16 @@ unfoldable pub data_of : Result Service DcpFault → Whole DcpFault (Service × 
 data_of (Ok service) = viewed_whole (λ blocks. (service, blocks)) (λ x. x.1) (blocks_of service)
 data_of (Err why) = refused why
 
--- ServiceID, ServiceType, Xid, ResponseDelay, which is not looked at, DCPDataLength and the data
+-- ResponseDelay as it is written under a FrameID: 1, the least, for an Identify; a Get and a Set have 0, which is reserved
+abbrev pub delay_under : ℕ → ℕ
+delay_under frame_id = if frame_id == frame_id_of Identify then 1 else 0
+
+-- ServiceID, ServiceType, Xid, ResponseDelay, which is read with any value, DCPDataLength and the data
 unfoldable pub header_and_data : ℕ → Codec DcpFault Asked
 header_and_data frame_id = seen
     (λ x. record { service = x.1.0; xid = x.0.1.1.0; blocks = x.1.1 })
     (λ asked. ((id_of asked.service, (0, (asked.xid, tt))), (asked.service, asked.blocks)))
-    (then_by (number fault.Length 1 ⨾ number fault.Length 1 ⨾ number fault.Length 4 ⨾ unchecked fault.Length 2 0)
+    (then_by (number fault.Length 1 ⨾ number fault.Length 1 ⨾ number fault.Length 4 ⨾ unchecked fault.Length 2 (delay_under frame_id))
     (λ head. framed (number fault.Length 2) fault.Length (data_of (service_of frame_id head.0 head.1.0))))
 
 -- a request, whose DCPDataLength says where it ends: what follows is not read

@@ -6,7 +6,6 @@ pub mod Reading
 pub mod Bytes
 pub mod Identify
 pub mod Get
-pub mod Valid
 pub mod Set
 pub mod Every
 pub mod Response

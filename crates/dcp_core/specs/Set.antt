@@ -1,7 +1,7 @@
 -- What the blocks of a Set ask for, and the answer (IEC 61158-6-10, 4.3.2.5).
-use Rattle.std.specs.Prelude.{◌/◌, ◌%◌, ◌==◌, ◌&&◌, ◌||◌, ℕ, Bool, false, nat_le, List, [], ◌∷◌, length, map, flat_map, if◌then◌else◌, take, drop, nat_eq}
+use Rattle.std.specs.Prelude.{◌/◌, ◌%◌, ◌==◌, ◌&&◌, ◌||◌, ℕ, Bool, nat_le, List, [], ◌∷◌, length, map, flat_map, if◌then◌else◌, take, drop, nat_eq}
 use Rattle.std.specs.Cmp.Lexicographic.{pointwise}
-use Rattle.std.specs.List.{list_any, zip}
+use Rattle.std.specs.List.{zip}
 use Rattle.std.specs.Int.{w16, from_be_bytes}
 use Rattle.pn_values.specs.declared.command.Command.{Command}
 use Rattle.pn_values.specs.declared.command.Command.TheVariants.{SetName, SetIp, ResetApplication, ResetCommunication, ResetAll}
@@ -10,13 +10,13 @@ use Rattle.pn_values.specs.declared.set_item.SetItem.TheVariants as item
 use Rattle.pn_values.specs.declared.set_item.SetItem.TheVariants.{Ask, Answer}
 use Rattle.pn_values.specs.declared.set_item.BlockError.{BlockError}
 use Rattle.pn_values.specs.declared.set_item.BlockError.TheVariants as error
-use Rattle.pn_values.specs.IpSuite.{Suite}
+use Rattle.pn_values.specs.IpSuite.{Suite, is_suite}
+use Rattle.station_names.specs.Valid.{is_station_name}
 use Rattle.dcp_core.specs.declared.kind.Kind.{Kind}
 use Rattle.dcp_core.specs.declared.kind.Kind.TheVariants.{IpSuite, NameOfStation, Signal, FactoryReset, ResetToFactory}
 use Rattle.dcp_core.specs.Request.{Asked}
 use Rattle.dcp_core.specs.Bytes.{response_bytes, answer_bytes}
 use Rattle.dcp_core.specs.Kinds.{blame}
-use Rattle.dcp_core.specs.Valid.{is_station_name, is_suite}
 
 -- BlockQualifier: bit 0 says permanent, and the bits above it are the mode of a reset
 abbrev pub qualifier_of : List ℕ → ℕ
@@ -83,15 +83,6 @@ item_of in_operation kind contents = Answer (blame kind)
 -- one item for each block of a Set, in order
 unfoldable pub plan_of : Bool → Asked → List SetItem
 plan_of in_operation request = map (λ block. item_of in_operation block.kind block.contents) request.blocks
-
--- whether a block of a Set asks to flash the lamp
-abbrev pub flashes : Kind → List ℕ → Bool
-flashes Signal contents = is_flash contents
-flashes kind contents = false
-
--- whether some block does
-unfoldable pub signals : Asked → Bool
-signals request = list_any (λ block. flashes block.kind block.contents) request.blocks
 
 -- the answer of a Set, given how each of its blocks came out: what follows the FrameID
 unfoldable pub set_bytes : Asked → List BlockError → List ℕ

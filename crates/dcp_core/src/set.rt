@@ -2,8 +2,8 @@
 ghost use Rattle.std.specs.Prelude.{◌≡◌, ◌≤◌, ◌==◌, ◌%◌, ◌&&◌, ◌↔◌, IsTrue, IsSome, IfSome, length};
 ghost use Rattle.std.specs.Int.{w16, from_be_bytes};
 ghost use Rattle.dcp_core.specs.Request.{asked};
-ghost use Rattle.dcp_core.specs.Set.{plan_of, item_of, name_item, suite_item, suite_in, signal_item, is_flash, factory_item, reset_item, judged, set_bytes, signals, flashes};
-ghost use Rattle.dcp_core.specs.Valid.{is_suite};
+ghost use Rattle.dcp_core.specs.Set.{plan_of, item_of, name_item, suite_item, suite_in, signal_item, is_flash, factory_item, reset_item, judged, set_bytes};
+ghost use Rattle.pn_values.specs.IpSuite.{is_suite};
 
 use crate::bytes::{Answer, Blocks, put_answer, put_response};
 use crate::{Block, Kind, Request};
@@ -145,24 +145,6 @@ fn plan_reset(contents: &[u8]) -> SetItem
         2 => SetItem::Ask(Command::ResetCommunication),
         _ => SetItem::Answer(BlockError::Suboption),
     }
-}
-
-/// Whether a Set asks to flash the lamp.
-pub fn has_signal(request: &Request<'_>) -> bool
-    ensures { result ≡ signals (asked request.now) }
-{
-    request
-        .blocks
-        .as_slice()
-        .iter()
-        .any(|block| is_signal(block))
-}
-
-/// Whether one block asks to flash the lamp.
-fn is_signal(block: &Block<'_>) -> bool
-    ensures { result ≡ flashes block.now.kind block.now.contents.now }
-{
-    matches!(block.kind, Kind::Signal) && asks_to_flash(block.contents)
 }
 
 /// The answer to a Set: how each block came out.

@@ -1,5 +1,7 @@
 -- An IP suite, and which ones a station may have.
-use Rattle.std.specs.Prelude.{◌≡◌, ◌⊎◌, ◌≤◌, ◌+◌, ◌^◌, ℕ, List, replicate, slice_index}
+use Rattle.std.specs.Prelude.{◌≡◌, ◌⊎◌, ◌≤◌, ◌+◌, ◌^◌, ◌==◌, ◌&&◌, ◌||◌, ℕ, Bool, nat_le, nat_eq, List, [], ◌∷◌, replicate, slice_index}
+use Rattle.std.specs.List.{list_any, range_with_len}
+use Rattle.std.specs.Cmp.Lexicographic.{pointwise}
 use Rattle.std.specs.Int.{w32, from_be_bytes}
 
 -- address, subnet mask and gateway, each of four octets as they are sent
@@ -23,3 +25,22 @@ IsHost byte = ((1 ≤ byte) × (byte ≤ 126)) ⊎ ((128 ≤ byte) × (byte ≤ 
 -- what a station may have
 abbrev pub IsSuite : Suite → Type 0
 IsSuite suite = IsMask suite.mask × ((suite ≡ zero_suite) ⊎ IsHost (slice_index suite.address 0))
+
+-- ---- the same as tests, by which a function of the specs decides
+
+-- ones and then zeros
+abbrev pub is_mask : List ℕ → Bool
+is_mask mask = list_any (λ zeros. from_be_bytes w32 mask + 2 ^ zeros == 2 ^ 32) (range_with_len 0 33)
+
+-- four zeros
+abbrev pub is_zero : List ℕ → Bool
+is_zero octets = pointwise nat_eq octets (0 ∷ 0 ∷ 0 ∷ 0 ∷ [])
+
+-- a byte that an address of a host begins with
+abbrev pub is_host : ℕ → Bool
+is_host byte = (nat_le 1 byte && nat_le byte 126) || (nat_le 128 byte && nat_le byte 223)
+
+-- an IP suite that a station may have
+unfoldable pub is_suite : Suite → Bool
+is_suite suite = is_mask suite.mask
+    && ((is_zero suite.address && is_zero suite.mask && is_zero suite.gateway) || is_host (slice_index suite.address 0))

@@ -1,6 +1,6 @@
 // An IP suite: address, subnet mask and gateway.
-ghost use Rattle.std.specs.Prelude.{◌≡◌, ◌↔◌, IsTrue, IsSome, IfSome, length};
-ghost use Rattle.pn_values.specs.IpSuite.{IsMask, IsSuite, zero_suite};
+ghost use Rattle.std.specs.Prelude.{◌≡◌, ◌↔◌, IsTrue, IsSome, IfSome, is_some, length};
+ghost use Rattle.pn_values.specs.IpSuite.{IsMask, IsSuite, is_suite, zero_suite};
 
 use std::marker::Model;
 
@@ -41,19 +41,10 @@ impl IpSuite {
     /// begins with a byte from 1 to 126 or from 128 to 223. The gateway is free.
     pub fn new(address: [u8; 4], mask: [u8; 4], gateway: [u8; 4]) -> Option<IpSuite>
         ensures valid { IsSome result ↔ IsSuite (record { address = address; mask = mask; gateway = gateway }) }
+        ensures test { is_some result ≡ is_suite (record { address = address; mask = mask; gateway = gateway }) }
         ensures value { IfSome result (λ suite. suite ≡ record { address = address; mask = mask; gateway = gateway }) }
     {
-        let host = matches!(address[0], 1..=126 | 128..=223);
-        let none = address == [0; 4] && mask == [0; 4] && gateway == [0; 4];
-        if is_mask(mask) && (host || none) {
-            Some(IpSuite {
-                address,
-                mask,
-                gateway,
-            })
-        } else {
-            None
-        }
+        suite_of(address, mask, gateway)
     }
 
     /// The IP address; zeros where there is none.
@@ -79,6 +70,24 @@ impl IpSuite {
         ensures length { length self.now.gateway ≡ 4 }
     {
         self.gateway
+    }
+}
+
+/// The suite of these, if there is one.
+fn suite_of(address: [u8; 4], mask: [u8; 4], gateway: [u8; 4]) -> Option<IpSuite>
+    ensures valid { IsSome result ↔ IsSuite (record { address = address; mask = mask; gateway = gateway }) }
+    ensures value { IfSome result (λ suite. suite ≡ record { address = address; mask = mask; gateway = gateway }) }
+{
+    let host = matches!(address[0], 1..=126 | 128..=223);
+    let none = address == [0; 4] && mask == [0; 4] && gateway == [0; 4];
+    if is_mask(mask) && (host || none) {
+        Some(IpSuite {
+            address,
+            mask,
+            gateway,
+        })
+    } else {
+        None
     }
 }
 

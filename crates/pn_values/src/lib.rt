@@ -21,6 +21,3 @@ pub use real::{ParameterRecord, Real, RealModule, RealSubmodule};
 pub use set_item::{BlockError, SetItem};
 pub use settings::Settings;
 pub use station_name::StationName;
-
-#[cfg(test)]
-mod tests;

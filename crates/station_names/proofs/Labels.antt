@@ -1,53 +1,25 @@
--- What a chain of iterators over the labels of a text answers.
-use Rattle.std.specs.Slice.Iter as slice
-use Rattle.std.proofs.Common.{◌≡◌, ◌↔◌, ℕ, ◌<◌, ◌==◌, Bool, true, false, cond, List, [], ◌∷◌, length, get_or, take, slice_get, Option, Some, None, All, Any, IsTrue, refl, sym, ap, ◌∙◌, subst, arith}
-use Rattle.std.specs.Bool.{MatchBool}
-use Rattle.std.specs.Fn.{CalledAt}
-use Rattle.std.specs.List.{slice_split, onto_first as onto_first_part, AllWithin, HoldsAt}
-use Rattle.std.specs.Option.{MatchOption, option_map}
-use Rattle.std.proofs.lemmas.List.{get_or_default}
-use Rattle.std.proofs.lemmas.List.Elements.{All-nil, All-cons, All-head}
-use Rattle.std.proofs.lemmas.Iterator.{YieldsList}
-use Rattle.std.proofs.lemmas.Iterator.Splits.{YieldsList-from_slice_split}
-use Rattle.pn_values.specs.StationName.{dot, onto_first, labels_of}
-use denote.Param.Members.{Mut}
-use denote.Ref.{Bor}
+-- The labels of a text, as a look at one byte after the other finds them.
+use Rattle.std.proofs.Common.{◌≡◌, ◌↔◌, ◌⊎◌, inl, inr, ℕ, ◌<◌, ◌≤◌, ◌+◌, ◌-◌, ◌≢◌, ◌==◌, take, drop, get_or, Bool, true, false, cond, leb, ◌&&◌, ◌||◌, List, [], ◌∷◌, ◌++◌, length, IsTrue, Any, refl, sym, ap, ◌∙◌, subst, append_assoc, arith}
+use Rattle.std.specs.List.{slice_range}
+use Rattle.std.proofs.lemmas.Bool.{eq-eqb, ne_eqb, false≢true}
+use Rattle.std.proofs.lemmas.List.{append-nil, take_more, drop_more, drop_all, length-drop, get_or-drop}
+use Rattle.std.proofs.lemmas.List.Quantifiers.{Any-push}
+use Rattle.pn_values.specs.StationName.{dot, hyphen, is_digit, is_label_byte, onto_first, labels_of}
+use Rattle.station_names.specs.declared.scan.Labels.{Labels}
+use Rattle.station_names.specs.Found.{HasBadByte, Seen}
+use Rattle.station_names.proofs.Lists.{any_push_cases, any_push_old}
 
-onto_first_is : (byte : ℕ) (labels : List (List ℕ)) → onto_first_part byte labels ≡ onto_first byte labels
-onto_first_is byte [] = refl
-onto_first_is byte (label ∷ labels) = refl
+-- bytes put before the first of some labels
+abbrev all_onto_first : List ℕ → List (List ℕ) → List (List ℕ)
+all_onto_first front [] = front ∷ []
+all_onto_first front (label ∷ labels) = (front ++ label) ∷ labels
 
--- the labels are what `split` at the dots gives
-pub split_is : (bytes : List ℕ) → slice_split (λ byte. byte == dot) bytes ≡ labels_of bytes
-split_is [] = refl
-split_is (byte ∷ bytes) =
-    ap (λ labels. cond (byte == dot) ([] ∷ labels) (onto_first_part byte labels)) (split_is bytes)
-    ∙ ap (λ labels. cond (byte == dot) ([] ∷ labels_of bytes) labels) (onto_first_is byte (labels_of bytes))
-
--- an iterator that `split` made, whose closure is true at the dots, gives the labels
-pub yields_labels : {F : Type 0} {s : _} (g : Mut F (Bor ℕ × Unit {0}) Bool) {f : F} (bytes : List ℕ)
-    → slice.split_rest s ≡ bytes → slice.split_done s ≡ false → slice.split_callee s ≡ f
-    → ((x : ℕ) (b : Bool) (q : F) → CalledAt g f x b q → (q ≡ f) × (b ≡ (x == dot)))
-    → YieldsList (slice.split_steps g) (λ label. label.now) s (labels_of bytes)
-yields_labels {F} {s} g bytes rest done callee computes =
-    let P : List (List ℕ) → Type 0 = λ labels. YieldsList (slice.split_steps g) (λ label. label.now) s labels in
-    subst P (split_is bytes) (YieldsList-from_slice_split g (λ byte. byte == dot) bytes rest done callee computes)
-
--- an `any` that found one, or saw that there is none
-pub some_label : (P : List ℕ → Type 0) (found : Bool) (labels : List (List ℕ))
-    → MatchBool found ((k : ℕ) × (k < length labels) × HoldsAt P labels k) (AllWithin (λ label. ¬ P label) labels 0 (length labels))
-    → IsTrue found ↔ Any P labels
-some_label P true labels (k, below, holds) =
-    (λ _. (k, get_or labels k [], below, get_or_default labels k (get_or labels k []) [] below, holds []), λ _. refl)
-some_label P false labels none =
-    (λ e. cc, λ (k, label, below, at, holds). absurd (none k label (omega arith) below (subst P (sym at) holds)))
-
--- an `all` that saw that each is so, or found one that is not
-pub each_label : (P : List ℕ → Type 0) (all : Bool) (labels : List (List ℕ))
-    → MatchBool all (AllWithin P labels 0 (length labels)) ((k : ℕ) × (k < length labels) × HoldsAt (λ label. ¬ P label) labels k)
-    → IsTrue all ↔ All P labels
-each_label P true labels every = (λ _ k label below. every k label (omega arith) below, λ _. refl)
-each_label P false labels (k, below, fails) = (λ e. cc, λ every. absurd (fails [] (every k [] below)))
+-- what is known where some labels were seen, some bytes of the next, and the rest of the text is to come
+pub record Between (bytes front rest : List ℕ) (labels : Labels) (has_bad_byte : Bool) : Type 0 where
+  pub closed : List (List ℕ)
+  pub seen : Seen closed labels
+  pub whole : labels_of bytes ≡ closed ++ all_onto_first front (labels_of rest)
+  pub bad : IsTrue has_bad_byte ↔ (Any HasBadByte closed ⊎ HasBadByte front)
 
 first_onto : (byte : ℕ) (labels : List (List ℕ)) → (first : List ℕ) × (more : List (List ℕ)) × (onto_first byte labels ≡ first ∷ more)
 first_onto byte [] = (byte ∷ [], [], refl)
@@ -60,22 +32,152 @@ first_of (byte ∷ bytes) =
     elim (byte == dot) as (λ b. (first : List ℕ) × (more : List (List ℕ)) × (cond b ([] ∷ labels_of bytes) (onto_first byte (labels_of bytes)) ≡ first ∷ more))
     [ true ↦ ([], labels_of bytes, refl) | false ↦ first_onto byte (labels_of bytes) ]
 
-asked_first : (P : List ℕ → Type 0) (labels : List (List ℕ)) (first : List ℕ) (more : List (List ℕ)) (given : Option (Bor (List ℕ))) (answer : Bool)
-    → labels ≡ first ∷ more → option_map (λ label. label.now) given ≡ slice_get labels 0
-    → MatchOption given (answer ≡ false) (λ label. IsTrue answer ↔ P label.now)
-    → IsTrue answer ↔ All P (take 1 labels)
-asked_first P labels first more None answer is at test = absurd (let e : None ≡ Some first = at ∙ ap (λ all. slice_get all 0) is in cc)
-asked_first P labels first more (Some label) answer is at test =
-    let given : Some label.now ≡ Some first = at ∙ ap (λ all. slice_get all 0) is in
-    let same : label.now ≡ first = cc in (
-      λ yes. rw is (All-cons P first [] (subst P same (test.0 yes)) (All-nil P)),
-      λ all. test.1 (subst P (sym same) (All-head P first [] (rw is at all))),
+-- and so has one at least
+pub some_labels : (bytes : List ℕ) → 0 < length (labels_of bytes)
+some_labels bytes = let (first, more, is) = first_of bytes in rw is (omega arith)
+
+nothing_onto : (bytes : List ℕ) → all_onto_first [] (labels_of bytes) ≡ labels_of bytes
+nothing_onto bytes = let (first, more, is) = first_of bytes in rw is refl
+
+one_more_onto : (front : List ℕ) (byte : ℕ) (labels : List (List ℕ)) → all_onto_first front (onto_first byte labels) ≡ all_onto_first (front ++ byte ∷ []) labels
+one_more_onto front byte [] = refl
+one_more_onto front byte (label ∷ labels) = ap (λ l. l ∷ labels) (sym (append_assoc front (byte ∷ []) label))
+
+none_bad : HasBadByte [] → ⊥
+none_bad (k, x, below, at, holds) = omega arith
+
+-- nothing was looked at
+pub at_start : (bytes : List ℕ) (labels : Labels) → Seen [] labels → Between bytes [] bytes labels false
+at_start bytes labels seen = record {
+  closed = [];
+  seen = seen;
+  whole = sym (nothing_onto bytes);
+  bad = (λ yes. cc, λ h. elim h [ inl (k, x, below, at, holds) ↦ absurd (omega arith) | inr bad ↦ absurd (none_bad bad) ]);
+}
+
+-- a dot ends a label
+pub at_dot : (bytes front rest : List ℕ) (byte : ℕ) (labels now : Labels) (has_bad_byte : Bool) → (byte == dot) ≡ true
+    → Between bytes front (byte ∷ rest) labels has_bad_byte
+    → ((closed : List (List ℕ)) → Seen closed labels → Seen (closed ++ front ∷ []) now)
+    → Between bytes [] rest now has_bad_byte
+at_dot bytes front rest byte labels now has_bad_byte is before add = record {
+  closed = before.closed ++ front ∷ [];
+  seen = add before.closed before.seen;
+  whole =
+      let here : labels_of (byte ∷ rest) ≡ [] ∷ labels_of rest = ap (λ b. cond b ([] ∷ labels_of rest) (onto_first byte (labels_of rest))) is in
+      before.whole ∙ ap (λ l. before.closed ++ all_onto_first front l) here
+      ∙ ap (λ l. before.closed ++ l ∷ labels_of rest) (append-nil front)
+      ∙ sym (append_assoc before.closed (front ∷ []) (labels_of rest))
+      ∙ ap (λ l. (before.closed ++ front ∷ []) ++ l) (sym (nothing_onto rest));
+  bad = (
+    λ yes. elim (before.bad.0 yes) [
+      | inl old ↦ inl (any_push_old HasBadByte before.closed front old)
+      | inr bad ↦ inl (Any-push HasBadByte before.closed front bad)
+    ],
+    λ h. elim h [
+      | inl some ↦ before.bad.1 (any_push_cases HasBadByte before.closed front some)
+      | inr bad ↦ absurd (none_bad bad)
+    ],
+  );
+}
+
+-- another byte belongs to the label
+pub at_other : (bytes front rest : List ℕ) (byte : ℕ) (labels : Labels) (before now : Bool) → (byte == dot) ≡ false
+    → Between bytes front (byte ∷ rest) labels before
+    → IsTrue now ↔ (IsTrue before ⊎ (is_label_byte byte ≡ false))
+    → Between bytes (front ++ byte ∷ []) rest labels now
+at_other bytes front rest byte labels before now not_dot between step = record {
+  closed = between.closed;
+  seen = between.seen;
+  whole =
+      let here : labels_of (byte ∷ rest) ≡ onto_first byte (labels_of rest) = ap (λ b. cond b ([] ∷ labels_of rest) (onto_first byte (labels_of rest))) not_dot in
+      between.whole ∙ ap (λ l. between.closed ++ all_onto_first front l) here ∙ ap (λ l. between.closed ++ l) (one_more_onto front byte (labels_of rest));
+  bad = (
+    λ yes. elim (step.0 yes) [
+      | inl old ↦ elim (between.bad.0 old) [ inl closed ↦ inl closed | inr bad ↦ inr (any_push_old (λ b. is_label_byte b ≡ false) front byte bad) ]
+      | inr bad ↦ inr (Any-push (λ b. is_label_byte b ≡ false) front byte bad)
+    ],
+    λ h. elim h [
+      | inl closed ↦ step.1 (inl (between.bad.1 (inl closed)))
+      | inr some ↦ elim (any_push_cases (λ b. is_label_byte b ≡ false) front byte some) [
+        | inl old ↦ step.1 (inl (between.bad.1 (inr old)))
+        | inr bad ↦ step.1 (inr bad)
+      ]
+    ],
+  );
+}
+
+-- the end of the text ends the last label
+pub at_end : (bytes front : List ℕ) (labels now : Labels) (has_bad_byte : Bool) → Between bytes front [] labels has_bad_byte
+    → ((closed : List (List ℕ)) → Seen closed labels → Seen (closed ++ front ∷ []) now)
+    → Seen (labels_of bytes) now × (IsTrue has_bad_byte ↔ Any HasBadByte (labels_of bytes))
+at_end bytes front labels now has_bad_byte before add =
+    let all : before.closed ++ front ∷ [] ≡ labels_of bytes = sym (before.whole ∙ ap (λ l. before.closed ++ l ∷ []) (append-nil front)) in (
+      subst (λ ls. Seen ls now) all (add before.closed before.seen),
+      subst (λ ls. IsTrue has_bad_byte ↔ Any HasBadByte ls) all (
+        λ yes. elim (before.bad.0 yes) [ inl old ↦ any_push_old HasBadByte before.closed front old | inr bad ↦ Any-push HasBadByte before.closed front bad ],
+        λ some. before.bad.1 (any_push_cases HasBadByte before.closed front some),
+      ),
     )
 
--- what is asked of the first label of a text, the one that an iterator over its labels gives first
-pub first_label : (P : List ℕ → Type 0) (bytes : List ℕ) (given : Option (Bor (List ℕ))) (answer : Bool)
-    → option_map (λ label. label.now) given ≡ slice_get (labels_of bytes) 0
-    → MatchOption given (answer ≡ false) (λ label. IsTrue answer ↔ P label.now)
-    → IsTrue answer ↔ All P (take 1 (labels_of bytes))
-first_label P bytes given answer at test =
-    let first = first_of bytes in asked_first P (labels_of bytes) first.0 first.1 given answer first.2 at test
+-- ---- the same where the bytes of the label that is not closed begin at a place of the text
+
+nothing_from : (bytes : List ℕ) (place : ℕ) → slice_range bytes place place ≡ []
+nothing_from bytes place = ap (λ (n : ℕ). take n (drop place bytes)) (let none : place - place ≡ 0 = omega arith in none)
+
+one_more_from : (bytes : List ℕ) (start index : ℕ) → start ≤ index → index < length bytes
+    → slice_range bytes start (index + 1) ≡ slice_range bytes start index ++ get_or bytes index 0 ∷ []
+one_more_from bytes start index within below =
+    let count : index + 1 - start ≡ index - start + 1 = omega arith in
+    let there : start + (index - start) ≡ index = omega arith in
+    ap (λ (n : ℕ). take n (drop start bytes)) count
+    ∙ take_more (drop start bytes) (index - start) 0 (omega (arith, length-drop start bytes))
+    ∙ ap (λ (x : ℕ). take (index - start) (drop start bytes) ++ x ∷ []) (get_or-drop start bytes (index - start) 0 ∙ ap (λ (n : ℕ). get_or bytes n 0) there)
+
+abbrev IsAt : List ℕ → ℕ → ℕ → Labels → Bool → Type 0
+IsAt bytes start index labels has_bad_byte = Between bytes (slice_range bytes start index) (drop index bytes) labels has_bad_byte
+
+from_here : (bytes : List ℕ) (start index : ℕ) (labels : Labels) (has_bad_byte : Bool) → index < length bytes → IsAt bytes start index labels has_bad_byte
+    → Between bytes (slice_range bytes start index) (get_or bytes index 0 ∷ drop (index + 1) bytes) labels has_bad_byte
+from_here bytes start index labels has_bad_byte below before =
+    subst (λ (rest : List ℕ). Between bytes (slice_range bytes start index) rest labels has_bad_byte) (drop_more bytes index 0 below) before
+
+pub after_dot : (bytes : List ℕ) (start index : ℕ) (labels now : Labels) (has_bad_byte : Bool) → index < length bytes → get_or bytes index 0 ≡ dot
+    → IsAt bytes start index labels has_bad_byte
+    → ((closed : List (List ℕ)) → Seen closed labels → Seen (closed ++ slice_range bytes start index ∷ []) now)
+    → IsAt bytes (index + 1) (index + 1) now has_bad_byte
+after_dot bytes start index labels now has_bad_byte below is before add =
+    subst (λ (front : List ℕ). Between bytes front (drop (index + 1) bytes) now has_bad_byte) (sym (nothing_from bytes (index + 1)))
+    (at_dot bytes (slice_range bytes start index) (drop (index + 1) bytes) (get_or bytes index 0) labels now has_bad_byte (eq-eqb _ _ is)
+    (from_here bytes start index labels has_bad_byte below before) add)
+
+pub after_other : (bytes : List ℕ) (start index : ℕ) (labels : Labels) (before now : Bool) → start ≤ index → index < length bytes → get_or bytes index 0 ≢ dot
+    → IsAt bytes start index labels before
+    → IsTrue now ↔ (IsTrue before ⊎ (is_label_byte (get_or bytes index 0) ≡ false))
+    → IsAt bytes start (index + 1) labels now
+after_other bytes start index labels before now within below not_dot between step =
+    subst (λ (front : List ℕ). Between bytes front (drop (index + 1) bytes) labels now) (sym (one_more_from bytes start index within below))
+    (at_other bytes (slice_range bytes start index) (drop (index + 1) bytes) (get_or bytes index 0) labels before now (ne_eqb _ _ not_dot)
+    (from_here bytes start index labels before below between) step)
+
+pub after_all : (bytes : List ℕ) (start index : ℕ) (labels now : Labels) (has_bad_byte : Bool) → length bytes ≤ index → index ≤ length bytes
+    → IsAt bytes start index labels has_bad_byte
+    → ((closed : List (List ℕ)) → Seen closed labels → Seen (closed ++ slice_range bytes start (length bytes) ∷ []) now)
+    → Seen (labels_of bytes) now × (IsTrue has_bad_byte ↔ Any HasBadByte (labels_of bytes))
+after_all bytes start index labels now has_bad_byte least most before add =
+    let end : index ≡ length bytes = omega arith in
+    let whole : Between bytes (slice_range bytes start (length bytes)) [] labels has_bad_byte =
+    subst (λ (rest : List ℕ). Between bytes (slice_range bytes start (length bytes)) rest labels has_bad_byte) (drop_all (length bytes) bytes (omega arith))
+    (subst (λ (n : ℕ). IsAt bytes start n labels has_bad_byte) end before) in
+    at_end bytes (slice_range bytes start (length bytes)) labels now has_bad_byte whole add
+
+-- a letter is no dot, and a byte of a label
+pub after_letter : (bytes : List ℕ) (start index : ℕ) (labels : Labels) (has_bad_byte : Bool) → start ≤ index → index < length bytes
+    → (leb 97 (get_or bytes index 0) && leb (get_or bytes index 0) 122) ≡ true
+    → IsAt bytes start index labels has_bad_byte → IsAt bytes start (index + 1) labels has_bad_byte
+after_letter bytes start index labels has_bad_byte within below letter between =
+    let byte : ℕ = get_or bytes index 0 in
+    let good : is_label_byte byte ≡ true = ap (λ (b : Bool). b || is_digit byte || byte == hyphen) letter in
+    after_other bytes start index labels has_bad_byte has_bad_byte within below
+    (λ is. absurd (false≢true (sym (ap (λ (b : ℕ). leb 97 b && leb b 122) is) ∙ letter))) between
+    (λ old. inl old, λ h. elim h [ inl old ↦ old | inr bad ↦ absurd (false≢true (sym bad ∙ good)) ])

@@ -1,1 +1,3 @@
 pub mod NameFault
+pub mod Found
+pub mod Valid

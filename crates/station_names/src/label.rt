@@ -1,16 +1,17 @@
 // What a single label is asked for.
-ghost use Rattle.std.specs.Prelude.{◌≡◌, ◌↔◌, All, Any, IsTrue, false};
+ghost use Rattle.std.specs.Prelude.{◌≡◌, ◌&&◌, ◌↔◌, All, IsTrue, nat_le};
 ghost use Rattle.pn_values.specs.StationName.{is_digit, is_label_byte as is_allowed, IsAddressPart, IsPort};
 ghost use Rattle.station_names.specs.NameFault.{HasHyphenEnd};
 
-/// Whether some byte is none of `a` to `z`, `0` to `9` and `-`.
-pub(crate) fn has_bad_byte(label: &[u8]) -> bool
-    ensures { IsTrue result ↔ Any (λ byte. is_allowed byte ≡ false) label.now }
+/// Whether it is one of `a` to `z`.
+pub(crate) fn is_letter(byte: u8) -> bool
+    ensures { result ≡ (nat_le 97 byte && nat_le byte 122) }
 {
-    label.iter().any(|byte| !is_label_byte(*byte))
+    matches!(byte, b'a'..=b'z')
 }
 
-fn is_label_byte(byte: u8) -> bool
+/// Whether it is one of `a` to `z`, `0` to `9` and `-`.
+pub(crate) fn is_label_byte(byte: u8) -> bool
     ensures { result ≡ is_allowed byte }
 {
     matches!(byte, b'a'..=b'z' | b'0'..=b'9' | b'-')

@@ -4,9 +4,7 @@
 mod label;
 mod name_check;
 mod name_fault;
+mod scan;
 
 pub use name_check::check;
 pub use name_fault::NameFault;
-
-#[cfg(test)]
-mod tests;

@@ -1,4 +1,6 @@
 // A module for each crate, by what it is about.
 mod flash;
 mod journal;
+mod names;
 mod store;
+mod values;

@@ -293,10 +293,19 @@ fn reads_an_answer_to_a_set(rt: HostRuntime) {
     };
     assert!(rt; is_name_done);
     assert!(rt; answer.is_positive());
+}
+
+#[test]
+fn a_set_that_was_refused(rt: HostRuntime) {
     let mut refused = SET;
     refused[16] = 3;
     let answer = read_answer(GET_SET, &refused).ok().expect(&rt, "an answer");
+    assert!(rt; answer.is_supported);
     assert!(rt; !answer.is_positive());
+}
+
+#[test]
+fn a_set_that_is_not_supported(rt: HostRuntime) {
     let mut unsupported = SET;
     unsupported[1] = 5;
     unsupported[9] = 0;

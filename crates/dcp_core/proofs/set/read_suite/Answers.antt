@@ -1,12 +1,10 @@
 -- The suite's check says what its test says.
 use Rattle.std.proofs.Common.{◌≡◌, ℕ, List, length, take, drop, refl, sym, ap, ◌∙◌, subst, arith}
-use Rattle.std.specs.Prelude.{◌==◌, ◌&&◌, ◌↔◌, Option, IsSome, IfSome, IsTrue}
+use Rattle.std.specs.Prelude.{◌==◌, ◌&&◌, ◌↔◌, Option, IsSome, IfSome, IsTrue, is_some}
 use Rattle.std.proofs.lemmas.Grind.{common_steps}
 use Rattle.std.proofs.lemmas.List.{drop-drop}
-use Rattle.pn_values.specs.IpSuite.{Suite, IsSuite}
+use Rattle.pn_values.specs.IpSuite.{Suite, is_suite}
 use Rattle.dcp_core.specs.Set.{suite_in}
-use Rattle.dcp_core.specs.Valid.{is_suite}
-use Rattle.dcp_core.proofs.Valid.{Decides-suite}
 use Rattle.dcp_core.proofs.set.read_suite.Goals as goal
 
 -- the parts are those of the twelve bytes
@@ -19,11 +17,11 @@ parts_are value address rest mask rest2 gateway a r m s g =
 
 -- whether they are a suite
 valid_from : {X : Type 0} (option : Option X) (value : List ℕ) (parts : Suite) → length value ≡ 12 → parts ≡ suite_in value
-    → IsSome option ↔ IsSuite parts → IsSome option ↔ IsTrue ((length value == 12) && is_suite (suite_in value))
-valid_from option value parts long same valid =
-    let decides = Decides-suite (suite_in value) in
-    let test : ((length value == 12) && is_suite (suite_in value)) ≡ is_suite (suite_in value) = rw long refl in
-    (λ h. test ∙ decides.1 (subst IsSuite same (valid.0 h)), λ h. valid.1 (subst IsSuite (sym same) (decides.0 (sym test ∙ h))))
+    → is_some option ≡ is_suite parts → IsSome option ↔ IsTrue ((length value == 12) && is_suite (suite_in value))
+valid_from option value parts long same test =
+    let all : ((length value == 12) && is_suite (suite_in value)) ≡ is_suite (suite_in value) = rw long refl in
+    let answer : is_some option ≡ ((length value == 12) && is_suite (suite_in value)) = test ∙ ap is_suite same ∙ sym all in
+    (λ some. sym answer ∙ some, λ yes. answer ∙ yes)
 
 pub returns-clause-valid : goal.returns-clause-valid
 returns-clause-valid c =
@@ -31,7 +29,7 @@ returns-clause-valid c =
     let second = c.in_ok-mask.ensures.cases in
     let third = c.in_ok-gateway.ensures.cases in
     let same = parts_are c.args.value.now _ _ _ _ _ first.0 first.1 second.0 second.1 third.0 in
-    valid_from c.new.result c.args.value.now _ (grind (arith, common_steps)) same c.new.ensures.valid
+    valid_from c.new.result c.args.value.now _ (grind (arith, common_steps)) same c.new.ensures.test
 
 pub returns-clause-value : goal.returns-clause-value
 returns-clause-value c =

@@ -1,9 +1,9 @@
-use Rattle.std.proofs.Common.{refl}
-use Rattle.station_names.proofs.Faults.{name_at_end}
+-- The test says what the definition says.
+use Rattle.std.proofs.lemmas.Bool.Decides.{same_from_decides}
+use Rattle.std.specs.Prelude.{is_ok}
+use Rattle.station_names.proofs.Valid.{Decides-station_name}
 use Rattle.station_names.proofs.name_check.check.Goals as goal
 
-pub of-requires : goal.of-requires
-of-requires c = name_at_end c.args.bytes.now c.loop-fault.fault-index c.loop-fault-test.false c.loop-fault.invariant
-
-pub returns-clause-valid : goal.returns-clause-valid
-returns-clause-valid c = (λ _. name_at_end c.args.bytes.now c.loop-fault.fault-index c.loop-fault-test.false c.loop-fault.invariant, λ _. refl)
+pub returns-clause-test : goal.returns-clause-test
+returns-clause-test c =
+    same_from_decides (is_ok c.named.result) _ c.named.ensures.valid (Decides-station_name c.args.bytes.now)

@@ -2,7 +2,7 @@
 use Rattle.std.proofs.Common.{◌≤◌}
 use Rattle.station_names.specs.declared.name_fault.NameFault.{NameFault}
 use Rattle.station_names.specs.NameFault.{HasFault, number_of}
-use Rattle.station_names.proofs.name_check.check.Given as goal
+use Rattle.station_names.proofs.name_check.named.Given as goal
 
 abbrev pub invariant-loop-fault : goal.invariant-loop-fault
 invariant-loop-fault l = (other : NameFault) → number_of other ≤ l.fault-index → ¬ HasFault l.bytes other

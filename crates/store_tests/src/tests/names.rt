@@ -1,4 +1,5 @@
-use crate::{NameFault, check};
+// Which texts are station names, and what is wrong with the others.
+use station_names::{NameFault, check};
 use std::test::Fail;
 
 #[test]
@@ -66,4 +67,20 @@ fn says_what_is_wrong(rt: HostRuntime) -> Result<(), Fail> {
         assert_eq!(rt; format!(in rt.alloc(); "{fault}")?.as_str(), text);
     }
     Ok(())
+}
+
+#[test]
+fn faults_are_numbered(rt: HostRuntime) {
+    let rows = [
+        (NameFault::TooLong, 1),
+        (NameFault::EmptyLabel, 2),
+        (NameFault::LabelTooLong, 3),
+        (NameFault::BadByte, 4),
+        (NameFault::HyphenEnd, 5),
+        (NameFault::LooksLikeAddress, 6),
+        (NameFault::PortForm, 7),
+    ];
+    for (fault, number) in rows {
+        assert_eq!(rt; fault.number(), number, "{fault:?}");
+    }
 }

@@ -1,4 +1,5 @@
-use super::*;
+// Suites, and what commands make of the settings.
+use pn_values::{Command, ImValue, IpSuite, Padded, Settings, StationName};
 use std::test::Fail;
 
 // Address, mask, gateway, and whether a station may have them.

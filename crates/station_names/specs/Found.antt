@@ -1,0 +1,26 @@
+-- What a look at the labels of a text finds out.
+use Rattle.std.specs.Prelude.{◌≡◌, ◌<◌, ◌≤◌, ◌↔◌, ℕ, List, [], length, take, All, Any, IsTrue, false}
+use Rattle.pn_values.specs.StationName.{is_label_byte, labels_of, IsAddressPart, IsPort}
+use Rattle.station_names.specs.declared.scan.Labels.{Labels}
+use Rattle.station_names.specs.declared.scan.Found.{Found}
+use Rattle.station_names.specs.NameFault.{HasHyphenEnd}
+
+-- some byte of it is none of a label
+abbrev pub HasBadByte : List ℕ → Type 0
+HasBadByte label = Any (λ byte. is_label_byte byte ≡ false) label
+
+-- what is found out about some labels: how many, whether one is empty, too long or begins or ends with '-', whether each
+-- is as a part of an address, and whether the first is the name of a port
+pub record Seen (labels : List (List ℕ)) (seen : Labels) : Type 0 where
+  pub count : seen.count ≡ length labels
+  pub empty : IsTrue seen.has_empty ↔ Any (λ label. label ≡ []) labels
+  pub long : IsTrue seen.has_long ↔ Any (λ label. 63 < length label) labels
+  pub hyphen_end : IsTrue seen.has_hyphen_end ↔ Any HasHyphenEnd labels
+  pub parts : IsTrue seen.are_address_parts ↔ All IsAddressPart labels
+  pub port : 0 < length labels → IsTrue seen.begins_with_port ↔ All IsPort (take 1 labels)
+
+-- the same of all labels of a text that is not too long, and whether it has a byte that no label has
+pub record IsFound (bytes : List ℕ) (found : Found) : Type 0 where
+  pub short : length bytes ≤ 240
+  pub seen : Seen (labels_of bytes) found.labels
+  pub bad : IsTrue found.has_bad_byte ↔ Any HasBadByte (labels_of bytes)
