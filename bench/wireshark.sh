@@ -1,16 +1,16 @@
 #!/usr/bin/env bash
-# Runs a script by the proved program, which is proved first where it is not, and writes its frames, those that come in and
-# those that are sent, in their order into a capture file for Wireshark; then lists them as tshark reads them. Its status is
-# 1 where a frame is not PN-DCP or is malformed.
+# Runs a script by the proved program (`./pnscript prove` makes it) and writes its frames, those that come in and those that
+# are sent, in their order into a capture file for Wireshark; then lists them as tshark reads them. Its status is 1 where a
+# frame is not PN-DCP or is malformed.
 # Use: bench/wireshark.sh SCRIPT FILE.pcapng. Needs awk, sed, and text2pcap and tshark (Debian: apt-get install tshark).
 set -euo pipefail
 here=$(cd "$(dirname "$0")" && pwd)
 script=$1
 capture=$2
+program=$(python3 "$here/program.py")
 printed=$(mktemp)
 trap 'rm -f "$printed"' EXIT
-"$here/../pnscript" prove >&2
-"$here/../crates/pnscript/out/pnscript" run < "$script" > "$printed"
+"$program" run < "$script" > "$printed"
 
 # The frames of the script and of its output, one a line in hex, each answer behind its request.
 conversation() {
