@@ -4,5 +4,5 @@ mod Places
 pub mod Hex
 pub mod Known
 pub mod Playing
-pub mod Digits
+pub mod Decimals
 pub mod Ticking

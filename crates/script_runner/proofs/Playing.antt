@@ -1,74 +1,135 @@
 -- Lines, one after another.
-use Rattle.std.proofs.Common.{◌≡◌, ◌⊎◌, inl, inr, ℕ, ◌+◌, ◌≤◌, List, [], ◌∷◌, ◌++◌, Option, Some, None, length, refl, sym, ap, subst, arith, ◌∙◌, Result, Ok, Err, false}
+use Rattle.std.proofs.Common.{◌≡◌, ◌||◌, ◌⊎◌, inl, inr, ℕ, ◌+◌, ◌≤◌, List, [], ◌∷◌, ◌++◌, Option, Some, None, length, refl, sym, ap, subst, arith, ◌∙◌, Result, Ok, Err, Bool, true, false, if◌then◌else◌, append-nil, append_assoc}
 use Rattle.std.specs.Io.KnownBytes.{Appends}
 use Rattle.std.specs.Str.Lines.{lines}
+use Rattle.flash_model.specs.declared.memory.MemoryFlash.{MemoryFlash}
 use Rattle.settings_journal.specs.declared.journal.BootFault.{BootFault}
-use Rattle.device_core.specs.State.{Live}
+use Rattle.device_core.specs.State.{State}
 use Rattle.script_runner.specs.declared.fault.RunFault.{RunFault}
 use Rattle.script_runner.specs.declared.fault.RunFault.TheVariants.{Write, OutOfMemory}
 use Rattle.script_runner.specs.declared.session.Power.{Power}
-use Rattle.script_runner.specs.declared.session.Power.TheVariants.{On, Off}
+use Rattle.script_runner.specs.declared.session.Power.TheVariants.{On, Off, Away}
 use Rattle.script_runner.specs.Line.{Line, Unfit, Skipped, Asks, Unknown, meaning_of}
-use Rattle.script_runner.specs.Output.{AppendsFront, Puts}
-use Rattle.script_runner.specs.Script.{Answer, answer_of, then_told, told, number_or, refused_from, output_of, refused_line}
-use Rattle.script_runner.specs.Session.{IsRunning, IsAnswered, IsObeyed, Obeys, is_off, refusal_of, text_of}
-use Rattle.script_runner.specs.Told.{IsPlayed, IsPlayFault}
-use Rattle.script_runner.proofs.Known.{IsSoFar, so_far_on, so_far_all, so_far_front, front_longer}
+use Rattle.script_runner.specs.Output.{AppendsFront, Grows, Puts}
+use Rattle.script_runner.specs.Script.{Station, Answer, answer_of, then_told, told, number_or, refused_from, is_cut, has_cut, before_cut, output_of, refused_line}
+use Rattle.script_runner.specs.Session.{IsRunning, IsAnswered, IsDone, IsObeyed, Obeys, is_off, refusal_of, text_of}
+use Rattle.script_runner.specs.Told.{Plays, PlaysOn, IsPlayed, IsPlayFault}
+use Rattle.script_runner.proofs.Known.{IsSoFar, so_far_on, so_far_all, so_far_front, front_longer, appends_on}
 
 -- a device that runs was not refused its start
-pub unrefused : (live : Live) (power : Power) → IsRunning live power → refusal_of power ≡ None
-unrefused live (On device) runs = refl
-unrefused live (Off fault flash) runs = absurd runs
+pub unrefused : (station : Station) (power : Power) → IsRunning station power → refusal_of power ≡ None
+unrefused station (On device) runs = refl
+unrefused station (Off fault flash) runs = absurd runs
+unrefused station Away runs = absurd runs
 
 -- and it has power
-pub unlost : (live : Live) (power : Power) → IsRunning live power → is_off power ≡ false
-unlost live (On device) runs = runs.reliable.0
-unlost live (Off fault flash) runs = absurd runs
+pub unlost : (station : Station) (power : Power) → IsRunning station power → is_off power ≡ false
+unlost station (On device) runs = runs.reliable.0
+unlost station (Off fault flash) runs = absurd runs
+unlost station Away runs = absurd runs
 
--- Between two lines: the device runs, a front of the output was written, and the rest of it and a line to be refused are
--- those of the lines that are left.
-pub record IsPlaying (live : Live) (old new : Option (List ℕ)) (power : Power) (number : ℕ) (rest input : List ℕ) : Type 0 where
-  pub runs : IsRunning live power
-  pub so_far : IsSoFar old new (told live (lines rest)) (output_of input)
-  pub refused : refused_line input ≡ refused_from (number + 1) (lines rest)
+-- Between two lines, none of which was an order to lose power: the device runs, a front of the output was written, and the
+-- rest of it, a line to be refused and an order to come are those of the lines that are left.
+pub record IsPlaying (station : Station) (old new : Option (List ℕ)) (power : Power) (number : ℕ) (rest input : List ℕ) : Type 0 where
+  pub runs : IsRunning station power
+  pub so_far : IsSoFar old new (told station (before_cut (lines rest))) (output_of input)
+  pub refused : refused_line input ≡ refused_from (number + 1) (before_cut (lines rest))
+  pub cut : has_cut (lines input) ≡ has_cut (lines rest)
 
-number_answered : (live : Live) (line : Line) (answer : Answer) (n : ℕ) (later : Option ℕ) → answer_of live line ≡ Some answer → number_or line n later ≡ later
-number_answered live Skipped answer n later e = refl
-number_answered live (Asks command) answer n later e = refl
-number_answered live Unfit answer n later e = cc
-number_answered live Unknown answer n later e = cc
+-- between two lines
+abbrev pub IsBetween : Option (List ℕ) → Option (List ℕ) → Power → ℕ → List ℕ → List ℕ → Type 0
+IsBetween old new power number rest input = ((station : Station) × IsPlaying station old new power number rest input) ⊎ PlaysOn old new input
 
-number_refused : (live : Live) (line : Line) (n : ℕ) (later : Option ℕ) → answer_of live line ≡ None → number_or line n later ≡ Some n
-number_refused live Skipped n later e = cc
-number_refused live (Asks command) n later e = cc
-number_refused live Unfit n later e = refl
-number_refused live Unknown n later e = refl
+before_uncut : (line : List ℕ) (later : List (List ℕ)) → is_cut (meaning_of line) ≡ false → before_cut (line ∷ later) ≡ line ∷ before_cut later
+before_uncut line later uncut = ap (λ cut. if cut then [] else line ∷ before_cut later) uncut
+
+has_uncut : (line : List ℕ) (later : List (List ℕ)) → is_cut (meaning_of line) ≡ false → has_cut (line ∷ later) ≡ has_cut later
+has_uncut line later uncut = ap (λ cut. cut || has_cut later) uncut
+
+before_order : (line : List ℕ) (later : List (List ℕ)) → is_cut (meaning_of line) ≡ true → before_cut (line ∷ later) ≡ []
+before_order line later cut = ap (λ cut. if cut then [] else line ∷ before_cut later) cut
+
+has_order : (line : List ℕ) (later : List (List ℕ)) → is_cut (meaning_of line) ≡ true → has_cut (line ∷ later) ≡ true
+has_order line later cut = ap (λ cut. cut || has_cut later) cut
+
+number_answered : (station : Station) (line : Line) (answer : Answer) (n : ℕ) (later : Option ℕ) → answer_of station line ≡ Some answer → number_or line n later ≡ later
+number_answered station Skipped answer n later e = refl
+number_answered station (Asks command) answer n later e = refl
+number_answered station Unfit answer n later e = cc
+number_answered station Unknown answer n later e = cc
+
+number_refused : (station : Station) (line : Line) (n : ℕ) (later : Option ℕ) → answer_of station line ≡ None → number_or line n later ≡ Some n
+number_refused station Skipped n later e = cc
+number_refused station (Asks command) n later e = cc
+number_refused station Unfit n later e = refl
+number_refused station Unknown n later e = refl
+
+-- the lines that are left, where the first of them is no order
+left_uncut : (rest line later : List ℕ) → lines rest ≡ line ∷ lines later → is_cut (meaning_of line) ≡ false → before_cut (lines rest) ≡ line ∷ before_cut (lines later)
+left_uncut rest line later e uncut = ap before_cut e ∙ before_uncut line (lines later) uncut
 
 -- after a line that was answered
-pub playing_on : (live : Live) (old mid new : Option (List ℕ)) (before after : Power) (number : ℕ) (rest line later input : List ℕ) → IsPlaying live old mid before number rest input → lines rest ≡ line ∷ lines later → (answered : IsAnswered live (meaning_of line) mid new after) → IsPlaying answered.answer.live old new after (number + 1) later input
-playing_on live old mid new before after number rest line later input playing e answered = record {
-  runs = answered.runs;
-  so_far = so_far_on old mid new _ _ _ answered.answer.text playing.so_far
-      (ap (told live) e ∙ ap (λ answer. then_told answer (λ next. told next (lines later))) answered.is) answered.text;
-  refused = playing.refused ∙ ap (refused_from (number + 1)) e ∙ number_answered live (meaning_of line) answered.answer (number + 1) _ answered.is;
-}
+pub playing_on : (station : Station) (old mid new : Option (List ℕ)) (before after : Power) (number : ℕ) (rest line later input : List ℕ) → IsPlaying station old mid before number rest input → lines rest ≡ line ∷ lines later → is_cut (meaning_of line) ≡ false → (answered : IsAnswered station (meaning_of line) mid new after) → IsPlaying answered.answer.station old new after (number + 1) later input
+playing_on station old mid new before after number rest line later input playing e uncut answered =
+    let left = left_uncut rest line later e uncut in
+    record {
+      runs = answered.runs;
+      so_far = so_far_on old mid new _ _ _ answered.answer.text playing.so_far
+          (ap (told station) left ∙ ap (λ answer. then_told answer (λ next. told next (before_cut (lines later)))) answered.is) answered.text;
+      refused = playing.refused ∙ ap (refused_from (number + 1)) left ∙ number_answered station (meaning_of line) answered.answer (number + 1) _ answered.is;
+      cut = playing.cut ∙ ap has_cut e ∙ has_uncut line (lines later) uncut;
+    }
 
 -- at a line that was refused
-pub played_refused : (live : Live) (old mid new : Option (List ℕ)) (power : Power) (number : ℕ) (rest line later input : List ℕ) → IsPlaying live old mid power number rest input → lines rest ≡ line ∷ lines later → answer_of live (meaning_of line) ≡ None → Appends mid new [] → Appends old new (output_of input) × (refused_line input ≡ Some (number + 1))
-played_refused live old mid new power number rest line later input playing e none kept =
-    let silent : told live (lines rest) ≡ [] = ap (told live) e ∙ ap (λ answer. then_told answer (λ next. told next (lines later))) none in (
-      so_far_all old new (told live (lines rest)) (output_of input) (so_far_on old mid new _ _ _ [] playing.so_far refl kept) silent,
-      playing.refused ∙ ap (refused_from (number + 1)) e ∙ number_refused live (meaning_of line) (number + 1) _ none,
+pub played_refused : (station : Station) (old mid new : Option (List ℕ)) (power : Power) (number : ℕ) (rest line later input : List ℕ) → IsPlaying station old mid power number rest input → lines rest ≡ line ∷ lines later → is_cut (meaning_of line) ≡ false → answer_of station (meaning_of line) ≡ None → Appends mid new [] → Appends old new (output_of input) × (refused_line input ≡ Some (number + 1))
+played_refused station old mid new power number rest line later input playing e uncut none kept =
+    let left = left_uncut rest line later e uncut in
+    let silent : told station (before_cut (lines rest)) ≡ [] = ap (told station) left ∙ ap (λ answer. then_told answer (λ next. told next (before_cut (lines later)))) none in (
+      so_far_all old new (told station (before_cut (lines rest))) (output_of input) (so_far_on old mid new _ _ _ [] playing.so_far refl kept) silent,
+      playing.refused ∙ ap (refused_from (number + 1)) left ∙ number_refused station (meaning_of line) (number + 1) _ none,
     )
 
-text_longer : (old new : Option (List ℕ)) (answer : Option Answer) (later : Live → List ℕ) → AppendsFront old new (text_of answer) → AppendsFront old new (then_told answer later)
+-- at a line that orders a loss of power
+playing_cut : (station : Station) (old new : Option (List ℕ)) (power : Power) (number : ℕ) (rest line later input : List ℕ) → IsPlaying station old new power number rest input → lines rest ≡ line ∷ lines later → is_cut (meaning_of line) ≡ true → PlaysOn old new input
+playing_cut station old new power number rest line later input playing e cut =
+    let left : before_cut (lines rest) ≡ [] = ap before_cut e ∙ before_order line (lines later) cut in
+    record {
+      cut = playing.cut ∙ ap has_cut e ∙ has_order line (lines later) cut;
+      unrefused = playing.refused ∙ ap (refused_from (number + 1)) left;
+      more = [];
+      appended = subst (Appends old new) (sym (append-nil (output_of input))) (so_far_all old new _ _ playing.so_far (ap (told station) left));
+    }
+
+-- At a line: the device runs and the line is no order, or an order was met.
+pub at_line : (old new : Option (List ℕ)) (power : Power) (number : ℕ) (rest line later input : List ℕ) → IsBetween old new power number rest input → lines rest ≡ line ∷ lines later → ((station : Station) × IsPlaying station old new power number rest input × (is_cut (meaning_of line) ≡ false)) ⊎ PlaysOn old new input
+at_line old new power number rest line later input (inl playing) e =
+    (elim (is_cut (meaning_of line)) as (λ b. is_cut (meaning_of line) ≡ b → ((station : Station) × IsPlaying station old new power number rest input × (is_cut (meaning_of line) ≡ false)) ⊎ PlaysOn old new input) [
+      | true ↦ λ cut. inr (playing_cut playing.0 old new power number rest line later input playing.1 e cut)
+      | false ↦ λ uncut. inl (playing.0, playing.1, uncut)
+    ]) refl
+at_line old new power number rest line later input (inr more) e = inr more
+
+-- whatever was written behind an order
+pub plays_on : (old mid new : Option (List ℕ)) (input : List ℕ) → PlaysOn old mid input → Grows mid new → PlaysOn old new input
+plays_on old mid new input plays grows = record {
+  cut = plays.cut;
+  unrefused = plays.unrefused;
+  more = plays.more ++ grows.0;
+  appended = subst (Appends old new) (append_assoc (output_of input) plays.more grows.0) (appends_on old mid new _ _ plays.appended grows.1);
+}
+
+text_longer : (old new : Option (List ℕ)) (answer : Option Answer) (later : Station → List ℕ) → AppendsFront old new (text_of answer) → AppendsFront old new (then_told answer later)
 text_longer old new None later front = front
-text_longer old new (Some answer) later front = front_longer old new answer.text (later answer.live) front
+text_longer old new (Some answer) later front = front_longer old new answer.text (later answer.station) front
 
 -- at a line whose output broke off
-pub playing_broken : (live : Live) (old mid new : Option (List ℕ)) (power : Power) (number : ℕ) (rest line later input : List ℕ) → IsPlaying live old mid power number rest input → lines rest ≡ line ∷ lines later → AppendsFront mid new (text_of (answer_of live (meaning_of line))) → AppendsFront old new (output_of input)
-playing_broken live old mid new power number rest line later input playing e front =
-    so_far_front old mid new _ _ playing.so_far (rw (ap (told live) e) (text_longer mid new (answer_of live (meaning_of line)) (λ next. told next (lines later)) front))
+pub playing_broken : (station : Station) (old mid new : Option (List ℕ)) (power : Power) (number : ℕ) (rest line later input : List ℕ) → IsPlaying station old mid power number rest input → lines rest ≡ line ∷ lines later → is_cut (meaning_of line) ≡ false → AppendsFront mid new (text_of (answer_of station (meaning_of line))) → AppendsFront old new (output_of input)
+playing_broken station old mid new power number rest line later input playing e uncut front =
+    so_far_front old mid new _ _ playing.so_far (rw (ap (told station) (left_uncut rest line later e uncut)) (text_longer mid new (answer_of station (meaning_of line)) (λ next. told next (before_cut (lines later))) front))
+
+-- what the device did is what was asked for
+pub done_obeyed : (answer : Answer) (device : State (MemoryFlash 4096)) (before now : List ℕ) → IsDone answer device before now → IsObeyed answer (On device) before now
+done_obeyed answer device before now done = record { runs = done.runs; text = done.text }
 
 -- what was rendered was written
 pub obeyed_puts : (answer : Answer) (power : Power) (text : List ℕ) (old new : Option (List ℕ)) (result : Result (Unit {0}) RunFault) → IsObeyed answer power [] text → Puts old new text result → Obeys answer old new power result
@@ -78,16 +139,20 @@ obeyed_puts answer power text old new (Err fault) obeyed puts = (puts.0, subst (
 -- a run that broke off
 pub played_broken : (old new : Option (List ℕ)) (input : List ℕ) (fault : RunFault) → (fault ≡ Write) ⊎ (fault ≡ OutOfMemory) → AppendsFront old new (output_of input) → IsPlayed old new input (Err fault)
 played_broken old new input fault stop front = elim stop [
-  | inl write ↦ rw write front
-  | inr memory ↦ rw memory front
+  | inl write ↦ rw write (inl front)
+  | inr memory ↦ rw memory (inl front)
 ]
 
 -- after the last line
-pub played_all : (live : Live) (old new : Option (List ℕ)) (power : Power) (number : ℕ) (rest input : List ℕ) → IsPlaying live old new power number rest input → rest ≡ [] → IsPlayed old new input (Ok tt)
-played_all live old new power number rest input playing e = (
-  so_far_all old new _ _ playing.so_far (ap (λ bytes. told live (lines bytes)) e),
-  playing.refused ∙ ap (λ bytes. refused_from (number + 1) (lines bytes)) e,
-)
+pub played_all : (old new : Option (List ℕ)) (power : Power) (number : ℕ) (rest input : List ℕ) → IsBetween old new power number rest input → rest ≡ [] → IsPlayed old new input (Ok tt)
+played_all old new power number rest input (inl playing) e =
+    let none : lines rest ≡ [] = ap lines e in
+    inl (
+      so_far_all old new _ _ playing.1.so_far (ap (λ left. told playing.0 (before_cut left)) none),
+      playing.1.refused ∙ ap (λ left. refused_from (number + 1) (before_cut left)) none,
+      playing.1.cut ∙ ap has_cut none,
+    )
+played_all old new power number rest input (inr more) e = inr more
 
 pub no_bytes : (bytes : List ℕ) → length bytes ≡ 0 → bytes ≡ []
 no_bytes [] e = refl

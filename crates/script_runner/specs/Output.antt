@@ -11,6 +11,10 @@ pub record AppendsFront (old new : Option (List ℕ)) (text : List ℕ) : Type 0
   pub parts : text ≡ front ++ behind
   pub appended : Appends old new front
 
+-- what the writer has got stays, and more may come behind it
+abbrev pub Grows : Option (List ℕ) → Option (List ℕ) → Type 0
+Grows old new = (text : List ℕ) × Appends old new text
+
 -- the writer got the text, or a front of it before a write failed or memory was refused
 abbrev pub Puts : Option (List ℕ) → Option (List ℕ) → List ℕ → Result (Unit {0}) RunFault → Type 0
 Puts old new text (Ok done) = Appends old new text

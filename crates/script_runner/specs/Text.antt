@@ -17,6 +17,10 @@ boot_line None = printed (codes "boot ok")
 boot_line (Some FlashFault) = printed (codes "boot flash-fault")
 boot_line (Some Foreign) = printed (codes "boot foreign")
 
+-- a line that is not heard, since there is no power
+abbrev pub off_line : List ℕ
+off_line = printed (codes "off")
+
 -- a frame that is sent, in hex
 unfoldable pub out_line : List ℕ → List ℕ
 out_line frame = printed (codes "out " ++ encode_lower frame)

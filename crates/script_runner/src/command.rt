@@ -8,7 +8,7 @@ ghost use Rattle.script_runner.specs.Line.{behind, AreWords, bytes_of, command_o
 ghost use Rattle.script_runner.specs.Numbers.{number_of};
 ghost use Rattle.script_runner.specs.Read.{command_read, line_read};
 
-use crate::numbers;
+use crate::{digits, numbers};
 use flash_model::Order;
 use memchr::memchr;
 use std::alloc::AllocError;
@@ -224,7 +224,7 @@ fn mask(digits: &[u8], buffer: &mut Vec<u8>) -> Result<Option<[u8; 8]>, AllocErr
 {
     buffer.resize(digits.len() / 2, 0)?;
     let bytes = buffer.as_mut_slice();
-    if !decode(digits, bytes) {
+    if !digits::read(digits, bytes) {
         return Ok(None);
     }
     Ok(numbers::mask_of(bytes))
@@ -239,17 +239,8 @@ fn decoded<'a>(digits: &[u8], buffer: &'a mut Vec<u8>) -> Result<Option<&'a [u8]
     }
     buffer.resize(digits.len() / 2, 0)?;
     let bytes = buffer.as_mut_slice();
-    if !decode(digits, bytes) {
+    if !digits::read(digits, bytes) {
         return Ok(None);
     }
     Ok(Some(bytes))
-}
-
-/// Decodes hex digits, two for each of the bytes. Says whether they are hex digits, and as many.
-fn decode(digits: &[u8], bytes: &mut [u8]) -> bool
-    requires { length bytes.old ≡ length digits.now / 2 }
-    ensures decoded { result ≡ true → decode_of digits.now ≡ Ok bytes.new }
-    ensures refused { result ≡ false → IsErr (decode_of digits.now) }
-{
-    hex::decode_to_slice(digits, bytes).is_ok()
 }

@@ -4,6 +4,7 @@
 mod bytes;
 mod command;
 mod demo;
+mod digits;
 mod fault;
 mod input;
 mod numbers;

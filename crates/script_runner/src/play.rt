@@ -1,24 +1,24 @@
 // A script, line by line.
 ghost use Rattle.std.specs.Prelude.{◌≤◌, length, IfErr};
-ghost use Rattle.std.specs.Str.Lines.{lines};
-ghost use Rattle.script_runner.specs.Script.{AreUncut};
 ghost use Rattle.script_runner.specs.Told.{IsPlayed, IsPlayFault};
 
 use crate::RunFault;
 use crate::command::first_line;
 use crate::output::put;
 use crate::session::Session;
+use flash_model::MemoryFlash;
 use std::alloc::Global;
 use std::io::Write;
 
-/// Plays a script on the demo device over a blank flash, and writes what it prints, line by line. What is said of it is
-/// said of scripts that order no loss of power.
+/// Plays a script on the demo device over a blank flash, and writes what it prints, line by line. What is written is said
+/// up to the first line that orders a loss of power.
 pub(crate) fn play<W: Write>(alloc: Global, input: &[u8], writer: &mut W) -> Result<(), RunFault>
     requires { length input.now ≤ 16777216 }
     ensures faults { IfErr result IsPlayFault }
-    ensures played { AreUncut (lines input.now) → IsPlayed (W.contents writer.old) (W.contents writer.new) input.now result }
+    ensures played { IsPlayed (W.contents writer.old) (W.contents writer.new) input.now result }
 {
-    let mut session = Session::new(alloc);
+    let mut flash = MemoryFlash::blank();
+    let mut session = Session::new(alloc, &mut flash);
     let mut buffer = Vec::new(alloc);
     put(writer, b"boot ok\n")?;
     let mut rest = input;

@@ -3,6 +3,7 @@ ghost use Rattle.std.specs.Prelude.{◌≡◌, ◌≤◌, ◌++◌, length, OnOk
 ghost use Rattle.hex.specs.Hex.{encode_lower};
 ghost use Rattle.script_runner.specs.Text.{boot_line, out_line, out_lines, note_line, note_word};
 
+use crate::digits;
 use device_core::Note;
 use frame_codec::Frame;
 use settings_journal::BootFault;
@@ -36,8 +37,7 @@ pub(crate) fn hex_digits(bytes: &[u8], text: &mut Vec<u8>) -> Result<(), AllocEr
 {
     let before = text.len();
     text.resize(before + 2 * bytes.len(), 0)?;
-    let digits = &mut text.as_mut_slice()[before..];
-    let _ = hex::encode_to_slice(bytes, digits);
+    digits::write(bytes, &mut text.as_mut_slice()[before..]);
     Ok(())
 }
 

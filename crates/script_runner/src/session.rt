@@ -1,51 +1,53 @@
 // What a run holds from line to line.
-ghost use Rattle.std.specs.Prelude.{◌≡◌, ◌⊎◌, ◌++◌, ℕ, List, [], IfErr, IfOk, OnOk, map, take};
+ghost use Rattle.std.specs.Prelude.{◌≡◌, ◌⊎◌, ◌++◌, ℕ, true, false, [], IfErr, IfOk, OnOk, map, take};
 ghost use Rattle.pn_values.specs.declared.settings.Settings.{Settings};
 ghost use Rattle.flash_model.specs.Image.{erased};
 ghost use Rattle.flash_model.specs.Memory.{image_of, IsReliable};
 ghost use Rattle.settings_journal.specs.Image.{StartsWith, LeftByDevice};
 ghost use Rattle.device_core.specs.declared.event.Event.TheVariants as event;
-ghost use Rattle.device_core.specs.State.{Live};
-ghost use Rattle.device_core.specs.Cycle.{started};
+ghost use Rattle.device_core.specs.Steps.{IsSame};
 ghost use Rattle.device_core.specs.Machine.{step_of};
-ghost use Rattle.script_runner.specs.Demo.{demo};
-ghost use Rattle.script_runner.specs.Script.{ticked};
-ghost use Rattle.script_runner.specs.Session.{Runs, IsStepped, AreTicked};
+ghost use Rattle.script_runner.specs.Read.{line_read};
+ghost use Rattle.script_runner.specs.Script.{Station, demo_started, step_answer, ticked};
+ghost use Rattle.script_runner.specs.Session.{Runs, IsStepped, IsDone, is_heard_off};
 
 use crate::bytes::{copied, front};
 use crate::command::{self, Command, Line};
 use crate::output::put;
 use crate::{RunFault, demo, render, show};
 use device_core::{Device, Event, Note};
-use flash_model::{Flash, MemoryFlash, Order};
+use flash_model::{Flash, Lent, MemoryFlash, Order};
 use frame_codec::Outbox;
 use settings_journal::BootFault;
 use std::alloc::{AllocError, Global};
 use std::io::Write;
 use std::mem;
 
-/// The flash of the demo device.
-pub(crate) type DemoFlash = MemoryFlash<4096>;
+/// The flash of the demo device, which is lent to it: it is large, and stays where it is.
+type DemoFlash<'a> = Lent<'a, MemoryFlash<4096>>;
 
 /// The demo device.
-pub(crate) type DemoDevice = Device<DemoFlash, 4096>;
+type DemoDevice<'a> = Device<DemoFlash<'a>, 4096>;
 
 /// The demo device as it runs, or why it did not start and what its flash holds.
 #[derive(Drop)]
-pub(crate) enum Power {
-    On(DemoDevice),
-    Off(BootFault, DemoFlash),
+pub(crate) enum Power<'a> {
+    On(DemoDevice<'a>),
+    Off(BootFault, DemoFlash<'a>),
+    /// In the middle of a restart: the flash is with what starts it.
+    Away,
 }
 
-impl Power {
+impl<'a> Power<'a> {
     ghost use Rattle.script_runner.specs.Script.{factory_device};
-    ghost use Rattle.script_runner.specs.Session.{IsRunning, is_off, refusal_of};
+    ghost use Rattle.script_runner.specs.Session.{IsRunning, IsBack, IsOver, is_off, refusal_of};
 
     /// Starts the device from what a flash keeps.
-    fn start(flash: DemoFlash) -> Power
-        ensures stored { (settings : Settings) (room : ℕ) → IsReliable flash → LeftByDevice (image_of flash) → StartsWith (image_of flash) settings room →
-            IsRunning (started settings room) result }
-        ensures blank { IsReliable flash → image_of flash ≡ record { first = erased 4096; second = erased 4096 } → IsRunning factory_device result }
+    fn start(flash: DemoFlash<'a>) -> Power<'a>
+        ensures stored { (settings : Settings) (room : ℕ) → IsReliable flash.entry → LeftByDevice (image_of flash.entry) → StartsWith (image_of flash.entry) settings room →
+            IsRunning (demo_started settings room) result }
+        ensures blank { IsReliable flash.entry → image_of flash.entry ≡ record { first = erased 4096; second = erased 4096 } → IsRunning factory_device result }
+        ensures back { IsOver flash.entry result }
     {
         match Device::boot(demo::identity(), demo::real(), flash) {
             Ok(device) => Power::On(device),
@@ -54,8 +56,9 @@ impl Power {
     }
 
     /// Takes the device's power away, and gives it back.
-    fn restart(self) -> Power
-        ensures { (live : Live) → IsRunning live self → IsRunning (started live.values.stored live.values.room) result }
+    fn restart(self) -> Power<'a>
+        ensures runs { (station : Station) → IsRunning station self.entry → IsRunning (demo_started station.live.values.stored station.live.values.room) result }
+        ensures back { IsBack self.entry result }
     {
         match self {
             Power::On(device) => {
@@ -64,13 +67,15 @@ impl Power {
                 Power::with_power(device.into_flash())
             }
             Power::Off(_, flash) => Power::with_power(flash),
+            Power::Away => Power::Away,
         }
     }
 
     /// Gives a flash its power back, and starts the device. An order that has not struck stays armed.
-    fn with_power(flash: DemoFlash) -> Power
-        ensures { (settings : Settings) (room : ℕ) → IsReliable flash → LeftByDevice (image_of flash) → StartsWith (image_of flash) settings room →
-            IsRunning (started settings room) result }
+    fn with_power(flash: DemoFlash<'a>) -> Power<'a>
+        ensures runs { (settings : Settings) (room : ℕ) → IsReliable flash.entry → LeftByDevice (image_of flash.entry) → StartsWith (image_of flash.entry) settings room →
+            IsRunning (demo_started settings room) result }
+        ensures back { IsOver flash.entry result }
     {
         let mut flash = flash;
         flash.power_up();
@@ -83,7 +88,7 @@ impl Power {
     {
         match self {
             Power::On(device) => device.flash().is_lost(),
-            Power::Off(_, _) => true,
+            Power::Off(_, _) | Power::Away => true,
         }
     }
 
@@ -92,7 +97,7 @@ impl Power {
         ensures { result ≡ refusal_of self.now }
     {
         match self {
-            Power::On(_) => None,
+            Power::On(_) | Power::Away => None,
             Power::Off(fault, _) => Some(*fault),
         }
     }
@@ -101,25 +106,27 @@ impl Power {
 /// A run: the device, the last event that came from the network, the frames that the device sends at a time, and the text
 /// that a line prints.
 #[derive(Drop)]
-pub(crate) struct Session {
-    power: Power,
+pub(crate) struct Session<'a> {
+    power: Power<'a>,
     received: Event,
     outbox: Outbox,
     text: Vec<u8>,
 }
 
-impl Session {
+impl<'a> Session<'a> {
     ghost use Rattle.script_runner.specs.Line.{Frame, Restart, Tick, Show, meaning_of};
     ghost use Rattle.script_runner.specs.Read.{command_read};
-    ghost use Rattle.script_runner.specs.Script.{said, factory_device, IsPlain, IsUncut};
-    ghost use Rattle.script_runner.specs.Session.{IsRunning, Takes, Obeys, IsObeyed};
+    ghost use Rattle.script_runner.specs.Output.{Grows};
+    ghost use Rattle.script_runner.specs.Script.{said, factory_device, arms, is_cut};
+    ghost use Rattle.script_runner.specs.Session.{IsDemo, IsRunning, IsBack, Takes, TakesOff, GivesBack, Obeys, IsObeyed, is_off, refusal_of};
+    ghost use Rattle.script_runner.specs.Text.{boot_line};
 
-    /// The demo device over a blank flash, as it starts.
-    pub(crate) fn new(alloc: Global) -> Session
-        ensures { IsRunning factory_device result.power }
+    /// The demo device over this flash, as it starts.
+    pub(crate) fn new(alloc: Global, flash: &'a mut MemoryFlash<4096>) -> Session<'a>
+        ensures { IsReliable flash.old → image_of flash.old ≡ record { first = erased 4096; second = erased 4096 } → IsRunning factory_device result.power }
     {
         Session {
-            power: Power::start(MemoryFlash::blank()),
+            power: Power::start(Lent::new(flash)),
             received: Event::Tick,
             outbox: Outbox::new(),
             text: Vec::new(alloc),
@@ -135,8 +142,12 @@ impl Session {
         writer: &mut W,
     ) -> Result<bool, RunFault>
         ensures faults { IfErr result (λ fault. (fault ≡ RunFault.Write) ⊎ (fault ≡ RunFault.OutOfMemory)) }
-        ensures takes { (live : Live) → IsRunning live self.old.power → IsUncut (meaning_of line.now) →
-            Takes live (meaning_of line.now) (W.contents writer.old) (W.contents writer.new) self.new.power result }
+        ensures takes { (station : Station) → IsRunning station self.old.power → is_cut (meaning_of line.now) ≡ false →
+            Takes station (meaning_of line.now) (W.contents writer.old) (W.contents writer.new) self.new.power result }
+        ensures off { is_off self.old.power ≡ true →
+            TakesOff (meaning_of line.now) self.old.power self.new.power (W.contents writer.old) (W.contents writer.new) result }
+        ensures demo { IsDemo self.old.power → IsDemo self.new.power }
+        ensures grows { Grows (W.contents writer.old) (W.contents writer.new) }
     {
         let Ok(meaning) = command::meaning(line, buffer) else {
             return Err(RunFault::OutOfMemory);
@@ -155,8 +166,12 @@ impl Session {
     /// Does what a command asks for, and writes what it prints.
     fn obey<W: Write>(&mut self, command: Command<'_>, writer: &mut W) -> Result<(), RunFault>
         ensures faults { IfErr result (λ fault. (fault ≡ RunFault.Write) ⊎ (fault ≡ RunFault.OutOfMemory)) }
-        ensures obeys { (live : Live) → IsRunning live self.old.power → IsPlain (command_read command.entry) →
-            Obeys (said live (command_read command.entry)) (W.contents writer.old) (W.contents writer.new) self.new.power result }
+        ensures obeys { (station : Station) → IsRunning station self.old.power → arms (command_read command.entry) ≡ false →
+            Obeys (said station (command_read command.entry)) (W.contents writer.old) (W.contents writer.new) self.new.power result }
+        ensures back { command_read command.entry ≡ Restart →
+            GivesBack self.old.power self.new.power (W.contents writer.old) (W.contents writer.new) result }
+        ensures demo { IsDemo self.old.power → IsDemo self.new.power }
+        ensures grows { Grows (W.contents writer.old) (W.contents writer.new) }
     {
         self.text.clear();
         let Ok(()) = self.answer(command) else {
@@ -167,8 +182,12 @@ impl Session {
 
     /// Does what a command asks for, and renders what it prints.
     fn answer(&mut self, command: Command<'_>) -> Result<(), AllocError>
-        ensures { (live : Live) → IsRunning live self.old.power → IsPlain (command_read command.entry) →
-            OnOk result (IsObeyed (said live (command_read command.entry)) self.new.power self.old.text.items self.new.text.items) }
+        ensures obeys { (station : Station) → IsRunning station self.old.power → arms (command_read command.entry) ≡ false →
+            OnOk result (IsObeyed (said station (command_read command.entry)) self.new.power self.old.text.items self.new.text.items) }
+        ensures back { command_read command.entry ≡ Restart → IsBack self.old.power self.new.power }
+        ensures printed { command_read command.entry ≡ Restart →
+            OnOk result (self.new.text.items ≡ self.old.text.items ++ boot_line (refusal_of self.new.power)) }
+        ensures demo { IsDemo self.old.power → IsDemo self.new.power }
     {
         match command {
             Command::Frame(bytes) => self.hand_in(bytes),
@@ -185,31 +204,28 @@ impl Session {
     /// Hands bytes to the device, as from the network, at most 1,519 of them: no frame is so long.
     #[tactic(auto, unfolding(crate::specs::Script::said))]
     fn hand_in(&mut self, bytes: &[u8]) -> Result<(), AllocError>
-        ensures { (live : Live) → IsRunning live self.old.power →
-            OnOk result (IsObeyed (said live (Frame bytes.now)) self.new.power self.old.text.items self.new.text.items) }
+        ensures obeys { (station : Station) → IsRunning station self.old.power →
+            OnOk result (IsObeyed (said station (Frame bytes.now)) self.new.power self.old.text.items self.new.text.items) }
+        ensures demo { IsDemo self.old.power → IsDemo self.new.power }
     {
         match &mut self.power {
             Power::On(device) => {
                 receive(&mut self.received, bytes);
-                let note = step(device, &self.received, &mut self.outbox, &mut self.text)?;
-                if device.flash().is_lost() {
-                    self.text.clear();
-                    return self.text.extend_from_slice(b"power lost\n");
-                }
-                render::note(note, &mut self.text)
+                respond(device, &self.received, &mut self.outbox, &mut self.text)
             }
-            Power::Off(_, _) => self.text.extend_from_slice(b"off\n"),
+            Power::Off(_, _) | Power::Away => self.text.extend_from_slice(b"off\n"),
         }
     }
 
     /// Takes the device's power away, and gives it back.
     #[tactic(auto, unfolding(crate::specs::Script::said))]
     fn restart(&mut self) -> Result<(), AllocError>
-        ensures { (live : Live) → IsRunning live self.old.power →
-            OnOk result (IsObeyed (said live Restart) self.new.power self.old.text.items self.new.text.items) }
+        ensures obeys { (station : Station) → IsRunning station self.old.power →
+            OnOk result (IsObeyed (said station Restart) self.new.power self.old.text.items self.new.text.items) }
+        ensures back { IsBack self.old.power self.new.power }
+        ensures printed { OnOk result (self.new.text.items ≡ self.old.text.items ++ boot_line (refusal_of self.new.power)) }
     {
-        let none = Power::Off(BootFault::FlashFault, MemoryFlash::blank());
-        let power = mem::replace(&mut self.power, none);
+        let power = mem::replace(&mut self.power, Power::Away);
         self.power = power.restart();
         render::boot(self.power.refusal(), &mut self.text)
     }
@@ -217,45 +233,52 @@ impl Session {
     /// Lets units of time go by.
     #[tactic(auto, unfolding(crate::specs::Script::said))]
     fn tick(&mut self, units: u32) -> Result<(), AllocError>
-        ensures { (live : Live) → IsRunning live self.old.power →
-            OnOk result (IsObeyed (said live (Tick units)) self.new.power self.old.text.items self.new.text.items) }
+        ensures obeys { (station : Station) → IsRunning station self.old.power →
+            OnOk result (IsObeyed (said station (Tick units)) self.new.power self.old.text.items self.new.text.items) }
+        ensures demo { IsDemo self.old.power → IsDemo self.new.power }
     {
         match &mut self.power {
             Power::On(device) => {
                 ticks(device, units, &mut self.outbox, &mut self.text)?;
                 render::note(Note::Done, &mut self.text)
             }
-            Power::Off(_, _) => self.text.extend_from_slice(b"off\n"),
+            Power::Off(_, _) | Power::Away => self.text.extend_from_slice(b"off\n"),
         }
     }
 
     /// Shows the settings and the lamp.
     #[tactic(auto, unfolding(crate::specs::Script::said))]
     fn show(&mut self) -> Result<(), AllocError>
-        ensures { (live : Live) → IsRunning live self.old.power →
-            OnOk result (IsObeyed (said live Show) self.new.power self.old.text.items self.new.text.items) }
+        ensures obeys { (station : Station) → IsRunning station self.old.power →
+            OnOk result (IsObeyed (said station Show) self.new.power self.old.text.items self.new.text.items) }
+        ensures same { self.new.power ≡ self.old.power }
     {
         match &self.power {
             Power::On(device) => {
                 let lamp = device.lamp();
                 show::all(device.running(), device.stored(), lamp, &mut self.text)
             }
-            Power::Off(_, _) => self.text.extend_from_slice(b"off\n"),
+            Power::Off(_, _) | Power::Away => self.text.extend_from_slice(b"off\n"),
         }
     }
 
     /// Tells the flash what to do to a later call.
-    fn arm(&mut self, order: Order) {
+    fn arm(&mut self, order: Order)
+        ensures demo { IsDemo self.old.power → IsDemo self.new.power }
+    {
         match &mut self.power {
             Power::On(device) => device.arm(order),
             Power::Off(_, flash) => flash.arm(order),
+            Power::Away => {}
         }
     }
 }
 
 /// Whether a line is more than `off` while there is no power: it is skipped, is none that a script may have, or gives
 /// the power back.
-fn is_heard_without_power(line: &Line<'_>) -> bool {
+fn is_heard_without_power(line: &Line<'_>) -> bool
+    ensures { result ≡ is_heard_off (line_read line.now) }
+{
     matches!(
         line,
         Line::Unfit | Line::Skipped | Line::Asks(Command::Restart)
@@ -278,28 +301,49 @@ fn receive(received: &mut Event, bytes: &[u8])
 
 /// Makes a step of the device, and renders the frames that it sends.
 fn step(
-    device: &mut DemoDevice,
+    device: &mut DemoDevice<'_>,
     event: &Event,
     outbox: &mut Outbox,
     text: &mut Vec<u8>,
 ) -> Result<Note, AllocError>
-    ensures { (live : Live) → Runs live device.old →
-        IfOk result (λ note. IsStepped (step_of [] demo live event.now) device.new text.old.items text.new.items note) }
+    ensures steps { (station : Station) → Runs station device.old →
+        IfOk result (λ note. IsStepped station (step_of [] station.identity station.live event.now) device.new text.old.items text.new.items note) }
+    ensures same { IsSame device.old device.new }
 {
     let note = device.step(event, outbox);
     render::outs(outbox.as_slice(), text)?;
     Ok(note)
 }
 
+/// Makes a step of the device, and renders the frames that it sends and what became of the event, or that power was lost.
+fn respond(
+    device: &mut DemoDevice<'_>,
+    event: &Event,
+    outbox: &mut Outbox,
+    text: &mut Vec<u8>,
+) -> Result<(), AllocError>
+    ensures done { (station : Station) → Runs station device.old →
+        OnOk result (IsDone (step_answer station (step_of [] station.identity station.live event.now)) device.new text.old.items text.new.items) }
+    ensures same { IsSame device.old device.new }
+{
+    let note = step(device, event, outbox, text)?;
+    if device.flash().is_lost() {
+        text.clear();
+        return text.extend_from_slice(b"power lost\n");
+    }
+    render::note(note, text)
+}
+
 /// Makes a step for each of some units of time, and renders the frames that it sends.
 fn ticks(
-    device: &mut DemoDevice,
+    device: &mut DemoDevice<'_>,
     units: u32,
     outbox: &mut Outbox,
     text: &mut Vec<u8>,
 ) -> Result<(), AllocError>
-    ensures { (live : Live) → Runs live device.old →
-        OnOk result (AreTicked (ticked units live) device.new text.old.items text.new.items) }
+    ensures ticked { (station : Station) → Runs station device.old →
+        OnOk result (IsDone (ticked units station) device.new text.old.items text.new.items) }
+    ensures same { IsSame device.old device.new }
 {
     let mut left = units;
     while left > 0 {

@@ -6,4 +6,4 @@ use Rattle.script_runner.proofs.command.decoded.Goals as goal
 pub returns : goal.returns
 returns c =
     let some : 0 < length c.args.digits.now = grind (arith, nat_tests) in
-    bytes_decoded c.args.digits.now c.decode.new.bytes some (grind (arith, c.decode.ensures.decoded))
+    bytes_decoded c.args.digits.now c.read.new.bytes some (grind (arith, c.read.ensures.decoded))

@@ -1,7 +1,7 @@
 use Rattle.std.proofs.Common.{◌≡◌, ◌<◌, ◌+◌, ◌-◌, ◌*◌, length, get_or, true, None, arith, sym, ◌∙◌}
 use Rattle.std.proofs.lemmas.Bool.Decides.{nat_tests}
 use Rattle.script_runner.specs.Numbers.{is_digit, at_most, digits_from, number_of}
-use Rattle.script_runner.proofs.Digits.{past_most}
+use Rattle.script_runner.proofs.Decimals.{past_most}
 use Rattle.script_runner.proofs.numbers.decimal.Goals as goal
 
 pub returns-then-number-from : goal.returns-then-number-from

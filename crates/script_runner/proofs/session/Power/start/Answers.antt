@@ -1,13 +1,14 @@
 use Rattle.std.proofs.Common.{subst, sym, ◌∙◌, ap}
-use Rattle.settings_journal.specs.Image.{LeftByDevice}
+use Rattle.settings_journal.specs.Image.{LeftByDevice, IsForeign}
 use Rattle.script_runner.proofs.session.Power.start.Goals as goal
 
 pub returns-in-Ok-clause-stored : goal.returns-in-Ok-clause-stored
 returns-in-Ok-clause-stored c settings room reliable left starts =
     let live = c.in-Ok.ensures.known settings room starts in
     record {
+      identity_is = c.in-Ok.ensures.identity.0 ∙ c.identity.ensures;
+      real_is = c.in-Ok.ensures.identity.1 ∙ c.real.ensures;
       live_is = live;
-      identity = c.in-Ok.ensures.identity.0 ∙ c.identity.ensures;
       reliable = c.in-Ok.ensures.reliable reliable;
       unfailed = ap (λ l. l.values.has_failed) live;
       left = subst LeftByDevice (sym c.in-Ok.ensures.same) left;
@@ -17,3 +18,10 @@ pub returns-in-Ok-clause-blank : goal.returns-in-Ok-clause-blank
 returns-in-Ok-clause-blank c reliable blank =
     let at_first = c.in-Ok.ensures.blank blank in
     returns-in-Ok-clause-stored c _ _ reliable at_first.0 at_first.1
+
+pub returns-in-Err-clause-back : goal.returns-in-Err-clause-back
+returns-in-Err-clause-back c = (
+  c.in-Err.ensures.cause,
+  λ foreign. subst IsForeign (sym c.in-Err.ensures.same) (c.in-Err.ensures.foreign foreign),
+  c.in-Err.ensures.same,
+)

@@ -2,8 +2,8 @@ use Rattle.std.proofs.Common.{subst, sym, ◌∙◌}
 use Rattle.settings_journal.specs.Image.{LeftByDevice, StartsWith}
 use Rattle.script_runner.proofs.session.Power.with_power.Goals as goal
 
-pub returns : goal.returns
-returns c settings room reliable left starts =
+pub returns-clause-runs : goal.returns-clause-runs
+returns-clause-runs c settings room reliable left starts =
     let same = sym c.power_up.ensures.image in
     c.start.ensures.stored settings room (c.power_up.ensures.lost, c.power_up.ensures.armed ∙ reliable.1)
     (subst LeftByDevice same left) (subst (λ image. StartsWith image settings room) same starts)

@@ -6,9 +6,9 @@ use Rattle.script_runner.specs.Text.{boot_line}
 use Rattle.script_runner.proofs.Playing.{unrefused}
 use Rattle.script_runner.proofs.session.Session.restart.Goals as goal
 
-pub returns : goal.returns
+pub returns-clause-obeys : goal.returns-clause-obeys
 unfolding said
-returns c live running =
-    let runs = c.restart-self.ensures live (subst (IsRunning live) (sym c.replace-power.ensures.value) running) in
+returns-clause-obeys c station running =
+    let runs = c.restart-self.ensures.runs station (subst (IsRunning station) (sym c.replace-power.ensures.value) running) in
     let unrefused : c.refusal.result ≡ None = c.refusal.ensures ∙ unrefused _ _ runs in
     on_ok_weaker c.boot.result (λ text. record { runs = runs; text = text ∙ ap (λ refused. c.args.self.now.text.items ++ boot_line refused) unrefused }) c.boot.ensures
