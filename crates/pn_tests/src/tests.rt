@@ -1,13 +1,17 @@
 // Scripts and what they print. Here is what the tests share; they stand in the modules below by what they are about.
 use script_runner::{RunFault, run};
 use std::alloc::{AllocError, Global};
+use std::process::Abort;
+use std::test::Fail;
 
 mod cuts;
 mod input;
 mod lines;
 mod losses;
+mod off;
 mod rows;
 mod samples;
+mod vectors;
 
 /// An Identify request for all stations, and its answer by a device with no name and no address.
 const IDENTIFY: &str = "frame 010ecf0000000200000000028892fefe05000000000100010004ffff0000";
@@ -37,6 +41,14 @@ fn output(alloc: Global, script: &[u8]) -> (Result<(), RunFault>, Vec<u8>) {
     let mut writer = Vec::new(alloc);
     let result = run(alloc, &mut reader, &mut writer);
     (result, writer)
+}
+
+/// The script has no line that is refused, and prints this text.
+fn prints(rt: &impl Abort, alloc: Global, script: &str, wanted: &str) -> Result<(), Fail> {
+    let (result, text) = output(alloc, script.as_bytes());
+    assert_eq!(rt; result, Ok(()));
+    assert_eq!(rt; text.as_slice(), wanted.as_bytes());
+    Ok(())
 }
 
 /// The IP suite of a device that has none, as it is shown.

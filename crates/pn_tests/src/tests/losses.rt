@@ -1,5 +1,5 @@
 // Power is lost in each flash call of forty Sets in turn.
-use super::{NO_SUITE, SET_DONE, TEXTS, output, request};
+use super::{NO_SUITE, SET_DONE, TEXTS, output, prints, request};
 use std::alloc::{AllocError, Global};
 use std::process::Abort;
 use std::test::Fail;
@@ -119,8 +119,5 @@ fn no_call_is_left_to_strike(rt: HostRuntime) -> Result<(), Fail> {
     let answers = answers(alloc, SETS)?;
     let left = named(alloc, SETS)?;
     let wanted = format!(in alloc; "{answers}{left}")?;
-    let (result, text) = output(alloc, script.as_bytes());
-    assert_eq!(rt; result, Ok(()));
-    assert_eq!(rt; text.as_slice(), wanted.as_bytes());
-    Ok(())
+    prints(&rt, alloc, script.as_str(), wanted.as_str())
 }

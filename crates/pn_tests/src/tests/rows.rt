@@ -1,6 +1,7 @@
 // What a station is asked by DCP and answers, byte by byte.
-use super::{NO_SUITE, SET_DONE, SET_PUMP_1, answer, output, request, shown};
+use super::{NO_SUITE, SET_DONE, SET_PUMP_1, answer, prints, request, shown};
 use std::alloc::Global;
+use std::process::Abort;
 use std::test::Fail;
 
 /// FrameID, ServiceID and ServiceType of a Get and a Set, and of their answers.
@@ -36,10 +37,7 @@ fn a_station_is_found_by_its_stored_name_alone(rt: HostRuntime) -> Result<(), Fa
     let wanted = format!(in alloc;
         "boot ok\n{SET_DONE}\nnote done\nboot ok\nout 0200000000020200000000018892feff05010000000100000064020100090000706e2d64656d6f0002020008000070756d702d310203000600000123045602040004000001000205001a000001010102020102020203020402050207050305040505050602070004000000010102000e0000000000000000000000000000\nnote done\nnote filter\n"
     )?;
-    let (result, text) = output(alloc, script.as_bytes());
-    assert_eq!(rt; result, Ok(()));
-    assert_eq!(rt; text.as_slice(), wanted.as_bytes());
-    Ok(())
+    prints(&rt, alloc, script.as_str(), wanted.as_str())
 }
 
 #[test]
@@ -57,10 +55,7 @@ fn a_temporary_name_runs_until_the_restart_and_empties_the_stored_one(
     let wanted = format!(in alloc;
         "boot ok\n{SET_DONE}\nnote done\n{SET_DONE}\nnote done\n{has_test}{running}boot ok\n{has_none}{restarted}"
     )?;
-    let (result, text) = output(alloc, script.as_bytes());
-    assert_eq!(rt; result, Ok(()));
-    assert_eq!(rt; text.as_slice(), wanted.as_bytes());
-    Ok(())
+    prints(&rt, alloc, script.as_str(), wanted.as_str())
 }
 
 // A suite whose mask has a hole is refused beside a name that is taken.
@@ -74,58 +69,65 @@ fn blocks_are_carried_out_each_by_itself(rt: HostRuntime) -> Result<(), Fail> {
     let named = shown(alloc, ("pump-1", NO_SUITE), ("pump-1", NO_SUITE))?;
     let script = format!(in alloc; "{set}show\nrestart\nshow\n")?;
     let wanted = format!(in alloc; "boot ok\n{has_set}{named}boot ok\n{named}")?;
-    let (result, text) = output(alloc, script.as_bytes());
-    assert_eq!(rt; result, Ok(()));
-    assert_eq!(rt; text.as_slice(), wanted.as_bytes());
+    prints(&rt, alloc, script.as_str(), wanted.as_str())
+}
+
+/// A Set of a name and a suite in one frame: two commits of three flash calls.
+fn set_of_both(alloc: Global) -> Result<String, Fail> {
+    let data = format!(in alloc; "{PUMP_1}{SET_SUITE}")?;
+    Ok(request(alloc, SET, data.as_str())?)
+}
+
+/// Name and suite after none of the two commits, the first, and both.
+const STATES: [(&str, &str); 3] = [("-", NO_SUITE), ("pump-1", NO_SUITE), ("pump-1", SUITE)];
+
+/// Power is lost in each of the six calls. What is left is that of the commits whose last call, the one that opens the gate,
+/// left no bit of the gate as it was.
+fn lose(rt: &impl Abort, alloc: Global, mask: &str, commits: [usize; 6]) -> Result<(), Fail> {
+    let set = set_of_both(alloc)?;
+    for (calls, done) in commits.iter().enumerate() {
+        let stored = STATES[done % 3];
+        let left = shown(alloc, stored, stored)?;
+        let script = format!(in alloc; "cut {calls} {mask}\n{set}show\nrestart\nshow\n")?;
+        let wanted = format!(in alloc; "boot ok\npower lost\noff\nboot ok\n{left}")?;
+        prints(rt, alloc, script.as_str(), wanted.as_str())?;
+    }
     Ok(())
 }
 
-// A name and a suite in one frame are two commits of three flash calls. What is left is that of the commits whose last
-// call, the one that opens the gate, left no bit of the gate as it was.
 #[test]
-fn power_is_lost_in_each_call_of_a_name_and_a_suite(rt: HostRuntime) -> Result<(), Fail> {
+fn power_is_lost_and_no_bit_is_changed(rt: HostRuntime) -> Result<(), Fail> {
+    lose(&rt, rt.alloc(), "00", [0, 0, 0, 1, 1, 1])
+}
+
+#[test]
+fn power_is_lost_and_every_other_bit_is_changed(rt: HostRuntime) -> Result<(), Fail> {
+    lose(&rt, rt.alloc(), "55", [0, 0, 0, 1, 1, 1])
+}
+
+#[test]
+fn power_is_lost_and_each_bit_is_changed(rt: HostRuntime) -> Result<(), Fail> {
+    lose(&rt, rt.alloc(), "ff", [0, 0, 1, 1, 1, 2])
+}
+
+#[test]
+fn a_loss_behind_both_commits_does_not_strike(rt: HostRuntime) -> Result<(), Fail> {
     let alloc = rt.alloc();
-    let mut data = String::from_str(alloc, PUMP_1)?;
-    data.push_str(SET_SUITE)?;
-    let set = request(alloc, SET, data.as_str())?;
-    let states = [("-", NO_SUITE), ("pump-1", NO_SUITE), ("pump-1", SUITE)];
-    for calls in 0..6 {
-        for (mask, opens) in [("00", false), ("55", false), ("ff", true)] {
-            let stored = match (calls, opens) {
-                (0 | 1, _) | (2, false) => states[0],
-                (2, true) | (3 | 4, _) | (5, false) => states[1],
-                _ => states[2],
-            };
-            let left = shown(alloc, stored, stored)?;
-            let script = format!(in alloc; "cut {calls} {mask}\n{set}show\nrestart\nshow\n")?;
-            let wanted = format!(in alloc; "boot ok\npower lost\noff\nboot ok\n{left}")?;
-            let (result, text) = output(alloc, script.as_bytes());
-            assert_eq!(rt; result, Ok(()));
-            assert_eq!(rt; text.as_slice(), wanted.as_bytes(), "at {calls} {mask}");
-        }
-    }
+    let set = set_of_both(alloc)?;
     let done = answer(alloc, HAS_SET, "05040003020200000504000301020000")?;
-    let left = shown(alloc, states[2], states[2])?;
+    let left = shown(alloc, STATES[2], STATES[2])?;
     let script = format!(in alloc; "cut 6 ff\n{set}show\nrestart\nshow\n")?;
     let wanted = format!(in alloc; "boot ok\n{done}{left}boot ok\n{left}")?;
-    let (result, text) = output(alloc, script.as_bytes());
-    assert_eq!(rt; result, Ok(()));
-    assert_eq!(rt; text.as_slice(), wanted.as_bytes());
-    Ok(())
+    prints(&rt, alloc, script.as_str(), wanted.as_str())
 }
 
 #[test]
 fn a_get_is_answered_in_the_order_asked_for(rt: HostRuntime) -> Result<(), Fail> {
-    let script =
-        b"frame 0200000000010200000000028892fefd030000000003000000080202010202020301".as_slice();
+    let script = "frame 0200000000010200000000028892fefd030000000003000000080202010202020301";
     let wanted =
-        b"boot ok\nout 0200000000020200000000018892fefd030100000003000000200202000200000102000e00000000000000000000000000000504000303010100\
-0000\nnote done\n"
-            .as_slice();
-    let (result, text) = output(rt.alloc(), script);
-    assert_eq!(rt; result, Ok(()));
-    assert_eq!(rt; text.as_slice(), wanted);
-    Ok(())
+        "boot ok\nout 0200000000020200000000018892fefd030100000003000000200202000200000102000e00000000000000000000000000000504000303010100\
+0000\nnote done\n";
+    prints(&rt, rt.alloc(), script, wanted)
 }
 
 // ResetToFactory keeps the name in mode 1, empties it in mode 2 and has no mode 7; FactoryReset empties it.
@@ -154,8 +156,5 @@ fn resets(rt: HostRuntime) -> Result<(), Fail> {
         let printed = format!(in alloc; "{has_set}{left}boot ok\n{left}")?;
         wanted.push_str(printed.as_str())?;
     }
-    let (result, text) = output(alloc, script.as_bytes());
-    assert_eq!(rt; result, Ok(()));
-    assert_eq!(rt; text.as_slice(), wanted.as_bytes());
-    Ok(())
+    prints(&rt, alloc, script.as_str(), wanted.as_str())
 }
