@@ -7,7 +7,8 @@ station whose access point has three submodules, with a module of two octets of 
 Needs python3, valgrind and objdump; `blocks.py --octets` prints the octets in hex, and needs nothing.
 
 On some processors glibc clears 2 KiB and more by `rep stosb`, which is one instruction to them, and one for each octet to
-callgrind: the count is then up to three times the room for a block higher than it is on others.
+callgrind: the counts of a Connect are then up to three times the lists of an ExpectedSubmoduleBlockReq, 7 KiB each time, higher
+than they are on others.
 """
 import pathlib
 import re
@@ -107,16 +108,20 @@ def each(octets, reads, writes):
     return (twice - once) / TURNS
 
 
+def frame(body):
+    """The octets of a function's frame, by the instructions at its head: a large one is taken in parts, each of which is
+    probed, or in a loop down to what r11 holds."""
+    head = "\n".join(body.split("\n")[:60])
+    looped = [int(size, 16) for pair in re.findall(r"(?:lea +-0x([0-9a-f]+)\(%rsp\)|sub +\$0x([0-9a-f]+)),%r11", head) for size in pair if size]
+    straight = re.sub(r"%r11.*?jne", "", head, flags=re.DOTALL)
+    return sum(looped) + sum(int(size, 16) for size in re.findall(r"sub +\$0x([0-9a-f]+),%rsp", straight))
+
+
 def largest_frame():
     """The octets of the largest frame of a function that reads or writes blocks, as the program was built."""
     listing = subprocess.run(["objdump", "-d", "--no-show-raw-insn", PROGRAM], capture_output=True, text=True, check=True).stdout
-    frames = []
-    for name, body in re.findall(r"<((?:block_codec|connect_blocks|module_lists|module_blocks|record_blocks)::[^\n]*)>:\n(.*?)\n\n", listing, re.DOTALL):
-        # a large frame is probed page by page, down to what r11 holds
-        probed = [int(size, 16) for size in re.findall(r"sub +\$0x([0-9a-f]+),%r11", body)]
-        rest = [int(size, 16) for size in re.findall(r"sub +\$0x([0-9a-f]+),%rsp", body)]
-        frames.append((probed[0] + rest[-1] if probed else max(rest, default=0), name))
-    return max(frames)
+    functions = re.findall(r"<((?:block_codec|connect_blocks|module_lists|module_blocks|record_blocks)::[^\n]*)>:\n(.*?)\n\n", listing, re.DOTALL)
+    return max((frame(body), name) for name, body in functions)
 
 
 def main():
@@ -131,10 +136,10 @@ def main():
     if "as they came: true" not in said:
         sys.exit(f"the blocks are not written as they came: {said}")
     measured.append(("octets of a block in memory", int(re.search(r"a block (\d+) octets", said)[1]), MOST_ON_THE_STACK))
-    frame, name = largest_frame()
-    measured.append((f"octets of the largest frame on the stack, of {name}", frame, MOST_ON_THE_STACK))
+    octets, name = largest_frame()
+    measured.append((f"octets of the largest frame on the stack, of {name}", octets, MOST_ON_THE_STACK))
     for what, figure, bound in measured:
-        print(f"{figure} {what} (at most {bound}){'' if figure <= bound else ': PASSED'}")
+        print(f"{figure} {what} (at most {bound}){'' if figure <= bound else ': over its bound'}")
     sys.exit(1 if any(figure > bound for _, figure, bound in measured) else 0)
 
 
