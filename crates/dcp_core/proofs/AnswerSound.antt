@@ -1,5 +1,5 @@
 -- Answers are read as they are spelled.
-use Rattle.std.proofs.Common.{◌≡◌, ℕ, ◌+◌, ◌<◌, ◌≤◌, ◌%◌, Bool, List, ◌++◌, length, drop, Result, Ok, Err, refl, sym, ap, ◌∙◌, subst, arith}
+use Rattle.std.proofs.Common.{◌≡◌, ℕ, ◌+◌, ◌<◌, ◌≤◌, Bool, List, ◌++◌, length, Result, Ok, Err, refl, sym, ap, ◌∙◌, subst, arith}
 use Rattle.std.proofs.lemmas.List.{length-append, length-drop}
 use Rattle.wire.specs.Codec.{Codec, IsSound, IsSoundWhole, IsOnward, ◌>>=◌}
 use Rattle.wire.specs.Formats.{number}
@@ -13,7 +13,7 @@ use Rattle.dcp_core.specs.declared.request.Service.{Service}
 use Rattle.dcp_core.specs.Request.{AskedBlock}
 use Rattle.dcp_core.specs.Format.{kind, block, id_of}
 use Rattle.dcp_core.specs.Response.{Answered, AnsweredBlock}
-use Rattle.dcp_core.specs.Answer.{judged, saying, answer_block, answer_blocks, type_of, answer_to, answer_data, answer_header_and_data, answer, IsAnswer, answer_of}
+use Rattle.dcp_core.specs.Answer.{judged, answer_block, answer_blocks, type_of, answer_to, answer_data, answer_header_and_data, answer, IsAnswer, answer_of}
 use Rattle.dcp_core.specs.Told.{IsSent}
 use Rattle.dcp_core.proofs.Sound.{viewed_whole_sound, block_sound}
 use Rattle.dcp_core.proofs.Every.{Shrinks, every_sound}

@@ -1,5 +1,5 @@
 -- What is written as an answer spells what it says.
-use Rattle.std.proofs.Common.{◌≡◌, ℕ, ◌+◌, ◌*◌, ◌^◌, ◌<◌, ◌≤◌, ◌%◌, Bool, true, false, cond, List, [], ◌∷◌, ◌++◌, length, map, drop, replicate, Result, Ok, Err, refl, sym, ap, ◌∙◌, subst, append_assoc, arith}
+use Rattle.std.proofs.Common.{◌≡◌, ℕ, ◌+◌, ◌*◌, ◌^◌, ◌<◌, ◌≤◌, ◌%◌, Bool, true, false, cond, List, [], ◌∷◌, ◌++◌, length, map, replicate, Result, Ok, refl, sym, ap, ◌∙◌, subst, append_assoc, arith}
 use Rattle.std.specs.List.{list_all, flat_map, zip}
 use Rattle.std.specs.Prelude.{◌==◌}
 use Rattle.std.specs.Int.{w16, w32, to_be_bytes}
@@ -29,7 +29,7 @@ use Rattle.dcp_core.specs.Get.{got, firsts_of, get_bytes}
 use Rattle.dcp_core.specs.Set.{set_bytes}
 use Rattle.dcp_core.specs.Response.{AnsweredBlock, told, came_out}
 use Rattle.dcp_core.specs.Answer.{outcome_of, said_by, value_in, answer_block, answer_blocks, answer_to, answer_data, answer_header_and_data, answer, IsAnswer}
-use Rattle.dcp_core.specs.Told.{named, info_number, told_of, outcome_told, supported, identify_kinds, identify_said, get_said, set_said}
+use Rattle.dcp_core.specs.Told.{named, told_of, outcome_told, supported, identify_kinds, identify_said, get_said, set_said}
 use Rattle.dcp_core.proofs.AnswerSound.{answer_block_sound, answer_block_shrinks}
 
 -- ---- blocks

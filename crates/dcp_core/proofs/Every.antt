@@ -1,9 +1,8 @@
 -- Lists of any number of values, of a format whose values take a byte at least.
-use Rattle.std.proofs.Common.{◌≡◌, ℕ, zero, suc, ◌-◌, ◌<◌, ◌≤◌, Bool, true, false, cond, eqb, List, [], ◌∷◌, length, Option, Some, None, Result, Ok, Err, refl, sym, ap, ◌∙◌, subst, arith}
-use Rattle.std.specs.List.{AllByRecursion}
+use Rattle.std.proofs.Common.{◌≡◌, ℕ, zero, suc, ◌-◌, ◌<◌, ◌≤◌, Bool, true, false, cond, eqb, List, [], ◌∷◌, length, Option, Some, None, Result, Ok, Err, refl, sym, ap, ◌∙◌, arith}
 use Rattle.std.proofs.lemmas.Bool.{ne_eqb, eqb-true}
 use Rattle.wire.specs.Codec.{Codec, IsSound, IsSoundWhole, ◌>>=◌}
-use Rattle.wire.specs.Filled.{SpellAll, read_all, filled}
+use Rattle.wire.specs.Filled.{SpellAll, read_all}
 use Rattle.wire.proofs.Fields.{bind_ok, ok_is}
 use Rattle.wire.proofs.Lists.{filled_sound}
 use Rattle.dcp_core.specs.Every.{every, values_within, values_in}

@@ -4,7 +4,6 @@ use Rattle.std.specs.Int.{w16, to_be_bytes}
 use Rattle.wire.specs.Codec.{Codec, Whole, ◌>>=◌}
 use Rattle.wire.specs.Formats.{number, then_by, ◌⨾◌, seen, unchecked, framed, big_number}
 use Rattle.wire.specs.Whole.{everything, refused, loose}
-use Rattle.pn_values.specs.declared.set_item.BlockError.{BlockError}
 use Rattle.pn_values.specs.declared.set_item.BlockError.TheVariants as error
 use Rattle.dcp_core.specs.declared.kind.Kind.{Kind}
 use Rattle.dcp_core.specs.declared.kind.Kind.TheVariants.{Response}

@@ -1,5 +1,5 @@
 -- One block after another.
-use Rattle.std.proofs.Common.{◌≡◌, ◌<◌, length, Some, None, Ok, Err, sym, ap, ◌∙◌, arith}
+use Rattle.std.proofs.Common.{◌≡◌, ◌<◌, length, None, Ok, sym, ap, ◌∙◌, arith}
 use Rattle.std.proofs.lemmas.Result.{err_from_is_err_and}
 use Rattle.std.proofs.lemmas.Bool.Decides.{nat_tests}
 use Rattle.dcp_core.specs.declared.request.DcpFault.TheVariants as fault

@@ -1,10 +1,9 @@
 -- What is read is spelled, and what is spelled is read.
-use Rattle.std.proofs.Common.{◌≡◌, ℕ, List, Ok, sym, subst}
+use Rattle.std.proofs.Common.{ℕ, List, sym, subst}
 use Rattle.wire.proofs.Given.{found, only}
 use Rattle.dcp_core.specs.Response.{Answered}
 use Rattle.dcp_core.specs.Answered.{answered}
 use Rattle.dcp_core.specs.Answer.{IsAnswer, answer_of}
-use Rattle.dcp_core.specs.Reading.{Gives}
 use Rattle.dcp_core.specs.Told.{identify_said, get_said, set_said}
 use Rattle.dcp_core.specs.Identify.{identify_bytes}
 use Rattle.dcp_core.specs.Get.{get_bytes}

@@ -1,7 +1,6 @@
 -- The test says what the definition says.
 use Rattle.std.proofs.lemmas.Bool.Decides.{same_from_decides}
 use Rattle.std.specs.Prelude.{is_some}
-use Rattle.pn_values.specs.IpSuite.{is_suite}
 use Rattle.pn_values.proofs.Suites.{Decides-suite}
 use Rattle.pn_values.proofs.ip_suite.IpSuite.new.Goals as goal
 

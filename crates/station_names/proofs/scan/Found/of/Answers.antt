@@ -1,5 +1,5 @@
 -- A dot ends a label, any other byte belongs to one, and the end of the text ends the last.
-use Rattle.std.proofs.Common.{◌≡◌, ◌⊎◌, ◌↔◌, inl, inr, Bool, true, false, IsTrue, refl, sym, ◌∙◌, subst, arith}
+use Rattle.std.proofs.Common.{inl, inr, true, refl, sym, ◌∙◌, arith}
 use Rattle.station_names.proofs.Labels.{at_start, after_dot, after_letter, after_other, after_all}
 use Rattle.station_names.proofs.scan.Found.of.Goals as goal
 use Rattle.station_names.proofs.scan.Found.of.Goals.{then-not-is_letter+then-byte-eq46, then-not-is_letter+else-byte-eq46+then-not-is_label_byte, then-not-is_letter+else-byte-eq46+else-not-is_label_byte, else-not-is_letter}
