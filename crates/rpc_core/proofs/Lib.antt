@@ -1,0 +1,4 @@
+pub mod Sound
+pub mod Written
+pub mod Cached
+pub mod Faithful

@@ -1,0 +1,11 @@
+pub mod Fault
+pub mod Interface
+pub mod Fields
+pub mod Header
+pub mod Pdu
+pub mod Body
+pub mod Call
+pub mod Response
+pub mod Cache
+pub mod Slots
+pub mod Told

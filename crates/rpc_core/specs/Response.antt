@@ -1,0 +1,65 @@
+-- Responses.
+use Rattle.std.specs.Prelude.{ℕ, List, [], length, Option, Some, None, Result}
+use Rattle.std.specs.Option.{option_map}
+use Rattle.wire.specs.Codec.{Codec, Whole}
+use Rattle.wire.specs.Checks.{named}
+use Rattle.wire.specs.Whole.{loose}
+use Rattle.rpc_core.specs.declared.fault.RpcFault.{RpcFault}
+use Rattle.rpc_core.specs.declared.fault.RpcFault.TheVariants as fault
+use Rattle.rpc_core.specs.declared.header.Head.{Head}
+use Rattle.rpc_core.specs.declared.header.Header.{Header}
+use Rattle.rpc_core.specs.declared.response.Response.{Response}
+use Rattle.rpc_core.specs.declared.response.Status.{Status}
+use Rattle.rpc_core.specs.Header.{order_of, header_of, head_for}
+use Rattle.rpc_core.specs.Pdu.{pdu, within}
+use Rattle.rpc_core.specs.Body.{Args, status, body, body_size}
+use Rattle.rpc_core.specs.Call.{Asked}
+
+-- what a response says
+pub record Answered : Type 0 where
+  pub header : Header
+  pub status : Status
+  pub maximum_count : ℕ
+  pub blocks : List ℕ
+
+-- a response without where its blocks lie in memory
+abbrev pub answered : Response → Answered
+answered response = record {
+  header = response.header;
+  status = response.status;
+  maximum_count = response.maximum_count;
+  blocks = response.blocks.now;
+}
+
+-- the response to a call: it repeats the header, and its MaximumCount is the call's ArgsMaximum
+abbrev pub answer_to : Asked → Status → List ℕ → Answered
+answer_to call status blocks = record { header = call.header; status = status; maximum_count = call.args_maximum; blocks = blocks }
+
+-- PNIOStatus and the blocks, in the order of the header
+abbrev pub response_body : Head → Whole RpcFault (Status × Args)
+response_body h = body (status (order_of h.opening.representation)) (order_of h.opening.representation)
+
+-- what a header and a body answer, if the blocks are counted well
+abbrev pub answered_by : Head × (Status × Args) → Option Answered
+answered_by x = option_map (λ blocks. record { header = header_of x.0; status = x.1.0; maximum_count = x.1.1.maximum; blocks = blocks }) x.1.1.blocks
+
+-- the header and the body of a response
+abbrev pub parts_of_response : Answered → Head × (Status × Args)
+parts_of_response response =
+    (head_for 2 0x0A response.header (body_size (length response.blocks)), (response.status, record { maximum = response.maximum_count; blocks = Some response.blocks }))
+
+-- a response, in front of anything
+unfoldable pub response : Codec RpcFault Answered
+response = named answered_by parts_of_response fault.Args (within (pdu 2 None) response_body)
+
+-- these octets spell this response
+unfoldable pub IsResponse : List ℕ → Answered → Type 0
+IsResponse bytes meaning = (loose response).Spells bytes meaning
+
+-- the response that octets are, or their first fault
+unfoldable pub response_of : List ℕ → Result Answered RpcFault
+response_of bytes = (loose response).read bytes
+
+-- the octets that are sent for a response
+unfoldable pub response_bytes : Answered → List ℕ
+response_bytes meaning = response.write meaning []

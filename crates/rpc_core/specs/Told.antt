@@ -1,0 +1,9 @@
+-- What the answer of a look tells, without where its frame lies in memory.
+use Rattle.rpc_core.specs.declared.cache.Looked.{Looked}
+use Rattle.rpc_core.specs.declared.cache.Looked.TheVariants as looked
+use Rattle.rpc_core.specs.Cache.{Told, new, again, old}
+
+abbrev pub told : Looked → Told
+told looked.New = new
+told (looked.Again frame) = again frame.now.items
+told looked.Old = old

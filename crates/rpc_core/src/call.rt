@@ -1,0 +1,80 @@
+//! Calls.
+ghost use Rattle.std.specs.Prelude.{◌≡◌, ◌++◌, List, ℕ, IfOk, Ok};
+ghost use Rattle.wire.specs.Codec.{Gives};
+ghost use Rattle.std.specs.Option.{option_map};
+ghost use Rattle.rpc_core.specs.Fields.{ordered};
+ghost use Rattle.rpc_core.specs.Body.{body};
+ghost use Rattle.rpc_core.specs.Call.{Asked, asked, IsCall, call_of};
+ghost use Rattle.rpc_core.specs.Response.{answered, answer_to};
+
+use crate::fields::{Order, u32_at};
+use crate::header::{Header, order_under};
+use crate::pdu::{blocks_of, counts_at, pdu_at};
+use crate::{Interface, Response, RpcFault, Status};
+
+/// The packet type of a call (C706, 12.5.2.2).
+pub(crate) const REQUEST: u8 = 0;
+
+/// A call.
+#[derive(Clone, Copy)]
+pub struct Call<'a> {
+    pub header: Header,
+    /// How many octets the answer may have. It limits none, and the response repeats it.
+    pub args_maximum: u32,
+    /// The blocks. There are none where Offset is not 0, or ArgsLength differs from ActualCount or exceeds what is there: that is
+    /// `RpcFault::Args`, which is answered.
+    pub blocks: Option<&'a [u8]>,
+}
+
+impl Call<'_> {
+    /// The response to the call.
+    pub fn response<'b>(&self, status: Status, blocks: &'b [u8]) -> Response<'b>
+        ensures { answered result ≡ answer_to (asked self.now) status blocks.now }
+    {
+        Response {
+            header: self.header,
+            status,
+            maximum_count: self.args_maximum,
+            blocks,
+        }
+    }
+}
+
+/// ArgsMaximum and the blocks.
+#[tactic(auto, unfolding(crate::specs::Body::body))]
+fn call_body_at<'a>(order: Order, bytes: &'a [u8]) -> Result<(u32, u32, Option<&'a [u8]>), RpcFault>
+    ensures { Gives (λ x. (x.0, record { maximum = x.1; blocks = option_map (λ blocks. blocks.now) x.2 })) result ((body (ordered order 4) order).read bytes.now) }
+{
+    let (args_maximum, rest) = u32_at(order, bytes)?;
+    let (counts, rest) = counts_at(order, rest)?;
+    Ok((args_maximum, counts.maximum, blocks_of(&counts, rest)))
+}
+
+#[tactic(auto, unfolding(crate::specs::Call::call_of, crate::specs::Call::call))]
+fn call_in(interface: Interface, bytes: &[u8]) -> Result<Call<'_>, RpcFault>
+    ensures { Gives asked result (call_of interface bytes.now) }
+{
+    let (head, body, _rest) = pdu_at(REQUEST, Some(interface), bytes)?;
+    let order = order_under(head.opening.representation);
+    let (args_maximum, _maximum, blocks) = call_body_at(order, body)?;
+    Ok(Call {
+        header: head.header(),
+        args_maximum,
+        blocks,
+    })
+}
+
+/// Reads a call to this interface from a datagram. What is behind the body's length, and behind the blocks, is not read. Of the
+/// faults the first in their order counts. Numbers are read in big endian where the representation is neither.
+pub fn read_call(interface: Interface, bytes: &[u8]) -> Result<Call<'_>, RpcFault>
+    // What is read is spelled so.
+    ensures found { IfOk result (λ found. IsCall interface bytes.now (asked found)) }
+    // What is spelled so is read, and as nothing else.
+    ensures only { (meaning : Asked) → IsCall interface bytes.now meaning → Gives asked result (Ok meaning) }
+    // With anything behind it, too.
+    ensures behind { (first more : List ℕ) (meaning : Asked) → IsCall interface first meaning → bytes.now ≡ first ++ more → Gives asked result (Ok meaning) }
+    // Which fault it is.
+    ensures exact { Gives asked result (call_of interface bytes.now) }
+{
+    call_in(interface, bytes)
+}

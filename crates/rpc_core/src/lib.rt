@@ -1,0 +1,22 @@
+//! Calls of PROFINET IO: connectionless DCE/RPC (The Open Group C706, chapter 12; IEC 61158-6-10, 4.10) in UDP datagrams. Calls and
+//! their answers as values, in either order of octets, and the cache of the answers that a station keeps.
+#![tactic(auto)]
+
+mod cache;
+mod call;
+mod fault;
+mod fields;
+mod header;
+mod interface;
+mod pdu;
+mod response;
+mod writing;
+
+pub use cache::{CallCache, Looked};
+pub use call::{Call, read_call};
+pub use fault::RpcFault;
+pub use header::Header;
+pub use interface::Interface;
+pub use response::{Response, Status, read_response};
+pub use uuid::Uuid;
+pub use writing::{Datagram, write_request, write_response};
