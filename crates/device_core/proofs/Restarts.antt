@@ -15,7 +15,7 @@ use Rattle.settings_store.specs.Carries.{IsCaused}
 use Rattle.device_core.specs.declared.event.Event.{Event}
 use Rattle.device_core.specs.State.{State, Live}
 use Rattle.device_core.specs.Steps.{AnswersBy, IsIdentified, Runs}
-use Rattle.device_core.specs.Cycle.{started, cycle_of, Cycled, IsMadeOf, Restarts, Refuses, IsRefused}
+use Rattle.device_core.specs.Cycle.{started, cycle_of, Cycled, IsMadeOf, IsStarted, Restarts, Refuses, IsRefused}
 use Rattle.device_core.specs.Heard.{heard_of}
 use Rattle.device_core.specs.Machine.{step_of}
 use Rattle.device_core.proofs.Steps.{same_state, identify_heard}
@@ -25,6 +25,29 @@ answers_by : (identity : Identity) (live : Live) → live.values.running ≡ liv
 answers_by identity live runs outcomes event asker request is identify =
     subst (λ settings. IsIdentified identity settings live asker request (step_of outcomes identity live event)) runs
     (identify_heard outcomes identity live (heard_of identity event) asker request is identify)
+
+-- a device that started on a flash
+is_started_from : {F : Type 0} (image : F → Image) (identity : Identity) (real : Real) (flash : F) (device : State F) → device.identity ≡ identity → device.real ≡ real
+    → device.live ≡ started device.live.values.stored device.live.values.room → StartsWith (image flash) device.live.values.stored device.live.values.room → image device.flash ≡ image flash
+    → IsStarted image identity real device
+is_started_from image identity real flash device identity_is real_is fresh starts image_is = record {
+  identity_is = identity_is;
+  real_is = real_is;
+  nothing_else = fresh;
+  starts = subst (λ i. StartsWith i device.live.values.stored device.live.values.room) (sym image_is) starts;
+  answers = answers_by identity device.live (ap (λ l. l.values.running) fresh);
+}
+
+-- the same where the start may be refused
+pub is_started_if : {F : Type 0} (image : F → Image) (identity : Identity) (real : Real) (ran : State F) (flash : F) (again : Result (State F) (BootFault × F)) → ran.identity ≡ identity → ran.real ≡ real
+    → IfOk again (λ device. (device.identity ≡ ran.identity) × (device.real ≡ ran.real))
+    → IfOk again (λ device. device.live ≡ started device.live.values.stored device.live.values.room)
+    → IfOk again (λ device. StartsWith (image flash) device.live.values.stored device.live.values.room)
+    → MatchResult again (λ device. image device.flash ≡ image flash) (λ refused. image refused.1 ≡ image flash)
+    → IfOk again (IsStarted image identity real)
+is_started_if image identity real ran flash (Ok again) is_identity is_real same fresh starts image_is =
+    is_started_from image identity real flash again (same.0 ∙ is_identity) (same.1 ∙ is_real) fresh starts image_is
+is_started_if image identity real ran flash (Err refused) is_identity is_real same fresh starts image_is = tt
 
 -- a start on a legal end has what its commands make of the first settings
 ends_made : (image : Image) (accepted : List Accepted) (first : Settings) (live : Live)
@@ -90,11 +113,7 @@ cycle_restarts image failures asked power_up identity real flash first room even
           known end.live.values.stored end.live.values.room
           (subst (λ i. StartsWith i end.live.values.stored end.live.values.room) (sym kept)
           (subst (λ v. StartsWith (image ran.flash) v.stored v.room) values (runs.holds (ap (λ v. v.has_failed) values ∙ fine))));
-      nothing_else = fresh;
-      answers = answers_by identity again.live (ap (λ l. l.values.running) fresh);
-      starts = subst (λ i. StartsWith i again.live.values.stored again.live.values.room) (sym image_is) starts;
-      identity_is = same_identity ∙ runs.same.identity;
-      real_is = same_real ∙ runs.same.real;
+      is_started = is_started_from image identity real back again (same_identity ∙ runs.same.identity) (same_real ∙ runs.same.real) fresh starts image_is;
       left = subst LeftByDevice (sym (image_is ∙ kept)) (cycled.safe.left left);
       same = (image_is ∙ kept, failures_is, none_asked);
     }

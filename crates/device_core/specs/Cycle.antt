@@ -46,6 +46,15 @@ pub record Cycled {F : Type 0} (image : F → Image) (failures : F → ℕ) (ask
   pub safe : CrashSafe false first (cycle_of outcomes identity first room events).accepted (image flash) (image lost)
   pub untouched : (cycle_of outcomes identity first room events).accepted ≡ [] → lost ≡ begun
 
+-- A device that has just started, on whatever image: it is what it was told to be, what the image is read as runs and nothing
+-- else, and Identify is answered by that alone.
+pub record IsStarted {F : Type 0} (image : F → Image) (identity : Identity) (real : Real) (device : State F) : Type 0 where
+  pub identity_is : device.identity ≡ identity
+  pub real_is : device.real ≡ real
+  pub nothing_else : device.live ≡ started device.live.values.stored device.live.values.room
+  pub starts : StartsWith (image device.flash) device.live.values.stored device.live.values.room
+  pub answers : AnswersBy identity device.live.values.stored device.live
+
 -- The headline. The cycle went through the events, with whatever outcomes its flash chose for the calls that store. The
 -- restarted device has, running and stored, what all accepted commands of the cycle, or all but a last one that was not
 -- answered 'done', make of the first settings; where no commit failed, just what the cycle stored. Nothing else is left of
@@ -60,11 +69,7 @@ pub record Restarts {F : Type 0} (image : F → Image) (failures : F → ℕ) (a
   pub has : IsMadeOf (cycle_of outcomes identity first room events).accepted first restarted.live.values.stored
   pub clean : (cycle_of outcomes identity first room events).live.values.has_failed ≡ false →
       restarted.live ≡ started (cycle_of outcomes identity first room events).live.values.stored (cycle_of outcomes identity first room events).live.values.room
-  pub nothing_else : restarted.live ≡ started restarted.live.values.stored restarted.live.values.room
-  pub answers : AnswersBy identity restarted.live.values.stored restarted.live
-  pub starts : StartsWith (image restarted.flash) restarted.live.values.stored restarted.live.values.room
-  pub identity_is : restarted.identity ≡ identity
-  pub real_is : restarted.real ≡ real
+  pub is_started : IsStarted image identity real restarted
   pub left : LeftByDevice (image restarted.flash)
   pub same : (image restarted.flash ≡ image lost) × (failures restarted.flash ≡ failures back) × asked back [] restarted.flash
 

@@ -2,7 +2,7 @@
 ghost use Rattle.std.specs.Prelude.{◌≡◌, ℕ, IsOk, IfOk, IfErr, MatchResult};
 ghost use Rattle.pn_values.specs.declared.settings.Settings.{Settings};
 ghost use Rattle.settings_journal.specs.Image.{StartsWith, LeftByDevice};
-ghost use Rattle.device_core.specs.Cycle.{Restarts, IsRefused};
+ghost use Rattle.device_core.specs.Cycle.{Restarts, IsStarted, IsRefused};
 
 use crate::{Device, Event, Sink};
 use flash_model::Flash;
@@ -27,6 +27,9 @@ pub fn cycle<F: Flash<S>, const S: usize, K: Sink, P: FnOnce(F) -> F>(
     // all accepted commands of the cycle, or all but a last one not answered positively, make of the cycle's first values.
     ensures headline { LeftByDevice (F.image flash) → (first : Settings) (room : ℕ) → StartsWith (F.image flash) first room →
         IfOk result (λ device. Restarts F.image F.failures F.asked (P.post power_up) identity real flash first room events.now (K.taken sink.old) (K.taken sink.new) device) }
+
+    // A device that is given back has just started, whoever left what the flash held.
+    ensures fresh { IfOk result (IsStarted F.image identity real) }
 
     // What this device left is never foreign to it, and a start is refused where a read fails and only there.
     ensures left { LeftByDevice (F.image flash) → IfErr result (λ refused. refused.0 ≡ BootFault.FlashFault) }

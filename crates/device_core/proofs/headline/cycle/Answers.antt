@@ -1,8 +1,8 @@
 -- A start, a run, and a start on what they left.
-use Rattle.std.proofs.Common.{◌≡◌, false, refl, sym, ap, subst, inl}
+use Rattle.std.proofs.Common.{◌≡◌, false, refl, sym, ap, subst, ◌∙◌, inl}
 use Rattle.std.proofs.lemmas.Result.{err_from_is_err_and}
 use Rattle.settings_journal.specs.Image.{LeftByDevice}
-use Rattle.device_core.proofs.Restarts.{restarts_if, refuses_from, refused_if, never_refused}
+use Rattle.device_core.proofs.Restarts.{restarts_if, is_started_if, refuses_from, refused_if, never_refused}
 use Rattle.device_core.proofs.headline.cycle.Goals as goal
 
 pub returns-clause-headline : goal.returns-clause-headline
@@ -15,6 +15,15 @@ returns-clause-headline g c = λ left first room starts.
     (c.in_ok-device.ensures.known first room starts) c.in_ok-device.ensures.identity.0 c.in_ok-device.ensures.identity.1 c.in_ok-device.ensures.same c.in_ok-device.ensures.cause c.in_ok-device.ensures.calls
     left c.run.ensures.runs powered (c.requires.keeps c.run.new.self.flash c.power_up.result powered)
     c.boot-2.ensures.known c.boot-2.ensures.fresh c.boot-2.ensures.starts (rw (identity, real) at c.boot-2.ensures.identity) c.boot-2.ensures.same c.boot-2.ensures.cause c.boot-2.ensures.calls
+
+pub returns-clause-fresh : goal.returns-clause-fresh
+returns-clause-fresh g c =
+    let parts = c.into_parts-identity.ensures in
+    let identity : c.into_parts-identity.result.0 ≡ c.run.new.self.identity = ap (λ t. t.0) parts in
+    let real : c.into_parts-identity.result.1 ≡ c.run.new.self.real = ap (λ t. t.1) parts in
+    is_started_if g.F.Flash.image c.args.identity c.args.real c.run.new.self c.power_up.result c.boot-2.result
+    (c.run.ensures.runs.same.identity ∙ c.in_ok-device.ensures.identity.0) (c.run.ensures.runs.same.real ∙ c.in_ok-device.ensures.identity.1)
+    (rw (identity, real) at c.boot-2.ensures.identity) c.boot-2.ensures.fresh c.boot-2.ensures.starts c.boot-2.ensures.same
 
 pub returns-clause-left : goal.returns-clause-left
 returns-clause-left g c = λ left.
