@@ -10,7 +10,6 @@ ghost use Rattle.device_core.specs.Sent.{GetAnswer, answer_frame, bytes_of};
 ghost use Rattle.device_core.specs.Machine.{identified, finished, is_signal, lamp_after as lamp_of};
 ghost use Rattle.device_core.specs.Steps.{Steps};
 
-use crate::carrying::carry_out;
 use crate::{Device, Note};
 use dcp_core::{
     Answer, Request, Service, get_answer, identify_answer, identify_matches, read_request,
@@ -99,7 +98,7 @@ impl<F: Flash<S>, const S: usize> Device<F, S> {
         ensures reliable { F.is_reliable self.old.flash → F.is_reliable self.new.flash × (self.new.live.values.has_failed ≡ self.old.live.values.has_failed) }
     {
         let plan = set_plan(request, false);
-        let answers = carry_out(&mut self.store, plan.as_slice());
+        let answers = self.store.carry_out(plan.as_slice());
         self.lamp = lamp_after(self.lamp, plan.as_slice());
         let answer = set_answer(request, &answers);
         send(&self.identity, asker, DCP_GET_SET, &answer, outbox);

@@ -1,7 +1,6 @@
 //! One step of a PROFINET IO device, runs of steps, and what a power failure leaves of them.
 #![tactic(auto)]
 
-mod carrying;
 mod dcp;
 mod device;
 mod event;

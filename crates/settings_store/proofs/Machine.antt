@@ -14,18 +14,6 @@ use Rattle.settings_store.specs.State.{Values}
 use Rattle.settings_store.specs.Machine.{Outcome, Pass, Fault, Accepted, Carried, answered, accepted, carried_one, first_of, rest_of, followed_by, carried}
 use Rattle.settings_store.specs.Legal.{made_of}
 
--- each of them was answered 'done'
-abbrev pub AreDone : List Accepted → Type 0
-AreDone accepted = All (λ a. a.is_done ≡ true) accepted
-
--- each was answered 'done' but a last one, which was not
-pub record DoneButLast (accepted : List Accepted) : Type 0 where
-  pub front : List Accepted
-  pub last : Accepted
-  pub parts : accepted ≡ front ++ last ∷ []
-  pub done : AreDone front
-  pub not_done : last.is_done ≡ false
-
 -- a command that is accepted passes, or has its fault
 accepted_is : (P : Carried → Type 0) (outcome : Outcome) (values : Values) (command : Command)
     → P (accepted Pass values command) → ((is_lost : Bool) → P (accepted (Fault is_lost) values command)) → P (accepted outcome values command)
@@ -95,61 +83,6 @@ room_left outcomes values (item ∷ items) fine =
     (λ command _ room fine. let on = room_left (rest_of outcomes) (accepted Pass values command).values items fine in one_taken _ _ _ room on)
     (λ is_lost command _ _ fine. let failed = stays_failed (rest_of outcomes) (accepted (Fault is_lost) values command).values items refl in cc)
     fine
-
--- Where no commit failed, each accepted command is answered 'done'.
-pub all_done : (outcomes : List Outcome) (values : Values) (items : List SetItem) → (carried outcomes values items).values.has_failed ≡ false
-    → AreDone (carried outcomes values items).accepted
-all_done outcomes values [] fine = All-nil _
-all_done outcomes values (item ∷ items) fine =
-    item_is (λ one. (carried (rest_of outcomes) one.values items).values.has_failed ≡ false → AreDone (one.accepted ++ (carried (rest_of outcomes) one.values items).accepted))
-    (first_of outcomes) values item
-    (λ _. all_done (rest_of outcomes) values items)
-    (λ command _ _ fine. let on = all_done (rest_of outcomes) (accepted Pass values command).values items fine in All-cons (λ a. a.is_done ≡ true) _ _ refl on)
-    (λ is_lost command _ _ fine. let failed = stays_failed (rest_of outcomes) (accepted (Fault is_lost) values command).values items refl in cc)
-    fine
-
-one_more : (first : Accepted) (back : List Accepted) → first.is_done ≡ true → DoneButLast back → DoneButLast (first ∷ back)
-one_more first back done rest = record {
-  front = first ∷ rest.front;
-  last = rest.last;
-  parts = ap (λ l. first ∷ l) rest.parts;
-  done = All-cons (λ a. a.is_done ≡ true) first rest.front done rest.done;
-  not_done = rest.not_done;
-}
-
--- Where one failed, each but the last is, and the last is not.
-pub done_but_last : (outcomes : List Outcome) (values : Values) (items : List SetItem) → values.has_failed ≡ false → (carried outcomes values items).values.has_failed ≡ true
-    → DoneButLast (carried outcomes values items).accepted
-done_but_last outcomes values [] fine failed = absurd (cc)
-done_but_last outcomes values (item ∷ items) fine failed =
-    item_is (λ one. (carried (rest_of outcomes) one.values items).values.has_failed ≡ true → DoneButLast (one.accepted ++ (carried (rest_of outcomes) one.values items).accepted))
-    (first_of outcomes) values item
-    (λ _. done_but_last (rest_of outcomes) values items fine)
-    (λ command _ _ failed. one_more (record { command = command; is_done = true }) _ refl (done_but_last (rest_of outcomes) (accepted Pass values command).values items fine failed))
-    (λ is_lost command _ _ _. let none = failed_accepted (rest_of outcomes) (accepted (Fault is_lost) values command).values items refl in
-    record {
-      front = [];
-      last = record { command = command; is_done = false };
-      parts = ap (λ l. record { command = command; is_done = false } ∷ l) none;
-      done = All-nil _;
-      not_done = refl;
-    })
-    failed
-
--- one answer for each item
-pub each_answered : (outcomes : List Outcome) (values : Values) (items : List SetItem) → length (carried outcomes values items).answers ≡ length items
-each_answered outcomes values [] = refl
-each_answered outcomes values (item ∷ items) =
-    item_is (λ one. length (one.answers ++ (carried (rest_of outcomes) one.values items).answers) ≡ length (item ∷ items)) (first_of outcomes) values item
-    (λ _. ap suc (each_answered (rest_of outcomes) values items))
-    (λ command _ _. ap suc (each_answered (rest_of outcomes) (accepted Pass values command).values items))
-    (λ is_lost command _ _. ap suc (each_answered (rest_of outcomes) (accepted (Fault is_lost) values command).values items))
-
--- items that ask for nothing to be stored change nothing
-pub only_answers : (outcomes : List Outcome) (values : Values) (answers : List BlockError)
-    → carried outcomes values (map Answer answers) ≡ record { values = values; answers = answers; accepted = [] }
-only_answers outcomes values [] = refl
-only_answers outcomes values (answer ∷ answers) = ap (followed_by (answered answer values)) (only_answers (rest_of outcomes) values answers)
 
 -- what is left of the outcomes after so many items
 after : List Outcome → List SetItem → List Outcome

@@ -20,7 +20,7 @@ use Rattle.std.proofs.lemmas.Bool.Decides.{nat_tests}
 use Rattle.settings_store.specs.State.{State, Values}
 use Rattle.settings_store.specs.Machine.{Outcome, Pass, Fault, Accepted, Carried, answered, accepted, committed, carried_one, first_of}
 use Rattle.settings_store.specs.Legal.{CrashSafe}
-use Rattle.settings_store.specs.Carries.{IsCaused, IsCausedAlone, Holds, Asks, CarriesOne, Carries}
+use Rattle.settings_store.specs.Carries.{IsCaused, IsCausedAlone, Holds, Asks, CarriesOne, CarriesItem, Carries}
 
 committed_failed : (outcome : Outcome) (values : Values) (command : Command) → values.has_failed ≡ true → committed outcome values command ≡ answered Local values
 committed_failed outcome values command failed = cond-true _ _ _ failed
@@ -36,7 +36,7 @@ committed_taken outcome values command fine room = cond-false _ _ _ fine ∙ con
 -- one item by itself, by what becomes of it
 one_item : {F : Type 0} (image : F → Image) (failures : F → ℕ) (asked : F → List Call → F → Type 0) (old new : State F) (item : SetItem) (outcome : Outcome) (one : Carried)
     → carried_one outcome old.values item ≡ one → new.values ≡ one.values
-    → IsCausedAlone (failures old.flash) (failures new.flash) old.values new.values
+    → IsCausedAlone outcome (failures old.flash) (failures new.flash) old.values new.values
     → CrashSafe old.values.has_failed old.values.stored one.accepted (image old.flash) (image new.flash)
     → Holds (image new.flash) new.values → ((other : Accepted) → one.accepted ≡ other ∷ [] → Asks image asked other old new) → (one.accepted ≡ [] → new.flash ≡ old.flash) → CarriesOne image failures asked outcome old item new
 one_item image failures asked old new item outcome one is values caused safe holds asks untouched = record {
@@ -48,32 +48,25 @@ one_item image failures asked old new item outcome one is values caused safe hol
   untouched = λ none. untouched (sym (ap (λ r. r.accepted) is) ∙ none);
 }
 
--- one item, by what becomes of it
-of_one : {F : Type 0} (image : F → Image) (failures : F → ℕ) (asked : F → List Call → F → Type 0) (old new : State F) (item : SetItem) (answer : BlockError) (outcomes : List Outcome) (one : Carried)
-    → carried_one (first_of outcomes) old.values item ≡ one → new.values ≡ one.values → one.answers ≡ answer ∷ []
-    → IsCaused outcomes (failures old.flash) (failures new.flash) old.values new.values
-    → IsCausedAlone (failures old.flash) (failures new.flash) old.values new.values
+-- one item and its answer, by what becomes of it
+of_one : {F : Type 0} (image : F → Image) (failures : F → ℕ) (asked : F → List Call → F → Type 0) (old new : State F) (item : SetItem) (answer : BlockError) (outcome : Outcome) (one : Carried)
+    → carried_one outcome old.values item ≡ one → new.values ≡ one.values → one.answers ≡ answer ∷ []
+    → IsCausedAlone outcome (failures old.flash) (failures new.flash) old.values new.values
     → CrashSafe old.values.has_failed old.values.stored one.accepted (image old.flash) (image new.flash)
-    → Holds (image new.flash) new.values → ((other : Accepted) → one.accepted ≡ other ∷ [] → Asks image asked other old new) → (one.accepted ≡ [] → new.flash ≡ old.flash) → (old.values.is_lost ≡ true → new.values.is_lost ≡ true)
-    → Carries image failures asked old (item ∷ []) (answer ∷ []) new
-of_one image failures asked old new item answer outcomes one is values answers caused caused_alone safe holds asks untouched lost = record {
-  outcomes = outcomes;
-  values = values ∙ sym (ap (λ r. r.values) is);
-  answers_are = sym (append-nil _ ∙ ap (λ r. r.answers) is ∙ answers);
-  caused = caused;
-  placed = (new, one_item image failures asked old new item (first_of outcomes) one is values caused_alone safe holds asks untouched, refl);
-  safe = subst (λ l. CrashSafe old.values.has_failed old.values.stored l (image old.flash) (image new.flash))
-      (sym (append-nil _ ∙ ap (λ r. r.accepted) is)) safe;
-  holds = holds;
-  untouched = λ none. untouched (sym (append-nil _ ∙ ap (λ r. r.accepted) is) ∙ none);
+    → Holds (image new.flash) new.values → ((other : Accepted) → one.accepted ≡ other ∷ [] → Asks image asked other old new) → (one.accepted ≡ [] → new.flash ≡ old.flash)
+    → (old.values.is_lost ≡ true → new.values.is_lost ≡ true) → CarriesItem image failures asked old item answer new
+of_one image failures asked old new item answer outcome one is values answers caused safe holds asks untouched lost = record {
+  outcome = outcome;
+  carries = one_item image failures asked old new item outcome one is values caused safe holds asks untouched;
+  answer_is = ap (λ r. r.answers) is ∙ answers;
   stays_lost = lost;
 }
 
 -- nothing is stored, and nothing changes
 alone : {F : Type 0} (image : F → Image) (failures : F → ℕ) (asked : F → List Call → F → Type 0) (state : State F) (item : SetItem) (answer : BlockError)
-    → carried_one Pass state.values item ≡ answered answer state.values → Holds (image state.flash) state.values → Carries image failures asked state (item ∷ []) (answer ∷ []) state
+    → carried_one Pass state.values item ≡ answered answer state.values → Holds (image state.flash) state.values → CarriesItem image failures asked state item answer state
 alone image failures asked state item answer is holds =
-    of_one image failures asked state state item answer [] (answered answer state.values) is refl refl (inl (refl, refl)) (inl (refl, refl))
+    of_one image failures asked state state item answer Pass (answered answer state.values) is refl refl (refl, refl)
     (record { left = λ left. left; legal = λ fine left. inl (state.values.room, holds fine); untouched = λ failed. refl }) holds (λ _ taken. absurd (cc)) (λ _. refl) (λ lost. lost)
 
 -- what a clause sees of a store, by its parts
@@ -110,14 +103,14 @@ pub passed : {F : Type 0} (image : F → Image) (failures : F → ℕ) (asked : 
     → (LeftByDevice (image old.flash) → LeftByDevice (image new.flash))
     → (new.has_failed ≡ false → StartsWith (image new.flash) new.settings new.room)
     → (calls : List Call) → asked old.flash calls new.flash → CommitCalls (image old.flash) old.settings old.room command calls → (is_lost old.flash ≡ true → is_lost new.flash ≡ true)
-    → Carries image failures asked (seen is_lost old before) (Ask command ∷ []) (Done ∷ []) (seen is_lost new now)
+    → CarriesItem image failures asked (seen is_lost old before) (Ask command) Done (seen is_lost new now)
 passed image failures asked is_lost old new before now command fine still settings room shown power quiet left stored calls were commit lost =
     let some : (old.room == 0) ≡ false = no_room old.room (λ none. absurd (omega arith)) in
     let taken : new.room ≡ old.room - 1 = omega arith in
     let made : Values = (accepted Pass (seen is_lost old before).values command).values in
     let values : (seen is_lost new now).values ≡ made = cc in
-    of_one image failures asked (seen is_lost old before) (seen is_lost new now) (Ask command) Done [] (accepted Pass (seen is_lost old before).values command)
-    (committed_taken Pass (seen is_lost old before).values command fine some) values refl (inl (refl, quiet)) (inl (quiet, still ∙ sym fine))
+    of_one image failures asked (seen is_lost old before) (seen is_lost new now) (Ask command) Done Pass (accepted Pass (seen is_lost old before).values command)
+    (committed_taken Pass (seen is_lost old before).values command fine some) values refl (quiet, still ∙ sym fine)
     (record {
       left = left;
       legal = λ _ _. inl (new.room, subst (λ s. StartsWith (image new.flash) s new.room) settings (stored still));
@@ -135,13 +128,13 @@ pub faulted : {F : Type 0} (image : F → Image) (failures : F → ℕ) (asked :
     → (LeftByDevice (image old.flash) → LeftByDevice (image new.flash))
     → (LeftByDevice (image old.flash) → IsKept (image new.flash) old.settings (apply command old.settings))
     → (calls : List Call) → asked old.flash calls new.flash → (all : List Call) → CommitCalls (image old.flash) old.settings old.room command all → IsFront calls all → (is_lost old.flash ≡ true → is_lost new.flash ≡ true)
-    → Carries image failures asked (seen is_lost old running) (Ask command ∷ []) (Local ∷ []) (seen is_lost new running)
+    → CarriesItem image failures asked (seen is_lost old running) (Ask command) Local (seen is_lost new running)
 faulted image failures asked is_lost old new running command fine failed some settings room fault left kept calls were all commit part lost =
     let outcome : Outcome = Fault (is_lost new.flash) in
     let values : (seen is_lost new running).values ≡ (accepted outcome (seen is_lost old running).values command).values = cc in
-    of_one image failures asked (seen is_lost old running) (seen is_lost new running) (Ask command) Local (outcome ∷ [])
+    of_one image failures asked (seen is_lost old running) (seen is_lost new running) (Ask command) Local outcome
     (accepted outcome (seen is_lost old running).values command)
-    (committed_taken outcome (seen is_lost old running).values command fine (no_room old.room some)) values refl (inr (fault, fine, failed)) (inr (fault, fine, failed))
+    (committed_taken outcome (seen is_lost old running).values command fine (no_room old.room some)) values refl (fault, fine, failed)
     (record {
       left = left;
       legal = λ _ was. elim (kept was).boots [
@@ -157,28 +150,28 @@ faulted image failures asked is_lost old new running command fine failed some se
 
 -- refused, since a commit failed earlier
 pub refused : {F : Type 0} (image : F → Image) (failures : F → ℕ) (asked : F → List Call → F → Type 0) (is_lost : F → Bool) (old new : journal.State F) (running : Settings) (command : Command)
-    → new ≡ old → old.has_failed ≡ true → Carries image failures asked (seen is_lost old running) (Ask command ∷ []) (Local ∷ []) (seen is_lost new running)
+    → new ≡ old → old.has_failed ≡ true → CarriesItem image failures asked (seen is_lost old running) (Ask command) Local (seen is_lost new running)
 refused image failures asked is_lost old new running command same failed =
     let state : State _ = seen is_lost old running in
-    subst (λ j. Carries image failures asked state (Ask command ∷ []) (Local ∷ []) (seen is_lost j running)) (sym same)
+    subst (λ j. CarriesItem image failures asked state (Ask command) Local (seen is_lost j running)) (sym same)
     (alone image failures asked state (Ask command) Local (committed_failed Pass state.values command failed) (λ fine. absurd (cc)))
 
 -- refused, since there is no room
 pub full : {F : Type 0} (image : F → Image) (failures : F → ℕ) (asked : F → List Call → F → Type 0) (is_lost : F → Bool) (old new : journal.State F) (running : Settings) (command : Command)
     → new ≡ old → old.has_failed ≡ false → old.room ≡ 0 → (old.has_failed ≡ false → StartsWith (image old.flash) old.settings old.room)
-    → Carries image failures asked (seen is_lost old running) (Ask command ∷ []) (Exhausted ∷ []) (seen is_lost new running)
+    → CarriesItem image failures asked (seen is_lost old running) (Ask command) Exhausted (seen is_lost new running)
 full image failures asked is_lost old new running command same fine none holds =
     let state : State _ = seen is_lost old running in
-    subst (λ j. Carries image failures asked state (Ask command ∷ []) (Exhausted ∷ []) (seen is_lost j running)) (sym same)
+    subst (λ j. CarriesItem image failures asked state (Ask command) Exhausted (seen is_lost j running)) (sym same)
     (alone image failures asked state (Ask command) Exhausted (committed_full Pass state.values command fine none) holds)
 
 -- an answer alone
 pub answers : {F : Type 0} (image : F → Image) (failures : F → ℕ) (asked : F → List Call → F → Type 0) (state : State F) (answer : BlockError)
-    → Holds (image state.flash) state.values → Carries image failures asked state (Answer answer ∷ []) (answer ∷ []) state
+    → Holds (image state.flash) state.values → CarriesItem image failures asked state (Answer answer) answer state
 answers image failures asked state answer holds = alone image failures asked state (Answer answer) answer refl holds
 
 -- a lamp that is to flash
-pub signals : {F : Type 0} (image : F → Image) (failures : F → ℕ) (asked : F → List Call → F → Type 0) (state : State F) → Holds (image state.flash) state.values → Carries image failures asked state (Signal ∷ []) (Done ∷ []) state
+pub signals : {F : Type 0} (image : F → Image) (failures : F → ℕ) (asked : F → List Call → F → Type 0) (state : State F) → Holds (image state.flash) state.values → CarriesItem image failures asked state Signal Done state
 signals image failures asked state holds = alone image failures asked state Signal Done refl holds
 
 -- nothing to do
@@ -194,3 +187,33 @@ nothing image failures asked state holds = record {
   untouched = λ _. refl;
   stays_lost = λ lost. lost;
 }
+
+-- a list of one item, for outcomes that have their cause
+listed : {F : Type 0} (image : F → Image) (failures : F → ℕ) (asked : F → List Call → F → Type 0) (old new : State F) (item : SetItem) (answer : BlockError) (outcomes : List Outcome)
+    → IsCaused outcomes (failures old.flash) (failures new.flash) old.values new.values → CarriesOne image failures asked (first_of outcomes) old item new
+    → (carried_one (first_of outcomes) old.values item).answers ≡ answer ∷ [] → (old.values.is_lost ≡ true → new.values.is_lost ≡ true)
+    → Carries image failures asked old (item ∷ []) (answer ∷ []) new
+listed image failures asked old new item answer outcomes caused one answers lost = record {
+  outcomes = outcomes;
+  values = one.values;
+  answers_are = sym (append-nil _ ∙ answers);
+  caused = caused;
+  placed = (new, one, refl);
+  safe = subst (λ l. CrashSafe old.values.has_failed old.values.stored l (image old.flash) (image new.flash)) (sym (append-nil _)) one.safe;
+  holds = one.holds;
+  untouched = λ none. one.untouched (sym (append-nil _) ∙ none);
+  stays_lost = lost;
+}
+
+one_listed : {F : Type 0} (image : F → Image) (failures : F → ℕ) (asked : F → List Call → F → Type 0) (old new : State F) (item : SetItem) (answer : BlockError) (outcome : Outcome)
+    → CarriesOne image failures asked outcome old item new → (carried_one outcome old.values item).answers ≡ answer ∷ [] → (old.values.is_lost ≡ true → new.values.is_lost ≡ true)
+    → Carries image failures asked old (item ∷ []) (answer ∷ []) new
+one_listed image failures asked old new item answer Pass one answers lost =
+    listed image failures asked old new item answer [] (inl (refl, one.caused.0)) one answers lost
+one_listed image failures asked old new item answer (Fault is_lost) one answers lost =
+    listed image failures asked old new item answer (Fault is_lost ∷ []) (inr one.caused) one answers lost
+
+-- an item by itself is a list of one
+pub item_listed : {F : Type 0} (image : F → Image) (failures : F → ℕ) (asked : F → List Call → F → Type 0) (old new : State F) (item : SetItem) (answer : BlockError)
+    → CarriesItem image failures asked old item answer new → Carries image failures asked old (item ∷ []) (answer ∷ []) new
+item_listed image failures asked old new item answer one = one_listed image failures asked old new item answer one.outcome one.carries one.answer_is one.stays_lost

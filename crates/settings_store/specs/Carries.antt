@@ -8,7 +8,7 @@ use Rattle.flash_model.specs.Torn.{HasRisen}
 use Rattle.settings_journal.specs.Calls.{CommitCalls, IsFront}
 use Rattle.settings_journal.specs.Image.{StartsWith}
 use Rattle.settings_store.specs.State.{State, Values}
-use Rattle.settings_store.specs.Machine.{Outcome, Accepted, first_of, rest_of, carried_one, carried}
+use Rattle.settings_store.specs.Machine.{Outcome, Pass, Fault, Accepted, first_of, rest_of, carried_one, carried}
 use Rattle.settings_store.specs.Legal.{CrashSafe}
 
 -- Every call passed and no call of the flash failed; or one failed, and a commit failed with it, the first since the
@@ -21,11 +21,11 @@ IsCaused outcomes before now old new =
 abbrev pub Holds : Image → Values → Type 0
 Holds image values = values.has_failed ≡ false → StartsWith image values.stored values.room
 
--- The same of one item, by itself: no call of the flash failed, and no commit did; or one failed, and a commit failed with
--- it, the first since the start.
-abbrev pub IsCausedAlone : ℕ → ℕ → Values → Values → Type 0
-IsCausedAlone before now old new =
-    ((now ≡ before) × (new.has_failed ≡ old.has_failed)) ⊎ (HasRisen before now × (old.has_failed ≡ false) × (new.has_failed ≡ true))
+-- The same of one item, by its outcome: where it passes no call of the flash failed, and no commit did; a fault is that of
+-- its commit, the first since the start, in which a call failed.
+abbrev pub IsCausedAlone : Outcome → ℕ → ℕ → Values → Values → Type 0
+IsCausedAlone Pass before now old new = (now ≡ before) × (new.has_failed ≡ old.has_failed)
+IsCausedAlone (Fault is_lost) before now old new = HasRisen before now × (old.has_failed ≡ false) × (new.has_failed ≡ true)
 
 -- of the calls of a commit, all were asked for where it is done, and else the first of them, up to the one that failed
 abbrev pub IsAskedBy : Bool → List Call → List Call → Type 0
@@ -45,11 +45,18 @@ pub record Asks {F : Type 0} (image : F → Image) (asked : F → List Call → 
 -- none is the flash is left alone.
 pub record CarriesOne {F : Type 0} (image : F → Image) (failures : F → ℕ) (asked : F → List Call → F → Type 0) (outcome : Outcome) (old : State F) (item : SetItem) (new : State F) : Type 0 where
   pub values : new.values ≡ (carried_one outcome old.values item).values
-  pub caused : IsCausedAlone (failures old.flash) (failures new.flash) old.values new.values
+  pub caused : IsCausedAlone outcome (failures old.flash) (failures new.flash) old.values new.values
   pub safe : CrashSafe old.values.has_failed old.values.stored (carried_one outcome old.values item).accepted (image old.flash) (image new.flash)
   pub holds : Holds (image new.flash) new.values
   pub asks : (one : Accepted) → (carried_one outcome old.values item).accepted ≡ one ∷ [] → Asks image asked one old new
   pub untouched : (carried_one outcome old.values item).accepted ≡ [] → new.flash ≡ old.flash
+
+-- One item and its answer, for some outcome of its call, which the flash chose. Power that is lost stays lost.
+pub record CarriesItem {F : Type 0} (image : F → Image) (failures : F → ℕ) (asked : F → List Call → F → Type 0) (old : State F) (item : SetItem) (answer : BlockError) (new : State F) : Type 0 where
+  pub outcome : Outcome
+  pub carries : CarriesOne image failures asked outcome old item new
+  pub answer_is : (carried_one outcome old.values item).answers ≡ answer ∷ []
+  pub stays_lost : old.values.is_lost ≡ true → new.values.is_lost ≡ true
 
 -- The items one by one: each begins with the flash and the values that the one before it left.
 abbrev pub OneByOne : {F : Type 0} → (F → Image) → (F → ℕ) → (F → List Call → F → Type 0) → List Outcome → State F → List SetItem → State F → Type 0

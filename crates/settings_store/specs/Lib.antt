@@ -1,4 +1,4 @@
-pub mod State
-pub mod Machine
-pub mod Legal
 pub mod Carries
+pub mod Legal
+pub mod Machine
+pub mod State

@@ -1,13 +1,14 @@
 // The store: what runs beside what is stored.
-ghost use Rattle.std.specs.Prelude.{◌≡◌, ℕ, true, false, IsErr, IfOk, IfErr, MatchResult, [], ◌∷◌};
+ghost use Rattle.std.specs.Prelude.{◌≡◌, ◌≤◌, ℕ, true, false, IsErr, IfOk, IfErr, MatchResult, length, [], ◌∷◌};
 ghost use Rattle.flash_model.specs.Calls.{Arms};
 ghost use Rattle.flash_model.specs.Image.{Image, erased};
 ghost use Rattle.pn_values.specs.Settings.{factory_settings};
 ghost use Rattle.pn_values.specs.declared.settings.Settings.{Settings};
 ghost use Rattle.settings_journal.specs.Commit.{HasBootCause};
 ghost use Rattle.settings_journal.specs.Image.{StartsWith, IsAmple, capacity, IsForeign, LeftByDevice};
-ghost use Rattle.settings_store.specs.Carries.{Carries};
+ghost use Rattle.settings_store.specs.Carries.{Carries, CarriesItem};
 
+use arrayvec::ArrayVec;
 use flash_model::{Flash, Order};
 use pn_values::{BlockError, Command, SetItem, Settings};
 use settings_journal::{BootFault, CommitFault, Journal};
@@ -121,10 +122,25 @@ impl<F: Flash<S>, const S: usize> Store<F, S> {
         self.journal.into_flash()
     }
 
-    /// Carries one item of a Set out, and says how it is answered. Items are carried out one after the other, each by
-    /// itself.
+    /// Carries items of a Set out in order, each by itself, and says how each is answered.
+    pub fn carry_out<const N: usize>(&mut self, items: &[SetItem]) -> ArrayVec<BlockError, N>
+        requires { length items.now ≤ N }
+        ensures carries { Carries F.image F.failures F.asked self.old items.now result.items self.new }
+        ensures reliable { F.is_reliable self.old.flash → F.is_reliable self.new.flash × (self.new.values.has_failed ≡ self.old.values.has_failed) }
+    {
+        // What the journal keeps holds before the items, too.
+        let _ = &self.journal;
+        let mut answers = ArrayVec::new();
+        for item in items {
+            let answer = self.carry(item);
+            answers.push(answer);
+        }
+        answers
+    }
+
+    /// Carries one item of a Set out by itself, and says how it is answered.
     pub fn carry(&mut self, item: &SetItem) -> BlockError
-        ensures carries { Carries F.image F.failures F.asked self.old (item.now ∷ []) (result ∷ []) self.new }
+        ensures carries { CarriesItem F.image F.failures F.asked self.old item.now result self.new }
         ensures reliable { F.is_reliable self.old.flash → F.is_reliable self.new.flash × (self.new.values.has_failed ≡ self.old.values.has_failed) }
     {
         // What the journal keeps holds before the item, too.
@@ -138,7 +154,7 @@ impl<F: Flash<S>, const S: usize> Store<F, S> {
 
     /// Stores what the command asks for, and shows it once it is stored.
     fn commit(&mut self, command: &Command) -> BlockError
-        ensures carries { Carries F.image F.failures F.asked self.old (SetItem.Ask command.now ∷ []) (result ∷ []) self.new }
+        ensures carries { CarriesItem F.image F.failures F.asked self.old (SetItem.Ask command.now) result self.new }
         ensures reliable { F.is_reliable self.old.flash → F.is_reliable self.new.flash × (self.new.values.has_failed ≡ self.old.values.has_failed) }
     {
         match self.journal.commit(command) {

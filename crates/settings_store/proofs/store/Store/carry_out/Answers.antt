@@ -1,22 +1,26 @@
 -- No item, one item more, and all of them.
 use Rattle.std.proofs.Common.{◌+◌, ◌++◌, ◌∷◌, [], length, take, take_all, sym, ◌∙◌, ap, subst, refl, arith}
 use Rattle.std.proofs.lemmas.List.{take_more}
-use Rattle.settings_store.specs.Carries.{Carries}
-use Rattle.settings_store.proofs.Laws.{carries_then, nothing}
-use Rattle.device_core.proofs.carrying.carry_out.Goals as goal
+use Rattle.settings_store.specs.Carries.{Carries, Holds}
+use Rattle.settings_store.proofs.Crash.{carries_then}
+use Rattle.settings_store.proofs.Steps.{nothing, item_listed}
+use Rattle.settings_store.proofs.store.Store.carry_out.Goals as goal
 
 pub loop-item-init : goal.loop-item-init
-loop-item-init g c = record {
-  carries = rw c.new-answers.ensures (nothing g.F.Flash.image g.F.Flash.failures g.F.Flash.asked c.args.store.now c.requires.stored);
-  each = ap length c.new-answers.ensures;
-  reliable = λ sound. (sound, refl);
-}
+loop-item-init g c =
+    let holds : Holds (g.F.Flash.image c.args.self.now.flash) c.args.self.now.values =
+    subst (λ s. Holds (g.F.Flash.image s.flash) s.values) c.self.view_is c.self.invariant in
+    record {
+      carries = rw c.new-answers.ensures (nothing g.F.Flash.image g.F.Flash.failures g.F.Flash.asked c.args.self.now holds);
+      each = ap length c.new-answers.ensures;
+      reliable = λ sound. (sound, refl);
+    }
 
 pub loop-item-preserved : goal.loop-item-preserved
 loop-item-preserved g c = record {
   carries = rw (take_more c.args.items.now c.loop-item.item-index c.item-item.result c.loop-item-test.true ∙ ap (λ i. take c.loop-item.item-index c.args.items.now ++ i ∷ []) (sym c.item-item.is), c.push.ensures.items)
-      (carries_then g.F.Flash.image g.F.Flash.failures g.F.Flash.asked c.args.store.now c.loop-item.store c.carry-answer.new.self _ _ _ _
-      c.loop-item.invariant.carries c.carry-answer.ensures.carries);
+      (carries_then g.F.Flash.image g.F.Flash.failures g.F.Flash.asked c.args.self.now c.loop-item.self c.carry-answer.new.self _ _ _ _
+      c.loop-item.invariant.carries (item_listed g.F.Flash.image g.F.Flash.failures g.F.Flash.asked _ _ _ _ c.carry-answer.ensures.carries));
   each = omega (arith, c.loop-item.invariant.each, c.push.ensures.len);
   reliable = λ sound.
       let so = c.loop-item.invariant.reliable sound in
@@ -26,7 +30,7 @@ loop-item-preserved g c = record {
 
 pub returns-clause-carries : goal.returns-clause-carries
 returns-clause-carries g c =
-    subst (λ items. Carries g.F.Flash.image g.F.Flash.failures g.F.Flash.asked c.args.store.now items c.loop-item.answers.items c.loop-item.store)
+    subst (λ items. Carries g.F.Flash.image g.F.Flash.failures g.F.Flash.asked c.args.self.now items c.loop-item.answers.items c.loop-item.self)
     (take_all c.loop-item.item-index c.args.items.now c.loop-item-test.false) c.loop-item.invariant.carries
 
 pub returns-clause-reliable : goal.returns-clause-reliable
