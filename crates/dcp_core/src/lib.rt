@@ -20,4 +20,4 @@ pub use kind::Kind;
 pub use reading::read_request;
 pub use request::{Block, DcpFault, Request, Service};
 pub use response::{Outcome, Response, ResponseBlock, ResponseBlocks};
-pub use set::{plan_block, set_answer, set_plan};
+pub use set::{fill_plan, plan_block, set_answer, set_plan};

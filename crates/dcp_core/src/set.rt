@@ -15,12 +15,21 @@ pub fn set_plan(request: &Request<'_>, in_operation: bool) -> ArrayVec<SetItem, 
     ensures items { result.items ≡ plan_of in_operation (asked request.now) }
     ensures count { length result.items ≤ 16 }
 {
-    let blocks = request.blocks.as_slice();
     let mut plan = ArrayVec::new();
+    fill_plan(request, in_operation, &mut plan);
+    plan
+}
+
+/// The same, put where the caller keeps it, in the place of what is there: a plan has some 4 KiB.
+pub fn fill_plan(request: &Request<'_>, in_operation: bool, plan: &mut ArrayVec<SetItem, 16>)
+    ensures items { plan.new.items ≡ plan_of in_operation (asked request.now) }
+    ensures count { length plan.new.items ≤ 16 }
+{
+    let blocks = request.blocks.as_slice();
+    plan.clear();
     for block in blocks {
         plan.push(plan_block(block, in_operation));
     }
-    plan
 }
 
 /// What one block of a Set comes to. The first fault counts: option, suboption, value, and then whether the device

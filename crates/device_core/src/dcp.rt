@@ -12,8 +12,8 @@ ghost use Rattle.device_core.specs.Steps.{Steps};
 
 use crate::{Device, Note};
 use dcp_core::{
-    Answer, Request, Service, get_answer, identify_answer, identify_matches, read_request,
-    set_answer, set_plan,
+    Answer, Request, Service, fill_plan, get_answer, identify_answer, identify_matches,
+    read_request, set_answer,
 };
 use flash_model::Flash;
 use frame_codec::{DCP_GET_SET, DCP_IDENTIFY_RESPONSE, Layered, Outbox, Payload};
@@ -97,9 +97,9 @@ impl<F: Flash<S>, const S: usize> Device<F, S> {
         ensures steps { Steps F.image F.failures F.asked self.old (Asks asker (asked request.now)) (map (λ frame. frame.items) outbox.new.items) result self.new }
         ensures reliable { F.is_reliable self.old.flash → F.is_reliable self.new.flash × (self.new.live.values.has_failed ≡ self.old.live.values.has_failed) }
     {
-        let plan = set_plan(request, false);
-        let answers = self.store.carry_out(plan.as_slice());
-        self.lamp = lamp_after(self.lamp, plan.as_slice());
+        fill_plan(request, false, &mut self.plan);
+        let answers = self.store.carry_out(self.plan.as_slice());
+        self.lamp = lamp_after(self.lamp, self.plan.as_slice());
         let answer = set_answer(request, &answers);
         send(&self.identity, asker, DCP_GET_SET, &answer, outbox);
         Note::Done

@@ -8,8 +8,9 @@ ghost use Rattle.settings_journal.specs.Commit.{HasBootCause};
 ghost use Rattle.settings_journal.specs.Image.{StartsWith, IsAmple, capacity, IsForeign, LeftByDevice};
 ghost use Rattle.device_core.specs.Cycle.{started};
 
+use arrayvec::ArrayVec;
 use flash_model::{Flash, Order};
-use pn_values::{Identity, Real, Settings};
+use pn_values::{Identity, Real, SetItem, Settings};
 use settings_journal::BootFault;
 use settings_store::Store;
 use std::marker::Model;
@@ -21,6 +22,8 @@ pub struct Device<F: Flash<S>, const S: usize> {
     pub(crate) real: Real,
     pub(crate) store: Store<F, S>,
     pub(crate) lamp: u32,
+    // Room for the plan of a Set, in which the last one lies.
+    pub(crate) plan: ArrayVec<SetItem, 16>,
 }
 
 impl<F: Flash<S>, const S: usize> Model for Device<F, S> {
@@ -72,6 +75,7 @@ impl<F: Flash<S>, const S: usize> Device<F, S> {
             real,
             store: Store::boot(flash)?,
             lamp: 0,
+            plan: ArrayVec::new(),
         })
     }
 
@@ -146,6 +150,7 @@ impl<F: Flash<S>, const S: usize> Device<F, S> {
             real,
             store,
             lamp: _,
+            plan: _,
         } = self;
         (identity, real, store.into_flash())
     }

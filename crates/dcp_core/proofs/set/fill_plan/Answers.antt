@@ -5,7 +5,7 @@ use Rattle.dcp_core.specs.declared.request.Block.{Block}
 use Rattle.dcp_core.specs.declared.request.Request.{Request}
 use Rattle.dcp_core.specs.Request.{AskedBlock, asked, asked_block}
 use Rattle.dcp_core.specs.Set.{item_of, plan_of}
-use Rattle.dcp_core.proofs.set.set_plan.Goals as goal
+use Rattle.dcp_core.proofs.set.fill_plan.Goals as goal
 
 -- the plan, block by block
 whole : (in_operation : Bool) (request : Request) → map (λ (block : Block). item_of in_operation block.kind block.contents.now) request.blocks.items ≡ plan_of in_operation (asked request)
