@@ -1,5 +1,6 @@
 // A module for each codec, by what it reads and writes.
 mod blocks;
+mod calls;
 mod dcp;
 mod fields;
 mod frames;

@@ -1,4 +1,5 @@
 // The store over a flash in memory that stays where it is.
+use arrayvec::ArrayVec;
 use flash_model::{Lent, MemoryFlash, Order};
 use pn_values::{BlockError, Command, ImValue, Padded, SetItem};
 use settings_journal::BootFault;
@@ -49,5 +50,30 @@ fn a_loss_of_power_that_was_armed_ends_it(rt: HostRuntime) -> Result<(), std::te
     flash.power_up();
     let store = start(&mut flash)?;
     assert_eq!(rt; store.stored().im2.as_bytes(), [b' '; 16].as_slice());
+    Ok(())
+}
+
+#[test]
+fn items_are_carried_out_in_order(rt: HostRuntime) -> Result<(), std::test::Fail> {
+    let mut flash = MemoryFlash::blank();
+    let mut store = start(&mut flash)?;
+    let items = [
+        date(b'1'),
+        SetItem::Signal,
+        SetItem::Answer(BlockError::Suboption),
+        date(b'2'),
+    ];
+    let answers: ArrayVec<BlockError, 4> = store.carry_out(&items);
+    assert_eq!(rt;
+        answers.as_slice(),
+        [
+            BlockError::Done,
+            BlockError::Done,
+            BlockError::Suboption,
+            BlockError::Done
+        ]
+        .as_slice()
+    );
+    assert_eq!(rt; store.running().im2.as_bytes(), [b'2'; 16].as_slice());
     Ok(())
 }
