@@ -1,9 +1,9 @@
 #!/usr/bin/env python3
 """Puts one block of each kind into a frame of its own, and the blocks of a Connect into one, and prints tshark's line for it.
 
-The blocks are those of crates/block_codec/src/tests.rt, of which a test says that `write_block` writes exactly them, and
-those that bench/blocks.py measures.
-Needs Debian's package `tshark`. Fails where a frame is dissected as malformed.
+The blocks are those of bench/blocks.txt and those that bench/blocks.py measures. The program `block_table` (made by `rt run`
+in its folder) has to read each and write exactly it again.
+Needs Debian's package `tshark`. Fails where a block is written otherwise or a frame is dissected as malformed.
 """
 import pathlib
 import re
@@ -14,7 +14,8 @@ import tempfile
 
 from blocks import connect
 
-TESTS = pathlib.Path(__file__).parent.parent / "crates/block_codec/src/tests.rt"
+HERE = pathlib.Path(__file__).resolve().parent
+PROGRAM = HERE.parent / "crates/block_table/out/block_table"
 DEVICE = bytes.fromhex("dea000016c9711d1827100a02442df7d")
 CONTROLLER = bytes.fromhex("dea000026c9711d1827100a02442df7d")
 OBJECT = bytes.fromhex("dea000006c9711d18271000104560123")
@@ -23,10 +24,20 @@ OPERATION = {0x0101: 0, 0x0102: 0, 0x0103: 0, 0x0104: 0, 0x0114: 1, 0x0009: 2, 0
 
 
 def blocks():
-    """The name and the octets of each block of the tests."""
-    text = TESTS.read_text()
-    for name, octets in re.findall(r"const (\w+): \[u8; \d+\] = \[([^\]]*)\];", text):
-        yield name, bytes(int(octet, 16) for octet in re.findall(r"0x[0-9a-f]{2}", octets))
+    """The name and the octets of each block of the list."""
+    for line in (HERE / "blocks.txt").read_text().splitlines():
+        if not line.startswith("#"):
+            name, octets = line.split()
+            yield name, bytes.fromhex(octets)
+
+
+def written_otherwise(found):
+    """The names of the blocks that the program does not read, or writes otherwise than they came."""
+    lines = "".join(block.hex() + "\n" for _, block in found)
+    printed = subprocess.run([PROGRAM], input=lines, capture_output=True, text=True, check=True).stdout
+    rows = [line for line in printed.splitlines() if line.startswith(("block ", "fault "))]
+    wanted = [f"block {block[:2].hex()} rest 0 written {block.hex()}" for _, block in found]
+    return [name for (name, _), row, is_wanted in zip(found, rows, wanted) if row != is_wanted]
 
 
 def frame_of(number, kind, block, records):
@@ -59,7 +70,14 @@ def frame_of(number, kind, block, records):
 
 
 def main():
-    found = [*blocks(), ("CONNECT", connect())]
+    if not PROGRAM.exists():
+        print("no program block_table: rt run in crates/block_table makes it")
+        return 1
+    found = list(blocks())
+    otherwise = written_otherwise(found)
+    for name in otherwise:
+        print(f"{name}: written otherwise")
+    found.append(("CONNECT", connect()))
     named = dict(found)
     records = {0x8009: named["IM0"], 0x0008: named["IM2"]}
     with tempfile.TemporaryDirectory() as folder:
@@ -77,7 +95,7 @@ def main():
         bad += malformed
         print(f"{block[:2].hex()} {name}: {line.strip()}{'  MALFORMED' if malformed else ''}")
     print(f"{len(found)} frames, {bad} malformed")
-    return 1 if bad or len(lines) != len(found) else 0
+    return 1 if bad or otherwise or len(lines) != len(found) else 0
 
 
 if __name__ == "__main__":
