@@ -188,7 +188,7 @@ impl<const S: usize> Flash<S> for MemoryFlash<S> {
     fn program(&mut self, sector: Sector, place: usize, bytes: &[u8]) -> Result<(), FlashFault>
         requires { place + length bytes.now ≤ S }
 
-        // What the trait asks.
+        // What the trait asks, and that a call without power changes no byte.
         ensures done { OnOk result (image_of self.new ≡ with_sector (image_of self.old) sector (programmed (sector_of (image_of self.old) sector) place bytes.now)) }
         ensures torn { OnErr result (Torn sector place (place + length bytes.now) (programmed (sector_of (image_of self.old) sector) place bytes.now) (image_of self.old) (image_of self.new)) }
         ensures calls { IsAsked self.old (Programs sector place bytes.now ∷ []) self.new }
@@ -214,7 +214,7 @@ impl<const S: usize> Flash<S> for MemoryFlash<S> {
 
     /// Turns every bit of a sector to 1. It fails exactly where there is no power or the order that is armed strikes.
     fn erase(&mut self, sector: Sector) -> Result<(), FlashFault>
-        // What the trait asks.
+        // What the trait asks, and that a call without power changes no byte.
         ensures done { OnOk result (image_of self.new ≡ with_sector (image_of self.old) sector (erased S)) }
         ensures torn { OnErr result (Torn sector 0 S (erased S) (image_of self.old) (image_of self.new)) }
         ensures calls { IsAsked self.old (Erases sector ∷ []) self.new }
