@@ -1,11 +1,10 @@
 -- What one step and runs of steps do.
 use Rattle.std.proofs.Common.{◌≡◌, ◌+◌, ℕ, Bool, true, false, List, [], ◌∷◌, ◌++◌, length, length-append, map, refl, sym, ap, ◌∙◌, append_assoc, arith}
 use Rattle.std.proofs.lemmas.List.{append-nil}
-use Rattle.pn_values.specs.declared.identity.Identity.{Identity}
 use Rattle.settings_store.specs.Machine.{Outcome, Accepted, carried}
 use Rattle.settings_store.specs.Legal.{made_of}
 use Rattle.device_core.specs.declared.event.Event.{Event}
-use Rattle.device_core.specs.State.{Live}
+use Rattle.device_core.specs.State.{Station, Live}
 use Rattle.device_core.specs.Heard.{Heard, heard_of}
 use Rattle.device_core.specs.Sent.{bytes_of}
 use Rattle.device_core.specs.Machine.{Judged, Refuses, Sets, Moves, Stepped, Ran, judged, items_in, items_of, finished, judged_step, heard_step, step_of, handed, first_step, later_steps, then_run, run_of}
@@ -18,56 +17,56 @@ is_set (Sets asker request in_operation) = true
 is_set (Moves rest sent) = false
 
 -- what comes of all else: nothing is asked of the settings
-unfoldable pub quiet_step : Identity → Live → Judged → Stepped
-quiet_step identity live what =
+unfoldable pub quiet_step : Station → Live → Judged → Stepped
+quiet_step station live what =
     let end = finished live.rest what [] in
-    record { live = record { values = live.values; rest = end.rest }; sent = end.sent; frames = map (bytes_of identity) end.sent; note = end.note; accepted = [] }
+    record { live = record { values = live.values; rest = end.rest }; sent = end.sent; frames = map (bytes_of station.identity) end.sent; note = end.note; accepted = [] }
 
-judged_quiet : (outcomes : List Outcome) (identity : Identity) (live : Live) (what : Judged) → is_set what ≡ false → judged_step outcomes identity live what ≡ quiet_step identity live what
+judged_quiet : (outcomes : List Outcome) (station : Station) (live : Live) (what : Judged) → is_set what ≡ false → judged_step outcomes station live what ≡ quiet_step station live what
 unfolding judged_step quiet_step
-judged_quiet outcomes identity live (Refuses why) none = refl
-judged_quiet outcomes identity live (Sets asker request in_operation) none = cc
-judged_quiet outcomes identity live (Moves rest sent) none = refl
+judged_quiet outcomes station live (Refuses why) none = refl
+judged_quiet outcomes station live (Sets asker request in_operation) none = cc
+judged_quiet outcomes station live (Moves rest sent) none = refl
 
-pub is_quiet : (outcomes : List Outcome) (identity : Identity) (live : Live) (heard : Heard) → is_set (judged identity live heard) ≡ false
-    → heard_step outcomes identity live heard ≡ quiet_step identity live (judged identity live heard)
+pub is_quiet : (outcomes : List Outcome) (station : Station) (live : Live) (heard : Heard) → is_set (judged station live heard) ≡ false
+    → heard_step outcomes station live heard ≡ quiet_step station live (judged station live heard)
 unfolding heard_step
-is_quiet outcomes identity live heard none = judged_quiet outcomes identity live (judged identity live heard) none
+is_quiet outcomes station live heard none = judged_quiet outcomes station live (judged station live heard) none
 
 no_items : (what : Judged) → is_set what ≡ false → items_in what ≡ []
 no_items (Refuses why) none = refl
 no_items (Sets asker request in_operation) none = cc
 no_items (Moves rest sent) none = refl
 
-pub nothing_asked : (identity : Identity) (live : Live) (heard : Heard) → is_set (judged identity live heard) ≡ false → items_of identity live heard ≡ []
-nothing_asked identity live heard none = no_items (judged identity live heard) none
+pub nothing_asked : (station : Station) (live : Live) (heard : Heard) → is_set (judged station live heard) ≡ false → items_of station live heard ≡ []
+nothing_asked station live heard none = no_items (judged station live heard) none
 
 -- a step by what was judged
-pub judged_as : (outcomes : List Outcome) (identity : Identity) (live : Live) (heard : Heard) (what : Judged) → judged identity live heard ≡ what
-    → heard_step outcomes identity live heard ≡ judged_step outcomes identity live what
+pub judged_as : (outcomes : List Outcome) (station : Station) (live : Live) (heard : Heard) (what : Judged) → judged station live heard ≡ what
+    → heard_step outcomes station live heard ≡ judged_step outcomes station live what
 unfolding heard_step
-judged_as outcomes identity live heard what is = ap (judged_step outcomes identity live) is
+judged_as outcomes station live heard what is = ap (judged_step outcomes station live) is
 
 -- after a commit that failed nothing is accepted
-pub step_none : (outcomes : List Outcome) (identity : Identity) (live : Live) (heard : Heard) → live.values.has_failed ≡ true → (heard_step outcomes identity live heard).accepted ≡ []
+pub step_none : (outcomes : List Outcome) (station : Station) (live : Live) (heard : Heard) → live.values.has_failed ≡ true → (heard_step outcomes station live heard).accepted ≡ []
 unfolding heard_step judged_step
-step_none outcomes identity live heard failed = failed_accepted outcomes live.values (items_of identity live heard) failed
+step_none outcomes station live heard failed = failed_accepted outcomes live.values (items_of station live heard) failed
 
-pub step_failed : (outcomes : List Outcome) (identity : Identity) (live : Live) (heard : Heard) → live.values.has_failed ≡ true → (heard_step outcomes identity live heard).live.values.has_failed ≡ true
+pub step_failed : (outcomes : List Outcome) (station : Station) (live : Live) (heard : Heard) → live.values.has_failed ≡ true → (heard_step outcomes station live heard).live.values.has_failed ≡ true
 unfolding heard_step judged_step
-step_failed outcomes identity live heard failed = stays_failed outcomes live.values (items_of identity live heard) failed
+step_failed outcomes station live heard failed = stays_failed outcomes live.values (items_of station live heard) failed
 
 -- while no commit failed, what is stored is what the accepted commands make
-pub step_stored : (outcomes : List Outcome) (identity : Identity) (live : Live) (heard : Heard) → (heard_step outcomes identity live heard).live.values.has_failed ≡ false
-    → (heard_step outcomes identity live heard).live.values.stored ≡ made_of (heard_step outcomes identity live heard).accepted live.values.stored
+pub step_stored : (outcomes : List Outcome) (station : Station) (live : Live) (heard : Heard) → (heard_step outcomes station live heard).live.values.has_failed ≡ false
+    → (heard_step outcomes station live heard).live.values.stored ≡ made_of (heard_step outcomes station live heard).accepted live.values.stored
 unfolding heard_step judged_step
-step_stored outcomes identity live heard fine = stored_made outcomes live.values (items_of identity live heard) fine
+step_stored outcomes station live heard fine = stored_made outcomes live.values (items_of station live heard) fine
 
 -- while no commit failed, each accepted command takes one of the room for commits, and nothing else does
-pub step_room : (outcomes : List Outcome) (identity : Identity) (live : Live) (heard : Heard) → (heard_step outcomes identity live heard).live.values.has_failed ≡ false
-    → (heard_step outcomes identity live heard).live.values.room + length (heard_step outcomes identity live heard).accepted ≡ live.values.room
+pub step_room : (outcomes : List Outcome) (station : Station) (live : Live) (heard : Heard) → (heard_step outcomes station live heard).live.values.has_failed ≡ false
+    → (heard_step outcomes station live heard).live.values.room + length (heard_step outcomes station live heard).accepted ≡ live.values.room
 unfolding heard_step judged_step
-step_room outcomes identity live heard fine = room_left outcomes live.values (items_of identity live heard) fine
+step_room outcomes station live heard fine = room_left outcomes live.values (items_of station live heard) fine
 
 -- a run, and then a step
 unfoldable pub then_step : Ran → Stepped → Ran
@@ -90,57 +89,57 @@ joined_quiet [] events [] _ _ = refl
 joined_quiet [] events (outcome ∷ outcomes) _ none = cc
 joined_quiet (one ∷ front) events last none _ = cc
 
-run_quiet : (identity : Identity) (live : Live) (events : List Event) (event : Event)
-    → run_of [] identity live (events ++ event ∷ []) ≡ then_step (run_of [] identity live events) (step_of [] identity (run_of [] identity live events).live event)
+run_quiet : (station : Station) (live : Live) (events : List Event) (event : Event)
+    → run_of [] station live (events ++ event ∷ []) ≡ then_step (run_of [] station live events) (step_of [] station (run_of [] station live events).live event)
 unfolding then_step
-run_quiet identity live [] event = simp append-nil
-run_quiet identity live (one ∷ events) event =
-    ap (then_run (step_of [] identity live one)) (run_quiet identity (step_of [] identity live one).live events event) ∙ simp append_assoc
+run_quiet station live [] event = simp append-nil
+run_quiet station live (one ∷ events) event =
+    ap (then_run (step_of [] station live one)) (run_quiet station (step_of [] station live one).live events event) ∙ simp append_assoc
 
-run_snoc : (front : List (List Outcome)) (last : List Outcome) (identity : Identity) (live : Live) (events : List Event) (event : Event)
-    → run_of (snoc front events last) identity live (events ++ event ∷ []) ≡ then_step (run_of front identity live events) (step_of last identity (run_of front identity live events).live event)
+run_snoc : (front : List (List Outcome)) (last : List Outcome) (station : Station) (live : Live) (events : List Event) (event : Event)
+    → run_of (snoc front events last) station live (events ++ event ∷ []) ≡ then_step (run_of front station live events) (step_of last station (run_of front station live events).live event)
 unfolding then_step snoc
-run_snoc front last identity live [] event = simp append-nil
-run_snoc front last identity live (one ∷ events) event =
-    ap (then_run (step_of (first_step front) identity live one)) (run_snoc (later_steps front) last identity (step_of (first_step front) identity live one).live events event) ∙ simp append_assoc
+run_snoc front last station live [] event = simp append-nil
+run_snoc front last station live (one ∷ events) event =
+    ap (then_run (step_of (first_step front) station live one)) (run_snoc (later_steps front) last station (step_of (first_step front) station live one).live events event) ∙ simp append_assoc
 
-pub run_joined : (front : List (List Outcome)) (last : List Outcome) (identity : Identity) (live : Live) (events : List Event) (event : Event)
-    → run_of (joined front events last) identity live (events ++ event ∷ []) ≡ then_step (run_of front identity live events) (step_of last identity (run_of front identity live events).live event)
+pub run_joined : (front : List (List Outcome)) (last : List Outcome) (station : Station) (live : Live) (events : List Event) (event : Event)
+    → run_of (joined front events last) station live (events ++ event ∷ []) ≡ then_step (run_of front station live events) (step_of last station (run_of front station live events).live event)
 unfolding joined
-run_joined [] [] identity live events event = run_quiet identity live events event
-run_joined [] (outcome ∷ outcomes) identity live events event = run_snoc [] (outcome ∷ outcomes) identity live events event
-run_joined (one ∷ front) last identity live events event = run_snoc (one ∷ front) last identity live events event
+run_joined [] [] station live events event = run_quiet station live events event
+run_joined [] (outcome ∷ outcomes) station live events event = run_snoc [] (outcome ∷ outcomes) station live events event
+run_joined (one ∷ front) last station live events event = run_snoc (one ∷ front) last station live events event
 
 still_fine : (before now : Bool) → (before ≡ true → now ≡ true) → now ≡ false → before ≡ false
 still_fine true now stays fine = let failed : now ≡ true = stays refl in cc
 still_fine false now stays fine = refl
 
 -- once a commit failed, one has failed
-pub run_failed : (outcomes : List (List Outcome)) (identity : Identity) (live : Live) (events : List Event) → live.values.has_failed ≡ true → (run_of outcomes identity live events).live.values.has_failed ≡ true
-run_failed outcomes identity live [] failed = failed
-run_failed outcomes identity live (event ∷ events) failed =
-    run_failed (later_steps outcomes) identity (step_of (first_step outcomes) identity live event).live events (step_failed (first_step outcomes) identity live (heard_of identity event) failed)
+pub run_failed : (outcomes : List (List Outcome)) (station : Station) (live : Live) (events : List Event) → live.values.has_failed ≡ true → (run_of outcomes station live events).live.values.has_failed ≡ true
+run_failed outcomes station live [] failed = failed
+run_failed outcomes station live (event ∷ events) failed =
+    run_failed (later_steps outcomes) station (step_of (first_step outcomes) station live event).live events (step_failed (first_step outcomes) station live (heard_of station.identity event) failed)
 
 -- while no commit failed, what is stored is what the accepted commands make
-pub run_made : (outcomes : List (List Outcome)) (identity : Identity) (live : Live) (events : List Event) → (run_of outcomes identity live events).live.values.has_failed ≡ false
-    → (run_of outcomes identity live events).live.values.stored ≡ made_of (run_of outcomes identity live events).accepted live.values.stored
-run_made outcomes identity live [] fine = refl
-run_made outcomes identity live (event ∷ events) fine =
-    let step : Stepped = step_of (first_step outcomes) identity live event in
-    let still : step.live.values.has_failed ≡ false = still_fine _ _ (run_failed (later_steps outcomes) identity step.live events) fine in
-    run_made (later_steps outcomes) identity step.live events fine
-    ∙ ap (made_of (run_of (later_steps outcomes) identity step.live events).accepted) (step_stored (first_step outcomes) identity live (heard_of identity event) still)
-    ∙ sym (made_append step.accepted (run_of (later_steps outcomes) identity step.live events).accepted live.values.stored)
+pub run_made : (outcomes : List (List Outcome)) (station : Station) (live : Live) (events : List Event) → (run_of outcomes station live events).live.values.has_failed ≡ false
+    → (run_of outcomes station live events).live.values.stored ≡ made_of (run_of outcomes station live events).accepted live.values.stored
+run_made outcomes station live [] fine = refl
+run_made outcomes station live (event ∷ events) fine =
+    let step : Stepped = step_of (first_step outcomes) station live event in
+    let still : step.live.values.has_failed ≡ false = still_fine _ _ (run_failed (later_steps outcomes) station step.live events) fine in
+    run_made (later_steps outcomes) station step.live events fine
+    ∙ ap (made_of (run_of (later_steps outcomes) station step.live events).accepted) (step_stored (first_step outcomes) station live (heard_of station.identity event) still)
+    ∙ sym (made_append step.accepted (run_of (later_steps outcomes) station step.live events).accepted live.values.stored)
 
 room_then : (before between now : ℕ) (front back : List Accepted) → between + length front ≡ before → now + length back ≡ between → now + length (front ++ back) ≡ before
 room_then before between now front back one two = let e = length-append front back in omega (arith, one, two, e)
 
 -- while no commit failed, each accepted command takes one of the room for commits, and nothing else does
-pub run_room : (outcomes : List (List Outcome)) (identity : Identity) (live : Live) (events : List Event) → (run_of outcomes identity live events).live.values.has_failed ≡ false
-    → (run_of outcomes identity live events).live.values.room + length (run_of outcomes identity live events).accepted ≡ live.values.room
-run_room outcomes identity live [] fine = omega arith
-run_room outcomes identity live (event ∷ events) fine =
-    let step : Stepped = step_of (first_step outcomes) identity live event in
-    let still : step.live.values.has_failed ≡ false = still_fine _ _ (run_failed (later_steps outcomes) identity step.live events) fine in
-    room_then _ _ _ step.accepted (run_of (later_steps outcomes) identity step.live events).accepted
-    (step_room (first_step outcomes) identity live (heard_of identity event) still) (run_room (later_steps outcomes) identity step.live events fine)
+pub run_room : (outcomes : List (List Outcome)) (station : Station) (live : Live) (events : List Event) → (run_of outcomes station live events).live.values.has_failed ≡ false
+    → (run_of outcomes station live events).live.values.room + length (run_of outcomes station live events).accepted ≡ live.values.room
+run_room outcomes station live [] fine = omega arith
+run_room outcomes station live (event ∷ events) fine =
+    let step : Stepped = step_of (first_step outcomes) station live event in
+    let still : step.live.values.has_failed ≡ false = still_fine _ _ (run_failed (later_steps outcomes) station step.live events) fine in
+    room_then _ _ _ step.accepted (run_of (later_steps outcomes) station step.live events).accepted
+    (step_room (first_step outcomes) station live (heard_of station.identity event) still) (run_room (later_steps outcomes) station step.live events fine)

@@ -2,8 +2,6 @@
 use Rattle.std.proofs.Common.{rules, ◌≡◌, ℕ, false, List, [], Result, Ok, Err, IsOk, IfOk, IfErr, MatchResult, refl, sym, ap, subst, ◌∙◌, inl, inr}
 use Rattle.flash_model.specs.Calls.{Call}
 use Rattle.flash_model.specs.Image.{Image}
-use Rattle.pn_values.specs.declared.identity.Identity.{Identity}
-use Rattle.pn_values.specs.declared.real.Real.{Real}
 use Rattle.pn_values.specs.declared.settings.Settings.{Settings}
 use Rattle.settings_journal.specs.declared.journal.BootFault.{BootFault}
 use Rattle.settings_journal.specs.declared.journal.BootFault.TheVariants.{FlashFault, Foreign}
@@ -13,7 +11,7 @@ use Rattle.settings_store.specs.Legal.{CrashSafe, LegalEnd}
 use Rattle.settings_store.specs.Machine.{Accepted}
 use Rattle.settings_store.specs.Carries.{IsCaused}
 use Rattle.device_core.specs.declared.event.Event.{Event}
-use Rattle.device_core.specs.State.{State, Live}
+use Rattle.device_core.specs.State.{Station, State, Live}
 use Rattle.device_core.specs.Steps.{AnswersBy, IsIdentified, Runs}
 use Rattle.device_core.specs.Cycle.{started, cycle_of, Cycled, IsMadeOf, IsStarted, Restarts, Refuses, IsRefused}
 use Rattle.device_core.specs.Heard.{heard_of}
@@ -21,33 +19,32 @@ use Rattle.device_core.specs.Machine.{step_of}
 use Rattle.device_core.proofs.Steps.{same_state, identify_heard}
 
 -- a device whose running settings are these answers Identify by them
-answers_by : (identity : Identity) (live : Live) → live.values.running ≡ live.values.stored → AnswersBy identity live.values.stored live
-answers_by identity live runs outcomes event asker request is identify =
-    subst (λ settings. IsIdentified identity settings live asker request (step_of outcomes identity live event)) runs
-    (identify_heard outcomes identity live (heard_of identity event) asker request is identify)
+answers_by : (station : Station) (live : Live) → live.values.running ≡ live.values.stored → AnswersBy station live.values.stored live
+answers_by station live runs outcomes event asker request is identify =
+    subst (λ settings. IsIdentified station.identity settings live asker request (step_of outcomes station live event)) runs
+    (identify_heard outcomes station live (heard_of station.identity event) asker request is identify)
 
 -- a device that started on a flash
-is_started_from : {F : Type 0} (image : F → Image) (identity : Identity) (real : Real) (flash : F) (device : State F) → device.identity ≡ identity → device.real ≡ real
+is_started_from : {F : Type 0} (image : F → Image) (station : Station) (flash : F) (device : State F) → device.station ≡ station
     → device.live ≡ started device.live.values.stored device.live.values.room → StartsWith (image flash) device.live.values.stored device.live.values.room → image device.flash ≡ image flash
-    → IsStarted image identity real device
-is_started_from image identity real flash device identity_is real_is fresh starts image_is = record {
-  identity_is = identity_is;
-  real_is = real_is;
+    → IsStarted image station device
+is_started_from image station flash device station_is fresh starts image_is = record {
+  station_is = station_is;
   nothing_else = fresh;
   starts = subst (λ i. StartsWith i device.live.values.stored device.live.values.room) (sym image_is) starts;
-  answers = answers_by identity device.live (ap (λ l. l.values.running) fresh);
+  answers = answers_by station device.live (ap (λ l. l.values.running) fresh);
 }
 
 -- the same where the start may be refused
-pub is_started_if : {F : Type 0} (image : F → Image) (identity : Identity) (real : Real) (ran : State F) (flash : F) (again : Result (State F) (BootFault × F)) → ran.identity ≡ identity → ran.real ≡ real
-    → IfOk again (λ device. (device.identity ≡ ran.identity) × (device.real ≡ ran.real))
+pub is_started_if : {F : Type 0} (image : F → Image) (station : Station) (ran : State F) (flash : F) (again : Result (State F) (BootFault × F)) → ran.station ≡ station
+    → IfOk again (λ device. device.station ≡ ran.station)
     → IfOk again (λ device. device.live ≡ started device.live.values.stored device.live.values.room)
     → IfOk again (λ device. StartsWith (image flash) device.live.values.stored device.live.values.room)
     → MatchResult again (λ device. image device.flash ≡ image flash) (λ refused. image refused.1 ≡ image flash)
-    → IfOk again (IsStarted image identity real)
-is_started_if image identity real ran flash (Ok again) is_identity is_real same fresh starts image_is =
-    is_started_from image identity real flash again (same.0 ∙ is_identity) (same.1 ∙ is_real) fresh starts image_is
-is_started_if image identity real ran flash (Err refused) is_identity is_real same fresh starts image_is = tt
+    → IfOk again (IsStarted image station)
+is_started_if image station ran flash (Ok again) is_station same fresh starts image_is =
+    is_started_from image station flash again (same ∙ is_station) fresh starts image_is
+is_started_if image station ran flash (Err refused) is_station same fresh starts image_is = tt
 
 -- a start on a legal end has what its commands make of the first settings
 ends_made : (image : Image) (accepted : List Accepted) (first : Settings) (live : Live)
@@ -57,17 +54,17 @@ ends_made image accepted first live known (inr less) =
     inr (less.front, less.last, less.parts, less.not_done, ap (λ l. l.values.stored) (known _ less.boots.0 less.boots.1))
 
 -- a device that started with these settings
-device_of : {F : Type 0} → F → Identity → Real → Settings → ℕ → State F
-device_of flash identity real first room = record { flash = flash; identity = identity; real = real; live = started first room }
+device_of : {F : Type 0} → F → Station → Settings → ℕ → State F
+device_of flash station first room = record { flash = flash; station = station; live = started first room }
 
 -- a run from a start is a cycle
-cycled_from : {F : Type 0} (image : F → Image) (failures : F → ℕ) (asked : F → List Call → F → Type 0) (identity : Identity) (real : Real) (flash begun : F) (first : Settings) (room : ℕ)
+cycled_from : {F : Type 0} (image : F → Image) (failures : F → ℕ) (asked : F → List Call → F → Type 0) (station : Station) (flash begun : F) (first : Settings) (room : ℕ)
     (events : List Event) (before now : List (List ℕ)) (ran : State F) → image begun ≡ image flash → failures begun ≡ failures flash → asked flash [] begun
-    → (runs : Runs image failures asked (device_of begun identity real first room) events before now ran)
-    → Cycled image failures asked identity flash first room events before now runs.outcomes ran.flash
+    → (runs : Runs image failures asked (device_of begun station first room) events before now ran)
+    → Cycled image failures asked station flash first room events before now runs.outcomes ran.flash
 unfolding device_of
-cycled_from image failures asked identity real flash begun first room events before now ran same_image same_failures quiet runs =
-    let end = cycle_of runs.outcomes identity first room events in
+cycled_from image failures asked station flash begun first room events before now ran same_image same_failures quiet runs =
+    let end = cycle_of runs.outcomes station first room events in
     let values : ran.live.values ≡ end.live.values = ap (λ l. l.values) runs.live in
     record {
       begun = begun;
@@ -81,26 +78,26 @@ cycled_from image failures asked identity real flash begun first room events bef
     }
 
 -- the run of a device that started so
-run_from : {F : Type 0} (image : F → Image) (failures : F → ℕ) (asked : F → List Call → F → Type 0) (identity : Identity) (real : Real) (first : Settings) (room : ℕ) (events : List Event)
-    (before now : List (List ℕ)) (begun ran : State F) → begun.live ≡ started first room → begun.identity ≡ identity → begun.real ≡ real
-    → Runs image failures asked begun events before now ran → Runs image failures asked (device_of begun.flash identity real first room) events before now ran
+run_from : {F : Type 0} (image : F → Image) (failures : F → ℕ) (asked : F → List Call → F → Type 0) (station : Station) (first : Settings) (room : ℕ) (events : List Event)
+    (before now : List (List ℕ)) (begun ran : State F) → begun.live ≡ started first room → begun.station ≡ station
+    → Runs image failures asked begun events before now ran → Runs image failures asked (device_of begun.flash station first room) events before now ran
 unfolding device_of
-run_from image failures asked identity real first room events before now begun ran live is_identity is_real run =
-    subst (λ s. Runs image failures asked s events before now ran) (same_state begun (device_of begun.flash identity real first room) refl is_identity is_real live) run
+run_from image failures asked station first room events before now begun ran live is_station run =
+    subst (λ s. Runs image failures asked s events before now ran) (same_state begun (device_of begun.flash station first room) refl is_station live) run
 
-pub cycle_restarts : {F : Type 0} (image : F → Image) (failures : F → ℕ) (asked : F → List Call → F → Type 0) (power_up : F → F → Type 0) (identity : Identity) (real : Real) (flash : F) (first : Settings) (room : ℕ)
+pub cycle_restarts : {F : Type 0} (image : F → Image) (failures : F → ℕ) (asked : F → List Call → F → Type 0) (power_up : F → F → Type 0) (station : Station) (flash : F) (first : Settings) (room : ℕ)
     (events : List Event) (before now : List (List ℕ)) (begun ran : State F) (back : F) (again : State F)
-    → begun.live ≡ started first room → begun.identity ≡ identity → begun.real ≡ real → image begun.flash ≡ image flash → failures begun.flash ≡ failures flash → asked flash [] begun.flash
+    → begun.live ≡ started first room → begun.station ≡ station → image begun.flash ≡ image flash → failures begun.flash ≡ failures flash → asked flash [] begun.flash
     → LeftByDevice (image flash) → Runs image failures asked begun events before now ran → power_up ran.flash back → image back ≡ image ran.flash
     → ((settings : Settings) (room : ℕ) → StartsWith (image back) settings room → again.live ≡ started settings room)
     → again.live ≡ started again.live.values.stored again.live.values.room → StartsWith (image back) again.live.values.stored again.live.values.room
-    → again.identity ≡ ran.identity → again.real ≡ ran.real → image again.flash ≡ image back → failures again.flash ≡ failures back → asked back [] again.flash
-    → Restarts image failures asked power_up identity real flash first room events before now again
+    → again.station ≡ ran.station → image again.flash ≡ image back → failures again.flash ≡ failures back → asked back [] again.flash
+    → Restarts image failures asked power_up station flash first room events before now again
 unfolding device_of
-cycle_restarts image failures asked power_up identity real flash first room events before now begun ran back again live is_identity is_real same_image same_failures quiet left run powered kept known fresh starts same_identity same_real image_is failures_is none_asked =
-    let runs = run_from image failures asked identity real first room events before now begun ran live is_identity is_real run in
-    let cycled = cycled_from image failures asked identity real flash begun.flash first room events before now ran same_image same_failures quiet runs in
-    let end = cycle_of runs.outcomes identity first room events in
+cycle_restarts image failures asked power_up station flash first room events before now begun ran back again live is_station same_image same_failures quiet left run powered kept known fresh starts same_station image_is failures_is none_asked =
+    let runs = run_from image failures asked station first room events before now begun ran live is_station run in
+    let cycled = cycled_from image failures asked station flash begun.flash first room events before now ran same_image same_failures quiet runs in
+    let end = cycle_of runs.outcomes station first room events in
     let values = ap (λ l. l.values) runs.live in
     record {
       outcomes = runs.outcomes;
@@ -113,28 +110,28 @@ cycle_restarts image failures asked power_up identity real flash first room even
           known end.live.values.stored end.live.values.room
           (subst (λ i. StartsWith i end.live.values.stored end.live.values.room) (sym kept)
           (subst (λ v. StartsWith (image ran.flash) v.stored v.room) values (runs.holds (ap (λ v. v.has_failed) values ∙ fine))));
-      is_started = is_started_from image identity real back again (same_identity ∙ runs.same.identity) (same_real ∙ runs.same.real) fresh starts image_is;
+      is_started = is_started_from image station back again (same_station ∙ runs.same) fresh starts image_is;
       left = subst LeftByDevice (sym (image_is ∙ kept)) (cycled.safe.left left);
       same = (image_is ∙ kept, failures_is, none_asked);
     }
 
 -- the same where the start may be refused
-pub restarts_if : {F : Type 0} (image : F → Image) (failures : F → ℕ) (asked : F → List Call → F → Type 0) (power_up : F → F → Type 0) (identity : Identity) (real : Real) (flash : F) (first : Settings) (room : ℕ)
+pub restarts_if : {F : Type 0} (image : F → Image) (failures : F → ℕ) (asked : F → List Call → F → Type 0) (power_up : F → F → Type 0) (station : Station) (flash : F) (first : Settings) (room : ℕ)
     (events : List Event) (before now : List (List ℕ)) (begun ran : State F) (back : F) (again : Result (State F) (BootFault × F))
-    → begun.live ≡ started first room → begun.identity ≡ identity → begun.real ≡ real → image begun.flash ≡ image flash → failures begun.flash ≡ failures flash → asked flash [] begun.flash
+    → begun.live ≡ started first room → begun.station ≡ station → image begun.flash ≡ image flash → failures begun.flash ≡ failures flash → asked flash [] begun.flash
     → LeftByDevice (image flash) → Runs image failures asked begun events before now ran → power_up ran.flash back → image back ≡ image ran.flash
     → ((settings : Settings) (room : ℕ) → StartsWith (image back) settings room → MatchResult again (λ device. device.live ≡ started settings room) (λ refused. refused.0 ≡ FlashFault))
     → IfOk again (λ device. device.live ≡ started device.live.values.stored device.live.values.room)
     → IfOk again (λ device. StartsWith (image back) device.live.values.stored device.live.values.room)
-    → IfOk again (λ device. (device.identity ≡ ran.identity) × (device.real ≡ ran.real))
+    → IfOk again (λ device. device.station ≡ ran.station)
     → MatchResult again (λ device. image device.flash ≡ image back) (λ refused. image refused.1 ≡ image back)
     → MatchResult again (λ device. failures device.flash ≡ failures back) (λ refused. HasBootCause refused.0 (failures back) (failures refused.1))
     → MatchResult again (λ device. asked back [] device.flash) (λ refused. asked back [] refused.1)
-    → IfOk again (λ device. Restarts image failures asked power_up identity real flash first room events before now device)
-restarts_if image failures asked power_up identity real flash first room events before now begun ran back (Ok again) live is_identity is_real same_image same_failures quiet left run powered kept known fresh starts same image_is cause none_asked =
-    cycle_restarts image failures asked power_up identity real flash first room events before now begun ran back again live is_identity is_real same_image same_failures quiet left run powered kept
-    known fresh starts same.0 same.1 image_is cause none_asked
-restarts_if image failures asked power_up identity real flash first room events before now begun ran back (Err refused) live is_identity is_real same_image same_failures quiet left run powered kept known fresh starts same image_is cause none_asked = tt
+    → IfOk again (λ device. Restarts image failures asked power_up station flash first room events before now device)
+restarts_if image failures asked power_up station flash first room events before now begun ran back (Ok again) live is_station same_image same_failures quiet left run powered kept known fresh starts same image_is cause none_asked =
+    cycle_restarts image failures asked power_up station flash first room events before now begun ran back again live is_station same_image same_failures quiet left run powered kept
+    known fresh starts same image_is cause none_asked
+restarts_if image failures asked power_up station flash first room events before now begun ran back (Err refused) live is_station same_image same_failures quiet left run powered kept known fresh starts same image_is cause none_asked = tt
 
 -- a start that is refused, from what the start says
 pub refuses_from : {F : Type 0} (image : F → Image) (failures : F → ℕ) (asked : F → List Call → F → Type 0) (flash : F) (fault : BootFault) (left : F)
@@ -147,19 +144,19 @@ refuses_from image failures asked flash fault left cause same none_asked foreign
 }
 
 -- a start after the cycle that is refused
-pub refused_if : {F : Type 0} (image : F → Image) (failures : F → ℕ) (asked : F → List Call → F → Type 0) (power_up : F → F → Type 0) (identity : Identity) (real : Real) (flash : F) (events : List Event)
+pub refused_if : {F : Type 0} (image : F → Image) (failures : F → ℕ) (asked : F → List Call → F → Type 0) (power_up : F → F → Type 0) (station : Station) (flash : F) (events : List Event)
     (before now : List (List ℕ)) (begun ran : State F) (back : F) (again : Result (State F) (BootFault × F))
-    → begun.live ≡ started begun.live.values.stored begun.live.values.room → begun.identity ≡ identity → begun.real ≡ real
+    → begun.live ≡ started begun.live.values.stored begun.live.values.room → begun.station ≡ station
     → StartsWith (image flash) begun.live.values.stored begun.live.values.room → image begun.flash ≡ image flash → failures begun.flash ≡ failures flash → asked flash [] begun.flash
     → Runs image failures asked begun events before now ran → power_up ran.flash back → image back ≡ image ran.flash
     → IfErr again (λ refused. refused.0 ≡ Foreign → IsForeign (image back))
     → MatchResult again (λ device. image device.flash ≡ image back) (λ refused. image refused.1 ≡ image back)
     → MatchResult again (λ device. failures device.flash ≡ failures back) (λ refused. HasBootCause refused.0 (failures back) (failures refused.1))
     → MatchResult again (λ device. asked back [] device.flash) (λ refused. asked back [] refused.1)
-    → IfErr again (λ refused. IsRefused image failures asked power_up identity flash events before now refused.0 refused.1)
-refused_if image failures asked power_up identity real flash events before now begun ran back (Ok again) live is_identity is_real starts same_image same_failures quiet run powered kept foreign same cause none_asked = tt
-refused_if image failures asked power_up identity real flash events before now begun ran back (Err refused) live is_identity is_real starts same_image same_failures quiet run powered kept foreign same cause none_asked =
-    let runs = run_from image failures asked identity real _ _ events before now begun ran live is_identity is_real run in
+    → IfErr again (λ refused. IsRefused image failures asked power_up station flash events before now refused.0 refused.1)
+refused_if image failures asked power_up station flash events before now begun ran back (Ok again) live is_station starts same_image same_failures quiet run powered kept foreign same cause none_asked = tt
+refused_if image failures asked power_up station flash events before now begun ran back (Err refused) live is_station starts same_image same_failures quiet run powered kept foreign same cause none_asked =
+    let runs = run_from image failures asked station _ _ events before now begun ran live is_station run in
     inr (record {
       first = begun.live.values.stored;
       room = begun.live.values.room;
@@ -167,7 +164,7 @@ refused_if image failures asked power_up identity real flash events before now b
       lost = ran.flash;
       back = back;
       starts = starts;
-      cycled = cycled_from image failures asked identity real flash begun.flash _ _ events before now ran same_image same_failures quiet runs;
+      cycled = cycled_from image failures asked station flash begun.flash _ _ events before now ran same_image same_failures quiet runs;
       powered = powered;
       kept = kept;
       refuses = refuses_from image failures asked back refused.0 refused.1 cause same none_asked foreign;

@@ -21,7 +21,7 @@ pub no_run : {F : Type 0} (image : F → Image) (failures : F → ℕ) (asked : 
     → Runs image failures asked state [] taken taken state
 no_run image failures asked state taken holds = record {
   outcomes = [];
-  same = record { identity = refl; real = refl };
+  same = refl;
   live = refl;
   frames = sym (append-nil taken);
   caused = inl (refl, refl);
@@ -34,27 +34,27 @@ no_run image failures asked state taken holds = record {
 
 -- one event more
 pub run_more : {F : Type 0} (image : F → Image) (failures : F → ℕ) (asked : F → List Call → F → Type 0) (old mid new : State F) (events : List Event) (event : Event) (before between now : List (List ℕ))
-    → Runs image failures asked old events before between mid → HandsOn image failures asked mid (heard_of mid.identity event) between now new
+    → Runs image failures asked old events before between mid → HandsOn image failures asked mid (heard_of mid.station.identity event) between now new
     → Runs image failures asked old (events ++ event ∷ []) before now new
 unfolding then_step
 run_more image failures asked old mid new events event before between now run on =
     let step = on.steps in
-    let ran : Ran = run_of run.outcomes old.identity old.live events in
-    let one : Stepped = step_of step.outcomes old.identity ran.live event in
-    let is : heard_step step.outcomes mid.identity mid.live (heard_of mid.identity event) ≡ one =
-    ap (λ i. heard_step step.outcomes i mid.live (heard_of i event)) run.same.identity ∙ ap (λ l. step_of step.outcomes old.identity l event) run.live in
-    let all = run_joined run.outcomes step.outcomes old.identity old.live events event in
+    let ran : Ran = run_of run.outcomes old.station old.live events in
+    let one : Stepped = step_of step.outcomes old.station ran.live event in
+    let is : heard_step step.outcomes mid.station mid.live (heard_of mid.station.identity event) ≡ one =
+    ap (λ i. heard_step step.outcomes i mid.live (heard_of i.identity event)) run.same ∙ ap (λ l. step_of step.outcomes old.station l event) run.live in
+    let all = run_joined run.outcomes step.outcomes old.station old.live events event in
     let live : new.live ≡ one.live = step.live ∙ ap (λ s. s.live) is in
     let sent : on.sent ≡ one.frames = step.frames ∙ ap (λ s. s.frames) is in
-    let accepted : (heard_step step.outcomes mid.identity mid.live (heard_of mid.identity event)).accepted ≡ one.accepted = ap (λ s. s.accepted) is in
+    let accepted : (heard_step step.outcomes mid.station mid.live (heard_of mid.station.identity event)).accepted ≡ one.accepted = ap (λ s. s.accepted) is in
     let none : mid.live.values.has_failed ≡ true → one.accepted ≡ [] = λ failed. sym accepted ∙ step_none _ _ _ _ failed in
     let failed : mid.live.values.has_failed ≡ true → new.live.values.has_failed ≡ true = λ h. ap (λ l. l.values.has_failed) step.live ∙ step_failed _ _ _ _ h in
-    let run_fails : old.live.values.has_failed ≡ true → mid.live.values.has_failed ≡ true = λ h. ap (λ l. l.values.has_failed) run.live ∙ run_failed run.outcomes old.identity old.live events h in
+    let run_fails : old.live.values.has_failed ≡ true → mid.live.values.has_failed ≡ true = λ h. ap (λ l. l.values.has_failed) run.live ∙ run_failed run.outcomes old.station old.live events h in
     let made : mid.live.values.has_failed ≡ false → mid.live.values.stored ≡ made_of ran.accepted old.live.values.stored =
-    λ fine. ap (λ l. l.values.stored) run.live ∙ run_made run.outcomes old.identity old.live events (sym (ap (λ l. l.values.has_failed) run.live) ∙ fine) in
+    λ fine. ap (λ l. l.values.stored) run.live ∙ run_made run.outcomes old.station old.live events (sym (ap (λ l. l.values.has_failed) run.live) ∙ fine) in
     record {
       outcomes = joined run.outcomes events step.outcomes;
-      same = record { identity = step.same.identity ∙ run.same.identity; real = step.same.real ∙ run.same.real };
+      same = step.same ∙ run.same;
       live = live ∙ sym (ap (λ r. r.live) all);
       frames = on.handed_on
           ∙ ap (λ f. between ++ f) (ap (λ l. if l.values.is_lost then [] else on.sent) live ∙ ap (λ f. if one.live.values.is_lost then [] else f) sent)
@@ -62,11 +62,11 @@ run_more image failures asked old mid new events event before between now run on
           ∙ append_assoc before ran.frames _ ∙ ap (λ f. before ++ f) (sym (ap (λ r. r.frames) all));
       caused = caused_then run.outcomes step.outcomes (joined run.outcomes events step.outcomes) _ _ _ old.live.values mid.live.values new.live.values
           (joined_quiet run.outcomes events step.outcomes) run_fails failed run.caused step.caused;
-      placed = placed_more image failures asked run.outcomes step.outcomes old.identity old.flash mid.flash new.flash old.live events event run.placed
-          (subst (λ v. OneByOne image failures asked step.outcomes (record { flash = mid.flash; values = ran.live.values }) (items_of old.identity ran.live (heard_of old.identity event)) (record { flash = new.flash; values = v }))
+      placed = placed_more image failures asked run.outcomes step.outcomes old.station old.flash mid.flash new.flash old.live events event run.placed
+          (subst (λ v. OneByOne image failures asked step.outcomes (record { flash = mid.flash; values = ran.live.values }) (items_of old.station ran.live (heard_of old.station.identity event)) (record { flash = new.flash; values = v }))
           (ap (λ l. l.values) live)
-          (subst (λ l. OneByOne image failures asked step.outcomes (record { flash = mid.flash; values = l.values }) (items_of old.identity l (heard_of old.identity event)) (store_of new)) run.live
-          (subst (λ i. OneByOne image failures asked step.outcomes (store_of mid) (items_of i mid.live (heard_of i event)) (store_of new)) run.same.identity step.placed)));
+          (subst (λ l. OneByOne image failures asked step.outcomes (record { flash = mid.flash; values = l.values }) (items_of old.station l (heard_of old.station.identity event)) (store_of new)) run.live
+          (subst (λ i. OneByOne image failures asked step.outcomes (store_of mid) (items_of i mid.live (heard_of i.identity event)) (store_of new)) run.same step.placed)));
       safe = subst (λ a. CrashSafe old.live.values.has_failed old.live.values.stored a (image old.flash) (image new.flash)) (sym (ap (λ r. r.accepted) all))
           (safe_then old.live.values.has_failed mid.live.values.has_failed old.live.values.stored mid.live.values.stored ran.accepted one.accepted
           (image old.flash) (image mid.flash) (image new.flash) run_fails none made run.safe
@@ -86,8 +86,8 @@ exact_run : {F : Type 0} (image : F → Image) (failures : F → ℕ) (asked : F
     → (runs : Runs image failures asked old events before now new) → runs.outcomes ≡ [] → IsExactRun old events before now new
 exact_run image failures asked old new events before now runs none = record {
   same = runs.same;
-  live = runs.live ∙ ap (λ o. (run_of o old.identity old.live events).live) none;
-  frames = runs.frames ∙ ap (λ o. before ++ (run_of o old.identity old.live events).frames) none;
+  live = runs.live ∙ ap (λ o. (run_of o old.station old.live events).live) none;
+  frames = runs.frames ∙ ap (λ o. before ++ (run_of o old.station old.live events).frames) none;
 }
 
 no_failure : {A : Type 0} (outcomes : List A) (before now : ℕ) (old new : Values) → IsCaused outcomes before now old new → now ≡ before → before < 18446744073709551615 → outcomes ≡ []
@@ -113,5 +113,5 @@ pub run_takes_room : {F : Type 0} (image : F → Image) (failures : F → ℕ) (
     → Runs image failures asked old events before now new → new.live.values.has_failed ≡ false → TakesRoom old events new
 run_takes_room image failures asked old new events before now runs fine =
     let exact = run_finely image failures asked old new events before now runs fine in
-    ap (λ (live : Live). live.values.room + length (run_of [] old.identity old.live events).accepted) exact.live
-    ∙ run_room [] old.identity old.live events (sym (ap (λ (live : Live). live.values.has_failed) exact.live) ∙ fine)
+    ap (λ (live : Live). live.values.room + length (run_of [] old.station old.live events).accepted) exact.live
+    ∙ run_room [] old.station old.live events (sym (ap (λ (live : Live). live.values.has_failed) exact.live) ∙ fine)

@@ -4,12 +4,12 @@ use Rattle.std.proofs.Common.{◌≡◌, ◌≢◌, ℕ, Bool, false, List, [], 
 use Rattle.flash_model.specs.Calls.{Call}
 use Rattle.flash_model.specs.Image.{Image}
 use Rattle.pn_values.specs.declared.mac.Mac.{Mac}
-use Rattle.pn_values.specs.declared.identity.Identity.{Identity}
 use Rattle.pn_values.specs.declared.set_item.BlockError.{BlockError}
 use Rattle.pn_values.specs.declared.settings.Settings.{Settings}
 use Rattle.settings_store.specs.Machine.{Outcome}
 use Rattle.settings_store.specs.State as store
 use Rattle.settings_store.specs.Carries.{Carries, OneByOne, Holds}
+use Rattle.rpc_core.specs.Cache.{Kept}
 use Rattle.dcp_core.specs.declared.request.Service.TheVariants as service
 use Rattle.dcp_core.specs.Request.{Asked}
 use Rattle.dcp_core.specs.Identify.{matches}
@@ -17,20 +17,19 @@ use Rattle.dcp_core.specs.Set.{plan_of}
 use Rattle.device_core.specs.declared.event.Note.{Note}
 use Rattle.device_core.specs.declared.event.Note.TheVariants as note
 use Rattle.device_core.specs.Cycle.{started}
-use Rattle.device_core.specs.State.{State, Rest, Live, store_of}
+use Rattle.device_core.specs.State.{Station, State, Rest, Live, store_of}
 use Rattle.device_core.specs.Heard.{Heard, Asks}
 use Rattle.device_core.specs.Sent.{Sent, GetAnswer, SetAnswer, bytes_of}
 use Rattle.device_core.specs.Machine.{Judged, Refuses, Sets, Moves, Stepped, identified, judged_request, judged, items_in, finished, judged_step, heard_step}
-use Rattle.device_core.specs.Steps.{Steps, Identifies, IsIdentified, IsSame}
+use Rattle.device_core.specs.Steps.{Steps, Identifies, IsIdentified}
 use Rattle.device_core.proofs.Machine.{is_set, nothing_asked, quiet_step, is_quiet, judged_as}
 
 -- a state by its parts
-pub same_state : {F : Type 0} (a b : State F) → a.flash ≡ b.flash → a.identity ≡ b.identity → a.real ≡ b.real → a.live ≡ b.live → a ≡ b
-same_state a b flash identity real live =
-    ap (λ f. record { flash = f; identity = a.identity; real = a.real; live = a.live }) flash
-    ∙ ap (λ i. record { flash = b.flash; identity = i; real = a.real; live = a.live }) identity
-    ∙ ap (λ r. record { flash = b.flash; identity = b.identity; real = r; live = a.live }) real
-    ∙ ap (λ l. record { flash = b.flash; identity = b.identity; real = b.real; live = l }) live
+pub same_state : {F : Type 0} (a b : State F) → a.flash ≡ b.flash → a.station ≡ b.station → a.live ≡ b.live → a ≡ b
+same_state a b flash station live =
+    ap (λ f. record { flash = f; station = a.station; live = a.live }) flash
+    ∙ ap (λ i. record { flash = b.flash; station = i; live = a.live }) station
+    ∙ ap (λ l. record { flash = b.flash; station = b.station; live = l }) live
 
 same_live : (a b : Live) → a.values ≡ b.values → a.rest ≡ b.rest → a ≡ b
 same_live a b values rest =
@@ -45,18 +44,18 @@ same_values a b running stored room failed lost =
 -- What was heard is no Set, and the parts of what it came to are those of what was judged: for a service whose parts see one
 -- field of the device only.
 pub record IsQuiet {F : Type 0} (old new : State F) (heard : Heard) (frames : List (List ℕ)) (said : Note) : Type 0 where
-  pub not_set : is_set (judged old.identity old.live heard) ≡ false
+  pub not_set : is_set (judged old.station old.live heard) ≡ false
   pub flash : new.flash ≡ old.flash
-  pub same : IsSame old new
-  pub live : new.live ≡ record { values = old.live.values; rest = (finished old.live.rest (judged old.identity old.live heard) []).rest }
-  pub frames_are : frames ≡ map (bytes_of old.identity) (finished old.live.rest (judged old.identity old.live heard) []).sent
-  pub note_is : said ≡ (finished old.live.rest (judged old.identity old.live heard) []).note
+  pub same : new.station ≡ old.station
+  pub live : new.live ≡ record { values = old.live.values; rest = (finished old.live.rest (judged old.station old.live heard) []).rest }
+  pub frames_are : frames ≡ map (bytes_of old.station.identity) (finished old.live.rest (judged old.station old.live heard) []).sent
+  pub note_is : said ≡ (finished old.live.rest (judged old.station old.live heard) []).note
 
 pub is_quiet_steps : {F : Type 0} (image : F → Image) (failures : F → ℕ) (asked : F → List Call → F → Type 0) (old new : State F) (heard : Heard) (frames : List (List ℕ)) (said : Note)
     → Holds (image old.flash) old.live.values → IsQuiet old new heard frames said → Steps image failures asked old heard frames said new
 unfolding quiet_step
 is_quiet_steps image failures asked old new heard frames said holds parts =
-    let quiet = is_quiet [] old.identity old.live heard parts.not_set in
+    let quiet = is_quiet [] old.station old.live heard parts.not_set in
     let flash = parts.flash in
     let live = parts.live in
     let same_store : store_of new ≡ store_of old = ap (λ f. record { flash = f; values = new.live.values }) flash ∙ ap (λ l. record { flash = old.flash; values = l.values }) live in
@@ -67,7 +66,7 @@ is_quiet_steps image failures asked old new heard frames said holds parts =
       frames = rw quiet parts.frames_are;
       note = rw quiet parts.note_is;
       caused = inl (refl, ap failures flash);
-      placed = subst (λ items. OneByOne image failures asked [] (store_of old) items (store_of new)) (sym (nothing_asked old.identity old.live heard parts.not_set)) same_store;
+      placed = subst (λ items. OneByOne image failures asked [] (store_of old) items (store_of new)) (sym (nothing_asked old.station old.live heard parts.not_set)) same_store;
       safe = rw (quiet, flash) (record { left = λ left. left; legal = λ fine left. inl (old.live.values.room, holds fine); untouched = λ failed. refl });
       holds = λ fine. rw (flash, ap (λ l. l.values) live) (holds (sym (ap (λ l. l.values.has_failed) live) ∙ fine));
       untouched = λ _. flash;
@@ -76,81 +75,81 @@ is_quiet_steps image failures asked old new heard frames said holds parts =
 
 -- what was judged a move
 pub moves_steps : {F : Type 0} (image : F → Image) (failures : F → ℕ) (asked : F → List Call → F → Type 0) (old new : State F) (heard : Heard) (rest : Rest) (sent : List Sent) (frames : List (List ℕ)) (said : Note)
-    → Holds (image old.flash) old.live.values → judged old.identity old.live heard ≡ Moves rest sent
-    → new ≡ record old { live = record { values = old.live.values; rest = rest } } → frames ≡ map (bytes_of old.identity) sent → said ≡ note.Done
+    → Holds (image old.flash) old.live.values → judged old.station old.live heard ≡ Moves rest sent
+    → new ≡ record old { live = record { values = old.live.values; rest = rest } } → frames ≡ map (bytes_of old.station.identity) sent → said ≡ note.Done
     → Steps image failures asked old heard frames said new
 moves_steps image failures asked old new heard rest sent frames said holds moves is frames_are done =
     let end = ap (λ what. finished old.live.rest what []) moves in
     is_quiet_steps image failures asked old new heard frames said holds (record {
       not_set = ap is_set moves;
       flash = ap (λ s. s.flash) is;
-      same = record { identity = ap (λ s. s.identity) is; real = ap (λ s. s.real) is };
+      same = ap (λ s. s.station) is;
       live = ap (λ s. s.live) is ∙ ap (λ r. record { values = old.live.values; rest = r }) (sym (ap (λ e. e.rest) end));
-      frames_are = frames_are ∙ ap (map (bytes_of old.identity)) (sym (ap (λ e. e.sent) end));
+      frames_are = frames_are ∙ ap (map (bytes_of old.station.identity)) (sym (ap (λ e. e.sent) end));
       note_is = done ∙ sym (ap (λ e. e.note) end);
     })
 
 -- what was judged to be refused
 pub refuses_steps : {F : Type 0} (image : F → Image) (failures : F → ℕ) (asked : F → List Call → F → Type 0) (state : State F) (heard : Heard) (why : Note) (frames : List (List ℕ)) (said : Note)
-    → Holds (image state.flash) state.live.values → judged state.identity state.live heard ≡ Refuses why → frames ≡ [] → said ≡ why
+    → Holds (image state.flash) state.live.values → judged state.station state.live heard ≡ Refuses why → frames ≡ [] → said ≡ why
     → Steps image failures asked state heard frames said state
 refuses_steps image failures asked state heard why frames said holds refuses none is =
     let end = ap (λ what. finished state.live.rest what []) refuses in
     is_quiet_steps image failures asked state state heard frames said holds (record {
       not_set = ap is_set refuses;
       flash = refl;
-      same = record { identity = refl; real = refl };
+      same = refl;
       live = ap (λ r. record { values = state.live.values; rest = r }) (sym (ap (λ e. e.rest) end));
-      frames_are = none ∙ ap (map (bytes_of state.identity)) (sym (ap (λ e. e.sent) end));
+      frames_are = none ∙ ap (map (bytes_of state.station.identity)) (sym (ap (λ e. e.sent) end));
       note_is = is ∙ sym (ap (λ e. e.note) end);
     })
 
 -- an Identify request
-identify_leaves : (identity : Identity) (live : Live) (asker : Mac) (request : Asked)
-    → (is_set (identified identity live asker request) ≡ false) × ((finished live.rest (identified identity live asker request) []).rest ≡ live.rest)
-identify_leaves identity live asker request = cond_both (matches identity live.values.running request) _ _
+identify_leaves : (station : Station) (live : Live) (asker : Mac) (request : Asked)
+    → (is_set (identified station live asker request) ≡ false) × ((finished live.rest (identified station live asker request) []).rest ≡ live.rest)
+identify_leaves station live asker request = cond_both (matches station.identity live.values.running request) _ _
     (λ what. (is_set what ≡ false) × ((finished live.rest what []).rest ≡ live.rest)) (λ _. (refl, refl)) (λ _. (refl, refl))
 
 pub identify_steps : {F : Type 0} (image : F → Image) (failures : F → ℕ) (asked : F → List Call → F → Type 0) (state : State F) (asker : Mac) (request : Asked) (frames : List (List ℕ)) (said : Note)
     → Holds (image state.flash) state.live.values → request.service ≡ service.Identify
-    → frames ≡ map (bytes_of state.identity) (finished state.live.rest (identified state.identity state.live asker request) []).sent
-    → said ≡ (finished state.live.rest (identified state.identity state.live asker request) []).note
+    → frames ≡ map (bytes_of state.station.identity) (finished state.live.rest (identified state.station state.live asker request) []).sent
+    → said ≡ (finished state.live.rest (identified state.station state.live asker request) []).note
     → Steps image failures asked state (Asks asker request) frames said state
 identify_steps image failures asked state asker request frames said holds identify frames_are note_is =
-    let is = ap (λ s. judged_request state.identity state.live asker s request) identify in
-    let leaves = identify_leaves state.identity state.live asker request in
+    let is = ap (λ s. judged_request state.station state.live asker s request) identify in
+    let leaves = identify_leaves state.station state.live asker request in
     is_quiet_steps image failures asked state state (Asks asker request) frames said holds (record {
       not_set = ap is_set is ∙ leaves.0;
       flash = refl;
-      same = record { identity = refl; real = refl };
+      same = refl;
       live = ap (λ r. record { values = state.live.values; rest = r }) (sym (ap (λ what. (finished state.live.rest what []).rest) is ∙ leaves.1));
-      frames_are = frames_are ∙ sym (ap (λ what. map (bytes_of state.identity) (finished state.live.rest what []).sent) is);
+      frames_are = frames_are ∙ sym (ap (λ what. map (bytes_of state.station.identity) (finished state.live.rest what []).sent) is);
       note_is = note_is ∙ sym (ap (λ what. (finished state.live.rest what []).note) is);
     })
 
 -- a Get
 pub get_steps : {F : Type 0} (image : F → Image) (failures : F → ℕ) (asked : F → List Call → F → Type 0) (state : State F) (asker : Mac) (request : Asked) (frames : List (List ℕ)) (said : Note)
     → Holds (image state.flash) state.live.values → request.service ≡ service.Get
-    → frames ≡ bytes_of state.identity (GetAnswer asker state.live.values.running request) ∷ [] → said ≡ note.Done
+    → frames ≡ bytes_of state.station.identity (GetAnswer asker state.live.values.running request) ∷ [] → said ≡ note.Done
     → Steps image failures asked state (Asks asker request) frames said state
 get_steps image failures asked state asker request frames said holds get frames_are done =
     moves_steps image failures asked state state (Asks asker request) state.live.rest (GetAnswer asker state.live.values.running request ∷ []) frames said holds
-    (ap (λ s. judged_request state.identity state.live asker s request) get) refl frames_are done
+    (ap (λ s. judged_request state.station state.live asker s request) get) refl frames_are done
 
 -- what was judged a Set
 pub set_steps : {F : Type 0} (image : F → Image) (failures : F → ℕ) (asked : F → List Call → F → Type 0) (old new : State F) (heard : Heard) (asker : Mac) (request : Asked) (in_operation : Bool) (answers : List BlockError)
-    (frames : List (List ℕ)) (said : Note) → judged old.identity old.live heard ≡ Sets asker request in_operation
+    (frames : List (List ℕ)) (said : Note) → judged old.station old.live heard ≡ Sets asker request in_operation
     → Carries image failures asked (store_of old) (plan_of in_operation request) answers (store_of new)
-    → IsSame old new → new.live.rest ≡ (finished old.live.rest (Sets asker request in_operation) answers).rest
-    → frames ≡ bytes_of old.identity (SetAnswer asker request answers) ∷ [] → said ≡ note.Done
+    → new.station ≡ old.station → new.live.rest ≡ (finished old.live.rest (Sets asker request in_operation) answers).rest
+    → frames ≡ bytes_of old.station.identity (SetAnswer asker request answers) ∷ [] → said ≡ note.Done
     → Steps image failures asked old heard frames said new
 unfolding judged_step
 set_steps image failures asked old new heard asker request in_operation answers frames said sets carries same rest frames_are done =
-    let is = judged_as carries.outcomes old.identity old.live heard (Sets asker request in_operation) sets in record {
+    let is = judged_as carries.outcomes old.station old.live heard (Sets asker request in_operation) sets in record {
       outcomes = carries.outcomes;
       same = same;
       live = rw is (same_live _ _ carries.values rest);
-      frames = rw is (frames_are ∙ ap (λ a. bytes_of old.identity (SetAnswer asker request a) ∷ []) carries.answers_are);
+      frames = rw is (frames_are ∙ ap (λ a. bytes_of old.station.identity (SetAnswer asker request a) ∷ []) carries.answers_are);
       note = rw is done;
       caused = carries.caused;
       placed = subst (λ what. OneByOne image failures asked carries.outcomes (store_of old) (items_in what) (store_of new)) (sym sets) carries.placed;
@@ -162,12 +161,12 @@ set_steps image failures asked old new heard asker request in_operation answers 
 
 -- a Set of a station
 pub asked_set_steps : {F : Type 0} (image : F → Image) (failures : F → ℕ) (asked : F → List Call → F → Type 0) (old new : State F) (asker : Mac) (request : Asked) (answers : List BlockError) (frames : List (List ℕ)) (said : Note)
-    → request.service ≡ service.Set → Carries image failures asked (store_of old) (plan_of false request) answers (store_of new) → IsSame old new
-    → new.live.rest ≡ (finished old.live.rest (Sets asker request false) answers).rest → frames ≡ bytes_of old.identity (SetAnswer asker request answers) ∷ [] → said ≡ note.Done
+    → request.service ≡ service.Set → Carries image failures asked (store_of old) (plan_of false request) answers (store_of new) → new.station ≡ old.station
+    → new.live.rest ≡ (finished old.live.rest (Sets asker request false) answers).rest → frames ≡ bytes_of old.station.identity (SetAnswer asker request answers) ∷ [] → said ≡ note.Done
     → Steps image failures asked old (Asks asker request) frames said new
 asked_set_steps image failures asked old new asker request answers frames said set carries same rest frames_are done =
     set_steps image failures asked old new (Asks asker request) asker request false answers frames said
-    (ap (λ s. judged_request old.identity old.live asker s request) set) carries same rest frames_are done
+    (ap (λ s. judged_request old.station old.live asker s request) set) carries same rest frames_are done
 
 -- what is not done changes nothing and sends nothing
 pub record IsNothing (live : Live) (step : Stepped) : Type 0 where
@@ -175,53 +174,53 @@ pub record IsNothing (live : Live) (step : Stepped) : Type 0 where
   pub none_sent : step.frames ≡ []
   pub none_accepted : step.accepted ≡ []
 
-refused_judged : (outcomes : List Outcome) (identity : Identity) (live : Live) (what : Judged) → (judged_step outcomes identity live what).note ≢ note.Done → IsNothing live (judged_step outcomes identity live what)
+refused_judged : (outcomes : List Outcome) (station : Station) (live : Live) (what : Judged) → (judged_step outcomes station live what).note ≢ note.Done → IsNothing live (judged_step outcomes station live what)
 unfolding judged_step
-refused_judged outcomes identity live (Refuses why) refused = record { live_is = refl; none_sent = refl; none_accepted = refl }
-refused_judged outcomes identity live (Sets asker request in_operation) refused = absurd (refused refl)
-refused_judged outcomes identity live (Moves rest sent) refused = absurd (refused refl)
+refused_judged outcomes station live (Refuses why) refused = record { live_is = refl; none_sent = refl; none_accepted = refl }
+refused_judged outcomes station live (Sets asker request in_operation) refused = absurd (refused refl)
+refused_judged outcomes station live (Moves rest sent) refused = absurd (refused refl)
 
-refused_heard : (outcomes : List Outcome) (identity : Identity) (live : Live) (heard : Heard) → (heard_step outcomes identity live heard).note ≢ note.Done → IsNothing live (heard_step outcomes identity live heard)
+refused_heard : (outcomes : List Outcome) (station : Station) (live : Live) (heard : Heard) → (heard_step outcomes station live heard).note ≢ note.Done → IsNothing live (heard_step outcomes station live heard)
 unfolding heard_step
-refused_heard outcomes identity live heard refused = refused_judged outcomes identity live (judged identity live heard) refused
+refused_heard outcomes station live heard refused = refused_judged outcomes station live (judged station live heard) refused
 
 pub refused_step : {F : Type 0} (image : F → Image) (failures : F → ℕ) (asked : F → List Call → F → Type 0) (old new : State F) (heard : Heard) (frames : List (List ℕ)) (said : Note)
     → Steps image failures asked old heard frames said new → said ≢ note.Done → (new ≡ old) × (frames ≡ [])
 refused_step image failures asked old new heard frames said steps refused =
-    let nothing = refused_heard steps.outcomes old.identity old.live heard (λ done. refused (steps.note ∙ done)) in
-    (same_state new old (steps.untouched nothing.none_accepted) steps.same.identity steps.same.real (steps.live ∙ nothing.live_is), steps.frames ∙ nothing.none_sent)
+    let nothing = refused_heard steps.outcomes old.station old.live heard (λ done. refused (steps.note ∙ done)) in
+    (same_state new old (steps.untouched nothing.none_accepted) steps.same (steps.live ∙ nothing.live_is), steps.frames ∙ nothing.none_sent)
 
 pub none_sent : {A B : Type 0} (f : A → B) (xs : List A) → map f xs ≡ [] → xs ≡ []
 none_sent f [] none = refl
 none_sent f (x ∷ xs) none = cc
 
 -- an Identify request, where it matches and where it does not
-identify_judged : (outcomes : List Outcome) (identity : Identity) (live : Live) (asker : Mac) (request : Asked) → IsIdentified identity live.values.running live asker request (judged_step outcomes identity live (identified identity live asker request))
+identify_judged : (outcomes : List Outcome) (station : Station) (live : Live) (asker : Mac) (request : Asked) → IsIdentified station.identity live.values.running live asker request (judged_step outcomes station live (identified station live asker request))
 unfolding judged_step
-identify_judged outcomes identity live asker request = cond_both (matches identity live.values.running request) _ _
-    (λ what. IsIdentified identity live.values.running live asker request (judged_step outcomes identity live what))
+identify_judged outcomes station live asker request = cond_both (matches station.identity live.values.running request) _ _
+    (λ what. IsIdentified station.identity live.values.running live asker request (judged_step outcomes station live what))
     (λ match. record { unchanged = refl; none_accepted = refl; answered = λ _. (refl, refl); filtered = λ none. cc })
     (λ none. record { unchanged = refl; none_accepted = refl; answered = λ match. cc; filtered = λ _. (refl, refl) })
 
-pub identify_heard : (outcomes : List Outcome) (identity : Identity) (live : Live) (heard : Heard) (asker : Mac) (request : Asked) → heard ≡ Asks asker request → request.service ≡ service.Identify
-    → IsIdentified identity live.values.running live asker request (heard_step outcomes identity live heard)
-identify_heard outcomes identity live heard asker request is identify =
-    subst (IsIdentified identity live.values.running live asker request)
-    (sym (judged_as outcomes identity live heard (identified identity live asker request) (ap (judged identity live) is ∙ ap (λ s. judged_request identity live asker s request) identify)))
-    (identify_judged outcomes identity live asker request)
+pub identify_heard : (outcomes : List Outcome) (station : Station) (live : Live) (heard : Heard) (asker : Mac) (request : Asked) → heard ≡ Asks asker request → request.service ≡ service.Identify
+    → IsIdentified station.identity live.values.running live asker request (heard_step outcomes station live heard)
+identify_heard outcomes station live heard asker request is identify =
+    subst (IsIdentified station.identity live.values.running live asker request)
+    (sym (judged_as outcomes station live heard (identified station live asker request) (ap (judged station live) is ∙ ap (λ s. judged_request station live asker s request) identify)))
+    (identify_judged outcomes station live asker request)
 
 pub identify_step : {F : Type 0} (image : F → Image) (failures : F → ℕ) (asked : F → List Call → F → Type 0) (old new : State F) (heard : Heard) (frames : List (List ℕ)) (said : Note)
     → Steps image failures asked old heard frames said new → (asker : Mac) (request : Asked) → heard ≡ Asks asker request → request.service ≡ service.Identify → Identifies old asker request frames said new
 identify_step image failures asked old new heard frames said steps asker request is identify =
-    let one = identify_heard steps.outcomes old.identity old.live heard asker request is identify in
+    let one = identify_heard steps.outcomes old.station old.live heard asker request is identify in
     record {
-      unchanged = same_state new old (steps.untouched one.none_accepted) steps.same.identity steps.same.real (steps.live ∙ one.unchanged);
+      unchanged = same_state new old (steps.untouched one.none_accepted) steps.same (steps.live ∙ one.unchanged);
       answered = λ match. let end = one.answered match in (steps.note ∙ end.0, steps.frames ∙ end.1);
       filtered = λ match. let end = one.filtered match in (steps.note ∙ end.0, steps.frames ∙ end.1);
     }
 
--- the values of a store that has just started
-pub as_started : (values : store.Values) (settings : Settings) (room : ℕ) → values.running ≡ values.stored → values.has_failed ≡ false → values.is_lost ≡ false
-    → values.stored ≡ settings → values.room ≡ room → record { values = values; rest = record { lamp = 0 } } ≡ started settings room
-as_started values settings room running failed lost stored left =
-    same_live _ _ (same_values values (started settings room).values (running ∙ stored) stored left failed lost) refl
+-- the values of a store that has just started, and an empty cache
+pub as_started : (values : store.Values) (calls : List Kept) (settings : Settings) (room : ℕ) → values.running ≡ values.stored → values.has_failed ≡ false → values.is_lost ≡ false
+    → calls ≡ [] → values.stored ≡ settings → values.room ≡ room → record { values = values; rest = record { lamp = 0; calls = calls } } ≡ started settings room
+as_started values calls settings room running failed lost empty stored left =
+    same_live _ _ (same_values values (started settings room).values (running ∙ stored) stored left failed lost) (ap (λ c. record { lamp = 0; calls = c }) empty)

@@ -2,8 +2,6 @@
 use Rattle.std.specs.Prelude.{◌≡◌, ◌⊎◌, ℕ, false, List, [], ◌∷◌, ◌++◌}
 use Rattle.flash_model.specs.Calls.{Call}
 use Rattle.flash_model.specs.Image.{Image}
-use Rattle.pn_values.specs.declared.identity.Identity.{Identity}
-use Rattle.pn_values.specs.declared.real.Real.{Real}
 use Rattle.pn_values.specs.declared.settings.Settings.{Settings}
 use Rattle.settings_journal.specs.declared.journal.BootFault.{BootFault}
 use Rattle.settings_journal.specs.declared.journal.BootFault.TheVariants.{Foreign}
@@ -13,20 +11,21 @@ use Rattle.settings_store.specs.Machine.{Outcome, Accepted}
 use Rattle.settings_store.specs.Legal.{CrashSafe, made_of}
 use Rattle.settings_store.specs.Carries.{IsCaused}
 use Rattle.device_core.specs.declared.event.Event.{Event}
-use Rattle.device_core.specs.State.{State, Live}
+use Rattle.device_core.specs.State.{Station, State, Live}
 use Rattle.device_core.specs.Machine.{Ran, run_of}
 use Rattle.device_core.specs.Steps.{EventByEvent, AnswersBy}
 
--- a device as it starts: what is stored runs, no commit failed, power is there, and of the rest nothing: the lamp is off
+-- a device as it starts: what is stored runs, no commit failed, power is there, and of the rest nothing: the lamp is off, and no
+-- answer is kept
 abbrev pub started : Settings → ℕ → Live
 started settings room = record {
   values = record { running = settings; stored = settings; room = room; has_failed = false; is_lost = false };
-  rest = record { lamp = 0 };
+  rest = record { lamp = 0; calls = [] };
 }
 
 -- the events of a cycle that begins with the first settings, and with room for so many commits
-abbrev pub cycle_of : List (List Outcome) → Identity → Settings → ℕ → List Event → Ran
-cycle_of outcomes identity first room events = run_of outcomes identity (started first room) events
+abbrev pub cycle_of : List (List Outcome) → Station → Settings → ℕ → List Event → Ran
+cycle_of outcomes station first room events = run_of outcomes station (started first room) events
 
 -- The settings that all accepted commands make of the first ones, or all but a last one that was not answered 'done'.
 abbrev pub IsMadeOf : List Accepted → Settings → Settings → Type 0
@@ -37,39 +36,38 @@ IsMadeOf accepted first settings =
 -- The events of a cycle were run, from a start on the flash that gave the first settings, with whatever outcomes the flash
 -- chose for the calls that store: these have their cause, each in its own item, what was sent was handed on, what was left
 -- of the flash is safe, and where no command was accepted it was left as the start left it.
-pub record Cycled {F : Type 0} (image : F → Image) (failures : F → ℕ) (asked : F → List Call → F → Type 0) (identity : Identity) (flash : F) (first : Settings) (room : ℕ) (events : List Event) (before now : List (List ℕ)) (outcomes : List (List Outcome)) (lost : F) : Type 0 where
+pub record Cycled {F : Type 0} (image : F → Image) (failures : F → ℕ) (asked : F → List Call → F → Type 0) (station : Station) (flash : F) (first : Settings) (room : ℕ) (events : List Event) (before now : List (List ℕ)) (outcomes : List (List Outcome)) (lost : F) : Type 0 where
   pub begun : F
   pub begins : (image begun ≡ image flash) × (failures begun ≡ failures flash) × asked flash [] begun
-  pub caused : IsCaused outcomes (failures flash) (failures lost) (started first room).values (cycle_of outcomes identity first room events).live.values
-  pub placed : EventByEvent image failures asked outcomes identity begun (started first room) events lost
-  pub handed_on : now ≡ before ++ (cycle_of outcomes identity first room events).frames
-  pub safe : CrashSafe false first (cycle_of outcomes identity first room events).accepted (image flash) (image lost)
-  pub untouched : (cycle_of outcomes identity first room events).accepted ≡ [] → lost ≡ begun
+  pub caused : IsCaused outcomes (failures flash) (failures lost) (started first room).values (cycle_of outcomes station first room events).live.values
+  pub placed : EventByEvent image failures asked outcomes station begun (started first room) events lost
+  pub handed_on : now ≡ before ++ (cycle_of outcomes station first room events).frames
+  pub safe : CrashSafe false first (cycle_of outcomes station first room events).accepted (image flash) (image lost)
+  pub untouched : (cycle_of outcomes station first room events).accepted ≡ [] → lost ≡ begun
 
 -- A device that has just started, on whatever image: it is what it was told to be, what the image is read as runs and nothing
 -- else, and Identify is answered by that alone.
-pub record IsStarted {F : Type 0} (image : F → Image) (identity : Identity) (real : Real) (device : State F) : Type 0 where
-  pub identity_is : device.identity ≡ identity
-  pub real_is : device.real ≡ real
+pub record IsStarted {F : Type 0} (image : F → Image) (station : Station) (device : State F) : Type 0 where
+  pub station_is : device.station ≡ station
   pub nothing_else : device.live ≡ started device.live.values.stored device.live.values.room
   pub starts : StartsWith (image device.flash) device.live.values.stored device.live.values.room
-  pub answers : AnswersBy identity device.live.values.stored device.live
+  pub answers : AnswersBy station device.live.values.stored device.live
 
 -- The headline. The cycle went through the events, with whatever outcomes its flash chose for the calls that store. The
 -- restarted device has, running and stored, what all accepted commands of the cycle, or all but a last one that was not
 -- answered 'done', make of the first settings; where no commit failed, just what the cycle stored. Nothing else is left of
 -- the cycle, Identify is answered by those settings and the identity alone, and the image is again one that this device
 -- left. `power_up` relates a flash to itself with its power back.
-pub record Restarts {F : Type 0} (image : F → Image) (failures : F → ℕ) (asked : F → List Call → F → Type 0) (power_up : F → F → Type 0) (identity : Identity) (real : Real) (flash : F) (first : Settings) (room : ℕ) (events : List Event) (before now : List (List ℕ)) (restarted : State F) : Type 0 where
+pub record Restarts {F : Type 0} (image : F → Image) (failures : F → ℕ) (asked : F → List Call → F → Type 0) (power_up : F → F → Type 0) (station : Station) (flash : F) (first : Settings) (room : ℕ) (events : List Event) (before now : List (List ℕ)) (restarted : State F) : Type 0 where
   pub outcomes : List (List Outcome)
   pub lost : F
   pub back : F
   pub powered : power_up lost back
-  pub cycled : Cycled image failures asked identity flash first room events before now outcomes lost
-  pub has : IsMadeOf (cycle_of outcomes identity first room events).accepted first restarted.live.values.stored
-  pub clean : (cycle_of outcomes identity first room events).live.values.has_failed ≡ false →
-      restarted.live ≡ started (cycle_of outcomes identity first room events).live.values.stored (cycle_of outcomes identity first room events).live.values.room
-  pub is_started : IsStarted image identity real restarted
+  pub cycled : Cycled image failures asked station flash first room events before now outcomes lost
+  pub has : IsMadeOf (cycle_of outcomes station first room events).accepted first restarted.live.values.stored
+  pub clean : (cycle_of outcomes station first room events).live.values.has_failed ≡ false →
+      restarted.live ≡ started (cycle_of outcomes station first room events).live.values.stored (cycle_of outcomes station first room events).live.values.room
+  pub is_started : IsStarted image station restarted
   pub left : LeftByDevice (image restarted.flash)
   pub same : (image restarted.flash ≡ image lost) × (failures restarted.flash ≡ failures back) × asked back [] restarted.flash
 
@@ -81,20 +79,20 @@ pub record Refuses {F : Type 0} (image : F → Image) (failures : F → ℕ) (as
   pub foreign : fault ≡ Foreign → IsForeign (image left)
 
 -- The start after a cycle was refused: the first start gave settings, the events were run, and power came back.
-pub record RefusesAfter {F : Type 0} (image : F → Image) (failures : F → ℕ) (asked : F → List Call → F → Type 0) (power_up : F → F → Type 0) (identity : Identity) (flash : F) (events : List Event) (before now : List (List ℕ)) (fault : BootFault) (left : F) : Type 0 where
+pub record RefusesAfter {F : Type 0} (image : F → Image) (failures : F → ℕ) (asked : F → List Call → F → Type 0) (power_up : F → F → Type 0) (station : Station) (flash : F) (events : List Event) (before now : List (List ℕ)) (fault : BootFault) (left : F) : Type 0 where
   pub first : Settings
   pub room : ℕ
   pub outcomes : List (List Outcome)
   pub lost : F
   pub back : F
   pub starts : StartsWith (image flash) first room
-  pub cycled : Cycled image failures asked identity flash first room events before now outcomes lost
+  pub cycled : Cycled image failures asked station flash first room events before now outcomes lost
   pub powered : power_up lost back
   pub kept : image back ≡ image lost
   pub refuses : Refuses image failures asked back fault left
 
 -- A start was refused: the first one, and nothing was handed on, or the one after the cycle.
-abbrev pub IsRefused : {F : Type 0} → (F → Image) → (F → ℕ) → (F → List Call → F → Type 0) → (F → F → Type 0) → Identity → F → List Event → List (List ℕ) → List (List ℕ) → BootFault → F → Type 0
-IsRefused {F} image failures asked power_up identity flash events before now fault left =
+abbrev pub IsRefused : {F : Type 0} → (F → Image) → (F → ℕ) → (F → List Call → F → Type 0) → (F → F → Type 0) → Station → F → List Event → List (List ℕ) → List (List ℕ) → BootFault → F → Type 0
+IsRefused {F} image failures asked power_up station flash events before now fault left =
     ((now ≡ before) × Refuses image failures asked flash fault left)
-    ⊎ RefusesAfter image failures asked power_up identity flash events before now fault left
+    ⊎ RefusesAfter image failures asked power_up station flash events before now fault left

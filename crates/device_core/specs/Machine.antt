@@ -2,7 +2,6 @@
 use Rattle.std.specs.Prelude.{◌-◌, ℕ, Bool, true, false, List, [], ◌∷◌, ◌++◌, map, if◌then◌else◌}
 use Rattle.std.specs.List.{list_any}
 use Rattle.pn_values.specs.declared.mac.Mac.{Mac}
-use Rattle.pn_values.specs.declared.identity.Identity.{Identity}
 use Rattle.pn_values.specs.declared.set_item.SetItem.{SetItem}
 use Rattle.pn_values.specs.declared.set_item.SetItem.TheVariants.{Ask, Signal, Answer}
 use Rattle.pn_values.specs.declared.set_item.BlockError.{BlockError}
@@ -15,7 +14,7 @@ use Rattle.dcp_core.specs.Set.{plan_of}
 use Rattle.device_core.specs.declared.event.Event.{Event}
 use Rattle.device_core.specs.declared.event.Note.{Note}
 use Rattle.device_core.specs.declared.event.Note.TheVariants as note
-use Rattle.device_core.specs.State.{Rest, Live}
+use Rattle.device_core.specs.State.{Station, Rest, Live}
 use Rattle.device_core.specs.Sent.{Sent, IdentifyAnswer, GetAnswer, SetAnswer, bytes_of}
 use Rattle.device_core.specs.Heard.{Heard, Ticks, Unreadable, Elsewhere, Asks, heard_of}
 
@@ -27,27 +26,27 @@ pub data Judged : Type 0 where
   Moves : (rest : Rest) → (sent : List Sent) → Judged
 
 -- An Identify request is answered by identity and running settings where it matches, and else not at all.
-abbrev pub identified : Identity → Live → Mac → Asked → Judged
-identified identity live asker request =
-    if matches identity live.values.running request
+abbrev pub identified : Station → Live → Mac → Asked → Judged
+identified station live asker request =
+    if matches station.identity live.values.running request
     then Moves live.rest (IdentifyAnswer asker live.values.running request.xid ∷ [])
     else Refuses note.Filter
 
 -- a request, by its service; no application relation exists
-abbrev pub judged_request : Identity → Live → Mac → Service → Asked → Judged
-judged_request identity live asker service.Identify request = identified identity live asker request
-judged_request identity live asker service.Get request = Moves live.rest (GetAnswer asker live.values.running request ∷ [])
-judged_request identity live asker service.Set request = Sets asker request false
+abbrev pub judged_request : Station → Live → Mac → Service → Asked → Judged
+judged_request station live asker service.Identify request = identified station live asker request
+judged_request station live asker service.Get request = Moves live.rest (GetAnswer asker live.values.running request ∷ [])
+judged_request station live asker service.Set request = Sets asker request false
 
 -- a unit of time later
 abbrev pub ticked : Rest → Rest
-ticked rest = record { lamp = rest.lamp - 1 }
+ticked rest = record rest { lamp = rest.lamp - 1 }
 
-abbrev pub judged : Identity → Live → Heard → Judged
-judged identity live (Asks asker request) = judged_request identity live asker request.service request
-judged identity live Ticks = Moves (ticked live.rest) []
-judged identity live Unreadable = Refuses note.Fault
-judged identity live Elsewhere = Refuses note.NotMine
+abbrev pub judged : Station → Live → Heard → Judged
+judged station live (Asks asker request) = judged_request station live asker request.service request
+judged station live Ticks = Moves (ticked live.rest) []
+judged station live Unreadable = Refuses note.Fault
+judged station live Elsewhere = Refuses note.NotMine
 
 -- what the settings are asked for: the blocks of a Set, in order
 abbrev pub items_in : Judged → List SetItem
@@ -55,8 +54,8 @@ items_in (Refuses note) = []
 items_in (Sets asker request in_operation) = plan_of in_operation request
 items_in (Moves rest sent) = []
 
-abbrev pub items_of : Identity → Live → Heard → List SetItem
-items_of identity live heard = items_in (judged identity live heard)
+abbrev pub items_of : Station → Live → Heard → List SetItem
+items_of station live heard = items_in (judged station live heard)
 
 -- whether an item has the lamp flash
 abbrev pub is_signal : SetItem → Bool
@@ -78,7 +77,7 @@ pub record Finished : Type 0 where
 abbrev pub finished : Rest → Judged → List BlockError → Finished
 finished rest (Refuses note) answers = record { rest = rest; sent = []; note = note }
 finished rest (Sets asker request in_operation) answers =
-    record { rest = record { lamp = lamp_after rest.lamp (plan_of in_operation request) }; sent = SetAnswer asker request answers ∷ []; note = note.Done }
+    record { rest = record rest { lamp = lamp_after rest.lamp (plan_of in_operation request) }; sent = SetAnswer asker request answers ∷ []; note = note.Done }
 finished rest (Moves moved sent) answers = record { rest = moved; sent = sent; note = note.Done }
 
 -- A step: what changes, the messages that are sent and their frames, what is said of the event, and the commands that
@@ -91,24 +90,24 @@ pub record Stepped : Type 0 where
   pub accepted : List Accepted
 
 -- what was judged is asked of the settings, and finished by their answers
-unfoldable pub judged_step : List Outcome → Identity → Live → Judged → Stepped
-judged_step outcomes identity live what =
+unfoldable pub judged_step : List Outcome → Station → Live → Judged → Stepped
+judged_step outcomes station live what =
     let settled = carried outcomes live.values (items_in what) in
     let end = finished live.rest what settled.answers in
     record {
       live = record { values = settled.values; rest = end.rest };
       sent = end.sent;
-      frames = map (bytes_of identity) end.sent;
+      frames = map (bytes_of station.identity) end.sent;
       note = end.note;
       accepted = settled.accepted;
     }
 
-unfoldable pub heard_step : List Outcome → Identity → Live → Heard → Stepped
-heard_step outcomes identity live heard = judged_step outcomes identity live (judged identity live heard)
+unfoldable pub heard_step : List Outcome → Station → Live → Heard → Stepped
+heard_step outcomes station live heard = judged_step outcomes station live (judged station live heard)
 
 -- one step, with an outcome for each command
-abbrev pub step_of : List Outcome → Identity → Live → Event → Stepped
-step_of outcomes identity live event = heard_step outcomes identity live (heard_of identity event)
+abbrev pub step_of : List Outcome → Station → Live → Event → Stepped
+step_of outcomes station live event = heard_step outcomes station live (heard_of station.identity event)
 
 -- what is handed on of a step: nothing once power is lost
 abbrev pub handed : Stepped → List (List ℕ)
@@ -134,8 +133,8 @@ abbrev pub then_run : Stepped → Ran → Ran
 then_run step ran = record { live = ran.live; frames = handed step ++ ran.frames; accepted = step.accepted ++ ran.accepted }
 
 -- the events in order, with outcomes for each
-abbrev pub run_of : List (List Outcome) → Identity → Live → List Event → Ran
-run_of outcomes identity live [] = record { live = live; frames = []; accepted = [] }
-run_of outcomes identity live (event ∷ events) =
-    let step = step_of (first_step outcomes) identity live event in
-    then_run step (run_of (later_steps outcomes) identity step.live events)
+abbrev pub run_of : List (List Outcome) → Station → Live → List Event → Ran
+run_of outcomes station live [] = record { live = live; frames = []; accepted = [] }
+run_of outcomes station live (event ∷ events) =
+    let step = step_of (first_step outcomes) station live event in
+    then_run step (run_of (later_steps outcomes) station step.live events)

@@ -1,13 +1,21 @@
 -- What a contract sees of a device.
-use Rattle.std.specs.Prelude.{ℕ}
+use Rattle.std.specs.Prelude.{ℕ, List}
 use Rattle.pn_values.specs.declared.identity.Identity.{Identity}
 use Rattle.pn_values.specs.declared.real.Real.{Real}
 use Rattle.settings_store.specs.State as store
 use Rattle.settings_store.specs.State.{Values}
+use Rattle.rpc_core.specs.Cache.{Kept}
 
--- what a device keeps beside its settings, and loses with its power: for how many units the lamp still flashes
+-- what a device is: its identity, and what is plugged in
+pub record Station : Type 0 where
+  pub identity : Identity
+  pub real : Real
+
+-- what a device keeps beside its settings, and loses with its power: for how many units the lamp still flashes, and the answers
+-- to the last calls, the newest first
 pub record Rest : Type 0 where
   pub lamp : ℕ
+  pub calls : List Kept
 
 -- what changes from event to event: the settings, and the rest
 pub record Live : Type 0 where
@@ -17,8 +25,7 @@ pub record Live : Type 0 where
 -- the flash, what the device is, and what changes
 pub record State (F : Type 0) : Type 0 where
   pub flash : F
-  pub identity : Identity
-  pub real : Real
+  pub station : Station
   pub live : Live
 
 -- what its store is: the flash, and the values over it

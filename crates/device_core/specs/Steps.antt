@@ -14,38 +14,33 @@ use Rattle.dcp_core.specs.Identify.{matches, identify_bytes}
 use Rattle.device_core.specs.declared.event.Event.{Event}
 use Rattle.device_core.specs.declared.event.Note.{Note}
 use Rattle.device_core.specs.declared.event.Note.TheVariants.{Done, Filter}
-use Rattle.device_core.specs.State.{State, Live, store_of}
+use Rattle.device_core.specs.State.{Station, State, Live, store_of}
 use Rattle.device_core.specs.Sent.{answer_frame}
 use Rattle.device_core.specs.Heard.{Heard, Asks, heard_of}
 use Rattle.device_core.specs.Machine.{Stepped, items_of, heard_step, step_of, first_step, later_steps, run_of}
-
--- what a device is does not change
-pub record IsSame {F : Type 0} (old new : State F) : Type 0 where
-  pub identity : new.identity ≡ old.identity
-  pub real : new.real ≡ old.real
 
 -- What was heard is carried out, for some outcomes of the calls that store, which the flash chose: what changes, the frames
 -- and the note are those of the step, the outcomes have their cause, each in its own item, the image is safe and holds what
 -- is stored, where no command is accepted the flash is left alone, and power that is lost stays lost.
 pub record Steps {F : Type 0} (image : F → Image) (failures : F → ℕ) (asked : F → List Call → F → Type 0) (old : State F) (heard : Heard) (sent : List (List ℕ)) (said : Note) (new : State F) : Type 0 where
   pub outcomes : List Outcome
-  pub same : IsSame old new
-  pub live : new.live ≡ (heard_step outcomes old.identity old.live heard).live
-  pub frames : sent ≡ (heard_step outcomes old.identity old.live heard).frames
-  pub note : said ≡ (heard_step outcomes old.identity old.live heard).note
+  pub same : new.station ≡ old.station
+  pub live : new.live ≡ (heard_step outcomes old.station old.live heard).live
+  pub frames : sent ≡ (heard_step outcomes old.station old.live heard).frames
+  pub note : said ≡ (heard_step outcomes old.station old.live heard).note
   pub caused : IsCaused outcomes (failures old.flash) (failures new.flash) old.live.values new.live.values
-  pub placed : OneByOne image failures asked outcomes (store_of old) (items_of old.identity old.live heard) (store_of new)
-  pub safe : CrashSafe old.live.values.has_failed old.live.values.stored (heard_step outcomes old.identity old.live heard).accepted (image old.flash) (image new.flash)
+  pub placed : OneByOne image failures asked outcomes (store_of old) (items_of old.station old.live heard) (store_of new)
+  pub safe : CrashSafe old.live.values.has_failed old.live.values.stored (heard_step outcomes old.station old.live heard).accepted (image old.flash) (image new.flash)
   pub holds : Holds (image new.flash) new.live.values
-  pub untouched : (heard_step outcomes old.identity old.live heard).accepted ≡ [] → new.flash ≡ old.flash
+  pub untouched : (heard_step outcomes old.station old.live heard).accepted ≡ [] → new.flash ≡ old.flash
   pub stays_lost : old.live.values.is_lost ≡ true → new.live.values.is_lost ≡ true
 
 -- An Identify request changes nothing. It is answered, by identity and running settings alone, where it matches them.
 pub record Identifies {F : Type 0} (old : State F) (asker : Mac) (request : Asked) (sent : List (List ℕ)) (said : Note) (new : State F) : Type 0 where
   pub unchanged : new ≡ old
-  pub answered : matches old.identity old.live.values.running request ≡ true →
-      (said ≡ Done) × (sent ≡ answer_frame old.identity asker 65279 (identify_bytes old.identity old.live.values.running request.xid) ∷ [])
-  pub filtered : matches old.identity old.live.values.running request ≡ false → (said ≡ Filter) × (sent ≡ [])
+  pub answered : matches old.station.identity old.live.values.running request ≡ true →
+      (said ≡ Done) × (sent ≡ answer_frame old.station.identity asker 65279 (identify_bytes old.station.identity old.live.values.running request.xid) ∷ [])
+  pub filtered : matches old.station.identity old.live.values.running request ≡ false → (said ≡ Filter) × (sent ≡ [])
 
 -- The step of an Identify request: nothing changes, and it is answered where it matches identity and these settings, by them
 -- alone, and else not at all.
@@ -58,10 +53,10 @@ pub record IsIdentified (identity : Identity) (settings : Settings) (live : Live
 
 -- Identify is answered by identity and these settings alone: so is each event that is heard as an Identify request, whoever
 -- asks, whatever the flash would do.
-abbrev pub AnswersBy : Identity → Settings → Live → Type 0
-AnswersBy identity settings live = (outcomes : List Outcome) (event : Event) (asker : Mac) (request : Asked)
-    → heard_of identity event ≡ Asks asker request → request.service ≡ Identify
-    → IsIdentified identity settings live asker request (step_of outcomes identity live event)
+abbrev pub AnswersBy : Station → Settings → Live → Type 0
+AnswersBy station settings live = (outcomes : List Outcome) (event : Event) (asker : Mac) (request : Asked)
+    → heard_of station.identity event ≡ Asks asker request → request.service ≡ Identify
+    → IsIdentified station.identity settings live asker request (step_of outcomes station live event)
 
 -- what a run hands on of a step: its frames, unless power is lost
 pub record HandsOn {F : Type 0} (image : F → Image) (failures : F → ℕ) (asked : F → List Call → F → Type 0) (old : State F) (heard : Heard) (before now : List (List ℕ)) (new : State F) : Type 0 where
@@ -72,43 +67,43 @@ pub record HandsOn {F : Type 0} (image : F → Image) (failures : F → ℕ) (as
 
 -- The events one by one: each is judged on the state that the events before it made, and its items begin with the flash
 -- that the event before it left.
-abbrev pub EventByEvent : {F : Type 0} → (F → Image) → (F → ℕ) → (F → List Call → F → Type 0) → List (List Outcome) → Identity → F → Live → List Event → F → Type 0
-EventByEvent image failures asked outcomes identity old live [] new = new ≡ old
-EventByEvent {F} image failures asked outcomes identity old live (event ∷ events) new =
-    let next = (step_of (first_step outcomes) identity live event).live in
+abbrev pub EventByEvent : {F : Type 0} → (F → Image) → (F → ℕ) → (F → List Call → F → Type 0) → List (List Outcome) → Station → F → Live → List Event → F → Type 0
+EventByEvent image failures asked outcomes station old live [] new = new ≡ old
+EventByEvent {F} image failures asked outcomes station old live (event ∷ events) new =
+    let next = (step_of (first_step outcomes) station live event).live in
     (between : F) × OneByOne image failures asked (first_step outcomes) (record { flash = old; values = live.values })
-    (items_of identity live (heard_of identity event)) (record { flash = between; values = next.values })
-    × EventByEvent image failures asked (later_steps outcomes) identity between next events new
+    (items_of station live (heard_of station.identity event)) (record { flash = between; values = next.values })
+    × EventByEvent image failures asked (later_steps outcomes) station between next events new
 
 -- Steps after one another, for some outcomes of each, which have their cause, each in its own item of its own event; where
 -- no command is accepted the flash is left alone. Before and now are what the sink has taken; once power is lost it takes no
 -- more.
 pub record Runs {F : Type 0} (image : F → Image) (failures : F → ℕ) (asked : F → List Call → F → Type 0) (old : State F) (events : List Event) (before now : List (List ℕ)) (new : State F) : Type 0 where
   pub outcomes : List (List Outcome)
-  pub same : IsSame old new
-  pub live : new.live ≡ (run_of outcomes old.identity old.live events).live
-  pub frames : now ≡ before ++ (run_of outcomes old.identity old.live events).frames
+  pub same : new.station ≡ old.station
+  pub live : new.live ≡ (run_of outcomes old.station old.live events).live
+  pub frames : now ≡ before ++ (run_of outcomes old.station old.live events).frames
   pub caused : IsCaused outcomes (failures old.flash) (failures new.flash) old.live.values new.live.values
-  pub placed : EventByEvent image failures asked outcomes old.identity old.flash old.live events new.flash
-  pub safe : CrashSafe old.live.values.has_failed old.live.values.stored (run_of outcomes old.identity old.live events).accepted (image old.flash) (image new.flash)
+  pub placed : EventByEvent image failures asked outcomes old.station old.flash old.live events new.flash
+  pub safe : CrashSafe old.live.values.has_failed old.live.values.stored (run_of outcomes old.station old.live events).accepted (image old.flash) (image new.flash)
   pub holds : Holds (image new.flash) new.live.values
-  pub untouched : (run_of outcomes old.identity old.live events).accepted ≡ [] → new.flash ≡ old.flash
+  pub untouched : (run_of outcomes old.station old.live events).accepted ≡ [] → new.flash ≡ old.flash
   pub stays_lost : old.live.values.is_lost ≡ true → (new.live.values.is_lost ≡ true) × (now ≡ before)
 
 -- the step with no flash call failing
 pub record IsExactStep {F : Type 0} (old : State F) (event : Event) (sent : List (List ℕ)) (said : Note) (new : State F) : Type 0 where
-  pub same : IsSame old new
-  pub live : new.live ≡ (step_of [] old.identity old.live event).live
-  pub frames : sent ≡ (step_of [] old.identity old.live event).frames
-  pub note : said ≡ (step_of [] old.identity old.live event).note
+  pub same : new.station ≡ old.station
+  pub live : new.live ≡ (step_of [] old.station old.live event).live
+  pub frames : sent ≡ (step_of [] old.station old.live event).frames
+  pub note : said ≡ (step_of [] old.station old.live event).note
 
 -- the run with no flash call failing
 pub record IsExactRun {F : Type 0} (old : State F) (events : List Event) (before now : List (List ℕ)) (new : State F) : Type 0 where
-  pub same : IsSame old new
-  pub live : new.live ≡ (run_of [] old.identity old.live events).live
-  pub frames : now ≡ before ++ (run_of [] old.identity old.live events).frames
+  pub same : new.station ≡ old.station
+  pub live : new.live ≡ (run_of [] old.station old.live events).live
+  pub frames : now ≡ before ++ (run_of [] old.station old.live events).frames
 
 -- With no commit failing, each command that was accepted took one of the room for commits, and nothing else did: a flash
 -- has room for as many more as its start reads.
 abbrev pub TakesRoom : {F : Type 0} → State F → List Event → State F → Type 0
-TakesRoom old events new = new.live.values.room + length (run_of [] old.identity old.live events).accepted ≡ old.live.values.room
+TakesRoom old events new = new.live.values.room + length (run_of [] old.station old.live events).accepted ≡ old.live.values.room

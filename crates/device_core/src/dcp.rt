@@ -59,9 +59,9 @@ impl<F: Flash<S>, const S: usize> Device<F, S> {
     // An Identify request (IEC 61158-6-10, 4.3.2.3).
     fn identify(&self, asker: Mac, request: &Request<'_>, outbox: &mut Outbox) -> Note
         requires { outbox.old.items ≡ [] }
-        ensures frames { let end = finished self.now.live.rest (identified self.now.identity self.now.live asker (asked request.now)) [] in
-            map (λ frame. frame.items) outbox.new.items ≡ map (bytes_of self.now.identity) end.sent }
-        ensures note { result ≡ (finished self.now.live.rest (identified self.now.identity self.now.live asker (asked request.now)) []).note }
+        ensures frames { let end = finished self.now.live.rest (identified self.now.station self.now.live asker (asked request.now)) [] in
+            map (λ frame. frame.items) outbox.new.items ≡ map (bytes_of self.now.station.identity) end.sent }
+        ensures note { result ≡ (finished self.now.live.rest (identified self.now.station self.now.live asker (asked request.now)) []).note }
     {
         let running = self.store.running();
         if !identify_matches(&self.identity, running, request) {
@@ -82,7 +82,7 @@ impl<F: Flash<S>, const S: usize> Device<F, S> {
     fn get(&self, asker: Mac, request: &Request<'_>, outbox: &mut Outbox) -> Note
         requires { outbox.old.items ≡ [] }
         ensures frames { map (λ frame. frame.items) outbox.new.items
-            ≡ bytes_of self.now.identity (GetAnswer asker self.now.live.values.running (asked request.now)) ∷ [] }
+            ≡ bytes_of self.now.station.identity (GetAnswer asker self.now.live.values.running (asked request.now)) ∷ [] }
         ensures note { result ≡ Note.Done }
     {
         let answer = get_answer(&self.identity, self.store.running(), request);

@@ -11,6 +11,7 @@ ghost use Rattle.device_core.specs.Cycle.{started};
 use arrayvec::ArrayVec;
 use flash_model::{Flash, Order};
 use pn_values::{Identity, Real, SetItem, Settings};
+use rpc_core::CallCache;
 use settings_journal::BootFault;
 use settings_store::Store;
 use std::marker::Model;
@@ -22,6 +23,7 @@ pub struct Device<F: Flash<S>, const S: usize> {
     pub(crate) real: Real,
     pub(crate) store: Store<F, S>,
     pub(crate) lamp: u32,
+    pub(crate) cache: CallCache<4>,
     // Room for the plan of a Set, in which the last one lies.
     pub(crate) plan: ArrayVec<SetItem, 16>,
 }
@@ -34,9 +36,8 @@ impl<F: Flash<S>, const S: usize> Model for Device<F, S> {
 
     ghost view = { λ device. record {
       flash = device.store.flash;
-      identity = device.identity;
-      real = device.real;
-      live = record { values = device.store.values; rest = record { lamp = device.lamp } };
+      station = record { identity = device.identity; real = device.real };
+      live = record { values = device.store.values; rest = record { lamp = device.lamp; calls = device.cache } };
     } };
 
     ghost invariant = { λ device. Holds (F.image device.store.flash) device.store.values };
@@ -48,7 +49,7 @@ impl<F: Flash<S>, const S: usize> Device<F, S> {
         // What is stored runs, and nothing is left of an earlier cycle.
         ensures starts { IfOk result (λ device. StartsWith (F.image flash) device.live.values.stored device.live.values.room) }
         ensures fresh { IfOk result (λ device. device.live ≡ started device.live.values.stored device.live.values.room) }
-        ensures identity { IfOk result (λ device. (device.identity ≡ identity) × (device.real ≡ real)) }
+        ensures station { IfOk result (λ device. device.station ≡ record { identity = identity; real = real }) }
 
         // What can be read is given, unless a read fails.
         ensures known { (settings : Settings) (room : ℕ) → StartsWith (F.image flash) settings room →
@@ -75,6 +76,7 @@ impl<F: Flash<S>, const S: usize> Device<F, S> {
             real,
             store: Store::boot(flash)?,
             lamp: 0,
+            cache: CallCache::new(),
             plan: ArrayVec::new(),
         })
     }
@@ -104,7 +106,7 @@ impl<F: Flash<S>, const S: usize> Device<F, S> {
 
     /// What is plugged in.
     pub fn real(&self) -> &Real
-        ensures { result.now ≡ self.now.real }
+        ensures { result.now ≡ self.now.station.real }
     {
         &self.real
     }
@@ -126,7 +128,7 @@ impl<F: Flash<S>, const S: usize> Device<F, S> {
     /// Tells the flash what to do to a later call. Nothing else changes.
     pub fn arm(&mut self, order: Order)
         ensures live { self.new.live ≡ self.old.live }
-        ensures identity { (self.new.identity ≡ self.old.identity) × (self.new.real ≡ self.old.real) }
+        ensures station { self.new.station ≡ self.old.station }
         ensures image { F.image self.new.flash ≡ F.image self.old.flash }
         ensures failures { F.failures self.new.flash ≡ F.failures self.old.flash }
         ensures calls { F.asked self.old.flash (Arms order ∷ []) self.new.flash }
@@ -143,13 +145,14 @@ impl<F: Flash<S>, const S: usize> Device<F, S> {
 
     /// Identity, what is plugged in, and the flash, given back.
     pub(crate) fn into_parts(self) -> (Identity, Real, F)
-        ensures { result ≡ (self.identity, self.real, self.flash) }
+        ensures { result ≡ (self.station.identity, self.station.real, self.flash) }
     {
         let Device {
             identity,
             real,
             store,
             lamp: _,
+            cache: _,
             plan: _,
         } = self;
         (identity, real, store.into_flash())

@@ -20,4 +20,8 @@ pub enum Note {
     Fault = 2,
     /// An Identify request that does not match.
     Filter = 3,
+    /// A call of an activity of which a later call was answered. It gets no answer.
+    OldCall = 4,
+    /// No relation stands that the frame could belong to.
+    NoRelation = 5,
 }

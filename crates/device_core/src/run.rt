@@ -30,7 +30,7 @@ impl<F: Flash<S>, const S: usize> Device<F, S> {
 
     // One event of a run.
     fn take<K: Sink>(&mut self, event: &Event, outbox: &mut Outbox, sink: &mut K)
-        ensures steps { HandsOn F.image F.failures F.asked self.old (heard_of self.old.identity event.now) (K.taken sink.old) (K.taken sink.new) self.new }
+        ensures steps { HandsOn F.image F.failures F.asked self.old (heard_of self.old.station.identity event.now) (K.taken sink.old) (K.taken sink.new) self.new }
         ensures reliable { F.is_reliable self.old.flash → self.old.live.values.has_failed ≡ false →
             F.is_reliable self.new.flash × (self.new.live.values.has_failed ≡ false) }
     {

@@ -17,7 +17,7 @@ use frame_codec::Outbox;
 impl<F: Flash<S>, const S: usize> Device<F, S> {
     /// Takes an event, and puts the frames to be sent into the box, which holds nothing else then.
     pub fn step(&mut self, event: &Event, outbox: &mut Outbox) -> Note
-        ensures steps { Steps F.image F.failures F.asked self.old (heard_of self.old.identity event.now) (map (λ frame. frame.items) outbox.new.items) result self.new }
+        ensures steps { Steps F.image F.failures F.asked self.old (heard_of self.old.station.identity event.now) (map (λ frame. frame.items) outbox.new.items) result self.new }
 
         // With no flash call failing.
         ensures exact { F.failures self.new.flash ≡ F.failures self.old.flash → F.failures self.old.flash < 2 ^ 64 - 1 →
@@ -28,7 +28,7 @@ impl<F: Flash<S>, const S: usize> Device<F, S> {
 
         // An event that is refused changes nothing at all.
         ensures refused { result ≢ Note.Done → (self.new ≡ self.old) × (outbox.new.items ≡ []) }
-        ensures identify { (asker : Mac) (request : Asked) → heard_of self.old.identity event.now ≡ Asks asker request → request.service ≡ Service.Identify →
+        ensures identify { (asker : Mac) (request : Asked) → heard_of self.old.station.identity event.now ≡ Asks asker request → request.service ≡ Service.Identify →
             Identifies self.old asker request (map (λ frame. frame.items) outbox.new.items) result self.new }
     {
         outbox.clear();

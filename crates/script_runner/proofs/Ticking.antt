@@ -15,10 +15,10 @@ pub record IsTicking (whole : Answer) (left : ℕ) (now : Station) (device : Sta
   pub rendered : before ++ whole.text ≡ text ++ (ticked left now).text
 
 -- after one more
-pub ticking_on : (whole : Answer) (left : ℕ) (now : Station) (device after : State (MemoryFlash 4096)) (before text later : List ℕ) (note : Note) → 0 < left → IsTicking whole left now device before text → IsStepped now (step_of [] now.identity now.live event.Tick) after text later note → IsTicking whole (left - 1) (turned_to now (step_of [] now.identity now.live event.Tick).live) after before later
+pub ticking_on : (whole : Answer) (left : ℕ) (now : Station) (device after : State (MemoryFlash 4096)) (before text later : List ℕ) (note : Note) → 0 < left → IsTicking whole left now device before text → IsStepped now (step_of [] now.device now.live event.Tick) after text later note → IsTicking whole (left - 1) (turned_to now (step_of [] now.device now.live event.Tick).live) after before later
 ticking_on whole left now device after before text later note some ticking stepped =
     let e : left ≡ suc (left - 1) = omega arith in
-    let next = turned_to now (step_of [] now.identity now.live event.Tick).live in
+    let next = turned_to now (step_of [] now.device now.live event.Tick).live in
     record {
       runs = stepped.runs;
       station = ticking.station ∙ ap (λ units. (ticked units now).station) e;

@@ -4,6 +4,7 @@ use Rattle.pn_values.specs.declared.identity.Identity.{Identity}
 use Rattle.pn_values.specs.declared.real.Real.{Real}
 use Rattle.pn_values.specs.declared.real.RealModule.{RealModule}
 use Rattle.pn_values.specs.declared.real.RealSubmodule.{RealSubmodule}
+use Rattle.device_core.specs.State.{Station as Device}
 
 -- what it is: a station 'pn-demo' of vendor 0x0123, version V0.0.0
 unfoldable pub demo : Identity
@@ -40,3 +41,7 @@ demo_real = record {
         ∷ [];
   };
 }
+
+-- the two together
+abbrev pub demo_device : Device
+demo_device = record { identity = demo; real = demo_real }

@@ -3,33 +3,30 @@ use Rattle.std.specs.Prelude.{◌+◌, ℕ, zero, suc, Bool, true, false, List, 
 use Rattle.std.specs.List.{list_any}
 use Rattle.std.specs.Str.Lines.{lines}
 use Rattle.pn_values.specs.Settings.{factory_settings}
-use Rattle.pn_values.specs.declared.identity.Identity.{Identity}
-use Rattle.pn_values.specs.declared.real.Real.{Real}
 use Rattle.pn_values.specs.declared.settings.Settings.{Settings}
 use Rattle.settings_journal.specs.Image.{capacity}
 use Rattle.device_core.specs.declared.event.Event.TheVariants as event
 use Rattle.device_core.specs.declared.event.Note.TheVariants.{Done}
-use Rattle.device_core.specs.State.{Live}
+use Rattle.device_core.specs.State.{Station as Device, Live}
 use Rattle.device_core.specs.Machine.{Stepped, step_of}
 use Rattle.device_core.specs.Cycle.{started}
-use Rattle.script_runner.specs.Demo.{demo, demo_real}
+use Rattle.script_runner.specs.Demo.{demo_device}
 use Rattle.script_runner.specs.Line.{Command, Frame, Restart, Tick, Show, Arm, Line, Unfit, Skipped, Asks, Unknown, meaning_of}
 use Rattle.script_runner.specs.Show.{shown}
 use Rattle.script_runner.specs.Text.{boot_line, out_lines, note_line}
 
--- a device without its flash: what it is, what is plugged in it, and what changes
+-- a device without its flash: what it is, and what changes
 pub record Station : Type 0 where
-  pub identity : Identity
-  pub real : Real
+  pub device : Device
   pub live : Live
 
--- what the device is stays, and so does what is plugged in
+-- what the device is stays
 abbrev pub turned_to : Station → Live → Station
-turned_to station live = record { identity = station.identity; real = station.real; live = live }
+turned_to station live = record { device = station.device; live = live }
 
 -- the demo device, started from these settings
 abbrev pub demo_started : Settings → ℕ → Station
-demo_started settings room = record { identity = demo; real = demo_real; live = started settings room }
+demo_started settings room = record { device = demo_device; live = started settings room }
 
 -- the device after a line, and what the line prints
 pub record Answer : Type 0 where
@@ -44,7 +41,7 @@ step_answer station step = record { station = turned_to station step.live; text 
 abbrev pub ticked : ℕ → Station → Answer
 ticked zero station = record { station = station; text = [] }
 ticked (suc units) station =
-    let step = step_of [] station.identity station.live event.Tick in
+    let step = step_of [] station.device station.live event.Tick in
     let later = ticked units (turned_to station step.live) in
     record { station = later.station; text = out_lines step.frames ++ later.text }
 
@@ -55,7 +52,7 @@ tick_answer answer = record { station = answer.station; text = answer.text ++ no
 -- What a command does. Of more than 1,519 bytes the first 1,519 are handed in, which are refused alike. A restart starts
 -- the device from what is stored, and an order to the flash is none to the device.
 unfoldable pub said : Station → Command → Answer
-said station (Frame bytes) = step_answer station (step_of [] station.identity station.live (event.Frame (record { items = take 1519 bytes })))
+said station (Frame bytes) = step_answer station (step_of [] station.device station.live (event.Frame (record { items = take 1519 bytes })))
 said station Restart = record { station = demo_started station.live.values.stored station.live.values.room; text = boot_line None }
 said station (Tick units) = tick_answer (ticked units station)
 said station Show = record { station = station; text = shown station.live.values.running station.live.values.stored station.live.rest.lamp }

@@ -16,15 +16,14 @@ use Rattle.script_runner.specs.declared.fault.RunFault.TheVariants.{Write, OutOf
 use Rattle.script_runner.specs.Line.{Command, Frame, Restart, Tick, Show, Arm, Line, Unfit, Skipped, Asks, Unknown}
 use Rattle.script_runner.specs.declared.session.Power.{Power}
 use Rattle.script_runner.specs.declared.session.Power.TheVariants.{On, Off, Away}
-use Rattle.script_runner.specs.Demo.{demo, demo_real}
+use Rattle.script_runner.specs.Demo.{demo_device}
 use Rattle.script_runner.specs.Output.{AppendsFront}
 use Rattle.script_runner.specs.Script.{Station, turned_to, Answer, answer_of}
 use Rattle.script_runner.specs.Text.{boot_line, off_line, out_lines}
 
 -- this station, over a flash whose calls do not fail, and none has
 pub record Runs (station : Station) (device : State (MemoryFlash 4096)) : Type 0 where
-  pub identity_is : device.identity ≡ station.identity
-  pub real_is : device.real ≡ station.real
+  pub station_is : device.station ≡ station.device
   pub live_is : device.live ≡ station.live
   pub reliable : IsReliable device.flash
   pub unfailed : device.live.values.has_failed ≡ false
@@ -50,7 +49,7 @@ is_off Away = true
 
 -- the demo device runs, whatever its settings, or its start was refused
 abbrev pub IsDemo : Power → Type 0
-IsDemo (On device) = (device.identity ≡ demo) × (device.real ≡ demo_real)
+IsDemo (On device) = device.station ≡ demo_device
 IsDemo (Off fault flash) = Unit {0}
 IsDemo Away = ⊥
 

@@ -69,5 +69,7 @@ fn word(note: Note) -> &'static [u8]
         Note::NotMine => b"not-mine",
         Note::Fault => b"fault",
         Note::Filter => b"filter",
+        Note::OldCall => b"old-call",
+        Note::NoRelation => b"no-relation",
     }
 }

@@ -5,7 +5,6 @@ ghost use Rattle.flash_model.specs.Image.{erased};
 ghost use Rattle.flash_model.specs.Memory.{image_of, IsReliable};
 ghost use Rattle.settings_journal.specs.Image.{StartsWith, LeftByDevice};
 ghost use Rattle.device_core.specs.declared.event.Event.TheVariants as event;
-ghost use Rattle.device_core.specs.Steps.{IsSame};
 ghost use Rattle.device_core.specs.Machine.{step_of};
 ghost use Rattle.script_runner.specs.Read.{line_read};
 ghost use Rattle.script_runner.specs.Script.{Station, demo_started, step_answer, ticked};
@@ -307,8 +306,8 @@ fn step(
     text: &mut Vec<u8>,
 ) -> Result<Note, AllocError>
     ensures steps { (station : Station) → Runs station device.old →
-        IfOk result (λ note. IsStepped station (step_of [] station.identity station.live event.now) device.new text.old.items text.new.items note) }
-    ensures same { IsSame device.old device.new }
+        IfOk result (λ note. IsStepped station (step_of [] station.device station.live event.now) device.new text.old.items text.new.items note) }
+    ensures same { device.new.station ≡ device.old.station }
 {
     let note = device.step(event, outbox);
     render::outs(outbox.as_slice(), text)?;
@@ -323,8 +322,8 @@ fn respond(
     text: &mut Vec<u8>,
 ) -> Result<(), AllocError>
     ensures done { (station : Station) → Runs station device.old →
-        OnOk result (IsDone (step_answer station (step_of [] station.identity station.live event.now)) device.new text.old.items text.new.items) }
-    ensures same { IsSame device.old device.new }
+        OnOk result (IsDone (step_answer station (step_of [] station.device station.live event.now)) device.new text.old.items text.new.items) }
+    ensures same { device.new.station ≡ device.old.station }
 {
     let note = step(device, event, outbox, text)?;
     if device.flash().is_lost() {
@@ -343,7 +342,7 @@ fn ticks(
 ) -> Result<(), AllocError>
     ensures ticked { (station : Station) → Runs station device.old →
         OnOk result (IsDone (ticked units station) device.new text.old.items text.new.items) }
-    ensures same { IsSame device.old device.new }
+    ensures same { device.new.station ≡ device.old.station }
 {
     let mut left = units;
     while left > 0 {

@@ -12,4 +12,4 @@ returns-clause-refused g c = λ refused.
 pub returns-clause-identify : goal.returns-clause-identify
 returns-clause-identify g c = λ asker request is identify.
     identify_step g.F.Flash.image g.F.Flash.failures g.F.Flash.asked c.args.self.now c.respond.new.self _ _ _ c.respond.ensures.steps asker request
-    (sym c.hear-heard.ensures ∙ ap (λ s. heard_of s.identity c.args.event.now) c.self.view_is ∙ is) identify
+    (sym c.hear-heard.ensures ∙ ap (λ s. heard_of s.station.identity c.args.event.now) c.self.view_is ∙ is) identify

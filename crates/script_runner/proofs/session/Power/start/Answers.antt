@@ -6,8 +6,7 @@ pub returns-in-Ok-clause-stored : goal.returns-in-Ok-clause-stored
 returns-in-Ok-clause-stored c settings room reliable left starts =
     let live = c.in-Ok.ensures.known settings room starts in
     record {
-      identity_is = c.in-Ok.ensures.identity.0 ∙ c.identity.ensures;
-      real_is = c.in-Ok.ensures.identity.1 ∙ c.real.ensures;
+      station_is = rw (c.identity.ensures, c.real.ensures) at c.in-Ok.ensures.station;
       live_is = live;
       reliable = c.in-Ok.ensures.reliable reliable;
       unfailed = ap (λ l. l.values.has_failed) live;

@@ -12,6 +12,6 @@ unfolding said
 returns-in-On-clause-obeys c station running =
     let runs : Runs station c.in-On.device = subst (IsRunning station) c.in-On.is running in
     let done = subst
-    (λ event. OnOk c.respond.result (IsDone (step_answer station (step_of [] station.identity station.live event)) c.respond.new.device c.args.self.now.text.items c.respond.new.text.items))
+    (λ event. OnOk c.respond.result (IsDone (step_answer station (step_of [] station.device station.live event)) c.respond.new.device c.args.self.now.text.items c.respond.new.text.items))
     c.receive.ensures (c.respond.ensures.done station runs) in
     on_ok_weaker c.respond.result (done_obeyed _ c.respond.new.device c.args.self.now.text.items c.respond.new.text.items) done
