@@ -18,6 +18,8 @@ import sys
 
 ROOT = pathlib.Path(__file__).parent.parent
 PROGRAM = ROOT / "crates/block_bench/out/block_bench"
+# how the names of functions begin that read or write blocks
+CRATES_OF_BLOCKS = "(?:block_codec|connect_blocks|module_lists|module_blocks|record_blocks)::"
 MOST_INSTRUCTIONS = 60_000
 # of a block without lists, which needs no room
 MOST_OF_ONE = 2_000
@@ -117,10 +119,10 @@ def frame(body):
     return sum(looped) + sum(int(size, 16) for size in re.findall(r"sub +\$0x([0-9a-f]+),%rsp", straight))
 
 
-def largest_frame():
-    """The octets of the largest frame of a function that reads or writes blocks, as the program was built."""
-    listing = subprocess.run(["objdump", "-d", "--no-show-raw-insn", PROGRAM], capture_output=True, text=True, check=True).stdout
-    functions = re.findall(r"<((?:block_codec|connect_blocks|module_lists|module_blocks|record_blocks)::[^\n]*)>:\n(.*?)\n\n", listing, re.DOTALL)
+def largest_frame(program, names):
+    """The octets of the largest frame of a function whose name begins so, as the program was built, and its name."""
+    listing = subprocess.run(["objdump", "-d", "--no-show-raw-insn", program], capture_output=True, text=True, check=True).stdout
+    functions = re.findall(rf"<((?:{names})[^\n]*)>:\n(.*?)\n\n", listing, re.DOTALL)
     return max((frame(body), name) for name, body in functions)
 
 
@@ -136,7 +138,7 @@ def main():
     if "as they came: true" not in said:
         sys.exit(f"the blocks are not written as they came: {said}")
     measured.append(("octets of a block in memory", int(re.search(r"a block (\d+) octets", said)[1]), MOST_ON_THE_STACK))
-    octets, name = largest_frame()
+    octets, name = largest_frame(PROGRAM, CRATES_OF_BLOCKS)
     measured.append((f"octets of the largest frame on the stack, of {name}", octets, MOST_ON_THE_STACK))
     for what, figure, bound in measured:
         print(f"{figure} {what} (at most {bound}){'' if figure <= bound else ': over its bound'}")

@@ -9,6 +9,10 @@ import subprocess
 import sys
 import time
 
+import blocks
+import calls
+from program import launcher
+
 IDENTIFY = "frame 010ecf0000000200000000028892fefe05000000000100010004ffff0000\n"
 IDENTIFY_OTHER = "frame 010ecf0000000200000000028892fefe0500000000010001000a0202000670756d702d39\n"
 SET_REFUSED = "frame 0200000000010200000000028892fefd0400000000020000000802020004000161ff\n"
@@ -30,14 +34,24 @@ MOST_MEMORY = 24
 MOST_TO_READ = 6
 MOST_TO_PRINT = 6
 
-# What a step is measured on: a line of a script, how many steps it makes, and how many instructions a step may take.
+# What a step is measured on: the script in front, what gives the line of each number, how many steps a line makes, and how
+# many instructions a step may take.
 STEPS = (
-    ("a tick", TICK, 100, 200),
-    ("an Identify", IDENTIFY, 1, 6000),
-    ("an Identify that does not match", IDENTIFY_OTHER, 1, 8000),
-    ("a Set that is refused", SET_REFUSED, 1, 8000),
-    ("a Get of 16 pairs", GET_16, 1, 8000),
+    ("a tick", "", lambda _: TICK, 100, 200),
+    ("an Identify", "", lambda _: IDENTIFY, 1, 6000),
+    ("an Identify that does not match", "", lambda _: IDENTIFY_OTHER, 1, 8000),
+    ("a Set that is refused", "", lambda _: SET_REFUSED, 1, 8000),
+    ("a Get of 16 pairs", "", lambda _: GET_16, 1, 8000),
+    ("an ARP request", calls.SET_SUITE, lambda _: calls.ARP, 1, 2500),
+    ("a Read Implicit of I&M0", calls.SET_SUITE, calls.read_implicit, 1, 12000),
+    ("the same call again", calls.SET_SUITE + calls.read_implicit(0), lambda _: calls.read_implicit(0), 1, 6000),
+    ("a datagram of 164 octets for another port", calls.SET_SUITE, lambda number: calls.read_implicit(number, 161), 1, 3500),
 )
+
+# Octets of a device in memory without the two sectors of its flash, and of the largest frame on the stack of a step.
+MOST_IN_MEMORY = 16 * 1024
+MOST_ON_THE_STACK = 16 * 1024
+SECTORS = 2 * 4096
 
 # In a listing of callgrind: the device's step, and the script's, which also prints the frames that were sent. It is taken
 # where the compiler made one function of both.
@@ -106,27 +120,28 @@ def instructions(program, script, file):
 def each(program, front, line, steps, file):
     """The same for one step: what twice as many lines take beyond what half of them take."""
     count = 1000 // steps
-    once = instructions(program, front + line * count, file)
-    twice = instructions(program, front + line * 2 * count, file)
+    lines = [line(number) for number in range(2 * count)]
+    once = instructions(program, front + "".join(lines[:count]), file)
+    twice = instructions(program, front + "".join(lines), file)
     return [None if a is None or b is None else (b - a) / (count * steps) for a, b in zip(once, twice)]
 
 
-def sent(program, line):
-    """How many bytes the device sends at this line."""
-    printed = subprocess.run([program, "run"], input=line.encode(), capture_output=True, check=True).stdout
+def sent(program, script):
+    """How many bytes the device sends in this script."""
+    printed = subprocess.run([program, "run"], input=script.encode(), capture_output=True, check=True).stdout
     return sum(len(out) // 2 - 2 for out in printed.split(b"\n") if out.startswith(b"out "))
 
 
 def printing(program, file):
     """The instructions of the printing of a byte, by two Identify answers that differ by 240 bytes. None where the
     compiler made no function of a step and its printing."""
-    longer, shorter = (each(program, front, IDENTIFY, 1, file)[1] for front in (SET_LONGEST, ""))
+    longer, shorter = (each(program, front, lambda _: IDENTIFY, 1, file)[1] for front in (SET_LONGEST, ""))
     return None if longer is None or shorter is None else (longer - shorter) / 240
 
 
 def reading(program, file):
     """The instructions of the reading of a byte, by two frames for another station that differ by 1,000 bytes."""
-    longer, shorter = (each(program, "", NOT_MINE + octets * "5a" + "\n", 1, file)[2] for octets in (1400, 400))
+    longer, shorter = (each(program, "", lambda _: NOT_MINE + octets * "5a" + "\n", 1, file)[2] for octets in (1400, 400))
     return (longer - shorter) / 1000
 
 
@@ -141,25 +156,39 @@ def print_hex(program, file):
     return keeps("the printing of a byte", printed, MOST_TO_PRINT) and is_kept
 
 
-def print_step(program, file, name, line, steps, bound):
+def print_step(program, file, name, front, line, steps, bound):
     """The instructions of a step. Where it is no function of its own, the printing of its bytes is taken off. Says whether
     they keep the bound."""
-    step, printing_too, whole = each(program, "", line, steps, file)
+    step, printing_too, whole = each(program, front, line, steps, file)
     if step is not None:
         print(f"{name}: {step:.0f} instructions a step (at most {bound}); {whole:.0f} with all of its line")
         return keeps(name, step, bound)
     if printing_too is None:
         print(f"{name}: {whole:.0f} instructions with all of its line (a step: at most {bound})")
         return keeps(name, whole, bound)
-    octets = sent(program, line)
+    octets = sent(program, front + line(0)) - sent(program, front)
     step = printing_too - octets * printing(program, file)
     print(f"{name}: about {step:.0f} instructions a step (at most {bound}); {printing_too:.0f} with the printing of "
           f"{octets} bytes, {whole:.0f} with all of its line")
     return keeps(name, step, bound)
 
 
+def print_room(program, bench):
+    """How large a device is, and the largest frame on the stack of a step. Says whether they keep their bounds."""
+    said = subprocess.run([bench], capture_output=True, text=True, check=True).stdout
+    device, flash = map(int, re.findall(r"\d+", said))
+    print(f"a device in memory: {device} octets, of which {SECTORS} are the sectors of its flash and {flash - SECTORS} else of it: "
+          f"{device - SECTORS} (at most {MOST_IN_MEMORY})")
+    known = launcher()
+    below = "|".join(known.stands_on("device_core", known.crates(), []))
+    octets, name = blocks.largest_frame(program, rf"\S*(?:{below})::|script_runner::session::step")
+    print(f"the largest frame on the stack of a step: {octets} octets, of {name} (at most {MOST_ON_THE_STACK})")
+    is_small = keeps("a device in memory", device - SECTORS, MOST_IN_MEMORY)
+    return keeps("the largest frame", octets, MOST_ON_THE_STACK) and is_small
+
+
 def main():
-    program, echo, helper, build = sys.argv[1:]
+    program, echo, helper, bench, build = sys.argv[1:]
     scripts = {"200,000 Identify frames": IDENTIFY * 200_000, "16 MiB of empty lines": "\n" * 16_777_216}
     kept = []
     for number, (name, text) in enumerate(scripts.items()):
@@ -170,6 +199,7 @@ def main():
     file = os.path.join(build, "callgrind.out")
     kept.append(print_hex(program, file))
     kept += [print_step(program, file, *step) for step in STEPS]
+    kept.append(print_room(program, bench))
     return 0 if all(kept) else 1
 
 

@@ -1,7 +1,8 @@
 #!/usr/bin/env bash
 # Runs a script by the proved program (`./pnscript prove` makes it) and writes its frames, those that come in and those that
-# are sent, in their order into a capture file for Wireshark; then lists them as tshark reads them. Its status is 1 where a
-# frame is not PN-DCP or is malformed.
+# are sent, in their order into a capture file for Wireshark; then lists them as tshark reads them, and counts them. Its status
+# is 1 where tshark does not read a frame as what its EtherType and its port say (DCP, ARP, a call of PROFINET IO, a datagram
+# for another port), finds it malformed or finds a wrong checksum, or where it finds no call for a response.
 # Use: bench/wireshark.sh SCRIPT FILE.pcapng. Needs awk, sed, and text2pcap and tshark (Debian: apt-get install tshark).
 set -euo pipefail
 here=$(cd "$(dirname "$0")" && pwd)
@@ -9,7 +10,8 @@ script=$1
 capture=$2
 program=$(python3 "$here/program.py")
 printed=$(mktemp)
-trap 'rm -f "$printed"' EXIT
+frames=$(mktemp)
+trap 'rm -f "$printed" "$frames"' EXIT
 "$program" run < "$script" > "$printed"
 
 # The frames of the script and of its output, one a line in hex, each answer behind its request.
@@ -20,7 +22,7 @@ conversation() {
         BEGIN { next_line(); next_line() }                      # behind the first boot
         { sub(/\r$/, "") }
         /^(#|$)/ { next }
-        $1 == "frame" { print $2 }
+        $1 == "frame" { print tolower($2) }
         is_left("^off$") { next_line(); next }
         $1 == "restart" { next_line() }
         $1 == "show" { while (is_left("^(name|ip|stored-name|stored-ip|im[1-9]|lamp|phase|output|state) ")) next_line() }
@@ -31,9 +33,32 @@ conversation() {
     ' "$script"
 }
 
-conversation | sed 's/../ &/g; s/^/000000/' | text2pcap -q - "$capture"
+# How many frames have this EtherType, with a tag or without, and then this in front of what they carry.
+count() {
+    grep -cE "^.{24}(8100.{4})?$1" "$frames" || true
+}
+
+# How many frames tshark reads as this, with nothing malformed and right checksums.
+count_read() {
+    tshark -o ip.check_checksum:TRUE -o udp.check_checksum:TRUE -r "$capture" \
+        -Y "($1) && !_ws.malformed && !(ip.checksum.status == \"Bad\") && !(udp.checksum.status == \"Bad\")" | wc -l
+}
+
+status=0
+# Prints a count, by EtherType and port, and what tshark reads. They have to be the same.
+compare() {
+    echo "$1: $2, read by tshark: $3"
+    [ "$2" -eq "$3" ] || status=1
+}
+
+conversation > "$frames"
+sed 's/../ &/g; s/^/000000/' "$frames" | text2pcap -q - "$capture"
 tshark -r "$capture"
-frames=$(tshark -r "$capture" | wc -l)
-strange=$(tshark -r "$capture" -Y '!pn_dcp || _ws.malformed || data' | wc -l)
-echo "$frames frames, $strange of them malformed or not PN-DCP"
-[ "$strange" -eq 0 ]
+call='0800.{40}(8894.{4}|.{4}8894)'
+compare 'frames' "$(wc -l < "$frames")" "$(count_read 'pn_dcp || arp || pn_io.opnum || (udp && !dcerpc)')"
+compare 'of DCP' "$(count 8892)" "$(count_read pn_dcp)"
+compare 'of ARP' "$(count 0806)" "$(count_read arp)"
+compare 'calls and responses' "$(count "$call")" "$(count_read pn_io.opnum)"
+compare 'responses, each behind its call' "$(count "$call.{8}.{2}02")" "$(count_read 'dcerpc.pkt_type == 2 && dcerpc.request_in')"
+compare 'for another port' "$(($(count 0800) - $(count "$call")))" "$(count_read 'udp && !dcerpc')"
+exit $status
