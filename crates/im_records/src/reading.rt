@@ -33,7 +33,7 @@ pub fn read_record(
 }
 
 /// Whether a submodule is plugged in this slot and subslot.
-fn is_real(real: &Real, slot: u16, subslot: u16) -> bool
+pub fn is_real(real: &Real, slot: u16, subslot: u16) -> bool
     ensures { result ≡ is_real real.now slot subslot }
 {
     real.modules

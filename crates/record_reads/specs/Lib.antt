@@ -1,0 +1,4 @@
+pub mod Parameters
+pub mod Answer
+pub mod Judged
+pub mod Implicit

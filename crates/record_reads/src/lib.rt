@@ -1,0 +1,12 @@
+//! Records that are read (IEC 61158-6-10, 5.2.3): in which order a call is judged, and what answers it.
+#![tactic(auto)]
+
+mod answering;
+mod implicit;
+mod judging;
+mod parameters;
+
+pub use answering::put_read_answer;
+pub use implicit::{Blocks, read_implicit};
+pub use judging::{check_place, read_request};
+pub use parameters::has_parameter;
