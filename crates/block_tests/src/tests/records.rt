@@ -53,7 +53,7 @@ fn identity() -> Identity {
 }
 
 /// Settings whose texts all differ.
-fn settings() -> Settings {
+pub(crate) fn settings() -> Settings {
     Settings {
         im1: Padded::new(*b"the function of this station is.between press and oven"),
         im2: Padded::new(*b"2024-05-06 07:08"),
@@ -63,7 +63,7 @@ fn settings() -> Settings {
 }
 
 /// A module with these submodules.
-fn module(slot: u16, ident: u32, parts: &[(u16, u32)]) -> RealModule {
+pub(crate) fn module(slot: u16, ident: u32, parts: &[(u16, u32)]) -> RealModule {
     let mut submodules: ArrayVec<RealSubmodule, 4> = ArrayVec::new();
     for (subslot, ident) in parts {
         let _ = submodules.try_push(RealSubmodule {

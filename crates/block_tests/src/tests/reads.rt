@@ -1,0 +1,264 @@
+// Records that are read by a Read Implicit, octet by octet.
+use super::records::{module, settings};
+use arrayvec::ArrayVec;
+use pn_values::{Identity, Mac, ParameterRecord, Real, RealSubmodule};
+use pnio_status::{CallFault, Operation};
+use record_reads::{Blocks, read_implicit};
+
+/// I&M0 of the station below.
+const IM0: [u8; 60] =
+    *b"\x00\x20\x00\x38\x01\x00\x01\x23                                    \x00\x00V\x00\x00\x00\x00\x00\x00\x00\x00\x00\x01\x01\x00\x0E";
+
+/// A station whose texts are spaces.
+fn station() -> Identity {
+    Identity {
+        mac: Mac {
+            octets: [2, 0, 0, 0, 0, 1],
+        },
+        station_type: ArrayVec::new(),
+        vendor_id: 0x0123,
+        device_id: 0x0456,
+        instance: 1,
+        order_id: [b' '; 20],
+        serial_number: [b' '; 16],
+        hardware_revision: 0,
+        software_revision: [b'V', 0, 0, 0],
+        profile_id: 0,
+        profile_specific_type: 0,
+    }
+}
+
+/// A submodule with parameter records 1 and 700.
+fn with_parameters() -> RealSubmodule {
+    let mut parameters: ArrayVec<ParameterRecord, 2> = ArrayVec::new();
+    parameters.push(ParameterRecord {
+        index: 1,
+        length: 4,
+    });
+    parameters.push(ParameterRecord {
+        index: 700,
+        length: 1,
+    });
+    RealSubmodule {
+        subslot: 2,
+        ident: 33,
+        input: 0,
+        output: 0,
+        parameters,
+    }
+}
+
+/// An access point, and two modules, of which the second has a submodule with parameter records too.
+fn plugged() -> Real {
+    let mut modules = ArrayVec::new();
+    modules.push(module(0, 1, &[(1, 1), (0x8000, 2), (0x8001, 3)]));
+    modules.push(module(1, 16, &[(1, 16)]));
+    let mut last = module(2, 32, &[(1, 32)]);
+    let _ = last.submodules.try_push(with_parameters());
+    modules.push(last);
+    Real { modules }
+}
+
+/// What a Read Implicit asks for.
+#[derive(Clone, Copy)]
+struct Asked {
+    kind: u16,
+    version: u8,
+    api: u32,
+    slot: u16,
+    subslot: u16,
+    index: u16,
+    length: u32,
+}
+
+/// Record 0xAFF0 of the access point.
+const GOOD: Asked = Asked {
+    kind: 0x0009,
+    version: 1,
+    api: 0,
+    slot: 0,
+    subslot: 1,
+    index: 0xAFF0,
+    length: 4096,
+};
+
+impl Asked {
+    /// The IODReadReqHeader, of SeqNumber 0x0A0B and an ARUUID of 7s.
+    fn octets(self) -> [u8; 64] {
+        let mut octets = [0; 64];
+        octets[..2].copy_from_slice(&self.kind.to_be_bytes());
+        octets[3] = 60;
+        octets[4] = self.version;
+        octets[6] = 0x0A;
+        octets[7] = 0x0B;
+        octets[8..24].copy_from_slice(&[7; 16]);
+        octets[24..28].copy_from_slice(&self.api.to_be_bytes());
+        octets[28..30].copy_from_slice(&self.slot.to_be_bytes());
+        octets[30..32].copy_from_slice(&self.subslot.to_be_bytes());
+        octets[34..36].copy_from_slice(&self.index.to_be_bytes());
+        octets[36..40].copy_from_slice(&self.length.to_be_bytes());
+        octets
+    }
+}
+
+/// What these octets are answered.
+fn answered(octets: &[u8]) -> Result<Blocks, CallFault> {
+    let mut answer = Blocks::new();
+    read_implicit(&station(), &plugged(), &settings(), octets, &mut answer)?;
+    Ok(answer)
+}
+
+/// The four octets of the status by which these octets are answered.
+fn refused(octets: &[u8]) -> Option<[u8; 4]> {
+    let status = answered(octets).err()?.number(Operation::ReadImplicit);
+    Some([status.code, status.decode, status.code1, status.code2])
+}
+
+/// IODReadResHeader with 60 octets of record 0xAFF0.
+const HEADER: [u8; 64] = [
+    0x80, 0x09, 0x00, 0x3C, 0x01, 0x00, 0x0A, 0x0B, 0x07, 0x07, 0x07, 0x07, 0x07, 0x07, 0x07, 0x07,
+    0x07, 0x07, 0x07, 0x07, 0x07, 0x07, 0x07, 0x07, 0x00, 0x00, 0x00, 0x00, 0x00, 0x00, 0x00, 0x01,
+    0x00, 0x00, 0xAF, 0xF0, 0x00, 0x00, 0x00, 0x3C, 0x00, 0x00, 0x00, 0x00, 0x00, 0x00, 0x00, 0x00,
+    0x00, 0x00, 0x00, 0x00, 0x00, 0x00, 0x00, 0x00, 0x00, 0x00, 0x00, 0x00, 0x00, 0x00, 0x00, 0x00,
+];
+
+#[test]
+fn answers_with_the_whole_record(rt: HostRuntime) {
+    let Ok(answer) = answered(&GOOD.octets()) else {
+        panic!(rt; "refused");
+    };
+    assert_eq!(rt;
+        answer.as_slice().split_at_checked(64),
+        Some((HEADER.as_slice(), IM0.as_slice()))
+    );
+}
+
+/// RecordDataLength of an answer, and the record.
+fn sent(answer: &Blocks) -> Option<(&[u8], &[u8])> {
+    let (header, record) = answer.as_slice().split_at_checked(64)?;
+    Some((header.get(36..40)?, record))
+}
+
+#[test]
+fn answers_with_as_much_as_is_asked_for(rt: HostRuntime) {
+    for (length, told) in [(0, 0), (1, 1), (10, 10), (59, 59), (60, 60), (61, 60)] {
+        let Ok(answer) = answered(&Asked { length, ..GOOD }.octets()) else {
+            panic!(rt; "refused");
+        };
+        let Some((record_data_length, record)) = sent(&answer) else {
+            panic!(rt; "no header");
+        };
+        assert_eq!(rt; record_data_length, [0, 0, 0, told].as_slice());
+        assert_eq!(rt; Some(record), IM0.get(..told as usize));
+    }
+}
+
+/// A way in which a call is wrong.
+#[derive(Clone, Copy)]
+enum Wrong {
+    Kind,
+    Version,
+    Api,
+    Slot,
+    Index,
+}
+
+impl Wrong {
+    /// A call that is wrong in this way too.
+    fn put(self, asked: Asked) -> Asked {
+        match self {
+            Wrong::Kind => Asked {
+                kind: 0x0008,
+                ..asked
+            },
+            Wrong::Version => Asked {
+                version: 2,
+                ..asked
+            },
+            Wrong::Api => Asked { api: 1, ..asked },
+            Wrong::Slot => Asked { slot: 3, ..asked },
+            Wrong::Index => Asked {
+                index: 0xAFF5,
+                ..asked
+            },
+        }
+    }
+}
+
+/// The faults of a whole block, in their order.
+const ORDER: [(Wrong, [u8; 4]); 5] = [
+    (Wrong::Kind, [0xDE, 0x81, 0x40, 0x01]),
+    (Wrong::Version, [0xDE, 0x81, 0x40, 0x00]),
+    (Wrong::Api, [0xDE, 0x80, 0xB4, 0x00]),
+    (Wrong::Slot, [0xDE, 0x80, 0xB2, 0x00]),
+    (Wrong::Index, [0xDE, 0x80, 0xB0, 0x00]),
+];
+
+#[test]
+fn tells_the_first_of_two_faults(rt: HostRuntime) {
+    for (place, (first, status)) in ORDER.iter().enumerate() {
+        for (second, _) in &ORDER[place..] {
+            let octets = first.put(second.put(GOOD)).octets();
+            assert_eq!(rt; refused(&octets), Some(*status));
+        }
+    }
+}
+
+#[test]
+fn judges_what_is_there_of_a_block_first(rt: HostRuntime) {
+    let good = GOOD.octets();
+    let other = Asked {
+        kind: 0x0008,
+        ..GOOD
+    }
+    .octets();
+    assert_eq!(rt; refused(&[]), Some([0xDE, 0x81, 0x40, 0x01]));
+    for length in 1..4 {
+        assert_eq!(rt; refused(&good[..length]), Some([0xDE, 0x81, 0x40, 0x00]));
+        assert_eq!(rt; refused(&other[..length]), Some([0xDE, 0x81, 0x40, 0x00]));
+    }
+    for length in 4..64 {
+        assert_eq!(rt; refused(&good[..length]), Some([0xDE, 0x81, 0x40, 0x00]));
+        assert_eq!(rt; refused(&other[..length]), Some([0xDE, 0x81, 0x40, 0x01]));
+    }
+}
+
+#[test]
+fn does_not_look_behind_the_block(rt: HostRuntime) {
+    let mut octets = [0xFF; 65];
+    octets[..64].copy_from_slice(&GOOD.octets());
+    assert!(rt; answered(&octets).is_ok());
+}
+
+/// The status of the read of this record, with all of it asked for.
+fn status_of(slot: u16, subslot: u16, index: u16) -> Option<[u8; 4]> {
+    refused(&Asked {
+        slot,
+        subslot,
+        index,
+        ..GOOD
+    }
+    .octets())
+}
+
+#[test]
+fn reads_no_parameter_record(rt: HostRuntime) {
+    assert_eq!(rt; status_of(2, 2, 1), Some([0xDE, 0x80, 0xB6, 0x00]));
+    assert_eq!(rt; status_of(2, 2, 700), Some([0xDE, 0x80, 0xB6, 0x00]));
+    // they are known at their submodule alone
+    assert_eq!(rt; status_of(2, 2, 2), Some([0xDE, 0x80, 0xB0, 0x00]));
+    assert_eq!(rt; status_of(2, 1, 1), Some([0xDE, 0x80, 0xB0, 0x00]));
+    assert_eq!(rt; status_of(1, 2, 1), Some([0xDE, 0x80, 0xB2, 0x00]));
+}
+
+#[test]
+fn reads_what_is_plugged_in_from_any_place(rt: HostRuntime) {
+    assert_eq!(rt; status_of(0, 1, 0xF840), None);
+    assert_eq!(rt; status_of(9, 9, 0xF840), None);
+    // the difference of a relation is read within the relation alone
+    assert_eq!(rt; status_of(0, 1, 0xE002), Some([0xDE, 0x80, 0xB0, 0x00]));
+    assert_eq!(rt; status_of(9, 9, 0xE002), Some([0xDE, 0x80, 0xB0, 0x00]));
+    // the texts stand at the access point alone
+    assert_eq!(rt; status_of(0, 1, 0xAFF3), None);
+    assert_eq!(rt; status_of(1, 1, 0xAFF3), Some([0xDE, 0x80, 0xB0, 0x00]));
+}
