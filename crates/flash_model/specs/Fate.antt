@@ -2,29 +2,64 @@
 use Rattle.std.specs.Prelude.{◌+◌, ◌-◌, ◌%◌, ◌++◌, ℕ, zero, suc, Bool, true, false, List, length, take, drop, map, min, slice_index, slice_range, Option, Some, None, is_ok, Result, bit_and, bit_or, if◌then◌else◌}
 use Rattle.std.specs.List.{range_with_len}
 use Rattle.flash_model.specs.declared.flash.Order.{Order}
-use Rattle.flash_model.specs.declared.flash.Order.TheVariants.{Cut}
+use Rattle.flash_model.specs.declared.flash.Order.TheVariants.{Cut, Fault, ReadFault}
 use Rattle.flash_model.specs.declared.fate.Fate.{Fate}
 use Rattle.flash_model.specs.declared.fate.Fate.TheVariants.{Passes, Tears, Fails}
 
--- Without power a call fails. An order that lets no further call pass tears this one.
+-- What becomes of a program or erase call. Without power it fails. An order that lets no further one pass strikes this one; an
+-- order to reads strikes none.
 abbrev pub fate_of : Bool → Option Order → Fate
 fate_of true armed = Fails
 fate_of false None = Passes
 fate_of false (Some (Cut zero mask)) = Tears mask
 fate_of false (Some (Cut (suc after) mask)) = Passes
+fate_of false (Some (Fault zero mask)) = Tears mask
+fate_of false (Some (Fault (suc after) mask)) = Passes
+fate_of false (Some (ReadFault after)) = Passes
 
--- What is armed behind a call: an order that struck is gone, and one that let the call pass lets one fewer pass.
+-- What is armed behind a program or erase call: an order that struck is gone, and one that let the call pass lets one fewer pass.
 abbrev pub armed_after : Bool → Option Order → Option Order
 armed_after true armed = armed
 armed_after false None = None
 armed_after false (Some (Cut zero mask)) = None
 armed_after false (Some (Cut (suc after) mask)) = Some (Cut after mask)
+armed_after false (Some (Fault zero mask)) = None
+armed_after false (Some (Fault (suc after) mask)) = Some (Fault after mask)
+armed_after false (Some (ReadFault after)) = Some (ReadFault after)
 
--- whether power is lost behind a call
-abbrev pub lost_after : Fate → Bool
-lost_after Passes = false
-lost_after (Tears mask) = true
-lost_after Fails = true
+-- Whether a read passes: there is power, and no order to reads lets no further one pass.
+abbrev pub is_readable : Bool → Option Order → Bool
+is_readable true armed = false
+is_readable false None = true
+is_readable false (Some (Cut after mask)) = true
+is_readable false (Some (Fault after mask)) = true
+is_readable false (Some (ReadFault zero)) = false
+is_readable false (Some (ReadFault (suc after))) = true
+
+-- What is armed behind a read: an order to reads that struck is gone, and one that let the read pass lets one fewer pass.
+abbrev pub armed_after_read : Bool → Option Order → Option Order
+armed_after_read true armed = armed
+armed_after_read false None = None
+armed_after_read false (Some (Cut after mask)) = Some (Cut after mask)
+armed_after_read false (Some (Fault after mask)) = Some (Fault after mask)
+armed_after_read false (Some (ReadFault zero)) = None
+armed_after_read false (Some (ReadFault (suc after))) = Some (ReadFault after)
+
+-- what is armed against program and erase calls: an order to reads is none
+abbrev pub against_writes : Option Order → Option Order
+against_writes None = None
+against_writes (Some (Cut after mask)) = Some (Cut after mask)
+against_writes (Some (Fault after mask)) = Some (Fault after mask)
+against_writes (Some (ReadFault after)) = None
+
+-- whether power is lost behind a program or erase call: it was before, or a cut strikes
+abbrev pub lost_after : Bool → Option Order → Bool
+lost_after true armed = true
+lost_after false None = false
+lost_after false (Some (Cut zero mask)) = true
+lost_after false (Some (Cut (suc after) mask)) = false
+lost_after false (Some (Fault after mask)) = false
+lost_after false (Some (ReadFault after)) = false
 
 -- where the mask has a 0 the old bit, and where it has a 1 the new one
 abbrev pub torn_byte : ℕ → ℕ → ℕ → ℕ

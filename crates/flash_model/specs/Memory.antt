@@ -4,7 +4,7 @@ use Rattle.flash_model.specs.declared.flash.Order.{Order}
 use Rattle.flash_model.specs.declared.memory.MemoryFlash.{MemoryFlash}
 use Rattle.flash_model.specs.Image.{Image}
 use Rattle.flash_model.specs.declared.fate.Fate.{Fate}
-use Rattle.flash_model.specs.Fate.{fate_of, armed_after}
+use Rattle.flash_model.specs.Fate.{fate_of, armed_after, is_readable, armed_after_read, lost_after}
 
 -- the bytes of both sectors
 abbrev pub image_of : {S : ℕ} → MemoryFlash S → Image
@@ -33,3 +33,15 @@ next_fate flash = fate_of (is_powerless flash) (armed_in flash)
 -- what is armed behind the next program or erase call
 abbrev pub next_armed : {S : ℕ} → MemoryFlash S → Option Order
 next_armed flash = armed_after (is_powerless flash) (armed_in flash)
+
+-- whether power is lost behind the next program or erase call
+abbrev pub next_lost : {S : ℕ} → MemoryFlash S → Bool
+next_lost flash = lost_after (is_powerless flash) (armed_in flash)
+
+-- whether the next read passes
+abbrev pub next_readable : {S : ℕ} → MemoryFlash S → Bool
+next_readable flash = is_readable (is_powerless flash) (armed_in flash)
+
+-- what is armed behind the next read
+abbrev pub next_read_armed : {S : ℕ} → MemoryFlash S → Option Order
+next_read_armed flash = armed_after_read (is_powerless flash) (armed_in flash)

@@ -10,7 +10,7 @@ ghost use Rattle.flash_model.specs.Fate.{torn_byte, torn_bytes, sector_after, ch
 pub enum Fate {
     /// It is carried out.
     Passes,
-    /// Power is lost inside it: the mask has a 1 for each bit that is already new.
+    /// It fails inside: the mask has a 1 for each bit that is already new.
     Tears([u8; 8]),
     /// There is no power.
     Fails,

@@ -21,6 +21,11 @@ pub enum Order {
     /// Loses power in the program or erase call after `after` further ones. It leaves the old bit where the mask has
     /// a 0 and the new bit where it has a 1; the mask's 8 bytes repeat from the start of the call's range.
     Cut { after: u32, mask: [u8; 8] },
+    /// Fails the program or erase call after `after` further ones, which leaves bits as a cut does. Power stays, and the
+    /// calls behind it pass.
+    Fault { after: u32, mask: [u8; 8] },
+    /// Fails the read after `after` further ones. No byte changes, power stays, and the reads behind it pass.
+    ReadFault { after: u32 },
 }
 
 /// Two sectors of `S` bytes: 512 and 256 for each of 1 to 255 slots behind them. `erase` turns a sector to FF,

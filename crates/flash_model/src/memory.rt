@@ -1,5 +1,5 @@
-// A flash in memory, whose power can be lost inside a call.
-ghost use Rattle.std.specs.Prelude.{◌≡◌, ◌+◌, ◌≤◌, ◌↔◌, Option, None, Some, true, false, [], ◌∷◌, length, slice_range, IsOk, OnOk, OnErr, is_err, min};
+// A flash in memory, whose calls can be made to fail, with power lost inside one or not.
+ghost use Rattle.std.specs.Prelude.{◌≡◌, ◌+◌, ◌≤◌, ◌↔◌, Option, None, Some, true, false, [], ◌∷◌, length, slice_range, IsOk, OnOk, OnErr, min};
 ghost use Rattle.std.proofs.Props.{props};
 ghost use Rattle.flash_model.specs.Calls.{Programs, Erases, Arms};
 ghost use Rattle.flash_model.specs.Image.{IsImage, IsSectorSize, sector_of, with_sector, programmed, erased};
@@ -10,7 +10,9 @@ use crate::fate::{self, Fate};
 use crate::flash::{Flash, FlashFault, Order, Sector};
 
 /// A flash in memory. An order that was armed by [`fuse`](MemoryFlash::fuse) loses its power in a later call, which is
-/// then torn; until [`power_up`](MemoryFlash::power_up) each call fails.
+/// then torn; until [`power_up`](MemoryFlash::power_up) each call fails. One by [`fault`](MemoryFlash::fault) tears a later
+/// call, and one by [`fault_read`](MemoryFlash::fault_read) fails a later read; both leave it its power. One order is armed
+/// at a time.
 #[derive(Drop)]
 pub struct MemoryFlash<const S: usize> {
     first: [u8; S],
@@ -23,8 +25,8 @@ pub struct MemoryFlash<const S: usize> {
 }
 
 impl<const S: usize> MemoryFlash<S> {
-    ghost use Rattle.flash_model.specs.Memory.{image_of, armed_in, failures_of, is_powerless, next_fate, next_armed};
-    ghost use Rattle.flash_model.specs.declared.flash.Order.TheVariants.{Cut};
+    ghost use Rattle.flash_model.specs.Memory.{image_of, armed_in, failures_of, is_powerless, next_fate, next_armed, next_lost, next_readable, next_read_armed};
+    ghost use Rattle.flash_model.specs.declared.flash.Order.TheVariants.{Cut, Fault, ReadFault};
 
     /// A flash with both sectors erased, power there, nothing armed and no failure counted.
     pub fn blank() -> Self
@@ -77,6 +79,28 @@ impl<const S: usize> MemoryFlash<S> {
         self.armed = Some(Order::Cut { after, mask });
     }
 
+    /// Fails the program or erase call after `after` further ones, which is torn as by [`fuse`](MemoryFlash::fuse). Power
+    /// stays, and later calls pass. An order that was armed before is forgotten.
+    pub fn fault(&mut self, after: u32, mask: [u8; 8])
+        ensures armed { armed_in self.new ≡ Some (Fault after mask) }
+        ensures image { image_of self.new ≡ image_of self.old }
+        ensures failures { failures_of self.new ≡ failures_of self.old }
+        ensures lost { is_powerless self.new ≡ is_powerless self.old }
+    {
+        self.armed = Some(Order::Fault { after, mask });
+    }
+
+    /// Fails the read after `after` further ones. Power stays, and later reads pass. An order that was armed before is
+    /// forgotten.
+    pub fn fault_read(&mut self, after: u32)
+        ensures armed { armed_in self.new ≡ Some (ReadFault after) }
+        ensures image { image_of self.new ≡ image_of self.old }
+        ensures failures { failures_of self.new ≡ failures_of self.old }
+        ensures lost { is_powerless self.new ≡ is_powerless self.old }
+    {
+        self.armed = Some(Order::ReadFault { after });
+    }
+
     /// Gives power back, and changes nothing else: an order that has not struck stays armed.
     pub fn power_up(&mut self)
         ensures lost { is_powerless self.new ≡ false }
@@ -91,16 +115,20 @@ impl<const S: usize> MemoryFlash<S> {
     fn next_fate(&mut self) -> Fate
         ensures fate { result ≡ next_fate self.old }
         ensures armed { armed_in self.new ≡ next_armed self.old }
-        ensures lost { is_powerless self.new ≡ false ↔ (result ≡ Fate.Passes) }
+        ensures lost { is_powerless self.new ≡ next_lost self.old }
         ensures image { image_of self.new ≡ image_of self.old }
         ensures failures { failures_of self.new ≡ failures_of self.old }
     {
         match (self.is_lost, self.armed) {
             (true, _) => Fate::Fails,
-            (false, None) => Fate::Passes,
+            (false, None | Some(Order::ReadFault { .. })) => Fate::Passes,
             (false, Some(Order::Cut { after: 0, mask })) => {
                 self.armed = None;
                 self.is_lost = true;
+                Fate::Tears(mask)
+            }
+            (false, Some(Order::Fault { after: 0, mask })) => {
+                self.armed = None;
                 Fate::Tears(mask)
             }
             (false, Some(Order::Cut { after, mask })) => {
@@ -109,6 +137,35 @@ impl<const S: usize> MemoryFlash<S> {
                     mask,
                 });
                 Fate::Passes
+            }
+            (false, Some(Order::Fault { after, mask })) => {
+                self.armed = Some(Order::Fault {
+                    after: after - 1,
+                    mask,
+                });
+                Fate::Passes
+            }
+        }
+    }
+
+    /// Decides whether the next read passes, and takes it off the order that is armed.
+    fn next_read(&mut self) -> bool
+        ensures passes { result ≡ next_readable self.old }
+        ensures armed { armed_in self.new ≡ next_read_armed self.old }
+        ensures lost { is_powerless self.new ≡ is_powerless self.old }
+        ensures image { image_of self.new ≡ image_of self.old }
+        ensures failures { failures_of self.new ≡ failures_of self.old }
+    {
+        match (self.is_lost, self.armed) {
+            (true, _) => false,
+            (false, None | Some(Order::Cut { .. } | Order::Fault { .. })) => true,
+            (false, Some(Order::ReadFault { after: 0 })) => {
+                self.armed = None;
+                false
+            }
+            (false, Some(Order::ReadFault { after })) => {
+                self.armed = Some(Order::ReadFault { after: after - 1 });
+                true
             }
         }
     }
@@ -142,7 +199,7 @@ impl<const S: usize> MemoryFlash<S> {
 }
 
 impl<const S: usize> Flash<S> for MemoryFlash<S> {
-    ghost use Rattle.flash_model.specs.Memory.{image_of, armed_in, failures_of, is_powerless, next_fate, next_armed, IsReliable};
+    ghost use Rattle.flash_model.specs.Memory.{image_of, armed_in, failures_of, is_powerless, next_fate, next_armed, next_lost, next_readable, next_read_armed, IsReliable};
     ghost use Rattle.flash_model.specs.Asked.{IsAsked};
     ghost use Rattle.flash_model.specs.MemoryLaws.{IsImage-of, IsSectorSize-of, has_power-of, asked_nothing-of, asked_more-of};
 
@@ -156,7 +213,8 @@ impl<const S: usize> Flash<S> for MemoryFlash<S> {
 
     ghost asked = { IsAsked };
 
-    /// Reads the bytes from `place` on. It fails exactly where there is no power, and counts for no order.
+    /// Reads the bytes from `place` on. It fails exactly where there is no power or an order to reads strikes, and counts
+    /// for no other order.
     fn read(&mut self, sector: Sector, place: usize, buffer: &mut [u8]) -> Result<(), FlashFault>
         requires { place + length buffer.old ≤ S }
 
@@ -169,13 +227,13 @@ impl<const S: usize> Flash<S> for MemoryFlash<S> {
         ensures reliable { IsReliable self.old → IsOk result × IsReliable self.new }
 
         // What a flash in memory does beside, exactly.
-        ensures passes { IsOk result ↔ (is_powerless self.old ≡ false) }
+        ensures passes { IsOk result ↔ (next_readable self.old ≡ true) }
         ensures refused { OnErr result (buffer.new ≡ buffer.old) }
-        ensures armed { armed_in self.new ≡ armed_in self.old }
+        ensures armed { armed_in self.new ≡ next_read_armed self.old }
         ensures power { is_powerless self.new ≡ is_powerless self.old }
         ensures failures { failures_of self.new ≡ failures_after (failures_of self.old) result }
     {
-        if self.is_lost {
+        if !self.next_read() {
             return Err(self.failed());
         }
         let bytes = self.sector(sector);
@@ -201,7 +259,7 @@ impl<const S: usize> Flash<S> for MemoryFlash<S> {
         ensures passes { IsOk result ↔ (next_fate self.old ≡ Fate.Passes) }
         ensures image { image_of self.new ≡ with_sector (image_of self.old) sector (sector_after (next_fate self.old) place (place + length bytes.now) (programmed (sector_of (image_of self.old) sector) place bytes.now) (sector_of (image_of self.old) sector)) }
         ensures armed { armed_in self.new ≡ next_armed self.old }
-        ensures power { is_powerless self.new ≡ is_err result }
+        ensures power { is_powerless self.new ≡ next_lost self.old }
         ensures failures { failures_of self.new ≡ failures_after (failures_of self.old) result }
     {
         let fate = self.next_fate();
@@ -227,7 +285,7 @@ impl<const S: usize> Flash<S> for MemoryFlash<S> {
         ensures passes { IsOk result ↔ (next_fate self.old ≡ Fate.Passes) }
         ensures image { image_of self.new ≡ with_sector (image_of self.old) sector (sector_after (next_fate self.old) 0 S (erased S) (sector_of (image_of self.old) sector)) }
         ensures armed { armed_in self.new ≡ next_armed self.old }
-        ensures power { is_powerless self.new ≡ is_err result }
+        ensures power { is_powerless self.new ≡ next_lost self.old }
         ensures failures { failures_of self.new ≡ failures_after (failures_of self.old) result }
     {
         let fate = self.next_fate();
@@ -263,6 +321,8 @@ impl<const S: usize> Flash<S> for MemoryFlash<S> {
     {
         match order {
             Order::Cut { after, mask } => self.fuse(after, mask),
+            Order::Fault { after, mask } => self.fault(after, mask),
+            Order::ReadFault { after } => self.fault_read(after),
         }
     }
 

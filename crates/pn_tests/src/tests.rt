@@ -5,6 +5,7 @@ use std::process::Abort;
 use std::test::Fail;
 
 mod cuts;
+mod faults;
 mod input;
 mod lines;
 mod losses;

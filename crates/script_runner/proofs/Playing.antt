@@ -11,7 +11,7 @@ use Rattle.script_runner.specs.declared.session.Power.{Power}
 use Rattle.script_runner.specs.declared.session.Power.TheVariants.{On, Off, Away}
 use Rattle.script_runner.specs.Line.{Line, Unfit, Skipped, Asks, Unknown, meaning_of}
 use Rattle.script_runner.specs.Output.{AppendsFront, Grows, Puts}
-use Rattle.script_runner.specs.Script.{Station, Answer, answer_of, then_told, told, number_or, refused_from, is_cut, has_cut, before_cut, output_of, refused_line}
+use Rattle.script_runner.specs.Script.{Station, Answer, answer_of, then_told, told, number_or, refused_from, is_order, has_order, before_order, output_of, refused_line}
 use Rattle.script_runner.specs.Session.{IsRunning, IsAnswered, IsDone, IsObeyed, Obeys, is_off, refusal_of, text_of}
 use Rattle.script_runner.specs.Told.{Plays, PlaysOn, IsPlayed, IsPlayFault}
 use Rattle.script_runner.proofs.Known.{IsSoFar, so_far_on, so_far_all, so_far_front, front_longer, appends_on}
@@ -28,29 +28,29 @@ unlost station (On device) runs = runs.reliable.0
 unlost station (Off fault flash) runs = absurd runs
 unlost station Away runs = absurd runs
 
--- Between two lines, none of which was an order to lose power: the device runs, a front of the output was written, and the
+-- Between two lines, none of which was an order to the flash: the device runs, a front of the output was written, and the
 -- rest of it, a line to be refused and an order to come are those of the lines that are left.
 pub record IsPlaying (station : Station) (old new : Option (List ℕ)) (power : Power) (number : ℕ) (rest input : List ℕ) : Type 0 where
   pub runs : IsRunning station power
-  pub so_far : IsSoFar old new (told station (before_cut (lines rest))) (output_of input)
-  pub refused : refused_line input ≡ refused_from (number + 1) (before_cut (lines rest))
-  pub cut : has_cut (lines input) ≡ has_cut (lines rest)
+  pub so_far : IsSoFar old new (told station (before_order (lines rest))) (output_of input)
+  pub refused : refused_line input ≡ refused_from (number + 1) (before_order (lines rest))
+  pub ordered : has_order (lines input) ≡ has_order (lines rest)
 
 -- between two lines
 abbrev pub IsBetween : Option (List ℕ) → Option (List ℕ) → Power → ℕ → List ℕ → List ℕ → Type 0
 IsBetween old new power number rest input = ((station : Station) × IsPlaying station old new power number rest input) ⊎ PlaysOn old new input
 
-before_uncut : (line : List ℕ) (later : List (List ℕ)) → is_cut (meaning_of line) ≡ false → before_cut (line ∷ later) ≡ line ∷ before_cut later
-before_uncut line later uncut = ap (λ cut. if cut then [] else line ∷ before_cut later) uncut
+before_plain : (line : List ℕ) (later : List (List ℕ)) → is_order (meaning_of line) ≡ false → before_order (line ∷ later) ≡ line ∷ before_order later
+before_plain line later plain = ap (λ ordered. if ordered then [] else line ∷ before_order later) plain
 
-has_uncut : (line : List ℕ) (later : List (List ℕ)) → is_cut (meaning_of line) ≡ false → has_cut (line ∷ later) ≡ has_cut later
-has_uncut line later uncut = ap (λ cut. cut || has_cut later) uncut
+has_plain : (line : List ℕ) (later : List (List ℕ)) → is_order (meaning_of line) ≡ false → has_order (line ∷ later) ≡ has_order later
+has_plain line later plain = ap (λ ordered. ordered || has_order later) plain
 
-before_order : (line : List ℕ) (later : List (List ℕ)) → is_cut (meaning_of line) ≡ true → before_cut (line ∷ later) ≡ []
-before_order line later cut = ap (λ cut. if cut then [] else line ∷ before_cut later) cut
+before_at_order : (line : List ℕ) (later : List (List ℕ)) → is_order (meaning_of line) ≡ true → before_order (line ∷ later) ≡ []
+before_at_order line later ordered = ap (λ ordered. if ordered then [] else line ∷ before_order later) ordered
 
-has_order : (line : List ℕ) (later : List (List ℕ)) → is_cut (meaning_of line) ≡ true → has_cut (line ∷ later) ≡ true
-has_order line later cut = ap (λ cut. cut || has_cut later) cut
+has_at_order : (line : List ℕ) (later : List (List ℕ)) → is_order (meaning_of line) ≡ true → has_order (line ∷ later) ≡ true
+has_at_order line later ordered = ap (λ ordered. ordered || has_order later) ordered
 
 number_answered : (station : Station) (line : Line) (answer : Answer) (n : ℕ) (later : Option ℕ) → answer_of station line ≡ Some answer → number_or line n later ≡ later
 number_answered station Skipped answer n later e = refl
@@ -65,54 +65,54 @@ number_refused station Unfit n later e = refl
 number_refused station Unknown n later e = refl
 
 -- the lines that are left, where the first of them is no order
-left_uncut : (rest line later : List ℕ) → lines rest ≡ line ∷ lines later → is_cut (meaning_of line) ≡ false → before_cut (lines rest) ≡ line ∷ before_cut (lines later)
-left_uncut rest line later e uncut = ap before_cut e ∙ before_uncut line (lines later) uncut
+left_plain : (rest line later : List ℕ) → lines rest ≡ line ∷ lines later → is_order (meaning_of line) ≡ false → before_order (lines rest) ≡ line ∷ before_order (lines later)
+left_plain rest line later e plain = ap before_order e ∙ before_plain line (lines later) plain
 
 -- after a line that was answered
-pub playing_on : (station : Station) (old mid new : Option (List ℕ)) (before after : Power) (number : ℕ) (rest line later input : List ℕ) → IsPlaying station old mid before number rest input → lines rest ≡ line ∷ lines later → is_cut (meaning_of line) ≡ false → (answered : IsAnswered station (meaning_of line) mid new after) → IsPlaying answered.answer.station old new after (number + 1) later input
-playing_on station old mid new before after number rest line later input playing e uncut answered =
-    let left = left_uncut rest line later e uncut in
+pub playing_on : (station : Station) (old mid new : Option (List ℕ)) (before after : Power) (number : ℕ) (rest line later input : List ℕ) → IsPlaying station old mid before number rest input → lines rest ≡ line ∷ lines later → is_order (meaning_of line) ≡ false → (answered : IsAnswered station (meaning_of line) mid new after) → IsPlaying answered.answer.station old new after (number + 1) later input
+playing_on station old mid new before after number rest line later input playing e plain answered =
+    let left = left_plain rest line later e plain in
     record {
       runs = answered.runs;
       so_far = so_far_on old mid new _ _ _ answered.answer.text playing.so_far
-          (ap (told station) left ∙ ap (λ answer. then_told answer (λ next. told next (before_cut (lines later)))) answered.is) answered.text;
+          (ap (told station) left ∙ ap (λ answer. then_told answer (λ next. told next (before_order (lines later)))) answered.is) answered.text;
       refused = playing.refused ∙ ap (refused_from (number + 1)) left ∙ number_answered station (meaning_of line) answered.answer (number + 1) _ answered.is;
-      cut = playing.cut ∙ ap has_cut e ∙ has_uncut line (lines later) uncut;
+      ordered = playing.ordered ∙ ap has_order e ∙ has_plain line (lines later) plain;
     }
 
 -- at a line that was refused
-pub played_refused : (station : Station) (old mid new : Option (List ℕ)) (power : Power) (number : ℕ) (rest line later input : List ℕ) → IsPlaying station old mid power number rest input → lines rest ≡ line ∷ lines later → is_cut (meaning_of line) ≡ false → answer_of station (meaning_of line) ≡ None → Appends mid new [] → Appends old new (output_of input) × (refused_line input ≡ Some (number + 1))
-played_refused station old mid new power number rest line later input playing e uncut none kept =
-    let left = left_uncut rest line later e uncut in
-    let silent : told station (before_cut (lines rest)) ≡ [] = ap (told station) left ∙ ap (λ answer. then_told answer (λ next. told next (before_cut (lines later)))) none in (
-      so_far_all old new (told station (before_cut (lines rest))) (output_of input) (so_far_on old mid new _ _ _ [] playing.so_far refl kept) silent,
+pub played_refused : (station : Station) (old mid new : Option (List ℕ)) (power : Power) (number : ℕ) (rest line later input : List ℕ) → IsPlaying station old mid power number rest input → lines rest ≡ line ∷ lines later → is_order (meaning_of line) ≡ false → answer_of station (meaning_of line) ≡ None → Appends mid new [] → Appends old new (output_of input) × (refused_line input ≡ Some (number + 1))
+played_refused station old mid new power number rest line later input playing e plain none kept =
+    let left = left_plain rest line later e plain in
+    let silent : told station (before_order (lines rest)) ≡ [] = ap (told station) left ∙ ap (λ answer. then_told answer (λ next. told next (before_order (lines later)))) none in (
+      so_far_all old new (told station (before_order (lines rest))) (output_of input) (so_far_on old mid new _ _ _ [] playing.so_far refl kept) silent,
       playing.refused ∙ ap (refused_from (number + 1)) left ∙ number_refused station (meaning_of line) (number + 1) _ none,
     )
 
--- at a line that orders a loss of power
-playing_cut : (station : Station) (old new : Option (List ℕ)) (power : Power) (number : ℕ) (rest line later input : List ℕ) → IsPlaying station old new power number rest input → lines rest ≡ line ∷ lines later → is_cut (meaning_of line) ≡ true → PlaysOn old new input
-playing_cut station old new power number rest line later input playing e cut =
-    let left : before_cut (lines rest) ≡ [] = ap before_cut e ∙ before_order line (lines later) cut in
+-- at a line that orders a failure of the flash
+playing_order : (station : Station) (old new : Option (List ℕ)) (power : Power) (number : ℕ) (rest line later input : List ℕ) → IsPlaying station old new power number rest input → lines rest ≡ line ∷ lines later → is_order (meaning_of line) ≡ true → PlaysOn old new input
+playing_order station old new power number rest line later input playing e ordered =
+    let left : before_order (lines rest) ≡ [] = ap before_order e ∙ before_at_order line (lines later) ordered in
     record {
-      cut = playing.cut ∙ ap has_cut e ∙ has_order line (lines later) cut;
+      ordered = playing.ordered ∙ ap has_order e ∙ has_at_order line (lines later) ordered;
       unrefused = playing.refused ∙ ap (refused_from (number + 1)) left;
       more = [];
       appended = subst (Appends old new) (sym (append-nil (output_of input))) (so_far_all old new _ _ playing.so_far (ap (told station) left));
     }
 
 -- At a line: the device runs and the line is no order, or an order was met.
-pub at_line : (old new : Option (List ℕ)) (power : Power) (number : ℕ) (rest line later input : List ℕ) → IsBetween old new power number rest input → lines rest ≡ line ∷ lines later → ((station : Station) × IsPlaying station old new power number rest input × (is_cut (meaning_of line) ≡ false)) ⊎ PlaysOn old new input
+pub at_line : (old new : Option (List ℕ)) (power : Power) (number : ℕ) (rest line later input : List ℕ) → IsBetween old new power number rest input → lines rest ≡ line ∷ lines later → ((station : Station) × IsPlaying station old new power number rest input × (is_order (meaning_of line) ≡ false)) ⊎ PlaysOn old new input
 at_line old new power number rest line later input (inl playing) e =
-    (elim (is_cut (meaning_of line)) as (λ b. is_cut (meaning_of line) ≡ b → ((station : Station) × IsPlaying station old new power number rest input × (is_cut (meaning_of line) ≡ false)) ⊎ PlaysOn old new input) [
-      | true ↦ λ cut. inr (playing_cut playing.0 old new power number rest line later input playing.1 e cut)
-      | false ↦ λ uncut. inl (playing.0, playing.1, uncut)
+    (elim (is_order (meaning_of line)) as (λ b. is_order (meaning_of line) ≡ b → ((station : Station) × IsPlaying station old new power number rest input × (is_order (meaning_of line) ≡ false)) ⊎ PlaysOn old new input) [
+      | true ↦ λ ordered. inr (playing_order playing.0 old new power number rest line later input playing.1 e ordered)
+      | false ↦ λ plain. inl (playing.0, playing.1, plain)
     ]) refl
 at_line old new power number rest line later input (inr more) e = inr more
 
 -- whatever was written behind an order
 pub plays_on : (old mid new : Option (List ℕ)) (input : List ℕ) → PlaysOn old mid input → Grows mid new → PlaysOn old new input
 plays_on old mid new input plays grows = record {
-  cut = plays.cut;
+  ordered = plays.ordered;
   unrefused = plays.unrefused;
   more = plays.more ++ grows.0;
   appended = subst (Appends old new) (append_assoc (output_of input) plays.more grows.0) (appends_on old mid new _ _ plays.appended grows.1);
@@ -123,9 +123,9 @@ text_longer old new None later front = front
 text_longer old new (Some answer) later front = front_longer old new answer.text (later answer.station) front
 
 -- at a line whose output broke off
-pub playing_broken : (station : Station) (old mid new : Option (List ℕ)) (power : Power) (number : ℕ) (rest line later input : List ℕ) → IsPlaying station old mid power number rest input → lines rest ≡ line ∷ lines later → is_cut (meaning_of line) ≡ false → AppendsFront mid new (text_of (answer_of station (meaning_of line))) → AppendsFront old new (output_of input)
-playing_broken station old mid new power number rest line later input playing e uncut front =
-    so_far_front old mid new _ _ playing.so_far (rw (ap (told station) (left_uncut rest line later e uncut)) (text_longer mid new (answer_of station (meaning_of line)) (λ next. told next (before_cut (lines later))) front))
+pub playing_broken : (station : Station) (old mid new : Option (List ℕ)) (power : Power) (number : ℕ) (rest line later input : List ℕ) → IsPlaying station old mid power number rest input → lines rest ≡ line ∷ lines later → is_order (meaning_of line) ≡ false → AppendsFront mid new (text_of (answer_of station (meaning_of line))) → AppendsFront old new (output_of input)
+playing_broken station old mid new power number rest line later input playing e plain front =
+    so_far_front old mid new _ _ playing.so_far (rw (ap (told station) (left_plain rest line later e plain)) (text_longer mid new (answer_of station (meaning_of line)) (λ next. told next (before_order (lines later))) front))
 
 -- what the device did is what was asked for
 pub done_obeyed : (answer : Answer) (device : State (MemoryFlash 4096)) (before now : List ℕ) → IsDone answer device before now → IsObeyed answer (On device) before now
@@ -148,9 +148,9 @@ pub played_all : (old new : Option (List ℕ)) (power : Power) (number : ℕ) (r
 played_all old new power number rest input (inl playing) e =
     let none : lines rest ≡ [] = ap lines e in
     inl (
-      so_far_all old new _ _ playing.1.so_far (ap (λ left. told playing.0 (before_cut left)) none),
-      playing.1.refused ∙ ap (λ left. refused_from (number + 1) (before_cut left)) none,
-      playing.1.cut ∙ ap has_cut none,
+      so_far_all old new _ _ playing.1.so_far (ap (λ left. told playing.0 (before_order left)) none),
+      playing.1.refused ∙ ap (λ left. refused_from (number + 1) (before_order left)) none,
+      playing.1.ordered ∙ ap has_order none,
     )
 played_all old new power number rest input (inr more) e = inr more
 

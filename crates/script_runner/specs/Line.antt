@@ -5,7 +5,7 @@ use Rattle.std.specs.Option.{option_map}
 use Rattle.std.specs.Cmp.Lexicographic.{pointwise}
 use Rattle.hex.specs.Hex.{decode_of}
 use Rattle.flash_model.specs.declared.flash.Order.{Order}
-use Rattle.flash_model.specs.declared.flash.Order.TheVariants.{Cut}
+use Rattle.flash_model.specs.declared.flash.Order.TheVariants.{Cut, Fault}
 use Rattle.script_runner.specs.Numbers.{number_of, repeated}
 use Rattle.hex.specs.declared.error.FromHexError.{FromHexError}
 use Rattle.script_runner.specs.declared.command.Words.{Words}
@@ -75,14 +75,24 @@ abbrev pub mask_of : Result (List ℕ) FromHexError → Option (List ℕ)
 mask_of (Ok bytes) = repeated bytes
 mask_of (Err fault) = None
 
--- an order to lose power, if there is a number and a mask
-abbrev pub cut_of : Option ℕ → Option (List ℕ) → Option Command
-cut_of None mask = None
-cut_of (Some after) mask = option_map (λ mask. Arm (Cut after mask)) mask
+-- after how many calls an order to the flash strikes, and its mask
+abbrev pub strike_of : Option ℕ → Option (List ℕ) → Option (ℕ × List ℕ)
+strike_of None mask = None
+strike_of (Some after) mask = option_map (λ mask. (after, mask)) mask
+
+-- an order to lose power, or to fail with power there
+abbrev pub order_of : List ℕ → ℕ × List ℕ → Option Command
+order_of word strike =
+    if is_text word (codes "cut") then Some (Arm (Cut strike.0 strike.1))
+    else (if is_text word (codes "fault") then Some (Arm (Fault strike.0 strike.1)) else None)
+
+-- what a word asks for, if there is a number and a mask behind it
+abbrev pub ordered : List ℕ → Option (ℕ × List ℕ) → Option Command
+ordered word None = None
+ordered word (Some strike) = order_of word strike
 
 abbrev pub with_two : List ℕ → List ℕ → List ℕ → Option Command
-with_two word first second =
-    if is_text word (codes "cut") then cut_of (number_of 4294967295 first) (mask_of (decode_of second)) else None
+with_two word first second = ordered word (strike_of (number_of 4294967295 first) (mask_of (decode_of second)))
 
 -- what some words ask for
 abbrev pub command_of : List (List ℕ) → Option Command

@@ -87,7 +87,7 @@ abbrev pub refused_from : ℕ → List (List ℕ) → Option ℕ
 refused_from n [] = None
 refused_from n (line ∷ lines) = number_or (meaning_of line) n (refused_from (n + 1) lines)
 
--- a command that orders a loss of power
+-- a command that orders a failure of the flash
 abbrev pub arms : Command → Bool
 arms (Frame bytes) = false
 arms Restart = false
@@ -96,30 +96,30 @@ arms Show = false
 arms (Arm order) = true
 
 -- a line that does
-abbrev pub is_cut : Line → Bool
-is_cut Unfit = false
-is_cut Skipped = false
-is_cut (Asks command) = arms command
-is_cut Unknown = false
+abbrev pub is_order : Line → Bool
+is_order Unfit = false
+is_order Skipped = false
+is_order (Asks command) = arms command
+is_order Unknown = false
 
 -- whether one of some lines does
-abbrev pub has_cut : List (List ℕ) → Bool
-has_cut lines = list_any (λ line. is_cut (meaning_of line)) lines
+abbrev pub has_order : List (List ℕ) → Bool
+has_order lines = list_any (λ line. is_order (meaning_of line)) lines
 
 -- the lines before the first that does
-abbrev pub before_cut : List (List ℕ) → List (List ℕ)
-before_cut [] = []
-before_cut (line ∷ lines) = if is_cut (meaning_of line) then [] else line ∷ before_cut lines
+abbrev pub before_order : List (List ℕ) → List (List ℕ)
+before_order [] = []
+before_order (line ∷ lines) = if is_order (meaning_of line) then [] else line ∷ before_order lines
 
 -- the demo device as it leaves the factory
 abbrev pub factory_device : Station
 factory_device = demo_started factory_settings (capacity 4096)
 
--- what a script prints, up to the first line that orders a loss of power: what its calls of the flash do to later lines is
+-- what a script prints, up to the first line that orders a failure of the flash: what its calls of the flash do to later lines is
 -- not told
 unfoldable pub output_of : List ℕ → List ℕ
-output_of input = boot_line None ++ told factory_device (before_cut (lines input))
+output_of input = boot_line None ++ told factory_device (before_order (lines input))
 
 -- the number, from 1, of the first line that is refused, if it stands before that
 unfoldable pub refused_line : List ℕ → Option ℕ
-refused_line input = refused_from 1 (before_cut (lines input))
+refused_line input = refused_from 1 (before_order (lines input))

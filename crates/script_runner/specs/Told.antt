@@ -5,22 +5,22 @@ use Rattle.std.specs.Str.Lines.{lines}
 use Rattle.script_runner.specs.declared.fault.RunFault.{RunFault}
 use Rattle.script_runner.specs.declared.fault.RunFault.TheVariants.{Read, Write, Line, OutOfMemory, EndlessInput}
 use Rattle.script_runner.specs.Output.{AppendsFront}
-use Rattle.script_runner.specs.Script.{output_of, refused_line, has_cut}
+use Rattle.script_runner.specs.Script.{output_of, refused_line, has_order}
 
--- What comes of a script up to its first line that orders a loss of power: at the end, where there is no such line, all of
+-- What comes of a script up to its first line that orders a failure of the flash: at the end, where there is no such line, all of
 -- its output was written, at a line that is refused the output of the lines before it, and where a write failed or memory was
 -- refused a front of the output.
 abbrev pub Plays : Option (List ℕ) → Option (List ℕ) → List ℕ → Result (Unit {0}) RunFault → Type 0
-Plays old new input (Ok done) = Appends old new (output_of input) × (refused_line input ≡ None) × (has_cut (lines input) ≡ false)
+Plays old new input (Ok done) = Appends old new (output_of input) × (refused_line input ≡ None) × (has_order (lines input) ≡ false)
 Plays old new input (Err (Line n)) = Appends old new (output_of input) × (refused_line input ≡ Some n)
 Plays old new input (Err Write) = AppendsFront old new (output_of input)
 Plays old new input (Err OutOfMemory) = AppendsFront old new (output_of input)
 Plays old new input (Err Read) = ⊥
 Plays old new input (Err EndlessInput) = ⊥
 
--- A line orders a loss of power and none before it is refused: all that these print was written, and then more.
+-- A line orders a failure of the flash and none before it is refused: all that these print was written, and then more.
 pub record PlaysOn (old new : Option (List ℕ)) (input : List ℕ) : Type 0 where
-  pub cut : has_cut (lines input) ≡ true
+  pub ordered : has_order (lines input) ≡ true
   pub unrefused : refused_line input ≡ None
   pub more : List ℕ
   pub appended : Appends old new (output_of input ++ more)

@@ -4,7 +4,7 @@ ghost use Rattle.std.specs.List.{slice_split, list_any, position};
 ghost use Rattle.std.specs.Option.{option_map, option_copied};
 ghost use Rattle.std.specs.Str.Lines.{lines, strip_carriage_return};
 ghost use Rattle.hex.specs.Hex.{decode_of};
-ghost use Rattle.script_runner.specs.Line.{behind, AreWords, bytes_of, command_of, meaning_of, words_of, bare, with_one, with_two, ticks_of, mask_of};
+ghost use Rattle.script_runner.specs.Line.{behind, AreWords, bytes_of, command_of, meaning_of, words_of, bare, with_one, with_two, ticks_of, mask_of, strike_of};
 ghost use Rattle.script_runner.specs.Numbers.{number_of};
 ghost use Rattle.script_runner.specs.Read.{command_read, line_read};
 
@@ -206,16 +206,33 @@ fn with_two(
 ) -> Result<Option<Command<'static>>, AllocError>
     ensures { IfOk result (λ command. option_map command_read command ≡ with_two word.now first.now second.now) }
 {
-    if word != b"cut".as_slice() {
+    let Some((after, mask)) = strike(first, second, buffer)? else {
         return Ok(None);
+    };
+    if word == b"cut".as_slice() {
+        Ok(Some(Command::Arm(Order::Cut { after, mask })))
+    } else if word == b"fault".as_slice() {
+        Ok(Some(Command::Arm(Order::Fault { after, mask })))
+    } else {
+        Ok(None)
     }
+}
+
+/// After how many calls an order to the flash strikes, and its mask.
+fn strike(
+    first: &[u8],
+    second: &[u8],
+    buffer: &mut Vec<u8>,
+) -> Result<Option<(u32, [u8; 8])>, AllocError>
+    ensures { IfOk result (λ strike. strike ≡ strike_of (number_of 4294967295 first.now) (mask_of (decode_of second.now))) }
+{
     let Some(after) = numbers::decimal(first, u32::MAX) else {
         return Ok(None);
     };
-    let Some(mask) = mask(second, buffer)? else {
-        return Ok(None);
-    };
-    Ok(Some(Command::Arm(Order::Cut { after, mask })))
+    match mask(second, buffer)? {
+        Some(mask) => Ok(Some((after, mask))),
+        None => Ok(None),
+    }
 }
 
 /// The mask that some hex digits spell.

@@ -11,7 +11,7 @@ use std::alloc::Global;
 use std::io::Write;
 
 /// Plays a script on the demo device over a blank flash, and writes what it prints, line by line. What is written is said
-/// up to the first line that orders a loss of power.
+/// up to the first line that orders a failure of the flash.
 pub(crate) fn play<W: Write>(alloc: Global, input: &[u8], writer: &mut W) -> Result<(), RunFault>
     requires { length input.now ≤ 16777216 }
     ensures faults { IfErr result IsPlayFault }

@@ -116,7 +116,7 @@ impl<'a> Session<'a> {
     ghost use Rattle.script_runner.specs.Line.{Frame, Restart, Tick, Show, meaning_of};
     ghost use Rattle.script_runner.specs.Read.{command_read};
     ghost use Rattle.script_runner.specs.Output.{Grows};
-    ghost use Rattle.script_runner.specs.Script.{said, factory_device, arms, is_cut};
+    ghost use Rattle.script_runner.specs.Script.{said, factory_device, arms, is_order};
     ghost use Rattle.script_runner.specs.Session.{IsDemo, IsRunning, IsBack, Takes, TakesOff, GivesBack, Obeys, IsObeyed, is_off, refusal_of};
     ghost use Rattle.script_runner.specs.Text.{boot_line};
 
@@ -141,7 +141,7 @@ impl<'a> Session<'a> {
         writer: &mut W,
     ) -> Result<bool, RunFault>
         ensures faults { IfErr result (λ fault. (fault ≡ RunFault.Write) ⊎ (fault ≡ RunFault.OutOfMemory)) }
-        ensures takes { (station : Station) → IsRunning station self.old.power → is_cut (meaning_of line.now) ≡ false →
+        ensures takes { (station : Station) → IsRunning station self.old.power → is_order (meaning_of line.now) ≡ false →
             Takes station (meaning_of line.now) (W.contents writer.old) (W.contents writer.new) self.new.power result }
         ensures off { is_off self.old.power ≡ true →
             TakesOff (meaning_of line.now) self.old.power self.new.power (W.contents writer.old) (W.contents writer.new) result }

@@ -13,7 +13,7 @@ use std::io::{Read, Write};
 pub fn run<R: Read, W: Write>(alloc: Global, reader: &mut R, writer: &mut W) -> Result<(), RunFault>
     // A script that is too long, and only such a one, is endless input. Then, and where a read failed, nothing is written.
     ensures whole { IfSome (R.remaining reader.old) (λ input. IsWhole (W.contents writer.old) (W.contents writer.new) input result) }
-    // The output of a script is a function of its bytes, up to the first line that orders a loss of power.
+    // The output of a script is a function of its bytes, up to the first line that orders a failure of the flash.
     ensures told { IfSome (R.remaining reader.old) (λ input. IsTold (W.contents writer.old) (W.contents writer.new) input result) }
 {
     let input = read_all(alloc, reader)?;

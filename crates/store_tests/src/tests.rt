@@ -1,4 +1,5 @@
 // A module for each crate, by what it is about.
+mod faults;
 mod flash;
 mod journal;
 mod names;

@@ -25,7 +25,7 @@ loop-rest-init g c = (
       runs = c.new-session.ensures (c.blank-flash.ensures.lost, c.blank-flash.ensures.armed) c.blank-flash.ensures.image;
       so_far = so_far_on _ _ _ _ _ _ _ (so_far_none _ _) refl c.in_ok-put.ensures;
       refused = refl;
-      cut = refl;
+      ordered = refl;
     },
   ),
 )
