@@ -175,7 +175,7 @@ def print_step(program, file, name, front, line, steps, bound):
 
 def print_room(program, bench):
     """How large a device is, and the largest frame on the stack of a step. Says whether they keep their bounds."""
-    said = subprocess.run([bench], capture_output=True, text=True, check=True).stdout
+    said = subprocess.run([bench], capture_output=True, text=True, check=True).stderr
     device, flash = map(int, re.findall(r"\d+", said))
     print(f"a device in memory: {device} octets, of which {SECTORS} are the sectors of its flash and {flash - SECTORS} else of it: "
           f"{device - SECTORS} (at most {MOST_IN_MEMORY})")

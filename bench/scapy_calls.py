@@ -13,15 +13,18 @@ import subprocess
 import sys
 import uuid
 
-from scapy.compat import raw
-from scapy.contrib.pnio import ProfinetIO
-from scapy.contrib.pnio_dcp import ProfinetDCP
-from scapy.contrib.pnio_rpc import IODReadReq, IODReadRes, PNIOServiceReqPDU, PNIOServiceResPDU
-from scapy.layers.dcerpc import DceRpc4
-from scapy.layers.dns import DNS, DNSQR
-from scapy.layers.inet import IP, UDP
-from scapy.layers.l2 import ARP, Dot1Q, Ether
-from scapy.packet import Padding, bind_layers
+try:
+    from scapy.compat import raw
+    from scapy.contrib.pnio import ProfinetIO
+    from scapy.contrib.pnio_dcp import ProfinetDCP
+    from scapy.contrib.pnio_rpc import IODReadReq, IODReadRes, PNIOServiceReqPDU, PNIOServiceResPDU
+    from scapy.layers.dcerpc import DceRpc4
+    from scapy.layers.dns import DNS, DNSQR
+    from scapy.layers.inet import IP, UDP
+    from scapy.layers.l2 import ARP, Dot1Q, Ether
+    from scapy.packet import Padding, bind_layers
+except ImportError as missing:
+    sys.exit(f"Scapy is wanted (Debian: apt-get install python3-scapy): {missing}")
 
 TOP = os.path.dirname(os.path.dirname(os.path.abspath(__file__)))
 EXAMPLE = os.path.join(TOP, "examples", "calls.txt")

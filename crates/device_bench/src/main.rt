@@ -1,4 +1,5 @@
-//! Prints how large a device is in memory, over the flash of the scripts, and how large that flash (bench/measure.py).
+//! Says on standard error how large a device is in memory, over the flash of the scripts, and how large that flash
+//! (bench/measure.py). Standard output, which the gate compares, stays empty: the figures change with each part of a device.
 #![tactic(auto)]
 
 use device_core::Device;
@@ -9,7 +10,7 @@ use std::{io, mem};
 const SECTOR: usize = 4096;
 
 fn main(rt: HostRuntime) -> io::Result<()> {
-    println!(rt;
+    eprintln!(rt;
         "in memory: a device {} octets, its flash {}",
         mem::size_of::<Device<MemoryFlash<SECTOR>, SECTOR>>(),
         mem::size_of::<MemoryFlash<SECTOR>>()
