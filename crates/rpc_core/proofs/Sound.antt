@@ -9,6 +9,7 @@ use Rattle.wire.specs.Formats.{raw, ◌⨾◌}
 use Rattle.wire.proofs.Fields.{bind_ok, ok_is, raw_sound, raw_onward, number_sound, number_onward}
 use Rattle.wire.proofs.Joined.{then_by_sound, then_by_onward, seen_sound, seen_onward}
 use Rattle.wire.proofs.Judged.{checked_sound, checked_onward, named_sound, named_onward}
+use Rattle.wire.proofs.Kept.{within_sound, within_onward}
 use Rattle.wire.proofs.Wholes.{everything_sound, ends_by_sound, seen_whole_sound, loose_sound, loose_behind}
 use Rattle.rpc_core.specs.declared.fault.RpcFault.{RpcFault}
 use Rattle.rpc_core.specs.declared.fault.RpcFault.TheVariants as fault
@@ -22,7 +23,7 @@ use Rattle.rpc_core.specs.declared.header.Head.{Head}
 use Rattle.rpc_core.specs.declared.interface.Interface.{Interface}
 use Rattle.rpc_core.specs.Fields.{one, little, ordered, turned, uuid, any}
 use Rattle.rpc_core.specs.Header.{order_of, opening, names, turn, extent, head}
-use Rattle.rpc_core.specs.Pdu.{cut_off, is_version, is_known, is_whole, is_served, pdu, within}
+use Rattle.rpc_core.specs.Pdu.{cut_off, is_version, is_known, is_whole, is_served, pdu}
 use Rattle.rpc_core.specs.Body.{Args, counts, status, blocks_in, counts_of, octets_of, body}
 use Rattle.rpc_core.specs.Call.{Asked, call_body, asked_by, parts_of_call, call, IsCall, call_of}
 use Rattle.rpc_core.specs.Response.{Answered, response_body, answered_by, parts_of_response, response, IsResponse, response_of}
@@ -142,28 +143,7 @@ unfolding head
 head_onward = seen_onward _ (λ (h : Head). (h.opening, (h.names, (h.turn, h.extent)))) _ (then_by_onward _ _ opening_onward
     (λ (o : Opening). both_onward _ _ (names_onward (order_of o.representation)) (both_onward _ _ (turn_onward (order_of o.representation)) (extent_onward (order_of o.representation)))))
 
--- ---- what is judged, and what is within
-
-module _ {F A B : Type 0} (codec : Codec F (A × List ℕ)) (whole : A → Whole F B) where
-  within_sound : IsSound codec → ((value : A) → IsSoundWhole (whole value)) → IsSound (within codec whole)
-  within_sound sound inner = record {
-    takes = λ bytes value rest e.
-        let a = bind_ok (codec.read bytes) (λ x. (whole x.0.0).read x.0.1 >>= λ v. Ok ((x.0.0, v), x.1)) (value, rest) e in
-        let b = bind_ok ((whole a.0.0.0).read a.0.0.1) (λ v. Ok ((a.0.0.0, v), a.0.1)) (value, rest) a.2 in
-        subst (λ (y : (A × B) × List ℕ). (within codec whole).Spells bytes y.0 y.1) (ok_is {F = F} ((a.0.0.0, b.0), a.0.1) (value, rest) b.2)
-        (a.0.0.1, sound.takes bytes a.0.0 a.0.1 a.1, (inner a.0.0.0).takes a.0.0.1 b.0 b.1);
-    again = λ bytes value rest s.
-        rw (sound.again bytes (value.0, s.0) rest s.1, (inner value.0).again s.0 value.1 s.2) refl;
-    written = λ value rest fits.
-        ((whole value.0).write value.1, sound.written (value.0, (whole value.0).write value.1) rest fits.0, (inner value.0).written value.1 fits.1);
-    local = λ value rest. sound.local (value.0, (whole value.0).write value.1) rest;
-    sized = λ value rest. sound.sized (value.0, (whole value.0).write value.1) rest;
-  }
-
-  within_onward : IsOnward codec → IsOnward (within codec whole)
-  within_onward onward = record {
-    onward = λ bytes value rest more s. (s.0, onward.onward bytes (value.0, s.0) rest more s.1, s.2);
-  }
+-- ---- what is judged
 
 cut_off_sound : IsSound cut_off
 unfolding cut_off

@@ -4,6 +4,7 @@ use Rattle.std.specs.Option.{option_map}
 use Rattle.wire.specs.Codec.{Codec, Whole}
 use Rattle.wire.specs.Formats.{seen}
 use Rattle.wire.specs.Whole.{loose}
+use Rattle.wire.specs.Kept.{within}
 use Rattle.rpc_core.specs.declared.call.Call.{Call}
 use Rattle.rpc_core.specs.declared.fault.RpcFault.{RpcFault}
 use Rattle.rpc_core.specs.declared.header.Head.{Head}
@@ -11,7 +12,7 @@ use Rattle.rpc_core.specs.declared.header.Header.{Header}
 use Rattle.rpc_core.specs.declared.interface.Interface.{Interface}
 use Rattle.rpc_core.specs.Fields.{ordered}
 use Rattle.rpc_core.specs.Header.{order_of, header_of, head_for}
-use Rattle.rpc_core.specs.Pdu.{pdu, within}
+use Rattle.rpc_core.specs.Pdu.{pdu}
 use Rattle.rpc_core.specs.Body.{Args, octets_of, body, body_size}
 
 -- what a call asks: its blocks are none where they are not counted well

@@ -1,7 +1,7 @@
 -- What calls and responses have in common: a header that passes its tests, and a body of the length that it says.
-use Rattle.std.specs.Prelude.{◌/◌, ◌%◌, ◌==◌, ◌&&◌, ℕ, Bool, true, List, length, nat_le, nat_lt, nat_eq, Option, Some, None, Ok}
+use Rattle.std.specs.Prelude.{◌/◌, ◌%◌, ◌==◌, ◌&&◌, ℕ, Bool, true, List, length, nat_le, nat_lt, nat_eq, Option, Some, None}
 use Rattle.std.specs.Cmp.Lexicographic.{pointwise}
-use Rattle.wire.specs.Codec.{Codec, Whole, ◌>>=◌}
+use Rattle.wire.specs.Codec.{Codec}
 use Rattle.wire.specs.Formats.{raw, then_by}
 use Rattle.wire.specs.Checks.{checked}
 use Rattle.rpc_core.specs.declared.fault.RpcFault.{RpcFault}
@@ -37,13 +37,3 @@ unfoldable pub pdu : ℕ → Option Interface → Codec RpcFault (Head × List �
 pdu packet_type interface =
     checked (λ x. is_served interface x.0) fault.Interface (checked (λ x. is_whole x.0) fault.Fragment
     (checked (λ x. is_known x.0) fault.Representation (checked (λ x. is_version packet_type x.0) fault.Version cut_off)))
-
--- a format whose value ends in octets, which another format takes to the last
-abbrev pub within : {F A B : Type 0} → Codec F (A × List ℕ) → (A → Whole F B) → Codec F (A × B)
-within codec whole = record {
-  Spells = λ bytes value rest. (inside : List ℕ) × codec.Spells bytes (value.0, inside) rest × (whole value.0).Spells inside value.1;
-  write = λ value rest. codec.write (value.0, (whole value.0).write value.1) rest;
-  size = λ value. codec.size (value.0, (whole value.0).write value.1);
-  Fits = λ value. codec.Fits (value.0, (whole value.0).write value.1) × (whole value.0).Fits value.1;
-  read = λ bytes. codec.read bytes >>= λ x. (whole x.0.0).read x.0.1 >>= λ value. Ok ((x.0.0, value), x.1);
-}

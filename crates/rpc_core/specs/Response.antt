@@ -4,6 +4,7 @@ use Rattle.std.specs.Option.{option_map}
 use Rattle.wire.specs.Codec.{Codec, Whole}
 use Rattle.wire.specs.Checks.{named}
 use Rattle.wire.specs.Whole.{loose}
+use Rattle.wire.specs.Kept.{within}
 use Rattle.rpc_core.specs.declared.fault.RpcFault.{RpcFault}
 use Rattle.rpc_core.specs.declared.fault.RpcFault.TheVariants as fault
 use Rattle.rpc_core.specs.declared.header.Head.{Head}
@@ -11,7 +12,7 @@ use Rattle.rpc_core.specs.declared.header.Header.{Header}
 use Rattle.rpc_core.specs.declared.response.Response.{Response}
 use Rattle.rpc_core.specs.declared.response.Status.{Status}
 use Rattle.rpc_core.specs.Header.{order_of, header_of, head_for}
-use Rattle.rpc_core.specs.Pdu.{pdu, within}
+use Rattle.rpc_core.specs.Pdu.{pdu}
 use Rattle.rpc_core.specs.Body.{Args, status, body, body_size}
 use Rattle.rpc_core.specs.Call.{Asked}
 

@@ -5,8 +5,9 @@ use Rattle.std.specs.Option.{option_map_or}
 use Rattle.std.proofs.lemmas.Bool.{eqb-true}
 use Rattle.std.proofs.lemmas.List.{nil_from_length}
 use Rattle.wire.specs.Codec.{Codec, Whole, IsSound, IsSoundWhole, IsOnward, ◌>>=◌}
-use Rattle.wire.specs.Checks.{or_fault, checked, named, closed, variant}
-use Rattle.wire.proofs.Fields.{bind_ok, ok_is}
+use Rattle.wire.specs.Checks.{or_fault, checked, fixed, allowed, named, closed, variant}
+use Rattle.wire.proofs.Fields.{bind_ok, ok_is, number_sound, number_onward}
+use Rattle.wire.proofs.Joined.{seen_sound, seen_onward}
 
 -- a test that was passed
 pub passed : {F A : Type 0} (b : Bool) (fault : F) (x y : A) → cond b (Ok x) (Err fault) ≡ Ok y → (b ≡ true) × (x ≡ y)
@@ -28,6 +29,25 @@ checked_sound {F = F} {A = A} test fault codec sound = record {
 pub checked_onward : {F A : Type 0} (test : A → Bool) (fault : F) (codec : Codec F A) → IsOnward codec → IsOnward (checked test fault codec)
 checked_onward test fault codec inner = record {
   onward = λ bytes value rest more s. (s.0, inner.onward bytes value rest more s.1);
+}
+
+pub fixed_sound : {F : Type 0} (fault : F) (size value : ℕ) → IsSound (fixed fault size value)
+fixed_sound fault size value = seen_sound _ _ _ (λ _. refl) (checked_sound _ fault _ (number_sound fault size))
+
+pub fixed_onward : {F : Type 0} (fault : F) (size value : ℕ) → IsOnward (fixed fault size value)
+fixed_onward fault size value = seen_onward _ (λ _. value) _ (checked_onward _ fault _ (number_onward fault size))
+
+allowed_takes : {F A : Type 0} (test : Bool) (fault : F) (whole : Whole F A) (bytes : List ℕ) (value : A) → IsSoundWhole whole
+    → (allowed test fault whole).read bytes ≡ Ok value → (allowed test fault whole).Spells bytes value
+allowed_takes true fault whole bytes value sound e = (refl, sound.takes bytes value e)
+allowed_takes false fault whole bytes value sound e = absurd cc
+
+pub allowed_sound : {F A : Type 0} (test : Bool) (fault : F) (whole : Whole F A) → IsSoundWhole whole → IsSoundWhole (allowed test fault whole)
+allowed_sound test fault whole sound = record {
+  takes = λ bytes value e. allowed_takes test fault whole bytes value sound e;
+  again = λ bytes value s. rw s.0 (sound.again bytes value s.1);
+  written = λ value fits. (fits.0, sound.written value fits.1);
+  sized = sound.sized;
 }
 
 module _ {F A B : Type 0} (to : A → Option B) (from : B → A) (fault : F) (codec : Codec F A) where

@@ -6,3 +6,4 @@ pub mod Given
 pub mod Judged
 pub mod Counts
 pub mod Nesting
+pub mod Kept

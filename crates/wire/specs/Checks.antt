@@ -1,7 +1,8 @@
 -- Fields whose values are judged, and what ends a format.
-use Rattle.std.specs.Prelude.{◌≡◌, ◌==◌, Bool, true, [], length, Option, Some, None, IsSomeAnd, Result, Ok, Err, if◌then◌else◌}
+use Rattle.std.specs.Prelude.{◌≡◌, ◌==◌, ℕ, Bool, true, [], length, Option, Some, None, IsSomeAnd, Result, Ok, Err, if◌then◌else◌}
 use Rattle.std.specs.Option.{option_map_or}
 use Rattle.wire.specs.Codec.{Codec, Whole, ◌>>=◌}
+use Rattle.wire.specs.Formats.{number, seen}
 
 -- a format whose values pass a test, with a fault for those that do not
 abbrev pub checked : {F A : Type 0} → (A → Bool) → F → Codec F A → Codec F A
@@ -11,6 +12,20 @@ checked test fault codec = record {
   size = codec.size;
   Fits = λ value. (test value ≡ true) × codec.Fits value;
   read = λ bytes. codec.read bytes >>= λ x. if test x.0 then Ok x else Err fault;
+}
+
+-- a number in so many bytes that has to be this one, with a fault where it is another or is not whole
+abbrev pub fixed : {F : Type 0} → F → ℕ → ℕ → Codec F (Unit {0})
+fixed fault size value = seen (λ _. tt) (λ _. value) (checked (λ n. n == value) fault (number fault size))
+
+-- a format that is read only where the test holds, with a fault where it does not
+abbrev pub allowed : {F A : Type 0} → Bool → F → Whole F A → Whole F A
+allowed test fault whole = record {
+  Spells = λ bytes value. (test ≡ true) × whole.Spells bytes value;
+  write = whole.write;
+  size = whole.size;
+  Fits = λ value. (test ≡ true) × whole.Fits value;
+  read = λ bytes. if test then whole.read bytes else Err fault;
 }
 
 -- a value, or why there is none

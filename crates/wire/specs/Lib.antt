@@ -5,3 +5,4 @@ pub mod Filled
 pub mod Checks
 pub mod Counted
 pub mod Nested
+pub mod Kept

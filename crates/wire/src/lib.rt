@@ -50,6 +50,10 @@
 //! | `framed lengths short whole` | a length, and that many bytes, which a `Whole` takes to the last |
 //! | `checked test fault codec` | values that pass a test; the fault where they do not |
 //! | `named to from fault codec` | names for some of the values; the fault for the others |
+//! | `fixed fault n v` | n bytes that have to be the number v |
+//! | `kept codec` | the same bytes; the value holds them too, so that they can be judged |
+//! | `cut short n whole` | n bytes, which a `Whole` takes to the last; where n stands anywhere before |
+//! | `within codec (λ value. whole)` | a value that ends in bytes, which a `Whole` takes to the last |
 //! | `listed item n`, `counted counts item` | n values, each of a format that may hang on those before it; the same behind their count |
 //! | `bounded most fault item` | the items of a list of at most so many |
 //! | `nested header count_of item counts` | a count and entries, each with as many of a second kind behind it as it counts, stored as two flat lists |
@@ -59,6 +63,7 @@
 //! | `filled n more codec` | a `Whole`: at most n values to the end; `more` where bytes are left |
 //! | `ends_by codec (λ value. whole)` | a `Whole`: a `Codec` in front, and a `Whole` of what is left |
 //! | `loose codec` | a `Whole`: a `Codec`, and anything behind it |
+//! | `allowed test fault whole` | a `Whole`: the one where the test holds; the fault where it does not |
 //! | `refused fault`, `pick test one other` | a `Whole`: none; the one or the other |
 //! | `seen_whole to from whole` | as `seen` |
 //!
@@ -104,5 +109,5 @@
 mod reading;
 mod writing;
 
-pub use reading::{octets_at, skip, split, u8_at, u16_at, u32_at};
+pub use reading::{front, octets_at, skip, split, u8_at, u16_at, u32_at};
 pub use writing::{append, append_u8, append_u16, append_u32};

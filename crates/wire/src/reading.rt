@@ -2,6 +2,7 @@
 ghost use Rattle.std.specs.Prelude.{◌≡◌, drop};
 ghost use Rattle.wire.specs.Codec.{Gives};
 ghost use Rattle.wire.specs.Formats.{number, raw};
+ghost use Rattle.wire.specs.Kept.{front_of};
 
 use byteorder::{BigEndian, ByteOrder};
 
@@ -17,6 +18,13 @@ pub fn skip(bytes: &[u8], most: usize) -> &[u8]
     ensures { result.now ≡ drop most bytes.now }
 {
     &bytes[most.min(bytes.len())..]
+}
+
+/// The octets in front of `rest`, which is what is left of them.
+pub fn front<'a>(bytes: &'a [u8], rest: &[u8]) -> &'a [u8]
+    ensures { result.now ≡ front_of bytes.now rest.now }
+{
+    &bytes[..bytes.len().saturating_sub(rest.len())]
 }
 
 /// A number of one octet and the octets behind it, or `short` where there is none.
