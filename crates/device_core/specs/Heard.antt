@@ -4,7 +4,7 @@ use Rattle.std.specs.Cmp.Lexicographic.{pointwise}
 use Rattle.pn_values.specs.declared.mac.Mac.{Mac}
 use Rattle.pn_values.specs.declared.identity.Identity.{Identity}
 use Rattle.frame_codec.specs.declared.fault.FrameFault.{FrameFault}
-use Rattle.frame_codec.specs.Meaning.{Meaning, Content, RealTime}
+use Rattle.frame_codec.specs.Meaning.{Meaning, Content, RealTime, ArpPacket, UdpDatagram}
 use Rattle.frame_codec.specs.Frame.{frame_of}
 use Rattle.dcp_core.specs.declared.request.DcpFault.{DcpFault}
 use Rattle.dcp_core.specs.Request.{Asked}
@@ -37,6 +37,8 @@ heard_request source (Err fault) = Unreadable
 abbrev pub heard_content : Identity → Mac → Mac → Content → Heard
 heard_content identity destination source (RealTime frame_id body) =
     if is_taken identity destination frame_id then heard_request source (request_of frame_id body) else Elsewhere
+heard_content identity destination source (ArpPacket arp) = Elsewhere
+heard_content identity destination source (UdpDatagram from to body) = Elsewhere
 
 -- a frame is read first, and then its destination is looked at
 abbrev pub heard_frame : Identity → Result Meaning FrameFault → Heard

@@ -48,7 +48,9 @@ pub(crate) fn hear<'a>(identity: &Identity, event: &'a Event) -> Heard<'a>
 fn hear_frame<'a>(identity: &Identity, layered: Layered<'a>) -> Heard<'a>
     ensures { heard_content identity.now layered.entry.destination layered.entry.source (content_of layered.entry.payload) ≡ meaning_of result }
 {
-    let Payload::RealTime { frame_id, body } = layered.payload;
+    let Payload::RealTime { frame_id, body } = layered.payload else {
+        return Heard::Elsewhere;
+    };
     if !is_taken(identity, layered.destination, frame_id) {
         return Heard::Elsewhere;
     }

@@ -6,9 +6,12 @@ use Rattle.wire.proofs.Fields.{bind_ok}
 use Rattle.frame_codec.specs.declared.link.Link.{Link}
 use Rattle.frame_codec.specs.declared.fault.FrameFault.{FrameFault}
 use Rattle.frame_codec.specs.declared.fault.FrameFault.TheVariants.{TooLong}
-use Rattle.frame_codec.specs.Meaning.{Content, RealTime, Meaning}
-use Rattle.frame_codec.specs.Frame.{mac, tag_and_type, link, real_time, content_under, content_size, content_with, link_of, layers, longest, IsFrame, FitsFrame, frame_of, frame_bytes, padding_of, with_behind, type_of}
-use Rattle.frame_codec.proofs.Layers.{link_sound, layers_sound}
+use Rattle.frame_codec.specs.Meaning.{Content, RealTime, ArpPacket, UdpDatagram, Meaning}
+use Rattle.frame_codec.specs.Arp.{arp_head, operation, holder, arp_packet}
+use Rattle.frame_codec.specs.Internet.{size_behind, internet_size, internet_way, internet_header, udp_header, udp, packet}
+use Rattle.frame_codec.specs.Frame.{profinet, address_resolution, internet, mac, tag_and_type, link, real_time, arp, datagram, content_under, content_size, content_with, link_of, layers, longest, IsFrame, FitsFrame, frame_of, frame_bytes, padding_of, with_behind, type_of}
+use Rattle.wire.proofs.Wholes.{loose_behind}
+use Rattle.frame_codec.proofs.Layers.{link_sound, arp_packet_onward, packet_onward, content_under_sound, layers_sound}
 
 -- ---- reading
 
@@ -81,49 +84,51 @@ link_size (Some tag) = 18
 tag_size_is : (tag : Option ℕ) (content : Content) → tag_and_type.size (tag, type_of content) + 12 ≡ link_size tag
 unfolding tag_and_type
 tag_size_is None (RealTime frame_id body) = refl
+tag_size_is None (ArpPacket asked) = refl
+tag_size_is None (UdpDatagram source destination body) = refl
 tag_size_is (Some tag) (RealTime frame_id body) = refl
+tag_size_is (Some tag) (ArpPacket asked) = refl
+tag_size_is (Some tag) (UdpDatagram source destination body) = refl
 
-content_size_is : (content : Content) → (content_under (type_of content)).size content ≡ content_size content
-unfolding real_time
-content_size_is (RealTime frame_id body) = refl
+content_size_is : (content : Content) → (content_under (type_of content)).Fits content → (content_under (type_of content)).size content ≡ content_size content
+unfolding real_time arp arp_packet arp_head operation holder datagram packet internet_header internet_size internet_way size_behind udp udp_header
+content_size_is (RealTime frame_id body) fits = refl
+content_size_is (ArpPacket asked) fits = omega (arith, fits.1.1.0.0, fits.1.1.0.1, fits.1.1.1.0, fits.1.1.1.1)
+content_size_is (UdpDatagram source destination body) fits = omega (arith, fits.0.0.1.1.1.0, fits.0.0.1.1.1.1)
 
 size_is : (meaning : Meaning) → layers.Fits meaning → layers.size meaning ≡ link_size meaning.tag + content_size meaning.content
 unfolding layers link mac
 size_is meaning fits =
-    omega (arith, fits.0.0, fits.0.1.0, tag_size_is meaning.tag meaning.content, content_size_is meaning.content)
+    omega (arith, fits.0.0, fits.0.1.0, tag_size_is meaning.tag meaning.content, content_size_is meaning.content fits.1)
 
-content_behind : (content : Content) (more : List ℕ) → body_of content ++ more ≡ body_of (content_with content more)
-unfolding real_time
-content_behind (RealTime frame_id body) more = refl
+-- what is written for a content, with more behind it, spells it: in real time with that behind it
+content_behind : (content : Content) (more : List ℕ) → (content_under (type_of content)).Fits content
+    → (content_under (type_of content)).Spells (body_of content ++ more) (content_with content more)
+unfolding real_time arp datagram
+content_behind (RealTime frame_id body) more fits = (content_under_sound profinet).written (RealTime frame_id (body ++ more)) fits
+content_behind (ArpPacket asked) more fits =
+    let s = (content_under_sound address_resolution).written (ArpPacket asked) fits in
+    (s.0, s.1, loose_behind arp_packet _ s.0 more arp_packet_onward s.2)
+content_behind (UdpDatagram source destination body) more fits =
+    let s = (content_under_sound internet).written (UdpDatagram source destination body) fits in
+    (s.0, s.1, loose_behind packet _ s.0 more packet_onward s.2)
 
-type_behind : (content : Content) (more : List ℕ) → type_of (content_with content more) ≡ type_of content
-type_behind (RealTime frame_id body) more = refl
-
-content_fits_behind : (content : Content) (more : List ℕ) → (content_under (type_of content)).Fits content → (content_under (type_of (content_with content more))).Fits (content_with content more)
-unfolding real_time
-content_fits_behind (RealTime frame_id body) more fits = fits
-
-layers_fit_behind : (meaning : Meaning) (more : List ℕ) → layers.Fits meaning → layers.Fits (with_behind meaning more)
+-- the same of the layers
+layers_behind : (meaning : Meaning) (more : List ℕ) → layers.Fits meaning → layers.Spells (layers.write meaning ++ more) (with_behind meaning more)
 unfolding layers
-layers_fit_behind meaning more fits =
-    (subst (λ (n : ℕ). link.Fits (record (link_of meaning) { ether_type = n })) (sym (type_behind meaning.content more)) fits.0, content_fits_behind meaning.content more fits.1)
-
--- what is written, with more behind it, is what is written for the meaning with that behind it
-layers_behind : (meaning : Meaning) (more : List ℕ) → layers.write meaning ++ more ≡ layers.write (with_behind meaning more)
-unfolding layers
-layers_behind meaning more =
+layers_behind meaning more fits =
     let header = link_of meaning in
-    let longer = content_with meaning.content more in
-    ap (λ (xs : List ℕ). xs ++ more) (link_sound.local header (body_of meaning.content))
-    ∙ append_assoc (link.write header []) (body_of meaning.content) more
-    ∙ ap (λ (xs : List ℕ). link.write header [] ++ xs) (content_behind meaning.content more)
-    ∙ sym (link_sound.local header (body_of longer))
-    ∙ ap (λ (n : ℕ). link.write (record header { ether_type = n }) (body_of longer)) (sym (type_behind meaning.content more))
+    let body = body_of meaning.content in
+    let parts : link.write header body ++ more ≡ link.write header (body ++ more) =
+    ap (λ (xs : List ℕ). xs ++ more) (link_sound.local header body) ∙ append_assoc (link.write header []) body more ∙ sym (link_sound.local header (body ++ more)) in
+    let front : link.Spells (link.write header body ++ more) header (body ++ more) =
+    subst (λ (xs : List ℕ). link.Spells xs header (body ++ more)) (sym parts) (link_sound.written header (body ++ more) fits.0) in
+    ((header, content_with meaning.content more), refl, (body ++ more, front, content_behind meaning.content more fits.1))
 
 -- what is written is a frame, with more behind it up to the limit
 pub written_is_frame : (meaning : Meaning) (more : List ℕ) → layers.Fits meaning → length (layers.write meaning) + length more ≤ longest meaning.tag → IsFrame (layers.write meaning ++ more) (with_behind meaning more)
 written_is_frame meaning more fits short = record {
-  spelled = rw (layers_behind meaning more) (layers_sound.written (with_behind meaning more) (layers_fit_behind meaning more fits));
+  spelled = layers_behind meaning more fits;
   short = omega (arith, short, length-append (layers.write meaning) more);
 }
 

@@ -1,2 +1,4 @@
+pub mod Sums
 pub mod Layers
+pub mod Datagrams
 pub mod Frames

@@ -1,13 +1,20 @@
--- The frames of Ethernet (IEEE 802.3), with at most one VLAN tag (IEEE 802.1Q), that carry PROFINET.
-use Rattle.std.specs.Prelude.{◌+◌, ◌-◌, ◌≤◌, ◌==◌, ℕ, List, ◌++◌, length, replicate, Option, Some, None, Result, Err, nat_lt, if◌then◌else◌}
+-- The frames of Ethernet (IEEE 802.3), with at most one VLAN tag (IEEE 802.1Q), that carry PROFINET, ARP or UDP in IPv4.
+use Rattle.std.specs.Prelude.{◌+◌, ◌-◌, ◌≤◌, ◌==◌, ℕ, List, [], ◌++◌, length, replicate, Option, Some, None, Result, Err, nat_lt, if◌then◌else◌}
 use Rattle.pn_values.specs.declared.mac.Mac.{Mac}
 use Rattle.wire.specs.Codec.{Codec, Whole, ◌>>=◌}
 use Rattle.wire.specs.Formats.{raw, number, then_by, ◌⨾◌, seen, when}
-use Rattle.wire.specs.Whole.{everything, refused, ends_by, seen_whole, pick}
+use Rattle.wire.specs.Whole.{everything, refused, ends_by, seen_whole, pick, loose}
+use Rattle.wire.specs.Checks.{variant}
 use Rattle.frame_codec.specs.declared.link.Link.{Link}
 use Rattle.frame_codec.specs.declared.fault.FrameFault.{FrameFault}
 use Rattle.frame_codec.specs.declared.fault.FrameFault.TheVariants.{TooShort, TooLong, Tag, EtherType}
-use Rattle.frame_codec.specs.Meaning.{Content, RealTime, Meaning}
+use Rattle.frame_codec.specs.declared.arp.Arp.{Arp}
+use Rattle.frame_codec.specs.declared.internet.InternetHeader.{InternetHeader}
+use Rattle.frame_codec.specs.declared.udp.UdpHeader.{UdpHeader}
+use Rattle.frame_codec.specs.declared.udp.Endpoint.{Endpoint}
+use Rattle.frame_codec.specs.Meaning.{Content, RealTime, ArpPacket, UdpDatagram, Meaning}
+use Rattle.frame_codec.specs.Arp.{arp_packet}
+use Rattle.frame_codec.specs.Internet.{internet_header, packet, internet_sealed, udp_sealed}
 
 -- the EtherType that a VLAN tag begins with
 abbrev pub vlan : ℕ
@@ -16,6 +23,14 @@ vlan = 0x8100
 -- the EtherType of PROFINET
 abbrev pub profinet : ℕ
 profinet = 0x8892
+
+-- the EtherType of ARP
+abbrev pub address_resolution : ℕ
+address_resolution = 0x0806
+
+-- the EtherType of IPv4
+abbrev pub internet : ℕ
+internet = 0x0800
 
 -- six octets
 unfoldable pub mac : Codec FrameFault Mac
@@ -42,22 +57,69 @@ link = seen (λ x. record { destination = x.0; source = x.1.0; tag = x.1.1.0; et
     (λ header. (header.destination, (header.source, (header.tag, header.ether_type))))
     (mac ⨾ mac ⨾ tag_and_type)
 
--- the FrameID of a content, and what is behind it
-abbrev pub parts_of_content : Content → ℕ × List ℕ
-parts_of_content (RealTime frame_id body) = (frame_id, body)
+-- ---- the contents
+
+-- the FrameID of a content of real time, and what is behind it
+abbrev pub real_time_in : Content → Option (ℕ × List ℕ)
+real_time_in (RealTime frame_id body) = Some (frame_id, body)
+real_time_in (ArpPacket packet) = None
+real_time_in (UdpDatagram source destination body) = None
 
 -- a FrameID, and all that is behind it
 unfoldable pub real_time : Whole FrameFault Content
-real_time = seen_whole (λ x. RealTime x.0 x.1) parts_of_content (ends_by (number TooShort 2) (λ _. everything))
+real_time = variant (λ x. RealTime x.0 x.1) real_time_in (ends_by (number TooShort 2) (λ _. everything))
+
+-- the packet in a content of ARP
+abbrev pub arp_in : Content → Option Arp
+arp_in (RealTime frame_id body) = None
+arp_in (ArpPacket packet) = Some packet
+arp_in (UdpDatagram source destination body) = None
+
+-- a packet of ARP; what is behind it is not looked at
+unfoldable pub arp : Whole FrameFault Content
+arp = variant ArpPacket arp_in (loose arp_packet)
+
+-- the headers of a datagram between these ends
+abbrev pub headers_of : Endpoint → Endpoint → List ℕ → InternetHeader × UdpHeader
+headers_of source destination body = (
+  internet_sealed (record { size = length body + 8; checksum = 0; source = source.address; destination = destination.address }),
+  record { source = source.port; destination = destination.port; size = length body; checksum = 0 },
+)
+
+-- the packet that is sent for a datagram
+abbrev pub packet_of : Endpoint → Endpoint → List ℕ → (InternetHeader × List ℕ) × (UdpHeader × List ℕ)
+packet_of source destination body =
+    let headers = headers_of source destination body in
+    ((headers.0, internet_header.write headers.0 []), (udp_sealed headers.0 headers.1 body, body))
+
+-- the packet in a content of UDP
+abbrev pub packet_in : Content → Option ((InternetHeader × List ℕ) × (UdpHeader × List ℕ))
+packet_in (RealTime frame_id body) = None
+packet_in (ArpPacket asked) = None
+packet_in (UdpDatagram source destination body) = Some (packet_of source destination body)
+
+-- what a packet says: its ends and the body of its datagram
+abbrev pub datagram_in : (InternetHeader × List ℕ) × (UdpHeader × List ℕ) → Content
+datagram_in x =
+    UdpDatagram (record { address = x.0.0.source; port = x.1.0.source }) (record { address = x.0.0.destination; port = x.1.0.destination }) x.1.1
+
+-- a datagram of UDP in a packet of IPv4; what is behind the packet is not looked at
+unfoldable pub datagram : Whole FrameFault Content
+datagram = variant datagram_in packet_in (loose packet)
 
 -- the content behind an EtherType: behind a tag's own EtherType no second tag may stand
 abbrev pub content_under : ℕ → Whole FrameFault Content
 content_under ether_type =
-    pick (ether_type == vlan) (refused Tag) (pick (ether_type == profinet) real_time (refused EtherType))
+    pick (ether_type == vlan) (refused Tag) (pick (ether_type == profinet) real_time
+    (pick (ether_type == address_resolution) arp (pick (ether_type == internet) datagram (refused EtherType))))
 
 -- the EtherType of a content
 abbrev pub type_of : Content → ℕ
 type_of (RealTime frame_id body) = profinet
+type_of (ArpPacket packet) = address_resolution
+type_of (UdpDatagram source destination body) = internet
+
+-- ---- the frame
 
 -- the link header of a frame of this meaning
 abbrev pub link_of : Meaning → Link
@@ -86,9 +148,11 @@ frame_of bytes = link.read bytes >>= λ header.
 
 -- ---- what is written
 
--- how many bytes a content has
+-- how many bytes a content has: a FrameID and its body, a packet of ARP, or the headers of IPv4 and UDP and a body
 abbrev pub content_size : Content → ℕ
 content_size (RealTime frame_id body) = 2 + length body
+content_size (ArpPacket packet) = 28
+content_size (UdpDatagram source destination body) = 28 + length body
 
 -- the content fits a frame, whether tagged or not
 abbrev pub FitsFrame : Meaning → Type 0
@@ -102,9 +166,11 @@ padding_of meaning = replicate (60 - length (layers.write meaning)) 0
 unfoldable pub frame_bytes : Meaning → List ℕ
 frame_bytes meaning = layers.write meaning ++ padding_of meaning
 
--- the content with more bytes behind it
+-- the content with more bytes behind it: all are of the content under EtherType 0x8892, and none is elsewhere
 abbrev pub content_with : Content → List ℕ → Content
 content_with (RealTime frame_id body) more = RealTime frame_id (body ++ more)
+content_with (ArpPacket packet) more = ArpPacket packet
+content_with (UdpDatagram source destination body) more = UdpDatagram source destination body
 
 -- the meaning of a frame with more bytes behind it
 abbrev pub with_behind : Meaning → List ℕ → Meaning

@@ -1,3 +1,6 @@
 pub mod Meaning
+pub mod Sum
+pub mod Arp
+pub mod Internet
 pub mod Frame
 pub mod FrameFault

@@ -1,13 +1,18 @@
 -- What a frame means.
 use Rattle.std.specs.Prelude.{ℕ, List, Option}
 use Rattle.pn_values.specs.declared.mac.Mac.{Mac}
+use Rattle.frame_codec.specs.declared.arp.Arp.{Arp}
+use Rattle.frame_codec.specs.declared.udp.Endpoint.{Endpoint}
 use Rattle.frame_codec.specs.declared.layered.Layered.{Layered}
 use Rattle.frame_codec.specs.declared.layered.Payload.{Payload}
 use Rattle.frame_codec.specs.declared.layered.Payload.TheVariants as payload
 
--- what a frame carries: under EtherType 0x8892 a FrameID and all bytes behind it, padding too
+-- What a frame carries: under EtherType 0x8892 a FrameID and all bytes behind it, padding too; under 0x0806 a packet of
+-- ARP; under 0x0800 a datagram of UDP, of which the lengths say where it ends.
 pub data Content : Type 0 where
   RealTime : (frame_id : ℕ) → (body : List ℕ) → Content
+  ArpPacket : (arp : Arp) → Content
+  UdpDatagram : (source destination : Endpoint) → (body : List ℕ) → Content
 
 -- the meaning of a frame
 pub record Meaning : Type 0 where
@@ -19,6 +24,8 @@ pub record Meaning : Type 0 where
 -- what a payload means
 abbrev pub content_of : Payload → Content
 content_of (payload.RealTime frame_id body) = RealTime frame_id body.now
+content_of (payload.Arp arp) = ArpPacket arp
+content_of (payload.Udp udp) = UdpDatagram udp.source udp.destination udp.body.now
 
 -- what layers mean, without where their bytes lie in memory
 abbrev pub meaning_of : Layered → Meaning

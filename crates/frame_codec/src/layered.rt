@@ -1,3 +1,4 @@
+use crate::{Arp, Udp};
 use pn_values::Mac;
 
 /// A frame by its layers.
@@ -18,4 +19,8 @@ pub struct Layered<'a> {
 pub enum Payload<'a> {
     /// EtherType 0x8892: the FrameID and all octets behind it, padding too.
     RealTime { frame_id: u16, body: &'a [u8] },
+    /// EtherType 0x0806: a packet of ARP.
+    Arp(Arp),
+    /// EtherType 0x0800: a datagram of UDP in a packet of IPv4.
+    Udp(Udp<'a>),
 }

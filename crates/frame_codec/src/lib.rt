@@ -1,16 +1,22 @@
 //! Ethernet frames (IEEE 802.3), with at most one VLAN tag (IEEE 802.1Q), that carry PROFINET real-time data
-//! (IEC 61158-6-10): from octets to layers and back.
+//! (IEC 61158-6-10), ARP (RFC 826) or UDP (RFC 768) in IPv4 (RFC 791): from octets to layers and back.
 #![tactic(auto)]
 
+mod arp;
 mod fault;
+mod fields;
 mod frame_id;
+mod internet;
 mod layered;
 mod limits;
 mod link;
 mod outbox;
 mod reading;
+mod sum;
+mod udp;
 mod writing;
 
+pub use arp::{Arp, ArpOperation, Holder};
 pub use fault::FrameFault;
 pub use frame_id::{
     ALARM_HIGH, ALARM_LOW, DCP_GET_SET, DCP_IDENTIFY_REQUEST, DCP_IDENTIFY_RESPONSE,
@@ -19,4 +25,6 @@ pub use layered::{Layered, Payload};
 pub use limits::{Bytes, Frame};
 pub use outbox::Outbox;
 pub use reading::read;
+pub use sum::ones_sum;
+pub use udp::{Endpoint, RPC_PORT, Udp};
 pub use writing::write;

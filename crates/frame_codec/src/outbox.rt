@@ -7,6 +7,7 @@ ghost use Rattle.frame_codec.specs.Frame.{FitsFrame, frame_bytes};
 use crate::writing::fill;
 use crate::{Frame, Layered};
 use std::marker::Model;
+use wire::append;
 
 /// The frames that one event sends, at most four, in their order. They are written where they lie, and their room is used
 /// again. A clause sees them as it sees the frames of an `ArrayVec`.
@@ -71,7 +72,7 @@ impl Outbox {
     /// Writes a frame behind the others, and behind it zeros up to 60 octets, the tag counted.
     pub fn put(&mut self, layered: &Layered)
         requires room { array_vec_len self.old < 4 }
-        // What is carried takes at most 1,500 octets, the FrameID counted.
+        // What is carried takes at most 1,500 octets, a FrameID and the headers of IPv4 and UDP counted.
         requires fits { FitsFrame (meaning_of layered.now) }
         // The others stay, and each octet of the new one.
         ensures items { self.new.items ≡ self.old.items ++ record { items = frame_bytes (meaning_of layered.now) } ∷ [] }
@@ -80,6 +81,19 @@ impl Outbox {
         let frame = &mut self.frames[self.used];
         frame.clear();
         fill(frame, layered);
+        self.used += 1;
+    }
+
+    /// Puts a copy of a frame behind the others.
+    pub fn put_copy(&mut self, frame: &Frame)
+        requires room { array_vec_len self.old < 4 }
+        // The others stay.
+        ensures items { self.new.items ≡ self.old.items ++ frame.now ∷ [] }
+        ensures len { array_vec_len self.new ≡ array_vec_len self.old + 1 }
+    {
+        let copy = &mut self.frames[self.used];
+        copy.clear();
+        append(copy, frame.as_slice());
         self.used += 1;
     }
 }

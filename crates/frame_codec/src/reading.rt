@@ -2,11 +2,15 @@
 ghost use Rattle.std.specs.Prelude.{IfOk, Ok};
 ghost use Rattle.wire.specs.Codec.{Gives};
 ghost use Rattle.frame_codec.specs.Meaning.{Meaning, content_of, meaning_of};
-ghost use Rattle.frame_codec.specs.Frame.{IsFrame, content_under, real_time, frame_of};
+ghost use Rattle.frame_codec.specs.Frame.{IsFrame, arp, content_under, datagram, real_time, frame_of};
 
+use crate::arp::{ADDRESS_RESOLUTION, arp_at};
+use crate::internet::{INTERNET, internet_header_at};
 use crate::link::{PROFINET, VLAN, link_at, longest_of};
-use crate::{FrameFault, Layered, Payload};
-use wire::u16_at;
+use crate::sum::ones_sum;
+use crate::udp::segment_at;
+use crate::{Endpoint, FrameFault, Layered, Payload, Udp};
+use wire::{front, split, u16_at};
 
 /// The FrameID, and all that is behind it.
 #[tactic(auto, unfolding(crate::specs::Frame::real_time))]
@@ -15,6 +19,40 @@ fn real_time_at(bytes: &[u8]) -> Result<Payload<'_>, FrameFault>
 {
     let (frame_id, body) = u16_at(bytes, FrameFault::TooShort)?;
     Ok(Payload::RealTime { frame_id, body })
+}
+
+/// A packet of ARP. What is behind it is not looked at.
+#[tactic(auto, unfolding(crate::specs::Frame::arp))]
+fn address_resolution_at(bytes: &[u8]) -> Result<Payload<'_>, FrameFault>
+    ensures { Gives content_of result (arp.read bytes.now) }
+{
+    let (packet, _) = arp_at(bytes)?;
+    Ok(Payload::Arp(packet))
+}
+
+/// A datagram of UDP in a packet of IPv4. What is behind the packet is not looked at. First the header is judged, then
+/// whether all that it counts is there, then its checksum, and then what it carries.
+#[tactic(auto, unfolding(crate::specs::Frame::datagram, crate::specs::Internet::packet))]
+fn datagram_at(bytes: &[u8]) -> Result<Payload<'_>, FrameFault>
+    ensures { Gives content_of result (datagram.read bytes.now) }
+{
+    let (internet, rest) = internet_header_at(bytes)?;
+    let (packet, _) = split(rest, internet.size as usize, FrameFault::IpHeader)?;
+    if ones_sum(front(bytes, rest)) != 0xFFFF {
+        return Err(FrameFault::IpChecksum);
+    }
+    let (header, body) = segment_at(&internet, packet)?;
+    Ok(Payload::Udp(Udp {
+        source: Endpoint {
+            address: internet.source,
+            port: header.source,
+        },
+        destination: Endpoint {
+            address: internet.destination,
+            port: header.destination,
+        },
+        body,
+    }))
 }
 
 /// The content that stands behind this EtherType.
@@ -26,6 +64,12 @@ fn content_at(ether_type: u16, bytes: &[u8]) -> Result<Payload<'_>, FrameFault>
     }
     if ether_type == PROFINET {
         return real_time_at(bytes);
+    }
+    if ether_type == ADDRESS_RESOLUTION {
+        return address_resolution_at(bytes);
+    }
+    if ether_type == INTERNET {
+        return datagram_at(bytes);
     }
     Err(FrameFault::EtherType)
 }
@@ -48,8 +92,8 @@ fn layers_at(bytes: &[u8]) -> Result<Layered<'_>, FrameFault>
     })
 }
 
-/// Reads a frame. What is behind the layers is padding, and is no part of the meaning, except under EtherType 0x8892,
-/// where all is. A frame may be shorter than 60 octets.
+/// Reads a frame. What is behind the innermost length is padding, and is no part of the meaning, except under EtherType
+/// 0x8892, where all is. A frame may be shorter than 60 octets.
 pub fn read(bytes: &[u8]) -> Result<Layered<'_>, FrameFault>
     // What is read is spelled so.
     ensures found { IfOk result (λ layered. IsFrame bytes.now (meaning_of layered)) }

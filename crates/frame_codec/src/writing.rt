@@ -1,11 +1,14 @@
 //! From layers to octets.
 ghost use Rattle.std.specs.Prelude.{◌≡◌, ◌+◌, ◌-◌, ◌≢◌, ◌≤◌, List, ℕ, [], ◌++◌, length, replicate, Ok};
 ghost use Rattle.arrayvec.specs.ArrayVec.{array_vec_len};
-ghost use Rattle.frame_codec.specs.Meaning.{content_of, meaning_of};
-ghost use Rattle.frame_codec.specs.Frame.{IsFrame, FitsFrame, content_size, content_under, frame_of, frame_bytes, layers, link, longest, padding_of, tag_and_type, type_of, vlan, with_behind};
+ghost use Rattle.frame_codec.specs.Meaning.{UdpDatagram, content_of, meaning_of};
+ghost use Rattle.frame_codec.specs.Frame.{IsFrame, FitsFrame, content_size, content_under, datagram, frame_of, frame_bytes, layers, link, longest, padding_of, tag_and_type, type_of, vlan, with_behind};
 
+use crate::arp::{ADDRESS_RESOLUTION, put_arp};
+use crate::internet::{INTERNET, InternetHeader, put_internet_header};
 use crate::link::{Link, PROFINET, VLAN};
-use crate::{Frame, Layered, Payload};
+use crate::udp::{UdpHeader, put_udp_header};
+use crate::{Frame, Layered, Payload, Udp};
 use arrayvec::ArrayVec;
 use wire::{append, append_u16};
 
@@ -16,6 +19,8 @@ fn ether_type_of(payload: &Payload) -> u16
 {
     match *payload {
         Payload::RealTime { .. } => PROFINET,
+        Payload::Arp(_) => ADDRESS_RESOLUTION,
+        Payload::Udp(_) => INTERNET,
     }
 }
 
@@ -52,10 +57,39 @@ fn put_link(frame: &mut Frame, header: &Link)
     put_tag_and_type(frame, header.tag, header.ether_type);
 }
 
+/// Appends a packet of IPv4 with a datagram of UDP, each with its checksum.
+#[tactic(auto, unfolding(crate::specs::Frame::datagram, crate::specs::Internet::packet))]
+fn put_datagram(frame: &mut Frame, udp: &Udp)
+    requires room { array_vec_len frame.old + (28 + length udp.now.body.now) ≤ 1518 }
+    requires most { length udp.now.body.now ≤ 1472 }
+    ensures items { frame.new.items ≡ frame.old.items ++ datagram.write (UdpDatagram udp.now.source udp.now.destination udp.now.body.now) }
+    ensures fits { datagram.Fits (UdpDatagram udp.now.source udp.now.destination udp.now.body.now) }
+{
+    let size = udp.body.len() as u16;
+    let internet = InternetHeader {
+        size: size + 8,
+        checksum: 0,
+        source: udp.source.address,
+        destination: udp.destination.address,
+    }
+    .seal();
+    let header = UdpHeader {
+        source: udp.source.port,
+        destination: udp.destination.port,
+        size,
+        checksum: 0,
+    }
+    .seal(&internet, udp.body);
+    put_internet_header(frame, &internet);
+    put_udp_header(frame, &header);
+    append(frame, udp.body);
+}
+
 /// Appends the content.
-#[tactic(auto, unfolding(crate::specs::Frame::real_time))]
+#[tactic(auto, unfolding(crate::specs::Frame::real_time, crate::specs::Frame::arp))]
 fn put_content(frame: &mut Frame, payload: &Payload)
-    requires { array_vec_len frame.old + content_size (content_of payload.now) ≤ 1518 }
+    requires room { array_vec_len frame.old + content_size (content_of payload.now) ≤ 1518 }
+    requires most { content_size (content_of payload.now) ≤ 1500 }
     ensures items { frame.new.items ≡ frame.old.items ++ (content_under (type_of (content_of payload.now))).write (content_of payload.now) }
     ensures fits { (content_under (type_of (content_of payload.now))).Fits (content_of payload.now) }
 {
@@ -64,6 +98,8 @@ fn put_content(frame: &mut Frame, payload: &Payload)
             append_u16(frame, frame_id);
             append(frame, body);
         }
+        Payload::Arp(ref arp) => put_arp(frame, arp),
+        Payload::Udp(ref udp) => put_datagram(frame, udp),
     }
 }
 
@@ -108,13 +144,13 @@ pub(crate) fn fill(frame: &mut Frame, layered: &Layered)
 
 /// Writes a frame, and behind it zeros up to 60 octets, the tag counted.
 pub fn write(layered: &Layered) -> Frame
-    // What is carried takes at most 1,500 octets, the FrameID counted.
+    // What is carried takes at most 1,500 octets, a FrameID and the headers of IPv4 and UDP counted.
     requires { FitsFrame (meaning_of layered.now) }
     // The octets, each of them.
     ensures exact { result.items ≡ frame_bytes (meaning_of layered.now) }
     // They spell what was given, with the padding.
     ensures spelled { IsFrame result.items (with_behind (meaning_of layered.now) (padding_of (meaning_of layered.now))) }
-    // With more behind it, up to the limit, it is read as the same with that behind.
+    // With more behind it, up to the limit, it is read as the same, and under EtherType 0x8892 with that behind.
     ensures behind { (more : List ℕ) → length result.items + length more ≤ longest layered.now.tag →
         frame_of (result.items ++ more) ≡ Ok (with_behind (meaning_of layered.now) (padding_of (meaning_of layered.now) ++ more)) }
     ensures least { 60 ≤ length result.items }

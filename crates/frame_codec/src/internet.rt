@@ -1,0 +1,147 @@
+//! Packets of IPv4 (RFC 791).
+ghost use Rattle.std.specs.Prelude.{◌≡◌, ◌+◌, ◌≤◌, ◌<◌, ℕ, [], ◌++◌, length};
+ghost use Rattle.arrayvec.specs.ArrayVec.{array_vec_len};
+ghost use Rattle.wire.specs.Codec.{Gives};
+ghost use Rattle.frame_codec.specs.Internet.{internet_size, internet_way, internet_header, internet_sealed};
+
+use crate::FrameFault;
+use crate::fields::{fixed_u8_at, size_behind_at};
+use crate::sum::ones_sum;
+use arrayvec::ArrayVec;
+use wire::{append, append_u8, append_u16, octets_at, u8_at, u16_at};
+
+/// The EtherType of IPv4.
+pub(crate) const INTERNET: u16 = 0x0800;
+
+/// Version 4, and a header of five words of 32 bits.
+const VERSION_AND_LENGTH: u8 = 0x45;
+
+/// 'Do not fragment', and the offset 0.
+const DO_NOT_FRAGMENT: u16 = 0x4000;
+
+/// How many stations may pass a packet on.
+const TIME_TO_LIVE: u8 = 64;
+
+/// UDP, as a protocol.
+pub(crate) const UDP: u8 = 17;
+
+/// What a header says that hangs on the packet.
+#[derive(Clone, Copy)]
+pub(crate) struct InternetHeader {
+    /// How many octets are behind it.
+    pub(crate) size: u16,
+    pub(crate) checksum: u16,
+    pub(crate) source: [u8; 4],
+    pub(crate) destination: [u8; 4],
+}
+
+/// How many octets are behind the header, and what is behind the identification.
+#[tactic(auto, unfolding(crate::specs::Internet::internet_size))]
+fn size_at(bytes: &[u8]) -> Result<(u16, &[u8]), FrameFault>
+    ensures { Gives (λ x. (x.0, x.1.now)) result (internet_size.read bytes.now) }
+{
+    let rest = fixed_u8_at(bytes, VERSION_AND_LENGTH, FrameFault::IpHeader)?;
+    let (_service, rest) = u8_at(rest, FrameFault::IpHeader)?;
+    let (size, rest) = size_behind_at(rest, 20, 28, FrameFault::IpHeader)?;
+    let (_identification, rest) = u16_at(rest, FrameFault::IpHeader)?;
+    Ok((size, rest))
+}
+
+/// What is behind the protocol: the packet is no fragment, and carries UDP.
+#[tactic(auto, unfolding(crate::specs::Internet::internet_way))]
+fn way_at(bytes: &[u8]) -> Result<&[u8], FrameFault>
+    ensures { Gives (λ x. (tt, x.now)) result (internet_way.read bytes.now) }
+{
+    let (fragment, rest) = u16_at(bytes, FrameFault::IpHeader)?;
+    if fragment % 0x4000 != 0 {
+        return Err(FrameFault::IpHeader);
+    }
+    let (_life, rest) = u8_at(rest, FrameFault::IpHeader)?;
+    fixed_u8_at(rest, UDP, FrameFault::IpHeader)
+}
+
+/// A header, and what is behind it. Its checksum is not judged.
+#[tactic(auto, unfolding(crate::specs::Internet::internet_header))]
+pub(crate) fn internet_header_at(bytes: &[u8]) -> Result<(InternetHeader, &[u8]), FrameFault>
+    ensures { Gives (λ x. (x.0, x.1.now)) result (internet_header.read bytes.now) }
+{
+    let (size, rest) = size_at(bytes)?;
+    let rest = way_at(rest)?;
+    let (checksum, rest) = u16_at(rest, FrameFault::IpHeader)?;
+    let (source, rest) = octets_at::<4, FrameFault>(rest, FrameFault::IpHeader)?;
+    let (destination, rest) = octets_at::<4, FrameFault>(rest, FrameFault::IpHeader)?;
+    Ok((
+        InternetHeader {
+            size,
+            checksum,
+            source,
+            destination,
+        },
+        rest,
+    ))
+}
+
+/// Appends what is in front of the fragment's word.
+#[tactic(auto, unfolding(crate::specs::Internet::internet_size, crate::specs::Internet::size_behind))]
+fn put_size<const N: usize>(out: &mut ArrayVec<u8, N>, size: u16)
+    requires room { array_vec_len out.old + 6 ≤ N }
+    requires least { 8 ≤ size }
+    requires most { size ≤ 1480 }
+    ensures items { out.new.items ≡ out.old.items ++ internet_size.write size [] }
+    ensures len { array_vec_len out.new ≡ array_vec_len out.old + 6 }
+    ensures fits { internet_size.Fits size }
+{
+    append_u8(out, VERSION_AND_LENGTH);
+    append_u8(out, 0);
+    append_u16(out, size + 20);
+    append_u16(out, 0);
+}
+
+/// Appends the fragment's word, the life and the protocol.
+#[tactic(auto, unfolding(crate::specs::Internet::internet_way))]
+fn put_way<const N: usize>(out: &mut ArrayVec<u8, N>)
+    requires room { array_vec_len out.old + 4 ≤ N }
+    ensures items { out.new.items ≡ out.old.items ++ internet_way.write tt [] }
+    ensures len { array_vec_len out.new ≡ array_vec_len out.old + 4 }
+    ensures fits { internet_way.Fits tt }
+{
+    append_u16(out, DO_NOT_FRAGMENT);
+    append_u8(out, TIME_TO_LIVE);
+    append_u8(out, UDP);
+}
+
+/// Appends a header, with the checksum that it has.
+#[tactic(auto, unfolding(crate::specs::Internet::internet_header))]
+pub(crate) fn put_internet_header<const N: usize>(
+    out: &mut ArrayVec<u8, N>,
+    header: &InternetHeader,
+)
+    requires room { array_vec_len out.old + 20 ≤ N }
+    requires least { 8 ≤ header.now.size }
+    requires most { header.now.size ≤ 1480 }
+    ensures items { out.new.items ≡ out.old.items ++ internet_header.write header.now [] }
+    ensures len { array_vec_len out.new ≡ array_vec_len out.old + 20 }
+    ensures fits { internet_header.Fits header.now }
+{
+    put_size(out, header.size);
+    put_way(out);
+    append_u16(out, header.checksum);
+    append(out, &header.source);
+    append(out, &header.destination);
+}
+
+impl InternetHeader {
+    /// The header with its checksum in place of the 0 that stands there.
+    pub(crate) fn seal(self) -> InternetHeader
+        requires least { 8 ≤ self.size }
+        requires most { self.size ≤ 1480 }
+        ensures { result ≡ internet_sealed self }
+    {
+        let mut octets = ArrayVec::<u8, 20>::new();
+        put_internet_header(&mut octets, &self);
+        InternetHeader {
+            checksum: 0xFFFF - ones_sum(octets.as_slice()),
+            ..self
+        }
+    }
+}
