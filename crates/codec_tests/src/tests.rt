@@ -3,3 +3,5 @@ mod calls;
 mod dcp;
 mod fields;
 mod frames;
+mod internet;
+mod reckoned;

@@ -112,8 +112,8 @@ fn two_tags(rt: HostRuntime) {
 fn other_ether_types(rt: HostRuntime) {
     for ether_type in [
         [0x88, 0x93],
-        [0x08, 0x00],
-        [0x08, 0x06],
+        [0x08, 0x01],
+        [0x06, 0x08],
         [0x92, 0x88],
         [0x00, 0x01],
     ] {
@@ -195,6 +195,11 @@ fn faults_of_frames_are_numbered(rt: HostRuntime) {
         (FrameFault::TooLong, 2),
         (FrameFault::Tag, 3),
         (FrameFault::EtherType, 4),
+        (FrameFault::IpHeader, 5),
+        (FrameFault::IpChecksum, 6),
+        (FrameFault::UdpLength, 7),
+        (FrameFault::UdpChecksum, 8),
+        (FrameFault::Arp, 9),
     ];
     for (fault, number) in faults {
         assert_eq!(rt; fault.number(), number, "{fault:?}");
