@@ -1,0 +1,3 @@
+pub mod Plugged
+pub mod Rows
+pub mod Diff

@@ -1,0 +1,11 @@
+-- The rows of a ModuleDiffBlock.
+use Rattle.std.specs.Prelude.{◌≡◌, ◌≤◌, List, length, sum_by}
+use Rattle.module_blocks.specs.declared.module_diff.DiffModule.{DiffModule}
+use Rattle.module_blocks.specs.declared.module_diff.DiffSubmodule.{DiffSubmodule}
+use Rattle.module_blocks.specs.ModuleDiff.{own_of}
+
+-- the modules count the submodules that there are, and there are few of both
+pub record AreRows (modules : List DiffModule) (submodules : List DiffSubmodule) : Type 0 where
+  pub counted : sum_by own_of modules ≡ length submodules
+  pub few_modules : length modules ≤ 64
+  pub few_submodules : length submodules ≤ 64

@@ -1,0 +1,176 @@
+//! What differs.
+ghost use Rattle.std.specs.Prelude.{◌≡◌, ◌+◌, ◌≤◌, ◌++◌, ◌&&◌, ◌||◌, [], ◌∷◌, cond, not, drop, length, map, nat_lt, take};
+ghost use Rattle.std.specs.List.{filter};
+ghost use Rattle.arrayvec.specs.ArrayVec.{array_vec_len};
+ghost use Rattle.module_diff.specs.Plugged.{is_ident};
+ghost use Rattle.module_diff.specs.Diff.{diff_of, is_as_expected, module_rows, row_with, submodule_row, submodule_rows, submodule_row_with, wanted_in};
+
+use crate::plugged::{module_ident, submodule_ident};
+use crate::{DiffRows, Expected};
+use arrayvec::ArrayVec;
+use module_blocks::{DiffModule, DiffSubmodule, ExpectedModule, ExpectedSubmodule};
+use pn_values::Real;
+
+/// ModuleState of a slot that is empty.
+const NO_MODULE: u16 = 0;
+/// ModuleState of a slot with another module than is expected.
+const WRONG_MODULE: u16 = 1;
+/// ModuleState of a slot with the module that is expected.
+const PROPER_MODULE: u16 = 2;
+
+/// SubmoduleState of a subslot with a submodule that is not the expected one: FormatIndicator 1, IdentInfo 2.
+const WRONG_SUBMODULE: u16 = 0x9000;
+/// SubmoduleState of a subslot that is empty: FormatIndicator 1, IdentInfo 3.
+const NO_SUBMODULE: u16 = 0x9800;
+
+/// The modules that are not as they are expected, in the order asked for. Of a slot that is empty or has another module all
+/// submodules that are expected are listed, of a proper module those that are not plugged.
+pub fn diff(expected: &Expected, real: &Real) -> DiffRows
+    ensures { result ≡ diff_of expected.now real.now.modules.items }
+{
+    let mut modules = ArrayVec::new();
+    let mut submodules = ArrayVec::new();
+    fill_rows(&mut modules, &mut submodules, expected, real);
+    DiffRows::new(modules, submodules)
+}
+
+/// Appends the rows of the modules that differ, and of their submodules, to empty lists.
+fn fill_rows(
+    modules: &mut ArrayVec<DiffModule, 256>,
+    submodules: &mut ArrayVec<DiffSubmodule, 256>,
+    expected: &Expected,
+    real: &Real,
+)
+    requires no_modules { modules.old.items ≡ [] }
+    requires no_submodules { submodules.old.items ≡ [] }
+    ensures modules { modules.new.items ≡ module_rows real.now.modules.items (wanted_in expected.now.modules.items expected.now.submodules.items) }
+    ensures submodules { submodules.new.items ≡ submodule_rows real.now.modules.items (wanted_in expected.now.modules.items expected.now.submodules.items) }
+    ensures few_modules { length modules.new.items ≤ 64 }
+    ensures few_submodules { length submodules.new.items ≤ 64 }
+{
+    let mut left = expected.submodules.as_slice();
+    for entry in expected.modules.as_slice() {
+        let (own, behind) = split_own(left, entry.number_of_submodules);
+        push_module(modules, submodules, real, entry, own);
+        left = behind;
+    }
+}
+
+/// So many submodules, or all where there are fewer, and those behind them.
+fn split_own(
+    submodules: &[ExpectedSubmodule],
+    count: u16,
+) -> (&[ExpectedSubmodule], &[ExpectedSubmodule])
+    ensures own { result.0.now ≡ take count submodules.now }
+    ensures behind { result.1.now ≡ drop count submodules.now }
+    ensures sizes { length result.0.now + length result.1.now ≡ length submodules.now }
+{
+    submodules.split_at(submodules.len().min(count as usize))
+}
+
+/// Appends the row of a module, if it differs, and those of its submodules that are listed. There must be room.
+fn push_module(
+    modules: &mut ArrayVec<DiffModule, 256>,
+    submodules: &mut ArrayVec<DiffSubmodule, 256>,
+    real: &Real,
+    entry: &ExpectedModule,
+    own: &[ExpectedSubmodule],
+)
+    requires modules_room { array_vec_len modules.old + 1 ≤ 256 }
+    requires submodules_room { array_vec_len submodules.old + length own.now ≤ 256 }
+    ensures modules { modules.new.items ≡ modules.old.items ++ module_rows real.now.modules.items (record { entry = entry.now; submodules = own.now } ∷ []) }
+    ensures submodules { submodules.new.items ≡ submodules.old.items ++ submodule_rows real.now.modules.items (record { entry = entry.now; submodules = own.now } ∷ []) }
+    ensures few_modules { array_vec_len modules.new ≤ array_vec_len modules.old + 1 }
+    ensures few_submodules { array_vec_len submodules.new ≤ array_vec_len submodules.old + length own.now }
+{
+    let ident = module_ident(real, entry.slot_number);
+    let proper = is_ident(ident, entry.module_ident_number);
+    let listed = push_submodules(submodules, real, entry.slot_number, own, proper);
+    push_where(
+        modules,
+        is_listed(proper, listed),
+        row_with(entry, ident, listed),
+    );
+}
+
+/// Appends a row where it is to be listed. There must be room.
+fn push_where(modules: &mut ArrayVec<DiffModule, 256>, listed: bool, row: DiffModule)
+    requires { array_vec_len modules.old + 1 ≤ 256 }
+    ensures items { modules.new.items ≡ modules.old.items ++ cond listed (row ∷ []) [] }
+    ensures few { array_vec_len modules.new ≤ array_vec_len modules.old + 1 }
+{
+    if listed {
+        modules.push(row);
+    }
+}
+
+/// Whether a module is listed of which so many submodules are.
+fn is_listed(proper: bool, submodules: u16) -> bool
+    ensures { result ≡ (not proper || nat_lt 0 submodules) }
+{
+    !proper || submodules > 0
+}
+
+/// The row of a module in whose slot a module of this ident number is plugged, and of which so many submodules are listed.
+fn row_with(entry: &ExpectedModule, ident: Option<u32>, number_of_submodules: u16) -> DiffModule
+    ensures { result ≡ row_with entry.now ident number_of_submodules }
+{
+    let (module_ident_number, module_state) = match ident {
+        None => (0, NO_MODULE),
+        Some(ident) if ident == entry.module_ident_number => (ident, PROPER_MODULE),
+        Some(ident) => (ident, WRONG_MODULE),
+    };
+    DiffModule {
+        slot_number: entry.slot_number,
+        module_ident_number,
+        module_state,
+        number_of_submodules,
+    }
+}
+
+/// Appends the rows of submodules, of a proper module only of those that are not as expected, and says how many they are.
+/// There must be room.
+fn push_submodules(
+    submodules: &mut ArrayVec<DiffSubmodule, 256>,
+    real: &Real,
+    slot: u16,
+    own: &[ExpectedSubmodule],
+    proper: bool,
+) -> u16
+    requires { array_vec_len submodules.old + length own.now ≤ 256 }
+    ensures rows { submodules.new.items ≡ submodules.old.items ++ map (submodule_row real.now.modules.items slot) (filter (λ part. not (proper && is_as_expected real.now.modules.items slot part)) own.now) }
+    ensures count { result ≡ length (filter (λ part. not (proper && is_as_expected real.now.modules.items slot part)) own.now) }
+    ensures few { array_vec_len submodules.new ≤ array_vec_len submodules.old + length own.now }
+{
+    let mut count = 0;
+    for part in own {
+        let ident = submodule_ident(real, slot, part.subslot_number);
+        if !(proper && is_ident(ident, part.submodule_ident_number)) {
+            submodules.push(submodule_row_with(part.subslot_number, ident));
+            count += 1;
+        }
+    }
+    count
+}
+
+/// The row of a submodule in whose subslot a submodule of this ident number is plugged.
+fn submodule_row_with(subslot: u16, ident: Option<u32>) -> DiffSubmodule
+    ensures { result ≡ submodule_row_with subslot ident }
+{
+    let (submodule_ident_number, submodule_state) = match ident {
+        Some(ident) => (ident, WRONG_SUBMODULE),
+        None => (0, NO_SUBMODULE),
+    };
+    DiffSubmodule {
+        subslot_number: subslot,
+        submodule_ident_number,
+        submodule_state,
+    }
+}
+
+/// Whether it is this ident number.
+fn is_ident(ident: Option<u32>, expected: u32) -> bool
+    ensures { result ≡ is_ident ident expected }
+{
+    ident == Some(expected)
+}

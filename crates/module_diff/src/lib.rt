@@ -1,0 +1,12 @@
+//! Whether what is plugged in a device is what a Connect expects (IEC 61158-6-10, 5.2.4.11): the modules that differ, for its
+//! ModuleDiffBlock.
+#![tactic(auto)]
+
+mod differing;
+mod expected;
+mod plugged;
+mod rows;
+
+pub use differing::diff;
+pub use expected::Expected;
+pub use rows::DiffRows;

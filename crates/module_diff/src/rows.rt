@@ -1,0 +1,69 @@
+//! The rows of a ModuleDiffBlock.
+ghost use Rattle.std.specs.Prelude.{◌≡◌, ◌==◌, ◌≤◌, length};
+ghost use Rattle.module_blocks.specs.ModuleDiff.{IsModuleDiff};
+ghost use Rattle.module_diff.specs.Rows.{AreRows};
+
+use arrayvec::ArrayVec;
+use module_blocks::{DiffModule, DiffModules, DiffSubmodule, ModuleDiffBlock};
+use std::marker::Model;
+
+/// The modules that differ, in the order asked for, each with the submodules that are listed of it: at most 64 modules, and at
+/// most 64 submodules.
+#[derive(Drop)]
+pub struct DiffRows {
+    modules: ArrayVec<DiffModule, 256>,
+    submodules: ArrayVec<DiffSubmodule, 256>,
+}
+
+impl Model for DiffRows {
+    ghost use Rattle.module_lists.specs.Lists.{Listed};
+    ghost use Rattle.module_blocks.specs.declared.module_diff.DiffModule.{DiffModule};
+    ghost use Rattle.module_blocks.specs.declared.module_diff.DiffSubmodule.{DiffSubmodule};
+    ghost use Rattle.module_diff.specs.Rows.{AreRows};
+
+    ghost Value = { Listed DiffModule DiffSubmodule };
+
+    ghost view = { λ rows. record { modules = rows.modules.items; submodules = rows.submodules.items } };
+
+    ghost inverse = { λ lists. record { modules = record { items = lists.modules }; submodules = record { items = lists.submodules } } };
+
+    ghost invariant = { λ rows. AreRows rows.modules.items rows.submodules.items };
+}
+
+impl DiffRows {
+    /// These rows.
+    pub(crate) fn new(
+        modules: ArrayVec<DiffModule, 256>,
+        submodules: ArrayVec<DiffSubmodule, 256>,
+    ) -> DiffRows
+        requires { AreRows modules.items submodules.items }
+        ensures { result ≡ record { modules = modules.items; submodules = submodules.items } }
+    {
+        DiffRows {
+            modules,
+            submodules,
+        }
+    }
+
+    /// Whether no module differs.
+    pub fn is_empty(&self) -> bool
+        ensures { result ≡ (length self.now.modules == 0) }
+    {
+        self.modules.is_empty()
+    }
+
+    /// The block that says so.
+    pub fn to_block(&self) -> ModuleDiffBlock<'_>
+        ensures value { result ≡ record { api = 0; modules = self.now } }
+        // What is written of it is read as it,
+        ensures accepted { IsModuleDiff result }
+        // and there is room for it.
+        ensures few_modules { length result.modules.modules ≤ 64 }
+        ensures few_submodules { length result.modules.submodules ≤ 64 }
+    {
+        ModuleDiffBlock {
+            api: 0,
+            modules: DiffModules::lent(&self.modules, &self.submodules),
+        }
+    }
+}
