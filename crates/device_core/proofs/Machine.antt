@@ -7,7 +7,8 @@ use Rattle.device_core.specs.declared.event.Event.{Event}
 use Rattle.device_core.specs.State.{Station, Live}
 use Rattle.device_core.specs.Heard.{Heard, heard_of}
 use Rattle.device_core.specs.Sent.{bytes_of}
-use Rattle.device_core.specs.Machine.{Judged, Refuses, Sets, Moves, Stepped, Ran, judged, items_in, items_of, finished, judged_step, heard_step, step_of, handed, first_step, later_steps, then_run, run_of}
+use Rattle.device_core.specs.Judged.{Judged, Refuses, Sets, Moves, judged}
+use Rattle.device_core.specs.Machine.{Stepped, Ran, items_in, items_of, finished, judged_step, heard_step, step_of, handed, first_step, later_steps, then_run, run_of}
 use Rattle.settings_store.proofs.Laws.{failed_accepted, stays_failed, stored_made, made_append, room_left}
 
 -- whether a Set was judged, which alone asks the settings for something

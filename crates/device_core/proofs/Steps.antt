@@ -1,5 +1,5 @@
 -- What a step does, from what its parts do.
-use Rattle.std.proofs.lemmas.Bool.{cond_both}
+use Rattle.std.proofs.lemmas.Bool.{cond_both, cond-true}
 use Rattle.std.proofs.Common.{◌≡◌, ◌≢◌, ℕ, Bool, false, List, [], ◌∷◌, map, refl, sym, ap, subst, ◌∙◌, inl}
 use Rattle.flash_model.specs.Calls.{Call}
 use Rattle.flash_model.specs.Image.{Image}
@@ -9,7 +9,8 @@ use Rattle.pn_values.specs.declared.settings.Settings.{Settings}
 use Rattle.settings_store.specs.Machine.{Outcome}
 use Rattle.settings_store.specs.State as store
 use Rattle.settings_store.specs.Carries.{Carries, OneByOne, Holds}
-use Rattle.rpc_core.specs.Cache.{Kept}
+use Rattle.rpc_core.specs.Call.{Asked as Called}
+use Rattle.rpc_core.specs.Cache.{Kept, looked, again}
 use Rattle.dcp_core.specs.declared.request.Service.TheVariants as service
 use Rattle.dcp_core.specs.Request.{Asked}
 use Rattle.dcp_core.specs.Identify.{matches}
@@ -17,11 +18,12 @@ use Rattle.dcp_core.specs.Set.{plan_of}
 use Rattle.device_core.specs.declared.event.Note.{Note}
 use Rattle.device_core.specs.declared.event.Note.TheVariants as note
 use Rattle.device_core.specs.Cycle.{started}
-use Rattle.device_core.specs.State.{Station, State, Rest, Live, store_of}
+use Rattle.device_core.specs.State.{Station, State, Rest, Live, store_of, with_rest}
 use Rattle.device_core.specs.Heard.{Heard, Asks}
-use Rattle.device_core.specs.Sent.{Sent, GetAnswer, SetAnswer, bytes_of}
-use Rattle.device_core.specs.Machine.{Judged, Refuses, Sets, Moves, Stepped, identified, judged_request, judged, items_in, finished, judged_step, heard_step}
-use Rattle.device_core.specs.Steps.{Steps, Identifies, IsIdentified}
+use Rattle.device_core.specs.Sent.{Sent, GetAnswer, SetAnswer, Again, bytes_of}
+use Rattle.device_core.specs.Judged.{Judged, Refuses, Sets, Moves, identified, judged_request, judged_looked, judged_blocks, judged}
+use Rattle.device_core.specs.Machine.{Stepped, items_in, finished, end_of, judged_step, heard_step}
+use Rattle.device_core.specs.Steps.{Steps, Identifies, IsIdentified, IsServed, IsAgain}
 use Rattle.device_core.proofs.Machine.{is_set, nothing_asked, quiet_step, is_quiet, judged_as}
 
 -- a state by its parts
@@ -73,36 +75,36 @@ is_quiet_steps image failures asked old new heard frames said holds parts =
       stays_lost = λ lost. ap (λ l. l.values.is_lost) live ∙ lost;
     }
 
--- what was judged a move
-pub moves_steps : {F : Type 0} (image : F → Image) (failures : F → ℕ) (asked : F → List Call → F → Type 0) (old new : State F) (heard : Heard) (rest : Rest) (sent : List Sent) (frames : List (List ℕ)) (said : Note)
-    → Holds (image old.flash) old.live.values → judged old.station old.live heard ≡ Moves rest sent
-    → new ≡ record old { live = record { values = old.live.values; rest = rest } } → frames ≡ map (bytes_of old.station.identity) sent → said ≡ note.Done
+-- what was judged and asks nothing of the settings
+pub quiet_steps : {F : Type 0} (image : F → Image) (failures : F → ℕ) (asked : F → List Call → F → Type 0) (old new : State F) (heard : Heard) (what : Judged) (frames : List (List ℕ)) (said : Note)
+    → Holds (image old.flash) old.live.values → judged old.station old.live heard ≡ what → is_set what ≡ false
+    → new ≡ with_rest old (end_of old.live what).rest → frames ≡ map (bytes_of old.station.identity) (end_of old.live what).sent → said ≡ (end_of old.live what).note
     → Steps image failures asked old heard frames said new
-moves_steps image failures asked old new heard rest sent frames said holds moves is frames_are done =
-    let end = ap (λ what. finished old.live.rest what []) moves in
+quiet_steps image failures asked old new heard what frames said holds judged_so not_set is frames_are note_is =
+    let end = ap (end_of old.live) judged_so in
     is_quiet_steps image failures asked old new heard frames said holds (record {
-      not_set = ap is_set moves;
+      not_set = ap is_set judged_so ∙ not_set;
       flash = ap (λ s. s.flash) is;
       same = ap (λ s. s.station) is;
       live = ap (λ s. s.live) is ∙ ap (λ r. record { values = old.live.values; rest = r }) (sym (ap (λ e. e.rest) end));
       frames_are = frames_are ∙ ap (map (bytes_of old.station.identity)) (sym (ap (λ e. e.sent) end));
-      note_is = done ∙ sym (ap (λ e. e.note) end);
+      note_is = note_is ∙ sym (ap (λ e. e.note) end);
     })
+
+-- what was judged a move
+pub moves_steps : {F : Type 0} (image : F → Image) (failures : F → ℕ) (asked : F → List Call → F → Type 0) (old new : State F) (heard : Heard) (rest : Rest) (sent : List Sent) (frames : List (List ℕ)) (said : Note)
+    → Holds (image old.flash) old.live.values → judged old.station old.live heard ≡ Moves rest sent
+    → new ≡ with_rest old rest → frames ≡ map (bytes_of old.station.identity) sent → said ≡ note.Done
+    → Steps image failures asked old heard frames said new
+moves_steps image failures asked old new heard rest sent frames said holds moves is frames_are done =
+    quiet_steps image failures asked old new heard (Moves rest sent) frames said holds moves refl is frames_are done
 
 -- what was judged to be refused
 pub refuses_steps : {F : Type 0} (image : F → Image) (failures : F → ℕ) (asked : F → List Call → F → Type 0) (state : State F) (heard : Heard) (why : Note) (frames : List (List ℕ)) (said : Note)
     → Holds (image state.flash) state.live.values → judged state.station state.live heard ≡ Refuses why → frames ≡ [] → said ≡ why
     → Steps image failures asked state heard frames said state
 refuses_steps image failures asked state heard why frames said holds refuses none is =
-    let end = ap (λ what. finished state.live.rest what []) refuses in
-    is_quiet_steps image failures asked state state heard frames said holds (record {
-      not_set = ap is_set refuses;
-      flash = refl;
-      same = refl;
-      live = ap (λ r. record { values = state.live.values; rest = r }) (sym (ap (λ e. e.rest) end));
-      frames_are = none ∙ ap (map (bytes_of state.station.identity)) (sym (ap (λ e. e.sent) end));
-      note_is = is ∙ sym (ap (λ e. e.note) end);
-    })
+    quiet_steps image failures asked state state heard (Refuses why) frames said holds refuses refl refl none is
 
 -- an Identify request
 identify_leaves : (station : Station) (live : Live) (asker : Mac) (request : Asked)
@@ -217,6 +219,36 @@ identify_step image failures asked old new heard frames said steps asker request
       unchanged = same_state new old (steps.untouched one.none_accepted) steps.same (steps.live ∙ one.unchanged);
       answered = λ match. let end = one.answered match in (steps.note ∙ end.0, steps.frames ∙ end.1);
       filtered = λ match. let end = one.filtered match in (steps.note ∙ end.0, steps.frames ∙ end.1);
+    }
+
+-- a call that was answered before
+again_judged : (station : Station) (live : Live) (heard : Heard) (call : Called) (frame : List ℕ) → IsServed live heard call → looked call.header.activity call.header.sequence live.rest.calls ≡ again frame
+    → judged station live heard ≡ Moves live.rest (Again frame ∷ [])
+again_judged station live heard call frame it told =
+    ap (judged station live) it.is ∙ cond-true _ _ _ it.runs ∙ cond-true _ _ _ it.served
+    ∙ ap (judged_blocks station live it.caller call) it.counted ∙ ap (judged_looked station live it.caller call it.blocks) told
+
+-- its step
+record IsSame (live : Live) (frame : List ℕ) (step : Stepped) : Type 0 where
+  live_is : step.live ≡ live
+  none_accepted : step.accepted ≡ []
+  sent : step.frames ≡ frame ∷ []
+  done : step.note ≡ note.Done
+
+moved_again : (outcomes : List Outcome) (station : Station) (live : Live) (frame : List ℕ) → IsSame live frame (judged_step outcomes station live (Moves live.rest (Again frame ∷ [])))
+unfolding judged_step
+moved_again outcomes station live frame = record { live_is = refl; none_accepted = refl; sent = refl; done = refl }
+
+pub again_step : {F : Type 0} (image : F → Image) (failures : F → ℕ) (asked : F → List Call → F → Type 0) (old new : State F) (heard : Heard) (frames : List (List ℕ)) (said : Note)
+    → Steps image failures asked old heard frames said new → (call : Called) (frame : List ℕ) → IsServed old.live heard call
+    → looked call.header.activity call.header.sequence old.live.rest.calls ≡ again frame → IsAgain old frame frames said new
+again_step image failures asked old new heard frames said steps call frame served told =
+    let is = judged_as steps.outcomes old.station old.live heard (Moves old.live.rest (Again frame ∷ [])) (again_judged old.station old.live heard call frame served told) in
+    let one = subst (IsSame old.live frame) (sym is) (moved_again steps.outcomes old.station old.live frame) in
+    record {
+      unchanged = same_state new old (steps.untouched one.none_accepted) steps.same (steps.live ∙ one.live_is);
+      same = steps.frames ∙ one.sent;
+      done = steps.note ∙ one.done;
     }
 
 -- the values of a store that has just started, and an empty cache

@@ -3,42 +3,81 @@ use Rattle.std.specs.Prelude.{◌==◌, ◌&&◌, ◌||◌, ℕ, Bool, nat_eq, L
 use Rattle.std.specs.Cmp.Lexicographic.{pointwise}
 use Rattle.pn_values.specs.declared.mac.Mac.{Mac}
 use Rattle.pn_values.specs.declared.identity.Identity.{Identity}
+use Rattle.frame_codec.specs.declared.arp.Arp.{Arp}
 use Rattle.frame_codec.specs.declared.fault.FrameFault.{FrameFault}
 use Rattle.frame_codec.specs.Meaning.{Meaning, Content, RealTime, ArpPacket, UdpDatagram}
 use Rattle.frame_codec.specs.Frame.{frame_of}
 use Rattle.dcp_core.specs.declared.request.DcpFault.{DcpFault}
 use Rattle.dcp_core.specs.Request.{Asked}
 use Rattle.dcp_core.specs.Reading.{request_of}
+use Rattle.rpc_core.specs.declared.fault.RpcFault.{RpcFault}
+use Rattle.rpc_core.specs.declared.interface.Interface.TheVariants.{Device}
+use Rattle.rpc_core.specs.Call.{Asked as Call, call_of}
+use Rattle.rpc_core.specs.Response.{Answered, response_of}
 use Rattle.device_core.specs.declared.event.Event.{Event}
 use Rattle.device_core.specs.declared.event.Event.TheVariants.{Frame, Tick}
+use Rattle.device_core.specs.declared.hearing.Caller.{Caller}
 
--- what an event is: a unit of time, a frame that cannot be read, one for somebody else, or a request and who asks it
+-- what the body of a datagram says: a call to the device, else a response, else neither
+pub data Said : Type 0 where
+  Calls : (call : Call) → Said
+  Responds : (response : Answered) → Said
+  Garbled : Said
+
+-- What an event is: a unit of time, a frame that cannot be read, one for somebody else, a request of DCP and who asks it, a
+-- packet of ARP and who sends it, or a datagram: who sends it, to which address, and what it says.
 pub data Heard : Type 0 where
   Ticks : Heard
   Unreadable : Heard
   Elsewhere : Heard
   Asks : (source : Mac) → (request : Asked) → Heard
+  Resolves : (asker : Mac) → (arp : Arp) → Heard
+  Told : (caller : Caller) → (address : List ℕ) → (said : Said) → Heard
 
 -- the address of all stations for Identify requests
 abbrev pub identify_multicast : List ℕ
 identify_multicast = 1 ∷ 14 ∷ 207 ∷ 0 ∷ 0 ∷ 0 ∷ []
 
+-- the address of all stations
+abbrev pub broadcast : List ℕ
+broadcast = 255 ∷ 255 ∷ 255 ∷ 255 ∷ 255 ∷ 255 ∷ []
+
+-- whether a frame is for this device alone
+abbrev pub is_own : Identity → Mac → Bool
+is_own identity destination = pointwise nat_eq destination.octets identity.mac.octets
+
 -- Whether a frame is for this device and of a kind that it takes: DCP Get and Set to its own address, an Identify request
 -- to its own or to that of all stations.
 abbrev pub is_taken : Identity → Mac → ℕ → Bool
 is_taken identity destination frame_id =
-    (frame_id == 65277 && pointwise nat_eq destination.octets identity.mac.octets)
-    || (frame_id == 65278 && (pointwise nat_eq destination.octets identity.mac.octets || pointwise nat_eq destination.octets identify_multicast))
+    (frame_id == 65277 && is_own identity destination)
+    || (frame_id == 65278 && (is_own identity destination || pointwise nat_eq destination.octets identify_multicast))
 
 abbrev pub heard_request : Mac → Result Asked DcpFault → Heard
 heard_request source (Ok request) = Asks source request
 heard_request source (Err fault) = Unreadable
 
+-- a response, to whatever interface
+abbrev pub said_else : Result Answered RpcFault → Said
+said_else (Ok response) = Responds response
+said_else (Err fault) = Garbled
+
+abbrev pub said_first : Result Call RpcFault → Result Answered RpcFault → Said
+said_first (Ok call) response = Calls call
+said_first (Err fault) response = said_else response
+
+-- what the body of a datagram says
+unfoldable pub said_by : List ℕ → Said
+said_by body = said_first (call_of Device body) (response_of body)
+
+-- a packet of ARP is taken that goes to this device or to all stations, and a datagram to port 34964 of this device
 abbrev pub heard_content : Identity → Mac → Mac → Content → Heard
 heard_content identity destination source (RealTime frame_id body) =
     if is_taken identity destination frame_id then heard_request source (request_of frame_id body) else Elsewhere
-heard_content identity destination source (ArpPacket arp) = Elsewhere
-heard_content identity destination source (UdpDatagram from to body) = Elsewhere
+heard_content identity destination source (ArpPacket arp) =
+    if is_own identity destination || pointwise nat_eq destination.octets broadcast then Resolves source arp else Elsewhere
+heard_content identity destination source (UdpDatagram from to body) =
+    if is_own identity destination && to.port == 34964 then Told (record { mac = source; endpoint = from }) to.address (said_by body) else Elsewhere
 
 -- a frame is read first, and then its destination is looked at
 abbrev pub heard_frame : Identity → Result Meaning FrameFault → Heard

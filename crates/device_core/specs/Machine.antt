@@ -1,52 +1,18 @@
 -- One step of a device, and a run of steps, given what becomes of each call that stores a command.
-use Rattle.std.specs.Prelude.{◌-◌, ℕ, Bool, true, false, List, [], ◌∷◌, ◌++◌, map, if◌then◌else◌}
+use Rattle.std.specs.Prelude.{ℕ, Bool, true, false, List, [], ◌∷◌, ◌++◌, map, if◌then◌else◌}
 use Rattle.std.specs.List.{list_any}
-use Rattle.pn_values.specs.declared.mac.Mac.{Mac}
 use Rattle.pn_values.specs.declared.set_item.SetItem.{SetItem}
 use Rattle.pn_values.specs.declared.set_item.SetItem.TheVariants.{Ask, Signal, Answer}
 use Rattle.pn_values.specs.declared.set_item.BlockError.{BlockError}
 use Rattle.settings_store.specs.Machine.{Outcome, Accepted, carried}
-use Rattle.dcp_core.specs.declared.request.Service.{Service}
-use Rattle.dcp_core.specs.declared.request.Service.TheVariants as service
-use Rattle.dcp_core.specs.Request.{Asked}
-use Rattle.dcp_core.specs.Identify.{matches}
 use Rattle.dcp_core.specs.Set.{plan_of}
 use Rattle.device_core.specs.declared.event.Event.{Event}
 use Rattle.device_core.specs.declared.event.Note.{Note}
 use Rattle.device_core.specs.declared.event.Note.TheVariants as note
 use Rattle.device_core.specs.State.{Station, Rest, Live}
-use Rattle.device_core.specs.Sent.{Sent, IdentifyAnswer, GetAnswer, SetAnswer, bytes_of}
-use Rattle.device_core.specs.Heard.{Heard, Ticks, Unreadable, Elsewhere, Asks, heard_of}
-
--- What an event comes to, judged on the state before it: refused, with the note that says why; a Set, whose blocks are
--- asked of the settings; or a move, after which the rest is this and these messages are sent.
-pub data Judged : Type 0 where
-  Refuses : (note : Note) → Judged
-  Sets : (asker : Mac) → (request : Asked) → (in_operation : Bool) → Judged
-  Moves : (rest : Rest) → (sent : List Sent) → Judged
-
--- An Identify request is answered by identity and running settings where it matches, and else not at all.
-abbrev pub identified : Station → Live → Mac → Asked → Judged
-identified station live asker request =
-    if matches station.identity live.values.running request
-    then Moves live.rest (IdentifyAnswer asker live.values.running request.xid ∷ [])
-    else Refuses note.Filter
-
--- a request, by its service; no application relation exists
-abbrev pub judged_request : Station → Live → Mac → Service → Asked → Judged
-judged_request station live asker service.Identify request = identified station live asker request
-judged_request station live asker service.Get request = Moves live.rest (GetAnswer asker live.values.running request ∷ [])
-judged_request station live asker service.Set request = Sets asker request false
-
--- a unit of time later
-abbrev pub ticked : Rest → Rest
-ticked rest = record rest { lamp = rest.lamp - 1 }
-
-abbrev pub judged : Station → Live → Heard → Judged
-judged station live (Asks asker request) = judged_request station live asker request.service request
-judged station live Ticks = Moves (ticked live.rest) []
-judged station live Unreadable = Refuses note.Fault
-judged station live Elsewhere = Refuses note.NotMine
+use Rattle.device_core.specs.Sent.{Sent, SetAnswer, bytes_of}
+use Rattle.device_core.specs.Heard.{Heard, heard_of}
+use Rattle.device_core.specs.Judged.{Judged, Refuses, Sets, Moves, judged}
 
 -- what the settings are asked for: the blocks of a Set, in order
 abbrev pub items_in : Judged → List SetItem
@@ -79,6 +45,10 @@ finished rest (Refuses note) answers = record { rest = rest; sent = []; note = n
 finished rest (Sets asker request in_operation) answers =
     record { rest = record rest { lamp = lamp_after rest.lamp (plan_of in_operation request) }; sent = SetAnswer asker request answers ∷ []; note = note.Done }
 finished rest (Moves moved sent) answers = record { rest = moved; sent = sent; note = note.Done }
+
+-- the same where nothing is asked of the settings
+abbrev pub end_of : Live → Judged → Finished
+end_of live what = finished live.rest what []
 
 -- A step: what changes, the messages that are sent and their frames, what is said of the event, and the commands that
 -- were accepted.

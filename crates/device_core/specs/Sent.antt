@@ -4,26 +4,50 @@ use Rattle.pn_values.specs.declared.mac.Mac.{Mac}
 use Rattle.pn_values.specs.declared.identity.Identity.{Identity}
 use Rattle.pn_values.specs.declared.settings.Settings.{Settings}
 use Rattle.pn_values.specs.declared.set_item.BlockError.{BlockError}
-use Rattle.frame_codec.specs.Meaning.{RealTime}
+use Rattle.frame_codec.specs.declared.arp.ArpOperation.TheVariants.{Reply}
+use Rattle.frame_codec.specs.declared.arp.Holder.{Holder}
+use Rattle.frame_codec.specs.Meaning.{Content, RealTime, ArpPacket, UdpDatagram}
 use Rattle.frame_codec.specs.Frame.{frame_bytes}
 use Rattle.dcp_core.specs.Request.{Asked}
 use Rattle.dcp_core.specs.Identify.{identify_bytes}
 use Rattle.dcp_core.specs.Get.{get_bytes}
 use Rattle.dcp_core.specs.Set.{set_bytes}
+use Rattle.rpc_core.specs.Response.{Answered, response_bytes}
+use Rattle.device_core.specs.declared.hearing.Caller.{Caller}
 
--- a message: the answer to an Identify request, to a Get, or to a Set and how each of its blocks came out; and to whom
+-- A message, and to whom: the answer to an Identify request, to a Get, or to a Set and how each of its blocks came out; who
+-- holds an address, told to whom asked for it; the answer to a call, from this address; or the frame of such an answer again.
 pub data Sent : Type 0 where
   IdentifyAnswer : (asker : Mac) → (running : Settings) → (xid : ℕ) → Sent
   GetAnswer : (asker : Mac) → (running : Settings) → (request : Asked) → Sent
   SetAnswer : (asker : Mac) → (request : Asked) → (answers : List BlockError) → Sent
+  ArpReply : (asker : Mac) → (address : List ℕ) → (target : Holder) → Sent
+  CallAnswer : (caller : Caller) → (address : List ℕ) → (answer : Answered) → Sent
+  Again : (frame : List ℕ) → Sent
+
+-- a frame of this device, which has no tag
+abbrev pub own_frame : Identity → Mac → Content → List ℕ
+own_frame identity destination content = frame_bytes (record { destination = destination; source = identity.mac; tag = None; content = content })
 
 -- a DCP answer to whom asked: FrameID, and what follows it
 abbrev pub answer_frame : Identity → Mac → ℕ → List ℕ → List ℕ
-answer_frame identity asker frame_id answer =
-    frame_bytes (record { destination = asker; source = identity.mac; tag = None; content = RealTime frame_id answer })
+answer_frame identity asker frame_id answer = own_frame identity asker (RealTime frame_id answer)
+
+-- an ARP reply (RFC 826) to whom asked: this device holds the address
+abbrev pub reply_frame : Identity → Mac → List ℕ → Holder → List ℕ
+reply_frame identity asker address target =
+    own_frame identity asker (ArpPacket (record { operation = Reply; sender = record { mac = identity.mac; address = address }; target = target }))
+
+-- a response to whom called, to the port that the call came from
+abbrev pub response_frame : Identity → Caller → List ℕ → Answered → List ℕ
+response_frame identity caller address answer =
+    own_frame identity caller.mac (UdpDatagram (record { address = address; port = 34964 }) caller.endpoint (response_bytes answer))
 
 -- the octets of a message
 abbrev pub bytes_of : Identity → Sent → List ℕ
 bytes_of identity (IdentifyAnswer asker running xid) = answer_frame identity asker 65279 (identify_bytes identity running xid)
 bytes_of identity (GetAnswer asker running request) = answer_frame identity asker 65277 (get_bytes identity running request)
 bytes_of identity (SetAnswer asker request answers) = answer_frame identity asker 65277 (set_bytes request answers)
+bytes_of identity (ArpReply asker address target) = reply_frame identity asker address target
+bytes_of identity (CallAnswer caller address answer) = response_frame identity caller address answer
+bytes_of identity (Again frame) = frame

@@ -31,3 +31,7 @@ pub record State (F : Type 0) : Type 0 where
 -- what its store is: the flash, and the values over it
 abbrev pub store_of : {F : Type 0} → State F → store.State F
 store_of device = record { flash = device.flash; values = device.live.values }
+
+-- a device of which nothing but the rest is another
+abbrev pub with_rest : {F : Type 0} → State F → Rest → State F
+with_rest device rest = record device { live = record { values = device.live.values; rest = rest } }

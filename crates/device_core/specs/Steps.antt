@@ -1,5 +1,5 @@
 -- What a step and a run do, whatever the flash does.
-use Rattle.std.specs.Prelude.{◌≡◌, ◌+◌, length, ℕ, true, false, List, [], ◌∷◌, ◌++◌, if◌then◌else◌}
+use Rattle.std.specs.Prelude.{◌≡◌, ◌+◌, length, ℕ, true, false, Some, List, [], ◌∷◌, ◌++◌, if◌then◌else◌}
 use Rattle.flash_model.specs.Calls.{Call}
 use Rattle.flash_model.specs.Image.{Image}
 use Rattle.pn_values.specs.declared.mac.Mac.{Mac}
@@ -10,13 +10,18 @@ use Rattle.settings_store.specs.Legal.{CrashSafe}
 use Rattle.settings_store.specs.Carries.{IsCaused, OneByOne, Holds}
 use Rattle.dcp_core.specs.declared.request.Service.TheVariants.{Identify}
 use Rattle.dcp_core.specs.Request.{Asked}
+use Rattle.rpc_core.specs.Call.{Asked as Called}
+use Rattle.rpc_core.specs.Cache.{Kept, behind_calls}
+use Rattle.pnio_status.specs.Operation.{operation_of}
 use Rattle.dcp_core.specs.Identify.{matches, identify_bytes}
 use Rattle.device_core.specs.declared.event.Event.{Event}
 use Rattle.device_core.specs.declared.event.Note.{Note}
 use Rattle.device_core.specs.declared.event.Note.TheVariants.{Done, Filter}
+use Rattle.device_core.specs.declared.hearing.Caller.{Caller}
 use Rattle.device_core.specs.State.{Station, State, Live, store_of}
 use Rattle.device_core.specs.Sent.{answer_frame}
-use Rattle.device_core.specs.Heard.{Heard, Asks, heard_of}
+use Rattle.device_core.specs.Heard.{Heard, Asks, Told, Calls, heard_of}
+use Rattle.device_core.specs.Judged.{is_running, is_served}
 use Rattle.device_core.specs.Machine.{Stepped, items_of, heard_step, step_of, first_step, later_steps, run_of}
 
 -- What was heard is carried out, for some outcomes of the calls that store, which the flash chose: what changes, the frames
@@ -57,6 +62,22 @@ abbrev pub AnswersBy : Station → Settings → Live → Type 0
 AnswersBy station settings live = (outcomes : List Outcome) (event : Event) (asker : Mac) (request : Asked)
     → heard_of station.identity event ≡ Asks asker request → request.service ≡ Identify
     → IsIdentified station.identity settings live asker request (step_of outcomes station live event)
+
+-- A call that is served was heard: to the running address, of an operation that is served, its blocks counted well.
+pub record IsServed (live : Live) (heard : Heard) (call : Called) : Type 0 where
+  pub caller : Caller
+  pub address : List ℕ
+  pub blocks : List ℕ
+  pub is : heard ≡ Told caller address (Calls call)
+  pub runs : is_running live.values.running address ≡ true
+  pub served : is_served (operation_of call.header.operation) ≡ true
+  pub counted : call.blocks ≡ Some blocks
+
+-- The frame that is kept of a call is sent, and nothing changes.
+pub record IsAgain {F : Type 0} (old : State F) (frame : List ℕ) (sent : List (List ℕ)) (said : Note) (new : State F) : Type 0 where
+  pub unchanged : new ≡ old
+  pub same : sent ≡ frame ∷ []
+  pub done : said ≡ Done
 
 -- what a run hands on of a step: its frames, unless power is lost
 pub record HandsOn {F : Type 0} (image : F → Image) (failures : F → ℕ) (asked : F → List Call → F → Type 0) (old : State F) (heard : Heard) (before now : List (List ℕ)) (new : State F) : Type 0 where
@@ -102,6 +123,11 @@ pub record IsExactRun {F : Type 0} (old : State F) (events : List Event) (before
   pub same : new.station ≡ old.station
   pub live : new.live ≡ (run_of [] old.station old.live events).live
   pub frames : now ≡ before ++ (run_of [] old.station old.live events).frames
+
+-- What is kept now is what some calls, one behind the other, make of what was kept before: a new call keeps its answer, and
+-- one that comes again or is old keeps nothing.
+abbrev pub IsBehindCalls : List Kept → List Kept → Type 0
+IsBehindCalls before now = (calls : List Kept) × (now ≡ behind_calls 4 calls before)
 
 -- With no commit failing, each command that was accepted took one of the room for commits, and nothing else did: a flash
 -- has room for as many more as its start reads.

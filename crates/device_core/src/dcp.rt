@@ -7,7 +7,8 @@ ghost use Rattle.dcp_core.specs.Reading.{request_of};
 ghost use Rattle.dcp_core.specs.Request.{asked};
 ghost use Rattle.device_core.specs.Heard.{Asks, heard_request};
 ghost use Rattle.device_core.specs.Sent.{GetAnswer, answer_frame, bytes_of};
-ghost use Rattle.device_core.specs.Machine.{identified, finished, is_signal, lamp_after as lamp_of};
+ghost use Rattle.device_core.specs.Judged.{identified};
+ghost use Rattle.device_core.specs.Machine.{finished, is_signal, lamp_after as lamp_of};
 ghost use Rattle.device_core.specs.Steps.{Steps};
 
 use crate::{Device, Note};

@@ -11,6 +11,7 @@ ghost use Rattle.device_core.specs.Cycle.{started};
 use arrayvec::ArrayVec;
 use flash_model::{Flash, Order};
 use pn_values::{Identity, Real, SetItem, Settings};
+use record_reads::Blocks;
 use rpc_core::CallCache;
 use settings_journal::BootFault;
 use settings_store::Store;
@@ -26,6 +27,8 @@ pub struct Device<F: Flash<S>, const S: usize> {
     pub(crate) cache: CallCache<4>,
     // Room for the plan of a Set, in which the last one lies.
     pub(crate) plan: ArrayVec<SetItem, 16>,
+    // Room for the blocks of an answer to a call.
+    pub(crate) blocks: Blocks,
 }
 
 impl<F: Flash<S>, const S: usize> Model for Device<F, S> {
@@ -78,6 +81,7 @@ impl<F: Flash<S>, const S: usize> Device<F, S> {
             lamp: 0,
             cache: CallCache::new(),
             plan: ArrayVec::new(),
+            blocks: Blocks::new(),
         })
     }
 
@@ -154,6 +158,7 @@ impl<F: Flash<S>, const S: usize> Device<F, S> {
             lamp: _,
             cache: _,
             plan: _,
+            blocks: _,
         } = self;
         (identity, real, store.into_flash())
     }

@@ -1,17 +1,31 @@
 //! What an event is to a device.
-ghost use Rattle.std.specs.Prelude.{◌≡◌};
-ghost use Rattle.device_core.specs.Heard.{is_taken as is_taken_by, heard_of, heard_content};
+ghost use Rattle.std.specs.Prelude.{◌≡◌, ◌==◌, ◌&&◌};
+ghost use Rattle.device_core.specs.Heard.{is_own as is_own_by, is_taken as is_taken_by, heard_of, heard_content};
 ghost use Rattle.device_core.specs.Hearing.{meaning_of};
 ghost use Rattle.frame_codec.specs.Meaning.{content_of};
 
 use crate::Event;
-use frame_codec::{DCP_GET_SET, DCP_IDENTIFY_REQUEST, Layered, Payload, read};
+use frame_codec::{
+    Arp, DCP_GET_SET, DCP_IDENTIFY_REQUEST, Endpoint, Layered, Payload, RPC_PORT, read,
+};
 use pn_values::{Identity, Mac};
 
 /// The address of all stations for Identify requests (IEC 61158-6-10, 4.3.1.3.1).
 const IDENTIFY_MULTICAST: Mac = Mac {
     octets: [0x01, 0x0E, 0xCF, 0x00, 0x00, 0x00],
 };
+
+/// The address of all stations (IEEE 802, 8.2.2).
+const BROADCAST: Mac = Mac { octets: [0xFF; 6] };
+
+/// Who sent a datagram.
+#[derive(Clone, Copy)]
+pub(crate) struct Caller {
+    /// The station.
+    pub(crate) mac: Mac,
+    /// The address and the port there.
+    pub(crate) endpoint: Endpoint,
+}
 
 /// What an event is to a device.
 #[derive(Drop)]
@@ -26,6 +40,17 @@ pub(crate) enum Heard<'a> {
     Asked {
         source: Mac,
         frame_id: u16,
+        body: &'a [u8],
+    },
+    /// A packet of ARP to this station or to all.
+    Arp {
+        asker: Mac,
+        packet: Arp,
+    },
+    /// A datagram to this station, at whatever IP address, and to the port of calls. It is read where it lies.
+    Datagram {
+        caller: Caller,
+        address: [u8; 4],
         body: &'a [u8],
     },
 }
@@ -48,24 +73,55 @@ pub(crate) fn hear<'a>(identity: &Identity, event: &'a Event) -> Heard<'a>
 fn hear_frame<'a>(identity: &Identity, layered: Layered<'a>) -> Heard<'a>
     ensures { heard_content identity.now layered.entry.destination layered.entry.source (content_of layered.entry.payload) ≡ meaning_of result }
 {
-    let Payload::RealTime { frame_id, body } = layered.payload else {
-        return Heard::Elsewhere;
-    };
-    if !is_taken(identity, layered.destination, frame_id) {
-        return Heard::Elsewhere;
+    let (destination, source) = (layered.destination, layered.source);
+    match layered.payload {
+        Payload::RealTime { frame_id, body } => {
+            if !is_taken(identity, destination, frame_id) {
+                return Heard::Elsewhere;
+            }
+            Heard::Asked {
+                source,
+                frame_id,
+                body,
+            }
+        }
+        Payload::Arp(packet) => {
+            if !is_own(identity, destination) && destination != BROADCAST {
+                return Heard::Elsewhere;
+            }
+            Heard::Arp {
+                asker: source,
+                packet,
+            }
+        }
+        Payload::Udp(datagram) => {
+            if !is_own(identity, destination) || datagram.destination.port != RPC_PORT {
+                return Heard::Elsewhere;
+            }
+            Heard::Datagram {
+                caller: Caller {
+                    mac: source,
+                    endpoint: datagram.source,
+                },
+                address: datagram.destination.address,
+                body: datagram.body,
+            }
+        }
     }
-    Heard::Asked {
-        source: layered.source,
-        frame_id,
-        body,
-    }
+}
+
+// Whether a frame with this destination is for the device alone.
+fn is_own(identity: &Identity, destination: Mac) -> bool
+    ensures { result ≡ is_own_by identity.now destination }
+{
+    destination == identity.mac
 }
 
 // Whether a frame with this destination and FrameID is for the device.
 fn is_taken(identity: &Identity, destination: Mac, frame_id: u16) -> bool
     ensures { result ≡ is_taken_by identity.now destination frame_id }
 {
-    let is_own = destination == identity.mac;
+    let is_own = is_own(identity, destination);
     match frame_id {
         DCP_GET_SET => is_own,
         DCP_IDENTIFY_REQUEST => is_own || destination == IDENTIFY_MULTICAST,

@@ -1,6 +1,8 @@
 //! One step of a PROFINET IO device, runs of steps, and what a power failure leaves of them.
 #![tactic(auto)]
 
+mod arp;
+mod calls;
 mod dcp;
 mod device;
 mod event;

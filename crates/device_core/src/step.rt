@@ -1,12 +1,14 @@
 // One step: what an event is, and what comes of it.
-ghost use Rattle.std.specs.Prelude.{◌≡◌, ◌≢◌, ◌<◌, ◌-◌, ◌^◌, [], true, false, map};
+ghost use Rattle.std.specs.Prelude.{◌≡◌, ◌≢◌, ◌<◌, ◌-◌, ◌^◌, [], true, false, List, ℕ, map};
 ghost use Rattle.pn_values.specs.declared.mac.Mac.{Mac};
 ghost use Rattle.settings_store.specs.Carries.{Holds};
 ghost use Rattle.dcp_core.specs.Request.{Asked};
 ghost use Rattle.device_core.specs.Heard.{Asks, heard_of};
 ghost use Rattle.device_core.specs.Hearing.{meaning_of};
-ghost use Rattle.device_core.specs.Machine.{ticked};
-ghost use Rattle.device_core.specs.Steps.{Steps, Identifies, IsExactStep};
+ghost use Rattle.device_core.specs.Judged.{ticked};
+ghost use Rattle.rpc_core.specs.Call.{Asked as Called};
+ghost use Rattle.rpc_core.specs.Cache.{looked, again};
+ghost use Rattle.device_core.specs.Steps.{Steps, Identifies, IsServed, IsAgain, IsExactStep};
 
 use crate::hearing::{Heard, hear};
 use crate::{Device, Event, Note};
@@ -30,6 +32,11 @@ impl<F: Flash<S>, const S: usize> Device<F, S> {
         ensures refused { result ≢ Note.Done → (self.new ≡ self.old) × (outbox.new.items ≡ []) }
         ensures identify { (asker : Mac) (request : Asked) → heard_of self.old.station.identity event.now ≡ Asks asker request → request.service ≡ Service.Identify →
             Identifies self.old asker request (map (λ frame. frame.items) outbox.new.items) result self.new }
+
+        // A call that was answered gets the same frame again, while it is kept.
+        ensures again { (call : Called) (frame : List ℕ) → IsServed self.old.live (heard_of self.old.station.identity event.now) call →
+            looked call.header.activity call.header.sequence self.old.live.rest.calls ≡ again frame →
+            IsAgain self.old frame (map (λ frame. frame.items) outbox.new.items) result self.new }
     {
         outbox.clear();
         let heard = hear(&self.identity, event);
@@ -52,6 +59,12 @@ impl<F: Flash<S>, const S: usize> Device<F, S> {
                 frame_id,
                 body,
             } => self.read_and_serve(source, frame_id, body, outbox),
+            Heard::Arp { asker, packet } => self.resolve(asker, &packet, outbox),
+            Heard::Datagram {
+                caller,
+                address,
+                body,
+            } => self.hear_datagram(&caller, address, body, outbox),
         }
     }
 

@@ -3,7 +3,7 @@ use arrayvec::ArrayVec;
 use device_core::{Device, Event};
 use flash_model::MemoryFlash;
 use frame_codec::{Bytes, Outbox};
-use pn_values::{Identity, Mac, Real};
+use pn_values::{Identity, Mac, Real, RealModule, RealSubmodule};
 
 pub(crate) type Station = Device<MemoryFlash<768>, 768>;
 
@@ -33,6 +33,11 @@ pub(crate) const DONE: [u8; 34] =
     *b"\x02\x00\x00\x00\x00\x02\x02\x00\x00\x00\x00\x01\x88\x92\xfe\xfd\x04\x01\x00\x00\x00\x02\x00\x00\x00\x08\
     \x05\x04\x00\x03\x02\x02\x00\x00";
 
+// A Set of the suite 192.168.0.2, 255.255.255.0, to be kept.
+const SET_ADDRESS: [u8; 44] =
+    *b"\x02\x00\x00\x00\x00\x01\x02\x00\x00\x00\x00\x02\x88\x92\xfe\xfd\x04\x00\x00\x00\x00\x02\x00\x00\x00\x12\
+    \x01\x02\x00\x0e\x00\x01\xc0\xa8\x00\x02\xff\xff\xff\x00\x00\x00\x00\x00";
+
 pub(crate) fn identity() -> Identity {
     let mut station_type = ArrayVec::new();
     let _ = station_type.try_extend_from_slice(b"pn-demo");
@@ -61,6 +66,21 @@ pub(crate) fn no_modules() -> Real {
 
 pub(crate) fn start(flash: MemoryFlash<768>) -> Option<Station> {
     Device::boot(identity(), no_modules(), flash).ok()
+}
+
+// A module with one submodule, in slot 0, and the address 192.168.0.2.
+pub(crate) fn addressed() -> Option<Station> {
+    let mut real = no_modules();
+    let mut module = RealModule::default();
+    let _ = module.submodules.try_push(RealSubmodule {
+        subslot: 1,
+        ident: 1,
+        ..RealSubmodule::default()
+    });
+    let _ = real.modules.try_push(module);
+    let mut device = Device::boot(identity(), real, MemoryFlash::blank()).ok()?;
+    let _ = device.step(&frame(&SET_ADDRESS), &mut Outbox::new());
+    Some(device)
 }
 
 pub(crate) fn restart(device: Station) -> Option<Station> {

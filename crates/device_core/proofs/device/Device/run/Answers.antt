@@ -1,7 +1,9 @@
 -- One event after another.
 use Rattle.std.proofs.Common.{◌≡◌, ◌+◌, take, ◌++◌, ◌∷◌, [], sym, ap, subst, ◌∙◌}
 use Rattle.std.proofs.lemmas.List.{take_more, take_all}
-use Rattle.device_core.specs.Steps.{Runs}
+use Rattle.device_core.specs.State.{Live}
+use Rattle.device_core.specs.Steps.{Runs, IsBehindCalls}
+use Rattle.device_core.proofs.Called.{run_called}
 use Rattle.device_core.proofs.Runs.{no_run, run_more, run_quietly, run_finely, run_takes_room}
 use Rattle.device_core.proofs.device.Device.run.Goals as goal
 
@@ -30,6 +32,12 @@ returns-clause-runs g c =
 
 pub returns-clause-exact : goal.returns-clause-exact
 returns-clause-exact g c = run_quietly g.F.Flash.image g.F.Flash.failures g.F.Flash.asked c.args.self.now c.loop-event.self c.args.events.now _ _ (returns-clause-runs g c)
+
+pub returns-clause-calls : goal.returns-clause-calls
+returns-clause-calls g c =
+    let runs = returns-clause-runs g c in
+    let old = c.args.self.now in
+    subst (λ (live : Live). IsBehindCalls old.live.rest.calls live.rest.calls) (sym runs.live) (run_called runs.outcomes old.station old.live c.args.events.now)
 
 pub returns-clause-reliable : goal.returns-clause-reliable
 returns-clause-reliable g c = λ reliable fine.

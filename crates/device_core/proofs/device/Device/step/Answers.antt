@@ -1,7 +1,8 @@
 -- What is said of the event, from what its step does.
-use Rattle.std.proofs.Common.{ap, sym, ◌∙◌}
+use Rattle.std.proofs.Common.{ap, subst, sym, ◌∙◌}
 use Rattle.device_core.specs.Heard.{heard_of}
-use Rattle.device_core.proofs.Steps.{refused_step, none_sent, identify_step}
+use Rattle.device_core.specs.Steps.{IsServed}
+use Rattle.device_core.proofs.Steps.{refused_step, none_sent, identify_step, again_step}
 use Rattle.device_core.proofs.device.Device.step.Goals as goal
 
 pub returns-clause-refused : goal.returns-clause-refused
@@ -13,3 +14,8 @@ pub returns-clause-identify : goal.returns-clause-identify
 returns-clause-identify g c = λ asker request is identify.
     identify_step g.F.Flash.image g.F.Flash.failures g.F.Flash.asked c.args.self.now c.respond.new.self _ _ _ c.respond.ensures.steps asker request
     (sym c.hear-heard.ensures ∙ ap (λ s. heard_of s.station.identity c.args.event.now) c.self.view_is ∙ is) identify
+
+pub returns-clause-again : goal.returns-clause-again
+returns-clause-again g c = λ call frame served told.
+    again_step g.F.Flash.image g.F.Flash.failures g.F.Flash.asked c.args.self.now c.respond.new.self _ _ _ c.respond.ensures.steps call frame
+    (subst (λ heard. IsServed c.args.self.now.live heard call) (sym (sym c.hear-heard.ensures ∙ ap (λ s. heard_of s.station.identity c.args.event.now) c.self.view_is)) served) told

@@ -1,0 +1,73 @@
+// Address resolution (RFC 826).
+ghost use Rattle.std.specs.Prelude.{◌≡◌, ◌<◌, [], ◌∷◌, ◌++◌, map};
+ghost use Rattle.arrayvec.specs.ArrayVec.{array_vec_len};
+ghost use Rattle.device_core.specs.Sent.{bytes_of, reply_frame};
+ghost use Rattle.device_core.specs.Judged.{is_running as runs, is_request as requests, judged_arp};
+ghost use Rattle.device_core.specs.Machine.{end_of};
+
+use crate::{Device, Note};
+use flash_model::Flash;
+use frame_codec::{Arp, ArpOperation, Holder, Layered, Outbox, Payload};
+use pn_values::{Identity, Mac, Settings};
+
+impl<F: Flash<S>, const S: usize> Device<F, S> {
+    // A packet of ARP: a request for the running address is answered.
+    pub(crate) fn resolve(&self, asker: Mac, packet: &Arp, outbox: &mut Outbox) -> Note
+        requires empty { outbox.old.items ≡ [] }
+        ensures frames { map (λ frame. frame.items) outbox.new.items
+            ≡ map (bytes_of self.now.station.identity) (end_of self.now.live (judged_arp self.now.live asker packet.now)).sent }
+        ensures note { result ≡ (end_of self.now.live (judged_arp self.now.live asker packet.now)).note }
+    {
+        let running = self.store.running();
+        if !is_request(packet.operation) || !is_running(running, packet.target.address) {
+            return Note::NotMine;
+        }
+        let address = running.suite.address();
+        send_reply(&self.identity, asker, address, packet.sender, outbox);
+        Note::Done
+    }
+}
+
+// Whether a packet asks who holds an address.
+fn is_request(operation: ArpOperation) -> bool
+    ensures { result ≡ requests operation }
+{
+    match operation {
+        ArpOperation::Request => true,
+        ArpOperation::Reply => false,
+    }
+}
+
+/// Whether this address runs, and is one.
+pub(crate) fn is_running(running: &Settings, address: [u8; 4]) -> bool
+    ensures { result ≡ runs running.now address }
+{
+    address == running.suite.address() && address != [0; 4]
+}
+
+// Puts the reply that the device holds this address into the box, behind what is in it.
+fn send_reply(
+    identity: &Identity,
+    asker: Mac,
+    address: [u8; 4],
+    target: Holder,
+    outbox: &mut Outbox,
+)
+    requires room { array_vec_len outbox.old < 4 }
+    ensures { map (λ frame. frame.items) outbox.new.items ≡ map (λ frame. frame.items) outbox.old.items ++ reply_frame identity.now asker address target ∷ [] }
+{
+    let sender = Holder {
+        mac: identity.mac,
+        address,
+    };
+    outbox.put(&Layered {
+        destination: asker,
+        source: identity.mac,
+        tag: None,
+        payload: Payload::Arp(Arp {
+            operation: ArpOperation::Reply,
+            sender,
+            target,
+        }),
+    });
+}

@@ -1,0 +1,61 @@
+//! Who holds the device's address.
+use crate::tests::stations::{addressed, frame, is_padded, start};
+use device_core::Note;
+use flash_model::MemoryFlash;
+use frame_codec::Outbox;
+use std::test::Fail;
+
+// The station 02-00-00-00-00-02 at 192.168.0.1 asks all stations who holds 192.168.0.2.
+const REQUEST: [u8; 42] = *b"\xff\xff\xff\xff\xff\xff\x02\x00\x00\x00\x00\x02\x08\x06\
+    \x00\x01\x08\x00\x06\x04\x00\x01\x02\x00\x00\x00\x00\x02\xc0\xa8\x00\x01\x00\x00\x00\x00\x00\x00\xc0\xa8\x00\x02";
+
+// The device does.
+const REPLY: [u8; 42] = *b"\x02\x00\x00\x00\x00\x02\x02\x00\x00\x00\x00\x01\x08\x06\
+    \x00\x01\x08\x00\x06\x04\x00\x02\x02\x00\x00\x00\x00\x01\xc0\xa8\x00\x02\x02\x00\x00\x00\x00\x02\xc0\xa8\x00\x01";
+
+#[test]
+fn the_running_address_is_told(rt: HostRuntime) -> Result<(), Fail> {
+    let mut outbox = Outbox::new();
+    let mut device = addressed().ok_or("starts")?;
+    assert_eq!(rt; device.step(&frame(&REQUEST), &mut outbox), Note::Done);
+    assert!(rt; is_padded(&outbox, &REPLY));
+    Ok(())
+}
+
+#[test]
+fn a_request_to_the_device_alone_is_answered(rt: HostRuntime) -> Result<(), Fail> {
+    let mut outbox = Outbox::new();
+    let mut device = addressed().ok_or("starts")?;
+    let mut request = REQUEST;
+    request[..6].copy_from_slice(&[2, 0, 0, 0, 0, 1]);
+    assert_eq!(rt; device.step(&frame(&request), &mut outbox), Note::Done);
+    assert!(rt; is_padded(&outbox, &REPLY));
+    Ok(())
+}
+
+#[test]
+fn packets_that_are_not_answered(rt: HostRuntime) -> Result<(), Fail> {
+    let mut outbox = Outbox::new();
+    let mut device = addressed().ok_or("starts")?;
+    // for another address, a reply, and to another station
+    for (place, octet) in [(41, 3), (21, 2), (5, 0xFEu8)] {
+        let mut packet = REQUEST;
+        if let Some(there) = packet.get_mut(place) {
+            *there = octet;
+        }
+        assert_eq!(rt; device.step(&frame(&packet), &mut outbox), Note::NotMine);
+        assert_eq!(rt; outbox.len(), 0);
+    }
+    Ok(())
+}
+
+#[test]
+fn without_an_address_none_is_told(rt: HostRuntime) -> Result<(), Fail> {
+    let mut outbox = Outbox::new();
+    let mut device = start(MemoryFlash::blank()).ok_or("starts")?;
+    let mut zero = REQUEST;
+    zero[38..].copy_from_slice(&[0; 4]);
+    assert_eq!(rt; device.step(&frame(&zero), &mut outbox), Note::NotMine);
+    assert_eq!(rt; device.step(&frame(&REQUEST), &mut outbox), Note::NotMine);
+    Ok(())
+}

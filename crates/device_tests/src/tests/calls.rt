@@ -1,0 +1,267 @@
+//! Calls, answered, answered again, and not answered. Their octets and those of the answers were made by another program from
+//! RFC 768 and 791, C706 and IEC 61158-6-10.
+use crate::tests::stations::{Station, addressed, frame, start};
+use device_core::Note;
+use flash_model::MemoryFlash;
+use frame_codec::Outbox;
+use std::test::Fail;
+
+// A Read Implicit of I&M0 at slot 0, subslot 1, asked for from 192.168.0.1, its sequence number 7.
+const CALL: [u8; 206] = *b"\x02\x00\x00\x00\x00\x01\x02\x00\x00\x00\x00\x02\x08\x00\
+        \x45\x00\x00\xc0\x00\x00\x40\x00\x40\x11\xb8\xd9\xc0\xa8\x00\x01\xc0\xa8\x00\x02\
+        \x88\x94\x88\x94\x00\xac\x7a\x40\
+        \x04\x00\x20\x00\x00\x00\x00\x00\xde\xa0\x00\x00\x6c\x97\x11\xd1\x82\x71\x00\x01\x04\x56\x01\x23\
+        \xde\xa0\x00\x01\x6c\x97\x11\xd1\x82\x71\x00\xa0\x24\x42\xdf\x7d\x07\x07\x07\x07\x07\x07\x07\x07\x07\x07\x07\x07\x07\x07\x07\x07\
+        \x00\x00\x00\x00\x00\x00\x00\x01\x00\x00\x00\x07\x00\x05\xff\xff\xff\xff\x00\x54\x00\x00\x00\x00\
+        \x00\x00\x05\x5c\x00\x00\x00\x40\x00\x00\x05\x5c\x00\x00\x00\x00\x00\x00\x00\x40\
+        \x00\x09\x00\x3c\x01\x00\x00\x00\x00\x00\x00\x00\x00\x00\x00\x00\x00\x00\x00\x00\x00\x00\x00\x00\x00\x00\x00\x00\
+        \x00\x00\x00\x01\x00\x00\xaf\xf0\x00\x00\x10\x00\x00\x00\x00\x00\x00\x00\x00\x00\x00\x00\x00\x00\x00\x00\x00\x00\x00\x00\x00\x00\x00\x00\x00\x00";
+
+// Its answer.
+const ANSWER: [u8; 266] = *b"\x02\x00\x00\x00\x00\x02\x02\x00\x00\x00\x00\x01\x08\x00\
+        \x45\x00\x00\xfc\x00\x00\x40\x00\x40\x11\xb8\x9d\xc0\xa8\x00\x02\xc0\xa8\x00\x01\
+        \x88\x94\x88\x94\x00\xe8\x88\x65\
+        \x04\x02\x0a\x00\x00\x00\x00\x00\xde\xa0\x00\x00\x6c\x97\x11\xd1\x82\x71\x00\x01\x04\x56\x01\x23\
+        \xde\xa0\x00\x01\x6c\x97\x11\xd1\x82\x71\x00\xa0\x24\x42\xdf\x7d\x07\x07\x07\x07\x07\x07\x07\x07\x07\x07\x07\x07\x07\x07\x07\x07\
+        \x00\x00\x00\x00\x00\x00\x00\x01\x00\x00\x00\x07\x00\x05\xff\xff\xff\xff\x00\x90\x00\x00\x00\x00\
+        \x00\x00\x00\x00\x00\x00\x00\x7c\x00\x00\x05\x5c\x00\x00\x00\x00\x00\x00\x00\x7c\
+        \x80\x09\x00\x3c\x01\x00\x00\x00\x00\x00\x00\x00\x00\x00\x00\x00\x00\x00\x00\x00\x00\x00\x00\x00\x00\x00\x00\x00\x00\x00\x00\x01\
+        \x00\x00\xaf\xf0\x00\x00\x00\x3c\x00\x00\x00\x00\x00\x00\x00\x00\x00\x00\x00\x00\x00\x00\x00\x00\x00\x00\x00\x00\x00\x00\x00\x00\
+        \x00\x20\x00\x38\x01\x00\x01\x23\x20\x20\x20\x20\x20\x20\x20\x20\x20\x20\x20\x20\x20\x20\x20\x20\x20\x20\x20\x20\x20\x20\x20\x20\
+        \x20\x20\x20\x20\x20\x20\x20\x20\x20\x20\x20\x20\x00\x00\x56\x00\x00\x00\x00\x00\x00\x00\x00\x00\x01\x01\x00\x0e";
+
+// The answer where the index is 0xAFF5.
+const NO_RECORD: [u8; 142] = *b"\x02\x00\x00\x00\x00\x02\x02\x00\x00\x00\x00\x01\x08\x00\
+        \x45\x00\x00\x80\x00\x00\x40\x00\x40\x11\xb9\x19\xc0\xa8\x00\x02\xc0\xa8\x00\x01\
+        \x88\x94\x88\x94\x00\x6c\xc9\x8f\
+        \x04\x02\x0a\x00\x00\x00\x00\x00\xde\xa0\x00\x00\x6c\x97\x11\xd1\x82\x71\x00\x01\x04\x56\x01\x23\
+        \xde\xa0\x00\x01\x6c\x97\x11\xd1\x82\x71\x00\xa0\x24\x42\xdf\x7d\x07\x07\x07\x07\x07\x07\x07\x07\x07\x07\x07\x07\x07\x07\x07\x07\
+        \x00\x00\x00\x00\x00\x00\x00\x01\x00\x00\x00\x07\x00\x05\xff\xff\xff\xff\x00\x14\x00\x00\x00\x00\
+        \xde\x80\xb0\x00\x00\x00\x00\x00\x00\x00\x05\x5c\x00\x00\x00\x00\x00\x00\x00\x00";
+
+// Where fields stand in a call.
+const CHECKSUM: usize = 40;
+
+const REPRESENTATION: usize = 46;
+
+const ACTIVITY: usize = 82;
+
+const SEQUENCE: usize = 109;
+
+const OPERATION: usize = 111;
+
+const OFFSET: usize = 137;
+
+const API: usize = 169;
+
+const SLOT: usize = 171;
+
+const INDEX: usize = 177;
+
+const LENGTH: usize = 180;
+
+// The call with other octets at some places, and without a checksum.
+fn changed(changes: &[(usize, u8)]) -> [u8; 206] {
+    let mut bytes = CALL;
+    bytes[CHECKSUM] = 0;
+    bytes[CHECKSUM + 1] = 0;
+    for (place, octet) in changes {
+        if let Some(there) = bytes.get_mut(*place) {
+            *there = *octet;
+        }
+    }
+    bytes
+}
+
+// What becomes of a call, and how many frames are sent.
+fn heard(device: &mut Station, bytes: &[u8]) -> (Note, usize) {
+    let mut outbox = Outbox::new();
+    let note = device.step(&frame(bytes), &mut outbox);
+    (note, outbox.len())
+}
+
+// Whether the one frame that answers a call is these octets.
+fn is_answered(device: &mut Station, bytes: &[u8], answer: &[u8]) -> bool {
+    let mut outbox = Outbox::new();
+    let note = device.step(&frame(bytes), &mut outbox);
+    match outbox.as_slice() {
+        [sent] => note == Note::Done && sent.as_slice() == answer,
+        _ => false,
+    }
+}
+
+// How long the one frame is that answers a call, and its status.
+fn answer_of(device: &mut Station, bytes: &[u8]) -> (usize, [u8; 4]) {
+    let mut outbox = Outbox::new();
+    let _ = device.step(&frame(bytes), &mut outbox);
+    let mut status = [0xFF; 4];
+    match outbox.as_slice() {
+        [sent] if sent.len() >= 126 => {
+            status.copy_from_slice(&sent.as_slice()[122..126]);
+            (sent.len(), status)
+        }
+        _ => (0, status),
+    }
+}
+
+#[test]
+fn a_record_is_read(rt: HostRuntime) -> Result<(), Fail> {
+    let mut device = addressed().ok_or("starts")?;
+    assert!(rt; is_answered(&mut device, &CALL, &ANSWER));
+    Ok(())
+}
+
+#[test]
+fn as_much_of_a_record_is_read_as_is_asked_for(rt: HostRuntime) -> Result<(), Fail> {
+    let mut device = addressed().ok_or("starts")?;
+    let mut outbox = Outbox::new();
+    let ten = changed(&[(LENGTH, 0), (LENGTH + 1, 10)]);
+    assert_eq!(rt; device.step(&frame(&ten), &mut outbox), Note::Done);
+    let sent = outbox.as_slice().first().ok_or("is answered")?.as_slice();
+    assert_eq!(rt; sent.len(), 216);
+    assert_eq!(rt;
+        sent.get(206..),
+        Some(b"\x00\x20\x00\x38\x01\x00\x01\x23\x20\x20".as_slice())
+    );
+    Ok(())
+}
+
+#[test]
+fn a_record_that_there_is_not(rt: HostRuntime) -> Result<(), Fail> {
+    let mut device = addressed().ok_or("starts")?;
+    assert!(rt; is_answered(&mut device, &changed(&[(INDEX, 0xF5)]), &NO_RECORD));
+    Ok(())
+}
+
+#[test]
+fn places_that_there_are_not(rt: HostRuntime) -> Result<(), Fail> {
+    let mut device = addressed().ok_or("starts")?;
+    let slot = changed(&[(SEQUENCE, 1), (SLOT, 3)]);
+    assert_eq!(rt; answer_of(&mut device, &slot), (142, [0xDE, 0x80, 0xB2, 0]));
+    let api = changed(&[(SEQUENCE, 2), (API, 1)]);
+    assert_eq!(rt; answer_of(&mut device, &api), (142, [0xDE, 0x80, 0xB4, 0]));
+    Ok(())
+}
+
+#[test]
+fn a_call_in_little_endian_gets_the_same_answer(rt: HostRuntime) -> Result<(), Fail> {
+    let mut device = addressed().ok_or("starts")?;
+    let mut bytes = changed(&[]);
+    bytes[42..142].copy_from_slice(
+        b"\x04\x00\x20\x00\x10\x00\x00\x00\x00\x00\xa0\xde\x97\x6c\xd1\x11\x82\x71\x00\x01\x04\x56\x01\x23\
+        \x01\x00\xa0\xde\x97\x6c\xd1\x11\x82\x71\x00\xa0\x24\x42\xdf\x7d\x07\x07\x07\x07\x07\x07\x07\x07\x07\x07\x07\x07\x07\x07\x07\x07\
+        \x00\x00\x00\x00\x01\x00\x00\x00\x07\x00\x00\x00\x05\x00\xff\xff\xff\xff\x54\x00\x00\x00\x00\x00\
+        \x5c\x05\x00\x00\x40\x00\x00\x00\x5c\x05\x00\x00\x00\x00\x00\x00\x40\x00\x00\x00",
+    );
+    assert!(rt; is_answered(&mut device, &bytes, &ANSWER));
+    Ok(())
+}
+
+#[test]
+fn a_call_again_gets_the_same_frame(rt: HostRuntime) -> Result<(), Fail> {
+    let mut device = addressed().ok_or("starts")?;
+    assert!(rt; is_answered(&mut device, &CALL, &ANSWER));
+    // from another station, another port, and for another record
+    let again = changed(&[(11, 9), (34, 1), (INDEX, 0xF5)]);
+    assert!(rt; is_answered(&mut device, &again, &ANSWER));
+    Ok(())
+}
+
+#[test]
+fn an_older_call_is_not_answered(rt: HostRuntime) -> Result<(), Fail> {
+    let mut device = addressed().ok_or("starts")?;
+    assert_eq!(rt; heard(&mut device, &CALL), (Note::Done, 1));
+    assert_eq!(rt;
+        heard(&mut device, &changed(&[(SEQUENCE, 6)])),
+        (Note::OldCall, 0)
+    );
+    Ok(())
+}
+
+#[test]
+fn four_other_activities_later_a_call_is_new(rt: HostRuntime) -> Result<(), Fail> {
+    let mut device = addressed().ok_or("starts")?;
+    assert_eq!(rt; heard(&mut device, &CALL), (Note::Done, 1));
+    for other in [1, 2, 3, 4u8] {
+        let call = changed(&[(ACTIVITY, other)]);
+        assert_eq!(rt; heard(&mut device, &call), (Note::Done, 1));
+    }
+    let again = changed(&[(INDEX, 0xF5)]);
+    assert!(rt; is_answered(&mut device, &again, &NO_RECORD));
+    Ok(())
+}
+
+#[test]
+fn blocks_that_are_not_counted_well_are_answered_and_not_kept(rt: HostRuntime) -> Result<(), Fail> {
+    let mut device = addressed().ok_or("starts")?;
+    assert_eq!(rt; heard(&mut device, &CALL), (Note::Done, 1));
+    let older = changed(&[(SEQUENCE, 6), (OFFSET, 1)]);
+    assert_eq!(rt;
+        answer_of(&mut device, &older),
+        (142, [0xDE, 0x81, 0x40, 0])
+    );
+    let newer = changed(&[(SEQUENCE, 8), (OFFSET, 1)]);
+    assert_eq!(rt;
+        answer_of(&mut device, &newer),
+        (142, [0xDE, 0x81, 0x40, 0])
+    );
+    assert!(rt; is_answered(&mut device, &CALL, &ANSWER));
+    Ok(())
+}
+
+#[test]
+fn calls_that_can_not_be_read(rt: HostRuntime) -> Result<(), Fail> {
+    let mut device = addressed().ok_or("starts")?;
+    let mut sum = CALL;
+    sum[CHECKSUM + 1] = 0x41;
+    assert_eq!(rt; heard(&mut device, &sum), (Note::Fault, 0));
+    assert_eq!(rt;
+        heard(&mut device, &changed(&[(REPRESENTATION, 0x20)])),
+        (Note::Fault, 0)
+    );
+    assert_eq!(rt; heard(&mut device, &CALL[..205]), (Note::Fault, 0));
+    Ok(())
+}
+
+#[test]
+fn operations_that_are_not_served(rt: HostRuntime) -> Result<(), Fail> {
+    let mut device = addressed().ok_or("starts")?;
+    for operation in [0, 1, 2, 3, 4, 6u8] {
+        let call = changed(&[(OPERATION, operation), (OFFSET, 1)]);
+        assert_eq!(rt; heard(&mut device, &call), (Note::Fault, 0));
+    }
+    Ok(())
+}
+
+#[test]
+fn a_response_that_nobody_waits_for(rt: HostRuntime) -> Result<(), Fail> {
+    let mut device = addressed().ok_or("starts")?;
+    let mut response = NO_RECORD;
+    response[..6].copy_from_slice(&CALL[..6]);
+    response[26..34].copy_from_slice(&CALL[26..34]);
+    assert_eq!(rt; heard(&mut device, &response), (Note::NoRelation, 0));
+    Ok(())
+}
+
+#[test]
+fn datagrams_to_somebody_else(rt: HostRuntime) -> Result<(), Fail> {
+    let mut device = addressed().ok_or("starts")?;
+    let port = changed(&[(37, 0x95)]);
+    assert_eq!(rt; heard(&mut device, &port), (Note::NotMine, 0));
+    let station = changed(&[(5, 9)]);
+    assert_eq!(rt; heard(&mut device, &station), (Note::NotMine, 0));
+    // the header's checksum goes along with the address
+    let address = changed(&[(33, 3), (25, 0xD8)]);
+    assert_eq!(rt; heard(&mut device, &address), (Note::NotMine, 0));
+    Ok(())
+}
+
+#[test]
+fn no_call_is_answered_without_an_address(rt: HostRuntime) -> Result<(), Fail> {
+    let mut device = start(MemoryFlash::blank()).ok_or("starts")?;
+    assert_eq!(rt; heard(&mut device, &CALL), (Note::NotMine, 0));
+    // to the address of zeros
+    let zero = changed(&[(24, 0x79), (25, 0x84), (30, 0), (31, 0), (33, 0)]);
+    assert_eq!(rt; heard(&mut device, &zero), (Note::NotMine, 0));
+    Ok(())
+}
