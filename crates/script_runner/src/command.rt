@@ -206,9 +206,10 @@ fn with_two(
 ) -> Result<Option<Command<'static>>, AllocError>
     ensures { IfOk result (λ command. option_map command_read command ≡ with_two word.now first.now second.now) }
 {
-    let Some((after, mask)) = strike(first, second, buffer)? else {
+    let Some(strike) = strike(first, second, buffer)? else {
         return Ok(None);
     };
+    let (after, mask) = strike;
     if word == b"cut".as_slice() {
         Ok(Some(Command::Arm(Order::Cut { after, mask })))
     } else if word == b"fault".as_slice() {
