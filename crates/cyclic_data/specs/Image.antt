@@ -1,0 +1,75 @@
+-- Images of cyclic data: what the frames of a layout hold, place by place.
+use Rattle.std.specs.Prelude.{◌≡◌, ◌+◌, ◌-◌, ◌<◌, ◌==◌, ℕ, Bool, true, false, List, [], ◌∷◌, length, map, take, drop, get_or, replicate, Option, Some, None, option_map, if◌then◌else◌}
+use Rattle.std.specs.List.{AllByRecursion}
+use Rattle.cyclic_data.specs.declared.place.PlaceKind.{PlaceKind}
+use Rattle.cyclic_data.specs.declared.place.PlaceKind.TheVariants.{Data}
+use Rattle.cyclic_data.specs.declared.place.Place.{Place}
+use Rattle.cyclic_data.specs.Layout.{Covers, is_of}
+
+-- what lies at a place: data, which is none for an IOCS, and a status behind it, the IOPS or the IOCS
+pub record Cell : Type 0 where
+  pub place : Place
+  pub value : List ℕ
+  pub status : ℕ
+
+-- an image: a cell for each place
+pub record Shown : Type 0 where
+  pub data_length : ℕ
+  pub cells : List Cell
+
+-- what octets hold at a place
+abbrev pub cell_of : List ℕ → Place → Cell
+cell_of octets place = record {
+  place = place;
+  value = take (place.size - 1) (drop place.offset octets);
+  status = get_or octets (place.offset + (place.size - 1)) 0;
+}
+
+-- nothing was given
+abbrev pub zero_cell : Place → Cell
+zero_cell place = record { place = place; value = replicate (place.size - 1) 0; status = 0 }
+
+-- the first place of a kind and submodule
+abbrev pub place_at : PlaceKind → ℕ → ℕ → List Place → Option Place
+place_at kind slot subslot [] = None
+place_at kind slot subslot (place ∷ places) = if is_of kind slot subslot place then Some place else place_at kind slot subslot places
+
+-- its cell
+abbrev pub cell_at : PlaceKind → ℕ → ℕ → List Cell → Option Cell
+cell_at kind slot subslot [] = None
+cell_at kind slot subslot (cell ∷ cells) = if is_of kind slot subslot cell.place then Some cell else cell_at kind slot subslot cells
+
+-- an image in which the cell of a kind and submodule is another, and each other one is as it was
+abbrev pub changed_in : PlaceKind → ℕ → ℕ → (Cell → Cell) → Cell → Cell
+changed_in kind slot subslot change cell = if is_of kind slot subslot cell.place then change cell else cell
+
+abbrev pub changed : PlaceKind → ℕ → ℕ → (Cell → Cell) → Shown → Shown
+changed kind slot subslot change shown = record {
+  data_length = shown.data_length;
+  cells = map (changed_in kind slot subslot change) shown.cells;
+}
+
+-- with other data, and with another status
+abbrev pub with_value : List ℕ → Cell → Cell
+with_value value cell = record { place = cell.place; value = value; status = cell.status }
+
+abbrev pub with_status : ℕ → Cell → Cell
+with_status status cell = record { place = cell.place; value = cell.value; status = status }
+
+-- whether a submodule has data of so many octets there
+abbrev pub has_size : ℕ → Option Cell → Bool
+has_size size None = false
+has_size size (Some cell) = cell.place.size == size + 1
+
+-- the octets of a frame: each cell is what they hold at its place
+abbrev pub AreHeld : List ℕ → List Cell → Type 0
+AreHeld octets cells = AllByRecursion (λ cell. cell_of octets cell.place ≡ cell) cells
+
+-- an octet at no place
+abbrev pub IsOff : List Cell → ℕ → Type 0
+IsOff cells k = AllByRecursion (λ cell. Covers cell.place k → ⊥) cells
+
+pub record IsFrame (shown : Shown) (octets : List ℕ) : Type 0 where
+  pub size : length octets ≡ shown.data_length
+  pub held : AreHeld octets shown.cells
+  pub zeros : (k : ℕ) → k < shown.data_length → IsOff shown.cells k → get_or octets k 0 ≡ 0

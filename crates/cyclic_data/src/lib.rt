@@ -1,0 +1,22 @@
+//! Cyclic data of PROFINET IO (IEC 61158-6-10, 5.2.4.3 and 4.7): where each submodule has its place in the frames of a
+//! communication relation, what the frames hold, and which are due, taken, or too late.
+#![tactic(auto)]
+
+mod fault;
+mod image;
+mod judge;
+mod layout;
+mod octets;
+mod place;
+mod status;
+mod timing;
+
+pub use fault::LayoutFault;
+pub use image::Image;
+pub use layout::Layout;
+pub use place::{ExpectedData, Place, PlaceKind};
+pub use status::DataStatus;
+pub use timing::{Consumer, Provider};
+
+#[cfg(test)]
+mod tests;

@@ -1,0 +1,114 @@
+//! Places in cyclic frames, and the submodules that are expected to have them.
+ghost use Rattle.std.specs.Prelude.{◌≡◌, ◌<◌, ◌≤◌, length, IfSome};
+ghost use Rattle.cyclic_data.specs.Places.{opposite_of, data_in, taken, found_from};
+ghost use Rattle.cyclic_data.specs.Layout.{is_same_kind, is_of};
+
+use connect_blocks::IocrType;
+use module_blocks::SubmoduleData;
+
+/// What lies at a place.
+#[derive(Clone, Copy, Debug, Default, PartialEq, Eq)]
+pub enum PlaceKind {
+    /// An IODataObject: the data of a submodule, and its IOPS behind it.
+    #[default]
+    Data,
+    /// An IOCS: the status of the one who consumes what the submodule has in the frames of the other direction.
+    Iocs,
+}
+
+impl PlaceKind {
+    /// Whether it is the same.
+    fn is(self, other: PlaceKind) -> bool
+        ensures { result ≡ is_same_kind self other }
+    {
+        match (self, other) {
+            (PlaceKind::Data, PlaceKind::Data) | (PlaceKind::Iocs, PlaceKind::Iocs) => true,
+            (PlaceKind::Data, PlaceKind::Iocs) | (PlaceKind::Iocs, PlaceKind::Data) => false,
+        }
+    }
+}
+
+/// A place in a cyclic frame.
+#[derive(Clone, Copy, Debug, Default, PartialEq, Eq)]
+pub struct Place {
+    /// What lies there.
+    pub kind: PlaceKind,
+    /// SlotNumber.
+    pub slot: u16,
+    /// SubslotNumber.
+    pub subslot: u16,
+    /// FrameOffset, in octets from the first one behind the FrameID.
+    pub offset: u16,
+    /// How many octets it takes: its data and one of IOPS, or one of IOCS.
+    pub size: u16,
+}
+
+impl Place {
+    /// Whether it is the place of this kind and submodule.
+    pub(crate) fn is_of(&self, kind: PlaceKind, slot: u16, subslot: u16) -> bool
+        ensures { result ≡ is_of kind slot subslot self.now }
+    {
+        kind.is(self.kind) && self.slot == slot && self.subslot == subslot
+    }
+}
+
+/// A submodule that is expected, and what it has in cyclic frames.
+#[derive(Clone, Copy, Default)]
+pub struct ExpectedData {
+    /// SlotNumber.
+    pub slot: u16,
+    /// SubslotNumber.
+    pub subslot: u16,
+    /// The lengths of its input and its output.
+    pub io_data: SubmoduleData,
+}
+
+/// The other direction.
+fn opposite_of(direction: IocrType) -> IocrType
+    ensures { result ≡ opposite_of direction }
+{
+    match direction {
+        IocrType::Input => IocrType::Output,
+        IocrType::Output => IocrType::Input,
+    }
+}
+
+/// How many octets of data a submodule has in the frames of a direction, if it has any there.
+fn data_in(direction: IocrType, io_data: SubmoduleData) -> Option<u16>
+    ensures { result ≡ data_in direction io_data }
+{
+    match (direction, io_data.input, io_data.output) {
+        (IocrType::Input, None, None) => Some(0),
+        (IocrType::Input, input, _) => input,
+        (IocrType::Output, _, output) => output,
+    }
+}
+
+/// How many octets a submodule takes in the frames of a direction, if it takes any there.
+pub(crate) fn taken(direction: IocrType, kind: PlaceKind, io_data: SubmoduleData) -> Option<u32>
+    ensures value { result ≡ taken direction kind io_data }
+    ensures some { IfSome result (λ size. 0 < size) }
+    ensures few { IfSome result (λ size. size ≤ 65536) }
+{
+    match kind {
+        PlaceKind::Data => data_in(direction, io_data).map(|size| u32::from(size) + 1),
+        PlaceKind::Iocs => data_in(opposite_of(direction), io_data).map(|_| 1),
+    }
+}
+
+/// The submodule that is expected in a subslot: its number and its data.
+pub(crate) fn find(
+    expected: &[ExpectedData],
+    slot: u16,
+    subslot: u16,
+) -> Option<(usize, SubmoduleData)>
+    ensures found { result ≡ found_from slot subslot 0 expected.now }
+    ensures below { IfSome result (λ found. found.0 < length expected.now) }
+{
+    for (index, sub) in expected.iter().enumerate() {
+        if sub.slot == slot && sub.subslot == subslot {
+            return Some((index, sub.io_data));
+        }
+    }
+    None
+}

@@ -1,0 +1,199 @@
+// Worked layouts, each fault, and the order of faults.
+use crate::{
+    Consumer, DataStatus, ExpectedData, Image, Layout, LayoutFault, Place, PlaceKind, Provider,
+};
+use arrayvec::ArrayVec;
+use connect_blocks::{IoObject, IoObjects, IocrType};
+use module_blocks::SubmoduleData;
+
+/// The access point with its two ports, an input of two octets in slot 1 and an output of two octets in slot 2.
+const EXPECTED: [(u16, u16, Option<u16>, Option<u16>); 5] = [
+    (0, 1, None, None),
+    (0, 0x8000, None, None),
+    (0, 0x8001, None, None),
+    (1, 1, Some(2), None),
+    (2, 1, None, Some(2)),
+];
+
+/// Its data objects and its IOCS in either direction, each by its slot, its subslot and its offset.
+const INPUTS: [(u16, u16, u16); 4] = [(0, 1, 0), (0, 0x8000, 1), (0, 0x8001, 2), (1, 1, 3)];
+
+const INPUT_IOCS: [(u16, u16, u16); 1] = [(2, 1, 6)];
+
+const OUTPUTS: [(u16, u16, u16); 1] = [(2, 1, 0)];
+
+const OUTPUT_IOCS: [(u16, u16, u16); 4] = [(0, 1, 3), (0, 0x8000, 4), (0, 0x8001, 5), (1, 1, 6)];
+
+/// Places of these numbers.
+fn objects(numbers: &[(u16, u16, u16)]) -> ArrayVec<IoObject, 256> {
+    let mut list = ArrayVec::new();
+    for (slot_number, subslot_number, frame_offset) in numbers {
+        let _ = list.try_push(IoObject {
+            slot_number: *slot_number,
+            subslot_number: *subslot_number,
+            frame_offset: *frame_offset,
+        });
+    }
+    list
+}
+
+/// What `check` says of places in frames of 40 octets.
+fn checked(
+    direction: IocrType,
+    data: &[(u16, u16, u16)],
+    iocs: &[(u16, u16, u16)],
+) -> Result<Layout, LayoutFault> {
+    let mut expected = ArrayVec::<ExpectedData, 64>::new();
+    for (slot, subslot, input, output) in &EXPECTED {
+        let _ = expected.try_push(ExpectedData {
+            slot: *slot,
+            subslot: *subslot,
+            io_data: SubmoduleData {
+                input: *input,
+                output: *output,
+            },
+        });
+    }
+    let (data, iocs) = (objects(data), objects(iocs));
+    Layout::check(
+        direction,
+        40,
+        &IoObjects::lent(&data),
+        &IoObjects::lent(&iocs),
+        expected.as_slice(),
+    )
+}
+
+/// The fault of places in input frames, if they are no layout.
+fn fault(data: &[(u16, u16, u16)], iocs: &[(u16, u16, u16)]) -> Option<LayoutFault> {
+    checked(IocrType::Input, data, iocs).err()
+}
+
+/// A place as its kind, slot, subslot, offset and size.
+fn place(kind: PlaceKind, slot: u16, subslot: u16, offset: u16, size: u16) -> Place {
+    Place {
+        kind,
+        slot,
+        subslot,
+        offset,
+        size,
+    }
+}
+
+#[test]
+fn the_places_are_those_asked_for(rt: HostRuntime) {
+    let Ok(input) = checked(IocrType::Input, &INPUTS, &INPUT_IOCS) else {
+        panic!(rt; "no layout of inputs");
+    };
+    let wanted = [
+        place(PlaceKind::Data, 0, 1, 0, 1),
+        place(PlaceKind::Data, 0, 0x8000, 1, 1),
+        place(PlaceKind::Data, 0, 0x8001, 2, 1),
+        place(PlaceKind::Data, 1, 1, 3, 3),
+        place(PlaceKind::Iocs, 2, 1, 6, 1),
+    ];
+    assert_eq!(rt; input.data_length(), 40);
+    assert_eq!(rt; input.places(), &wanted[..]);
+    let Ok(output) = checked(IocrType::Output, &OUTPUTS, &OUTPUT_IOCS) else {
+        panic!(rt; "no layout of outputs");
+    };
+    let wanted = [
+        place(PlaceKind::Data, 2, 1, 0, 3),
+        place(PlaceKind::Iocs, 0, 1, 3, 1),
+        place(PlaceKind::Iocs, 0, 0x8000, 4, 1),
+        place(PlaceKind::Iocs, 0, 0x8001, 5, 1),
+        place(PlaceKind::Iocs, 1, 1, 6, 1),
+    ];
+    assert_eq!(rt; output.places(), &wanted[..]);
+}
+
+#[test]
+fn each_fault_and_the_first_of_two(rt: HostRuntime) {
+    // the data object of slot 1 and the IOCS of slot 2 at other places, and what is listed beside them
+    let with = |offset: u16, iocs: &[(u16, u16, u16)]| {
+        let data = [(0, 1, 0), (0, 0x8000, 1), (0, 0x8001, 2), (1, 1, offset)];
+        fault(&data, iocs)
+    };
+    let cases = [
+        (with(37, &[(2, 1, 6)]), None),
+        (with(38, &[(2, 1, 6)]), Some(LayoutFault::Outside)),
+        (with(3, &[(2, 1, 39)]), None),
+        (with(3, &[(2, 1, 40)]), Some(LayoutFault::Outside)),
+        (with(3, &[(2, 1, 5)]), Some(LayoutFault::Overlap)),
+        (with(2, &[(2, 1, 6)]), Some(LayoutFault::Overlap)),
+        (with(3, &[(2, 1, 6), (9, 1, 7)]), Some(LayoutFault::Unknown)),
+        (with(3, &[(2, 1, 6), (1, 1, 7)]), Some(LayoutFault::Unknown)),
+        (with(3, &[(2, 1, 6), (2, 1, 7)]), Some(LayoutFault::Unknown)),
+        (with(3, &[]), Some(LayoutFault::Missing)),
+        // two at once
+        (with(38, &[(2, 1, 0)]), Some(LayoutFault::Outside)),
+        (with(38, &[(9, 1, 6)]), Some(LayoutFault::Outside)),
+        (with(38, &[]), Some(LayoutFault::Outside)),
+        (with(3, &[(9, 1, 5)]), Some(LayoutFault::Overlap)),
+        (with(2, &[]), Some(LayoutFault::Overlap)),
+        (with(3, &[(9, 1, 6)]), Some(LayoutFault::Unknown)),
+    ];
+    for (found, wanted) in cases {
+        assert_eq!(rt; found, wanted);
+    }
+}
+
+#[test]
+fn numbers_of_faults(rt: HostRuntime) {
+    assert_eq!(rt; LayoutFault::Outside.number(), 1);
+    assert_eq!(rt; LayoutFault::Overlap.number(), 2);
+    assert_eq!(rt; LayoutFault::Unknown.number(), 3);
+    assert_eq!(rt; LayoutFault::Missing.number(), 4);
+}
+
+#[test]
+fn counters_come_round(rt: HostRuntime) {
+    let mut consumer = Consumer::new(3, 32);
+    let good = DataStatus::running();
+    assert!(rt; consumer.accept(65_520, good, 0));
+    assert!(rt; consumer.accept(16, good, 0));
+    assert!(rt; !consumer.accept(65_520, good, 0));
+    assert!(rt; !consumer.accept(16, good, 0));
+    assert!(rt; !consumer.accept(17, good, 1));
+    assert!(rt; !consumer.accept(17, DataStatus(0x31), 0));
+    assert!(rt; consumer.accept(16 + 61_440, good, 0));
+    // the time is over with unit 96
+    for _ in 0..95 {
+        assert!(rt; !consumer.expired());
+    }
+    assert!(rt; consumer.expired());
+}
+
+#[test]
+fn a_frame_each_interval(rt: HostRuntime) {
+    let mut provider = Provider::start(32, 2);
+    for unit in 1..=192 {
+        assert_eq!(rt; provider.due(), unit % 64 == 0);
+    }
+}
+
+#[test]
+fn an_image_of_inputs(rt: HostRuntime) {
+    let Ok(layout) = checked(IocrType::Input, &INPUTS, &INPUT_IOCS) else {
+        panic!(rt; "no layout of inputs");
+    };
+    let mut image = Image::new(layout);
+    for (slot, subslot, _) in &INPUTS {
+        assert!(rt; image.set_status(PlaceKind::Data, *slot, *subslot, 0x80));
+    }
+    assert!(rt; image.set_status(PlaceKind::Iocs, 2, 1, 0x80));
+    assert!(rt; image.put(1, 1, &[0x12, 0x34]));
+    // no such place, or another length
+    assert!(rt; !image.put(1, 1, &[0x12]));
+    assert!(rt; !image.put(2, 1, &[0x12, 0x34]));
+    assert!(rt; !image.set_status(PlaceKind::Iocs, 1, 1, 0x80));
+    assert!(rt; image.put(0, 1, &[]));
+    let wanted = [0x80, 0x80, 0x80, 0x12, 0x34, 0x80, 0x80];
+    assert_eq!(rt; image.bytes().len(), 40);
+    for (index, octet) in image.bytes().iter().enumerate() {
+        assert_eq!(rt; *octet, wanted.get(index).copied().unwrap_or(0));
+    }
+    assert_eq!(rt; image.get(1, 1), Some(&[0x12, 0x34][..]));
+    assert_eq!(rt; image.get(2, 1), None);
+    assert_eq!(rt; image.status(PlaceKind::Iocs, 2, 1), Some(0x80));
+}
