@@ -4,6 +4,7 @@ use std::alloc::{AllocError, Global};
 use std::process::Abort;
 use std::test::Fail;
 
+mod calls;
 mod cuts;
 mod faults;
 mod input;

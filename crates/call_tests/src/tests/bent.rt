@@ -1,0 +1,121 @@
+// Frames of each kind in which one number is another: 0, 1, its greatest, and those beside its own.
+use super::numbers::{Order, mend, number_at, put};
+use super::samples::{ARP, DATAGRAMS, TAGS, frame};
+use super::stations::Trial;
+use std::process::Abort;
+use std::test::Fail;
+
+/// Where a number stands behind the link header, and of how many octets it is.
+type Field = (usize, usize);
+
+/// Hardware, protocol, lengths, operation, target address.
+const OF_ARP: [Field; 6] = [(0, 2), (2, 2), (4, 1), (5, 1), (6, 2), (24, 4)];
+
+/// Of IPv4 version and header length, total length, flags and offset, protocol, checksum, destination; of UDP port, length,
+/// checksum.
+const OF_DATAGRAM: [Field; 9] = [
+    (0, 1),
+    (2, 2),
+    (6, 2),
+    (9, 1),
+    (10, 2),
+    (16, 4),
+    (22, 2),
+    (24, 2),
+    (26, 2),
+];
+
+/// Of RPC version, packet type, flags, representation, interface (first and last), sequence number, operation, length,
+/// fragment, authentication; ArgsMaximum, ArgsLength, MaximumCount, Offset, ActualCount.
+const OF_CALL: [Field; 16] = [
+    (28, 1),
+    (29, 1),
+    (30, 1),
+    (32, 1),
+    (52, 4),
+    (67, 1),
+    (92, 4),
+    (96, 2),
+    (102, 2),
+    (104, 2),
+    (106, 1),
+    (108, 4),
+    (112, 4),
+    (116, 4),
+    (120, 4),
+    (124, 4),
+];
+
+/// Of the block BlockType, BlockLength, version, API, SlotNumber, SubslotNumber, Index, RecordDataLength.
+const OF_BLOCK: [Field; 9] = [
+    (128, 2),
+    (130, 2),
+    (132, 1),
+    (133, 1),
+    (152, 4),
+    (156, 2),
+    (158, 2),
+    (162, 2),
+    (164, 4),
+];
+
+/// Hands in a frame with other numbers at a place, with the checksums as they were and, of a packet, right again.
+fn bend(
+    rt: &impl Abort,
+    trial: &mut Trial,
+    (good, head): (&Vec<u8>, usize),
+    order: Order,
+    (place, size): Field,
+    has_checksums: bool,
+) -> Result<(), Fail> {
+    let own = match good.as_slice().get(head..) {
+        Some(packet) if packet.len() > place => number_at(order, packet, place, size),
+        _ => return Ok(()),
+    };
+    for number in [0, 1, u32::MAX, own.wrapping_sub(1), own.wrapping_add(1)] {
+        let mut octets = good.clone()?;
+        let packet = octets.as_mut_slice().get_mut(head..).ok_or("a packet")?;
+        put(order, packet, place, size, number);
+        trial.judge(rt, octets.as_slice())?;
+        if has_checksums {
+            let packet = octets.as_mut_slice().get_mut(head..).ok_or("a packet")?;
+            mend(packet);
+            trial.judge(rt, octets.as_slice())?;
+        }
+    }
+    Ok(())
+}
+
+#[test]
+fn bent_arp(rt: HostRuntime) -> Result<(), Fail> {
+    let alloc = rt.alloc();
+    let mut trial = Trial::new(alloc)?;
+    for tag in TAGS {
+        let (good, head) = frame(alloc, ARP, tag)?;
+        for field in OF_ARP {
+            bend(&rt, &mut trial, (&good, head), Order::Big, field, false)?;
+        }
+    }
+    trial.end(&rt)
+}
+
+#[test]
+fn bent_datagrams(rt: HostRuntime) -> Result<(), Fail> {
+    let alloc = rt.alloc();
+    let mut trial = Trial::new(alloc)?;
+    for sample in &DATAGRAMS {
+        for tag in TAGS {
+            let (good, head) = frame(alloc, sample.hex, tag)?;
+            for field in OF_DATAGRAM {
+                bend(&rt, &mut trial, (&good, head), Order::Big, field, true)?;
+            }
+            for field in OF_CALL {
+                bend(&rt, &mut trial, (&good, head), sample.order, field, true)?;
+            }
+            for field in OF_BLOCK {
+                bend(&rt, &mut trial, (&good, head), Order::Big, field, true)?;
+            }
+        }
+    }
+    trial.end(&rt)
+}

@@ -1,0 +1,64 @@
+// Frames of each kind, cut at each length.
+use super::numbers::{Order, mend, put};
+use super::samples::{ARP, DATAGRAMS, TAGS, frame};
+use super::stations::Trial;
+use std::test::Fail;
+
+#[test]
+fn arp_cut_short(rt: HostRuntime) -> Result<(), Fail> {
+    let alloc = rt.alloc();
+    let mut trial = Trial::new(alloc)?;
+    for tag in TAGS {
+        let (mut octets, _) = frame(alloc, ARP, tag)?;
+        for length in (0..=octets.len()).rev() {
+            octets.truncate(length);
+            trial.judge(&rt, octets.as_slice())?;
+        }
+    }
+    trial.end(&rt)
+}
+
+/// Which lengths follow a cut: none, those of packet and datagram, or those of the call too.
+#[derive(Clone, Copy)]
+enum Lowered {
+    None,
+    OfDatagram,
+    OfCall,
+}
+
+/// Lowers lengths to what is there of a packet. The checksums are right again.
+fn lower(order: Order, packet: &mut [u8], lowered: Lowered) {
+    let length = (packet.len() % 65536) as u32;
+    if matches!(lowered, Lowered::OfCall) {
+        let carried = length.saturating_sub(128);
+        put(order, packet, 102, 2, length.saturating_sub(108));
+        put(order, packet, 112, 4, carried);
+        put(order, packet, 124, 4, carried);
+    }
+    put(Order::Big, packet, 2, 2, length);
+    put(Order::Big, packet, 24, 2, length.saturating_sub(20));
+    mend(packet);
+}
+
+#[test]
+fn datagrams_cut_short(rt: HostRuntime) -> Result<(), Fail> {
+    let alloc = rt.alloc();
+    let mut trial = Trial::new(alloc)?;
+    for sample in &DATAGRAMS {
+        let (good, head) = frame(alloc, sample.hex, &[])?;
+        for length in 0..=good.len() {
+            for lowered in [Lowered::None, Lowered::OfDatagram, Lowered::OfCall] {
+                let mut octets = good.clone()?;
+                octets.truncate(length);
+                match (lowered, octets.as_mut_slice().get_mut(head..)) {
+                    (Lowered::OfDatagram | Lowered::OfCall, Some(packet)) => {
+                        lower(sample.order, packet, lowered);
+                    }
+                    _ => {}
+                }
+                trial.judge(&rt, octets.as_slice())?;
+            }
+        }
+    }
+    trial.end(&rt)
+}

@@ -1,0 +1,210 @@
+//! A station that has answered calls, what becomes of a frame there, and whether a frame left it as it was.
+use super::fates::{Fate, fate_of};
+use super::numbers::{Order, mend, number_at, ones_sum, put, u32_at, udp_sum};
+use super::samples::{CALL, frame};
+use arrayvec::ArrayVec;
+use device_core::{Device, Event, Note};
+use flash_model::MemoryFlash;
+use frame_codec::{Bytes, Outbox};
+use pn_values::{Identity, Mac, Real, RealModule, RealSubmodule};
+use std::alloc::{AllocError, Global};
+use std::process::Abort;
+use std::test::Fail;
+
+type Station = Device<MemoryFlash<768>, 768>;
+
+/// A permanent Set of the suite 192.168.0.2 255.255.255.0 without a gateway.
+const SET_SUITE: &[u8] =
+    b"\x02\0\0\0\0\x01\x02\0\0\0\0\x02\x88\x92\xfe\xfd\x04\0\0\0\0\x02\0\0\0\x12\
+    \x01\x02\0\x0e\0\x01\xc0\xa8\0\x02\xff\xff\xff\0\0\0\0\0";
+
+/// What is plugged: slot, subslot and ident number of each submodule, that of its module being the first one's.
+const PLUGGED: [(u16, &[(u16, u32)]); 3] = [
+    (0, &[(1, 1), (0x8000, 2), (0x8001, 3)]),
+    (1, &[(1, 16)]),
+    (2, &[(1, 32)]),
+];
+
+fn identity() -> Identity {
+    Identity {
+        mac: Mac {
+            octets: [2, 0, 0, 0, 0, 1],
+        },
+        station_type: ArrayVec::new(),
+        vendor_id: 0x0123,
+        device_id: 0x0456,
+        instance: 1,
+        order_id: [b' '; 20],
+        serial_number: [b' '; 16],
+        hardware_revision: 0,
+        software_revision: *b"V\0\0\0",
+        profile_id: 0,
+        profile_specific_type: 0,
+    }
+}
+
+fn real() -> Real {
+    let mut modules = ArrayVec::new();
+    for (slot, plugged) in PLUGGED {
+        let mut module = RealModule {
+            slot,
+            ident: 1,
+            submodules: ArrayVec::new(),
+        };
+        for (subslot, ident) in plugged {
+            let submodule = RealSubmodule {
+                subslot: *subslot,
+                ident: *ident,
+                ..RealSubmodule::default()
+            };
+            let _ = module.submodules.try_push(submodule);
+        }
+        let _ = modules.try_push(module);
+    }
+    Real { modules }
+}
+
+fn event(octets: &[u8]) -> Event {
+    let mut bytes = Bytes::new();
+    let _ = bytes.try_extend_from_slice(octets);
+    Event::Frame(bytes)
+}
+
+/// A Read Implicit of I&M0 by the activity whose octets are all this number.
+fn call(alloc: Global, activity: u8, sequence: u32) -> Result<Event, Fail> {
+    let (mut octets, head) = frame(alloc, CALL, &[])?;
+    let packet = octets.as_mut_slice().get_mut(head..).ok_or("a packet")?;
+    for octet in packet.iter_mut().skip(68).take(16) {
+        *octet = activity;
+    }
+    put(Order::Big, packet, 92, 4, sequence);
+    put(Order::Big, packet, 162, 2, 0xAFF0);
+    mend(packet);
+    Ok(event(octets.as_slice()))
+}
+
+/// Calls by activity and sequence number at a station that has answered the activities 1 to 4 under 5: each of those again;
+/// a new one, which takes the place of the first; whether the next to be replaced are the second, the third and the fourth.
+const PROBES: [(u8, u32, Note); 11] = [
+    (1, 5, Note::Done),
+    (2, 5, Note::Done),
+    (3, 5, Note::Done),
+    (4, 5, Note::Done),
+    (5, 1, Note::Done),
+    (2, 4, Note::OldCall),
+    (1, 4, Note::Done),
+    (3, 4, Note::OldCall),
+    (2, 4, Note::Done),
+    (4, 4, Note::OldCall),
+    (3, 4, Note::Done),
+];
+
+/// A station with an address that has answered four calls, and is handed frames that it has to refuse.
+#[derive(Drop)]
+pub(crate) struct Trial {
+    alloc: Global,
+    station: Station,
+    /// The second of the calls, and its answer.
+    again: Event,
+    kept: Vec<u8>,
+}
+
+impl Trial {
+    pub(crate) fn new(alloc: Global) -> Result<Trial, Fail> {
+        let mut outbox = Outbox::new();
+        let mut trial = Trial {
+            alloc,
+            station: called(alloc)?,
+            again: call(alloc, 2, 5)?,
+            kept: Vec::new(alloc),
+        };
+        let _ = trial.station.step(&trial.again, &mut outbox);
+        trial.kept = octets_of(alloc, &outbox)?;
+        Ok(trial)
+    }
+
+    /// What becomes of a frame is what has to. Behind one that is not answered the second call gets the same octets again;
+    /// one that is answered goes to another station.
+    pub(crate) fn judge(&mut self, rt: &impl Abort, octets: &[u8]) -> Result<(), Fail> {
+        let mut outbox = Outbox::new();
+        let wanted = fate_of(octets);
+        let is_answered = matches!(wanted, Fate::Answered { .. });
+        let note = if is_answered {
+            called(self.alloc)?.step(&event(octets), &mut outbox)
+        } else {
+            self.station.step(&event(octets), &mut outbox)
+        };
+        let came = outcome(note, &outbox);
+        assert!(rt; came == Some(wanted), "of {octets:?} came {came:?}, not {wanted:?}");
+        if !is_answered {
+            let note = self.station.step(&self.again, &mut outbox);
+            let kept = octets_of(self.alloc, &outbox)?;
+            assert!(rt; note == Note::Done && kept.as_slice() == self.kept.as_slice(), "behind {octets:?}");
+        }
+        Ok(())
+    }
+
+    /// The station is as it was before all that it refused: it answers each probe as one that heard nothing of it does.
+    pub(crate) fn end(mut self, rt: &impl Abort) -> Result<(), Fail> {
+        let alloc = self.alloc;
+        let mut other = called(alloc)?;
+        let (mut outbox, mut wanted) = (Outbox::new(), Outbox::new());
+        for (activity, sequence, note) in PROBES {
+            let event = call(alloc, activity, sequence)?;
+            assert_eq!(rt; self.station.step(&event, &mut outbox), note, "activity {activity}");
+            let _ = other.step(&event, &mut wanted);
+            let came = octets_of(alloc, &outbox)?;
+            assert!(rt; came.as_slice() == octets_of(alloc, &wanted)?.as_slice(), "activity {activity}");
+        }
+        Ok(())
+    }
+}
+
+/// A station with an address that has answered calls of the activities 1 to 4, each under the sequence number 5.
+fn called(alloc: Global) -> Result<Station, Fail> {
+    let mut outbox = Outbox::new();
+    let started = Device::boot(identity(), real(), MemoryFlash::blank());
+    let mut station = started.ok().ok_or("starts")?;
+    let _ = station.step(&event(SET_SUITE), &mut outbox);
+    for activity in 1..5 {
+        let _ = station.step(&call(alloc, activity, 5)?, &mut outbox);
+    }
+    Ok(station)
+}
+
+/// All octets that are sent.
+fn octets_of(alloc: Global, outbox: &Outbox) -> Result<Vec<u8>, AllocError> {
+    let mut octets = Vec::new(alloc);
+    for sent in outbox.as_slice() {
+        octets.extend_from_slice(sent.as_slice())?;
+    }
+    Ok(octets)
+}
+
+/// What became of a frame, or None where a note and what is sent do not go together or a checksum is wrong.
+fn outcome(note: Note, outbox: &Outbox) -> Option<Fate> {
+    match (note, outbox.as_slice()) {
+        (Note::Done, [sent]) => answered(sent.as_slice()),
+        (Note::Fault, []) => Some(Fate::Fault),
+        (Note::NotMine, []) => Some(Fate::NotMine),
+        (Note::OldCall, []) => Some(Fate::OldCall),
+        (Note::NoRelation, []) => Some(Fate::NoRelation),
+        _ => None,
+    }
+}
+
+/// A reply of ARP, or an answer to a call.
+fn answered(sent: &[u8]) -> Option<Fate> {
+    let length = sent.len();
+    let (link, packet) = sent.split_at_checked(14)?;
+    if link.ends_with(&[0x08, 0x06]) {
+        return Some(Fate::Answered { status: 0, length });
+    }
+    let (header, datagram) = packet.split_at_checked(20)?;
+    let counted = number_at(Order::Big, datagram, 4, 2) as usize;
+    if ones_sum(0, header) != 0xFFFF || udp_sum(header, datagram) != 0xFFFF || datagram.len() != counted {
+        return None;
+    }
+    let status = u32_at(Order::Big, datagram, 88)?;
+    Some(Fate::Answered { status, length })
+}
