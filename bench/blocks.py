@@ -123,6 +123,8 @@ def largest_frame(program, names):
     """The octets of the largest frame of a function whose name begins so, as the program was built, and its name."""
     listing = subprocess.run(["objdump", "-d", "--no-show-raw-insn", program], capture_output=True, text=True, check=True).stdout
     functions = re.findall(rf"<((?:{names})[^\n]*)>:\n(.*?)\n\n", listing, re.DOTALL)
+    if not functions:
+        sys.exit(f"{program} has no function whose name begins so: {names}")
     return max((frame(body), name) for name, body in functions)
 
 
