@@ -45,7 +45,7 @@ STEPS = (
     ("an ARP request", calls.SET_SUITE, lambda _: calls.ARP, 1, 2500),
     ("a Read Implicit of I&M0", calls.SET_SUITE, calls.read_implicit, 1, 12000),
     ("the same call again", calls.SET_SUITE + calls.read_implicit(0), lambda _: calls.read_implicit(0), 1, 6000),
-    ("a datagram of 164 octets for another port", calls.SET_SUITE, lambda number: calls.read_implicit(number, 161), 1, 3500),
+    ("a datagram of 172 octets for another port", calls.SET_SUITE, lambda number: calls.read_implicit(number, 161), 1, 3500),
 )
 
 # Octets of a device in memory without the two sectors of its flash, and of the largest frame on the stack of a step.

@@ -53,9 +53,13 @@ IM0 = {
 IM1 = {"block_type": 0x0021, "block_length": 56, "IMTagFunction": 32 * b" ", "IMTagLocation": 22 * b" "}
 IM2 = {"block_type": 0x0022, "block_length": 18, "IMDate": 16 * b" "}
 IM3 = {"block_type": 0x0023, "block_length": 56, "IMDescriptor": 54 * b" "}
+IM4 = {"block_type": 0x0024, "block_length": 56, "IMSignature": bytes(54)}
 
 bind_layers(UDP, DceRpc4, dport=PORT)
 bind_layers(UDP, DceRpc4, sport=PORT)
+
+# The part that tells whether the station has I&M4.
+SIGNATURE = "I&M4"
 
 asserted = 0
 
@@ -196,10 +200,11 @@ def bent():
     reply = Ether(dst=DEVICE, src=TOOL) / ARP(op=2, hwsrc=TOOL, psrc=TOOL_IP, hwdst=DEVICE, pdst=DEVICE_IP)
     other = Ether(dst="ff:ff:ff:ff:ff:ff", src=TOOL) / ARP(hwsrc=TOOL, psrc=TOOL_IP, pdst="192.168.0.3")
     return [
-        ("the first octets of I&M0", call(FIRST, 5, 0xAFF0, most=10), "done", is_cut),
-        ("an empty slot", call(FIRST, 6, 0xAFF0, slot=3), "done", has_status(NO_SUBSLOT)),
-        ("another API", call(FIRST, 7, 0xAFF0, api=1), "done", has_status(NO_API)),
-        ("I&M1 of a module", call(FIRST, 8, 0xAFF1, slot=1), "done", has_status(NO_INDEX)),
+        (SIGNATURE, call(FIRST, 5, 0xAFF4), "done", has_status(NO_INDEX)),
+        ("the first octets of I&M0", call(FIRST, 6, 0xAFF0, most=10), "done", is_cut),
+        ("an empty slot", call(FIRST, 7, 0xAFF0, slot=3), "done", has_status(NO_SUBSLOT)),
+        ("another API", call(FIRST, 8, 0xAFF0, api=1), "done", has_status(NO_API)),
+        ("I&M1 of a module", call(FIRST, 9, 0xAFF1, slot=1), "done", has_status(NO_INDEX)),
         ("I&M0 of a module, in little endian", call(SECOND, 8, 0xAFF0, LITTLE, slot=2), "done", has_record(IM0)),
         ("counts that differ", call(SECOND, 9, 0xAFF0, args_length=63), "done", has_status(WRONG)),
         ("an Offset, in little endian", call(SECOND, 9, 0xAFF0, LITTLE, offset=1), "done", has_status(WRONG)),
@@ -245,8 +250,10 @@ def printed(text):
 
 
 def judge(part, sent, line, before):
-    """Asserts what became of a frame."""
-    _, frame, note, read = part
+    """Asserts what became of a frame. Where the station has I&M4, I&M0 says so (IM_Supported) in each answer before and after."""
+    name, frame, note, read = part
+    if name == SIGNATURE and IM0["IMSupported"] == 0x001E:
+        read = has_record(IM4)
     same("the note", line, f"note {note}")
     same("frames sent", len(sent), 0 if read is None else 1)
     if read is not None:
@@ -266,6 +273,9 @@ def main():
     steps = printed(script(parts))
     same("lines of frames", len(steps), len(parts))
     wrong, before = 0, None
+    answer = next(sent for part, (sent, _) in zip(parts, steps) if part[0] == SIGNATURE)
+    if answer and Ether(answer[0])[PNIOServiceResPDU].status == 0:
+        IM0["IMSupported"] = 0x001E
     for part, (sent, line) in zip(parts, steps):
         try:
             judge(part, sent, line, before)

@@ -1,5 +1,6 @@
-// Blocks, their lists, the records that are made of them, and the calls that read records.
+// Blocks, their lists, the records and the differences that are made of them, and the calls that read records.
 mod blocks;
+mod differences;
 mod lists;
 mod reads;
 mod records;
