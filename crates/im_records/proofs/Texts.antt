@@ -15,9 +15,10 @@ use Rattle.block_codec.specs.Kinds.{number_of, type_of}
 use Rattle.record_blocks.specs.Im1.{im1}
 use Rattle.record_blocks.specs.Im2.{im2}
 use Rattle.record_blocks.specs.Im3.{im3}
+use Rattle.record_blocks.specs.Im4.{im4}
 use Rattle.im_records.specs.declared.fault.RecordFault.{RecordFault}
 use Rattle.im_records.specs.declared.fault.RecordFault.TheVariants.{Length, Block}
-use Rattle.im_records.specs.Records.{im1_record, im2_record, im3_record}
+use Rattle.im_records.specs.Records.{im1_record, im2_record, im3_record, im4_record}
 use Rattle.im_records.specs.Writes.{IsWritten, header_of, text_of, command_of}
 
 pub im1_bytes : (text : List ℕ) → length text ≡ 54 → im1_record text ≡ header_of 0x21 54 ++ text
@@ -34,6 +35,10 @@ pub im3_bytes : (text : List ℕ) → length text ≡ 54 → im3_record text ≡
 unfolding block_bytes block body_of fields_of number_of type_of body im3 number_bytes octet_bytes version
 im3_bytes text long = rw (long, append-nil text, append-nil text) refl
 
+pub im4_bytes : (text : List ℕ) → length text ≡ 54 → im4_record text ≡ header_of 0x24 54 ++ text
+unfolding block_bytes block body_of fields_of number_of type_of body im4 number_bytes octet_bytes version
+im4_bytes text long = rw (long, append-nil text, append-nil text) refl
+
 -- ---- whole records are taken
 
 whole_1 : (text : List ℕ) → length text ≡ 54 → text_of 54 (header_of 0x21 54) (header_of 0x21 54 ++ text) ≡ Ok text
@@ -48,11 +53,16 @@ whole_3 : (text : List ℕ) → length text ≡ 54 → text_of 54 (header_of 0x2
 unfolding text_of
 whole_3 text long = rw long refl
 
+whole_4 : (text : List ℕ) → length text ≡ 54 → text_of 54 (header_of 0x24 54) (header_of 0x24 54 ++ text) ≡ Ok text
+unfolding text_of
+whole_4 text long = rw long refl
+
 pub whole : (index : ℕ) (bytes : List ℕ) (value : ImValue) → IsWritten index bytes value → command_of index bytes ≡ Ok (SetIm value)
 unfolding command_of
 whole index bytes (im.Im1 text) w = rw (w.0, w.2, im1_bytes text w.1, whole_1 text w.1) refl
 whole index bytes (im.Im2 text) w = rw (w.0, w.2, im2_bytes text w.1, whole_2 text w.1) refl
 whole index bytes (im.Im3 text) w = rw (w.0, w.2, im3_bytes text w.1, whole_3 text w.1) refl
+whole index bytes (im.Im4 text) w = rw (w.0, w.2, im4_bytes text w.1, whole_4 text w.1) refl
 
 -- ---- what is taken is a whole record
 
@@ -95,7 +105,13 @@ only index bytes command e =
               let a = bind_ok (text_of 54 (header_of 0x23 54) bytes) (λ text. Ok (SetIm (im.Im3 text))) command v.1 in
               let f = text_found 54 (header_of 0x23 54) bytes a.0 a.1 in
               (im.Im3 a.0, sym (ok_is {F = RecordFault} (SetIm (im.Im3 a.0)) command a.2), (eqb-true index 0xAFF3 v.0, f.0, f.1 ∙ sym (im3_bytes a.0 f.0)))
-          | inr v ↦ absurd (let e = v.1 in cc)
+          | inr v ↦ elim (chosen (index == 0xAFF4) _ _ command v.1) [
+            | inl w ↦
+                let a = bind_ok (text_of 54 (header_of 0x24 54) bytes) (λ text. Ok (SetIm (im.Im4 text))) command w.1 in
+                let f = text_found 54 (header_of 0x24 54) bytes a.0 a.1 in
+                (im.Im4 a.0, sym (ok_is {F = RecordFault} (SetIm (im.Im4 a.0)) command a.2), (eqb-true index 0xAFF4 w.0, f.0, f.1 ∙ sym (im4_bytes a.0 f.0)))
+            | inr w ↦ absurd (let e = w.1 in cc)
+          ]
         ]
       ]
     ]

@@ -41,6 +41,9 @@ im2_record text = block_bytes (is.Im2 (record { im_date = text }))
 abbrev pub im3_record : List ℕ → List ℕ
 im3_record text = block_bytes (is.Im3 (record { im_descriptor = text }))
 
+abbrev pub im4_record : List ℕ → List ℕ
+im4_record text = block_bytes (is.Im4 (record { im_signature = text }))
+
 -- whether this is the submodule that stands for the device: slot 0, subslot 1
 abbrev pub is_device : ℕ → ℕ → Bool
 is_device slot subslot = slot == 0 && subslot == 1
@@ -58,7 +61,7 @@ abbrev pub where_holds : Bool → List ℕ → Option (List ℕ)
 where_holds true octets = Some octets
 where_holds false octets = None
 
--- the record of this index at this submodule, if there is one: I&M0 at each real submodule, I&M1 to I&M3 at that of the
+-- the record of this index at this submodule, if there is one: I&M0 at each real submodule, I&M1 to I&M4 at that of the
 -- device, and I&M0FilterData everywhere
 abbrev pub record_of : ℕ → ℕ → ℕ → Identity → Real → Settings → Option (List ℕ)
 record_of index slot subslot identity real settings =
@@ -66,5 +69,6 @@ record_of index slot subslot identity real settings =
     else if index == 0xAFF1 then where_holds (is_device slot subslot) (im1_record settings.im1)
     else if index == 0xAFF2 then where_holds (is_device slot subslot) (im2_record settings.im2)
     else if index == 0xAFF3 then where_holds (is_device slot subslot) (im3_record settings.im3)
+    else if index == 0xAFF4 then where_holds (is_device slot subslot) (im4_record settings.im4)
     else if index == 0xF840 then Some (filter_record real)
     else None

@@ -8,13 +8,14 @@ use Rattle.pn_values.specs.declared.command.Command.TheVariants.{SetIm}
 use Rattle.wire.specs.Codec.{◌>>=◌}
 use Rattle.im_records.specs.declared.fault.RecordFault.{RecordFault}
 use Rattle.im_records.specs.declared.fault.RecordFault.TheVariants.{Index, Length, Block}
-use Rattle.im_records.specs.Records.{im1_record, im2_record, im3_record}
+use Rattle.im_records.specs.Records.{im1_record, im2_record, im3_record, im4_record}
 
 -- these octets are the whole record of this index, and hold this value
 abbrev pub IsWritten : ℕ → List ℕ → ImValue → Type 0
 IsWritten index bytes (im.Im1 text) = (index ≡ 0xAFF1) × (length text ≡ 54) × (bytes ≡ im1_record text)
 IsWritten index bytes (im.Im2 text) = (index ≡ 0xAFF2) × (length text ≡ 16) × (bytes ≡ im2_record text)
 IsWritten index bytes (im.Im3 text) = (index ≡ 0xAFF3) × (length text ≡ 54) × (bytes ≡ im3_record text)
+IsWritten index bytes (im.Im4 text) = (index ≡ 0xAFF4) × (length text ≡ 54) × (bytes ≡ im4_record text)
 
 -- what stands in front of a text of so many octets: BlockType, BlockLength, version 1.0
 abbrev pub header_of : ℕ → ℕ → List ℕ
@@ -31,4 +32,5 @@ command_of index bytes =
     if index == 0xAFF1 then (text_of 54 (header_of 0x21 54) bytes >>= λ text. Ok (SetIm (im.Im1 text)))
     else if index == 0xAFF2 then (text_of 16 (header_of 0x22 16) bytes >>= λ text. Ok (SetIm (im.Im2 text)))
     else if index == 0xAFF3 then (text_of 54 (header_of 0x23 54) bytes >>= λ text. Ok (SetIm (im.Im3 text)))
+    else if index == 0xAFF4 then (text_of 54 (header_of 0x24 54) bytes >>= λ text. Ok (SetIm (im.Im4 text)))
     else Err Index

@@ -2,16 +2,16 @@
 ghost use Rattle.std.specs.Prelude.{◌≡◌, ◌≤◌};
 ghost use Rattle.std.specs.Option.{option_map};
 ghost use Rattle.block_codec.specs.Block.{block_bytes, block_size};
-ghost use Rattle.im_records.specs.Records.{has_subslot, im0_record, im1_record, im2_record, im3_record, is_device, is_real, record_of};
+ghost use Rattle.im_records.specs.Records.{has_subslot, im0_record, im1_record, im2_record, im3_record, im4_record, is_device, is_real, record_of};
 
 use crate::plugged::filter_of;
 use arrayvec::ArrayVec;
-use block_codec::{Block, Im0, Im1, Im2, Im3, write_block};
+use block_codec::{Block, Im0, Im1, Im2, Im3, Im4, write_block};
 use pn_values::{Identity, Padded, Real, RealModule, Settings};
 use record_blocks::im0_len;
 
 /// The record of this index at this slot and subslot of a device, if there is one to be read: I&M0 (0xAFF0) at each
-/// submodule that is plugged in, I&M1 to I&M3 (0xAFF1 to 0xAFF3) at slot 0, subslot 1, and I&M0FilterData (0xF840) at any.
+/// submodule that is plugged in, I&M1 to I&M4 (0xAFF1 to 0xAFF4) at slot 0, subslot 1, and I&M0FilterData (0xF840) at any.
 pub fn read_record(
     index: u16,
     slot: u16,
@@ -27,6 +27,7 @@ pub fn read_record(
         0xAFF1 if is_device(slot, subslot) => Some(im1_of(&settings.im1)),
         0xAFF2 if is_device(slot, subslot) => Some(im2_of(&settings.im2)),
         0xAFF3 if is_device(slot, subslot) => Some(im3_of(&settings.im3)),
+        0xAFF4 if is_device(slot, subslot) => Some(im4_of(&settings.im4)),
         0xF840 => Some(filter_of(real)),
         _ => None,
     }
@@ -114,6 +115,18 @@ fn im3_of(text: &Padded<54>) -> ArrayVec<u8, 1024>
     };
     im3.im_descriptor.copy_from_slice(text.as_bytes());
     block_record(&Block::Im3(im3))
+}
+
+/// I&M4 with this text.
+#[tactic(auto, unfolding(block_codec::specs::Block::block_size, block_codec::specs::Block::fields_of, block_fields::specs::Fields::body, block_fields::specs::Fields::version, record_blocks::specs::Im4::im4))]
+fn im4_of(text: &Padded<54>) -> ArrayVec<u8, 1024>
+    ensures { result.items ≡ im4_record text.now }
+{
+    let mut im4 = Im4 {
+        im_signature: [0; 54],
+    };
+    im4.im_signature.copy_from_slice(text.as_bytes());
+    block_record(&Block::Im4(im4))
 }
 
 /// A record that is this block.

@@ -30,6 +30,7 @@ fn command_at(index: u16, bytes: &[u8]) -> Result<Command, RecordFault>
         0xAFF1 => ImValue::Im1(text_at(bytes, [0, 0x21, 0, 56, 1, 0])?),
         0xAFF2 => ImValue::Im2(text_at(bytes, [0, 0x22, 0, 18, 1, 0])?),
         0xAFF3 => ImValue::Im3(text_at(bytes, [0, 0x23, 0, 56, 1, 0])?),
+        0xAFF4 => ImValue::Im4(text_at(bytes, [0, 0x24, 0, 56, 1, 0])?),
         _ => return Err(RecordFault::Index),
     };
     Ok(Command::SetIm(value))

@@ -3,7 +3,7 @@ use Rattle.std.specs.Prelude.{[], ◌∷◌, List, replicate, true, false}
 use Rattle.pn_values.specs.IpSuite.{zero_suite}
 use Rattle.pn_values.specs.declared.settings.Settings.{Settings}
 use Rattle.pn_values.specs.declared.im_value.ImValue.{ImValue}
-use Rattle.pn_values.specs.declared.im_value.ImValue.TheVariants.{Im1, Im2, Im3}
+use Rattle.pn_values.specs.declared.im_value.ImValue.TheVariants.{Im1, Im2, Im3, Im4}
 use Rattle.pn_values.specs.declared.command.Command.{Command}
 use Rattle.pn_values.specs.declared.command.Command.TheVariants.{SetName, SetIp, SetIm, ResetApplication, ResetCommunication, ResetAll}
 
@@ -12,10 +12,12 @@ abbrev pub written : ImValue → Settings → Settings
 written (Im1 text) settings = record settings { im1 = text }
 written (Im2 text) settings = record settings { im2 = text }
 written (Im3 text) settings = record settings { im3 = text }
+written (Im4 text) settings = record settings { im4 = text }
 
--- the settings with blank I&M texts
+-- the settings with blank I&M texts, and an I&M4 of zeros
 abbrev pub without_texts : Settings → Settings
-without_texts settings = record settings { im1 = replicate 54 32; im2 = replicate 16 32; im3 = replicate 54 32 }
+without_texts settings =
+    record settings { im1 = replicate 54 32; im2 = replicate 16 32; im3 = replicate 54 32; im4 = replicate 54 0 }
 
 -- the settings with no name and no address
 abbrev pub without_address : Settings → Settings

@@ -14,7 +14,7 @@ pub enum Command {
     SetIp { permanent: bool, suite: IpSuite },
     /// An I&M text.
     SetIm(ImValue),
-    /// ResetToFactory mode 1: the I&M texts become blank.
+    /// ResetToFactory mode 1: the I&M texts become blank, and I&M4 zeros.
     ResetApplication,
     /// ResetToFactory mode 2: no name and no address.
     ResetCommunication,
@@ -66,6 +66,10 @@ impl Command {
                 im3: *text,
                 ..settings
             },
+            Command::SetIm(ImValue::Im4(text)) => Settings {
+                im4: *text,
+                ..settings
+            },
             Command::ResetApplication => without_texts(settings),
             Command::ResetCommunication => without_address(settings),
             Command::ResetAll => without_texts(without_address(settings)),
@@ -80,6 +84,7 @@ fn without_texts(settings: Settings) -> Settings
         im1: Padded::blank(),
         im2: Padded::blank(),
         im3: Padded::blank(),
+        im4: Padded::zero(),
         ..settings
     }
 }

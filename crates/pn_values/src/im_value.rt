@@ -34,6 +34,13 @@ impl<const N: usize> Padded<N> {
         Padded { bytes: [b' '; N] }
     }
 
+    /// Zeros alone: an I&M4 before anything is written.
+    pub fn zero() -> Padded<N>
+        ensures { result ≡ replicate N 0 }
+    {
+        Padded { bytes: [0; N] }
+    }
+
     /// Its `N` bytes.
     pub fn as_bytes(&self) -> &[u8]
         ensures value { result.now ≡ self.now }
@@ -52,4 +59,6 @@ pub enum ImValue {
     Im2(Padded<16>),
     /// I&M3: the descriptor.
     Im3(Padded<54>),
+    /// I&M4: the signature.
+    Im4(Padded<54>),
 }

@@ -12,10 +12,11 @@ pub struct Settings {
     pub im1: Padded<54>,
     pub im2: Padded<16>,
     pub im3: Padded<54>,
+    pub im4: Padded<54>,
 }
 
 impl Settings {
-    /// As it leaves the factory: no name, no address, texts of spaces.
+    /// As it leaves the factory: no name, no address, texts of spaces, and an I&M4 of zeros.
     pub fn factory() -> Settings
         ensures { result ≡ factory_settings }
     {
@@ -25,6 +26,7 @@ impl Settings {
             im1: Padded::blank(),
             im2: Padded::blank(),
             im3: Padded::blank(),
+            im4: Padded::zero(),
         }
     }
 
@@ -38,6 +40,7 @@ impl Settings {
             im1: self.im1,
             im2: self.im2,
             im3: self.im3,
+            im4: self.im4,
         }
     }
 }

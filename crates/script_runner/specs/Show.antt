@@ -36,4 +36,5 @@ shown running stored lamp =
     ++ text_line (codes "im1 ") running.im1
     ++ text_line (codes "im2 ") running.im2
     ++ text_line (codes "im3 ") running.im3
+    ++ text_line (codes "im4 ") running.im4
     ++ lamp_line lamp

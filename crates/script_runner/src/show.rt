@@ -23,6 +23,7 @@ pub(crate) fn all(
     im_text(b"im1 ", running.im1.as_bytes(), text)?;
     im_text(b"im2 ", running.im2.as_bytes(), text)?;
     im_text(b"im3 ", running.im3.as_bytes(), text)?;
+    im_text(b"im4 ", running.im4.as_bytes(), text)?;
     lamp_units(lamp, text)
 }
 

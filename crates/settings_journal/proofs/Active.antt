@@ -1,14 +1,15 @@
 -- An image has one start: which sector is active, and what it gives.
-use Rattle.std.proofs.Common.{◌≡◌, ◌≢◌, ◌⊎◌, ◌-◌, ◌<◌, ℕ, refl, sym, ap, ◌∙◌, inl, inr, arith, Option, Some, None, lit<}
+use Rattle.std.proofs.Common.{◌≡◌, ◌≢◌, ◌⊎◌, ◌+◌, ◌*◌, ◌-◌, ◌<◌, ◌≤◌, ℕ, List, refl, sym, ap, subst, ◌∙◌, inl, inr, arith, Option, Some, None, lit<}
 use Rattle.pn_values.specs.Settings.{factory_settings}
 use Rattle.pn_values.specs.declared.settings.Settings.{Settings}
-use Rattle.std.proofs.lemmas.List.{get_or-take, get_or-replicate}
-use Rattle.flash_model.specs.Image.{Image, erased, IsSectorSize}
+use Rattle.std.proofs.lemmas.List.{get_or-take, get_or-replicate, length-replicate}
+use Rattle.flash_model.specs.Image.{Image, erased, slots_in, sector_of, IsImage, IsSectorSize}
 use Rattle.flash_model.specs.declared.flash.Sector.{Sector}
 use Rattle.flash_model.specs.declared.flash.Sector.TheVariants.{First, Second}
-use Rattle.settings_journal.specs.Head.{head_of, gate_of, generation_at, Counts, Spells}
-use Rattle.settings_journal.specs.Image.{head_in, IsActive, IsClosed, StartsFrom, StartsWith, IsForeign, LeftByDevice, capacity}
+use Rattle.settings_journal.specs.Head.{head_of, gate_of, version_at, generation_at, Counts, Spells}
+use Rattle.settings_journal.specs.Image.{head_in, slots_of, left_in, room_of, IsActive, IsClosed, Reads, StartsAt, StartsWith, IsForeign, LeftByDevice, capacity}
 use Rattle.settings_journal.proofs.Parts.{Spells-same}
+use Rattle.settings_journal.proofs.Slots.{After-same}
 
 -- one sector is active
 pub active_same : (image : Image) (s t : Sector) → IsActive image s → IsActive image t → s ≡ t
@@ -22,22 +23,38 @@ pub closed_none : (image : Image) (s : Sector) → IsClosed image → ¬ Counts 
 closed_none image First closed counts = closed.first counts.gate
 closed_none image Second closed counts = closed.second counts.gate
 
-spelled_same : (image : Image) (s t : Sector) (x y : Settings) → s ≡ t → Spells (head_in image s) x → Spells (head_in image t) y → x ≡ y
-spelled_same image s t x y e p q = let r = rw e at p in Spells-same (head_in image t) x y r q
+-- a sector is read as one settings
+pub Reads-same : (sector : List ℕ) (x y : Settings) → Reads sector x → Reads sector y → x ≡ y
+Reads-same sector x y p q =
+    let base = Spells-same (head_of sector) p.base q.base p.spells q.spells in
+    After-same (version_at (head_of sector)) sector (slots_of sector) p.base q.base x y base p.after q.after
+
+reads_same : (image : Image) (s t : Sector) (x y : Settings) → s ≡ t → Reads (sector_of image s) x → Reads (sector_of image t) y → x ≡ y
+reads_same image s t x y e p q = Reads-same (sector_of image t) x y (subst (λ u. Reads (sector_of image u) x) e p) q
 
 -- an image has one start
-pub start_same : (image : Image) (a b : Option Sector) (x y : Settings) (m n : ℕ) → StartsFrom image a x m → StartsFrom image b y n → (a ≡ b) × (x ≡ y) × (m ≡ n)
-start_same image None None x y m n p q = (refl, p.1 ∙ sym q.1, p.2 ∙ sym q.2)
-start_same image None (Some t) x y m n p q = absurd (closed_none image t p.0 q.0.counts)
-start_same image (Some s) None x y m n p q = absurd (closed_none image s q.0 p.0.counts)
-start_same image (Some s) (Some t) x y m n p q =
+pub start_same : (image : Image) (a b : Option Sector) (x y : Settings) (g h m n : ℕ) → StartsAt image a x g m → StartsAt image b y h n → (x ≡ y) × (g ≡ h) × (m ≡ n)
+start_same image None None x y g h m n p q = (p.1 ∙ sym q.1, p.2 ∙ sym q.2, p.3 ∙ sym q.3)
+start_same image None (Some t) x y g h m n p q = absurd (closed_none image t p.0 q.0.counts)
+start_same image (Some s) None x y g h m n p q = absurd (closed_none image s q.0 p.0.counts)
+start_same image (Some s) (Some t) x y g h m n p q =
     let e = active_same image s t p.0 q.0 in
-    (ap Some e, spelled_same image s t x y e p.1 q.1, p.2 ∙ ap (λ u. 65535 - generation_at (head_in image u)) e ∙ sym q.2)
+    (reads_same image s t x y e p.1 q.1, p.2 ∙ ap (λ u. generation_at (head_in image u)) e ∙ sym q.2, p.3 ∙ ap (λ u. left_in (sector_of image u)) e ∙ sym q.3)
+
+-- what can be read is what the start gives
+pub known : (image : Image) (a : Option Sector) (x y : Settings) (g m room slots : ℕ) → slots ≡ slots_of image.first → StartsAt image a x g m → StartsWith image y room → (x ≡ y) × (room_of slots g m ≡ room)
+known image a x y g m room slots few p q =
+    let same = start_same image a q.0 x y g q.1 m q.2 p q.3 in
+    (same.0, ap (λ s. room_of s g m) few ∙ ap (λ k. room_of (slots_of image.first) k m) same.1 ∙ ap (λ k. room_of (slots_of image.first) q.1 k) same.2 ∙ sym q.4)
+
+-- a start, with the room in sectors of this size
+pub starts_with : (image : Image) (a : Option Sector) (x : Settings) (g m size : ℕ) → IsImage size image → StartsAt image a x g m → StartsWith image x (room_of (slots_in size) g m)
+starts_with image a x g m size sized p = (a, g, m, p, ap (λ n. room_of (slots_in n) g m) (sym sized.first_size))
 
 -- what a journal left has a start
-pub left_starts : (image : Image) → LeftByDevice image → (x : Settings) × (n : ℕ) × StartsWith image x n
-left_starts image (None, left) = (factory_settings, 65535, (None, (left, refl, refl)))
-left_starts image (Some s, left) = (left.settings.0, 65535 - generation_at (head_in image s), (Some s, (left.active, left.settings.1, refl)))
+pub left_starts : (image : Image) → LeftByDevice image → (a : Option Sector) × (x : Settings) × (g : ℕ) × (m : ℕ) × StartsAt image a x g m
+left_starts image (None, left) = (None, factory_settings, 0, 0, (left, refl, refl, refl))
+left_starts image (Some s, left) = (Some s, left.settings.0, generation_at (head_in image s), left_in (sector_of image s), (left.active, left.settings.1, refl, refl))
 
 active_first : (image : Image) (s : Sector) → IsActive image s → Counts (head_in image First) → Counts (head_in image Second) → generation_at (head_in image First) ≢ generation_at (head_in image Second)
 active_first image First a p q e = omega (arith, a.newest q)
@@ -51,17 +68,17 @@ open_closed : (image : Image) → IsClosed image → (gate_of (head_in image Fir
 open_closed image closed (inl e) = closed.first e
 open_closed image closed (inr e) = closed.second e
 
-foreign_spells : (image : Image) (s t : Sector) (x : Settings) → s ≡ t → Spells (head_in image s) x → ((y : Settings) → ¬ Spells (head_in image t) y) → ⊥
-foreign_spells image s t x e p none = none x (rw e at p)
+foreign_reads : (image : Image) (s t : Sector) (x : Settings) → s ≡ t → Reads (sector_of image s) x → ((y : Settings) → ¬ Reads (sector_of image t) y) → ⊥
+foreign_reads image s t x e p none = none x (subst (λ u. Reads (sector_of image u) x) e p)
 
 -- what is foreign has no start
-pub foreign_none : (image : Image) (a : Option Sector) (x : Settings) (n : ℕ) → IsForeign image → StartsFrom image a x n → ⊥
-foreign_none image None x n (inl tie) p = closed_none image First p.0 tie.0
-foreign_none image (Some s) x n (inl tie) p = active_first image s p.0 tie.0 tie.1 tie.2
-foreign_none image None x n (inr (inl none)) p = open_closed image p.0 none.2
-foreign_none image (Some s) x n (inr (inl none)) p = active_counts image s p.0 none.0 none.1
-foreign_none image None x n (inr (inr strange)) p = closed_none image strange.0 p.0 strange.1.counts
-foreign_none image (Some s) x n (inr (inr strange)) p = foreign_spells image s strange.0 x (active_same image s strange.0 p.0 strange.1) p.1 strange.2
+pub foreign_none : (image : Image) (a : Option Sector) (x : Settings) (g n : ℕ) → IsForeign image → StartsAt image a x g n → ⊥
+foreign_none image None x g n (inl tie) p = closed_none image First p.0 tie.0
+foreign_none image (Some s) x g n (inl tie) p = active_first image s p.0 tie.0 tie.1 tie.2
+foreign_none image None x g n (inr (inl none)) p = open_closed image p.0 none.2
+foreign_none image (Some s) x g n (inr (inl none)) p = active_counts image s p.0 none.0 none.1
+foreign_none image None x g n (inr (inr strange)) p = closed_none image strange.0 p.0 strange.1.counts
+foreign_none image (Some s) x g n (inr (inr strange)) p = foreign_reads image s strange.0 x (active_same image s strange.0 p.0 strange.1) p.1 strange.2
 
 zero≢255 : ◌≡◌ {A = ℕ} 0 255 → ⊥
 zero≢255 e = cc
@@ -77,4 +94,9 @@ pub blank_starts : (size : ℕ) (image : Image) → IsSectorSize size → image 
 unfolding capacity
 blank_starts size image wide e =
     let closed : IsClosed image = rw e (record { first = erased_gate size wide; second = erased_gate size wide }) in
-    ((None, closed), (None, (closed, refl, refl)))
+    let long : slots_in size ≡ slots_of image.first = sym (ap (λ i. slots_of i.first) e ∙ ap slots_in (length-replicate size 255)) in
+    ((None, closed), (None, 0, 0, (closed, refl, refl, refl), ap (λ s. room_of s 0 0) long))
+
+-- each generation takes a commit, and so does each slot
+pub ample : (slots : ℕ) → 65535 ≤ room_of slots 0 0
+ample slots = omega arith

@@ -1,7 +1,10 @@
 pub mod Active
 pub mod Asking
-pub mod Committing
+pub mod Commands
 pub mod Parts
+pub mod Reading
 pub mod Rising
+pub mod Slots
 pub mod Starting
+pub mod Storing
 pub mod Writes

@@ -10,8 +10,14 @@ use Rattle.std.proofs.lemmas.Slice.{between_is}
 use Rattle.std.proofs.lemmas.Nat.{be_bytes_2, from_be_bytes-to_be_bytes_2}
 use Rattle.pn_values.specs.declared.settings.Settings.{Settings}
 use Rattle.flash_model.specs.Image.{AreBytes}
-use Rattle.settings_journal.specs.Head.{magic, generation_at, base_of, name_field, HasName, IsSettings, Spells}
+use Rattle.settings_journal.specs.declared.head.Version.{Version}
+use Rattle.settings_journal.specs.declared.head.Version.TheVariants.{One, Two}
+use Rattle.settings_journal.specs.Head.{magic_of, version_at, generation_at, front_of, base_of, im4_at, name_field, HasName, IsSettings, Spells}
 use Rattle.settings_journal.proofs.Rising.{stored_bytes}
+
+-- a range of so many places
+pub range_at : (xs : List ℕ) (from upto size : ℕ) → upto - from ≡ size → slice_range xs from upto ≡ take size (drop from xs)
+range_at xs from upto size e = ap (λ n. take n (drop from xs)) e
 
 -- a front is a shorter front and what stands behind that
 front_more : (xs : List ℕ) (i j : ℕ) → i ≤ j → take j xs ≡ take i xs ++ slice_range xs i j
@@ -50,15 +56,15 @@ length-name_field name h = simp (length-append, length-replicate) (omega arith)
 same_zeros : (a b : List ℕ) → length a ≡ length b → length {A = ℕ} (replicate (240 - length a) 0) ≡ length {A = ℕ} (replicate (240 - length b) 0)
 same_zeros a b e = length-replicate (240 - length a) 0 ∙ ap (λ n. 240 - n) e ∙ sym (length-replicate (240 - length b) 0)
 
-made : {A B C D : Type 0} (f : A → B → C → C → C → D) (a x : A) (b y : B) (c d e u v w : C) → a ≡ x → b ≡ y → c ≡ u → d ≡ v → e ≡ w → f a b c d e ≡ f x y u v w
-made f a x b y c d e u v w h i j k l = cc
+made : {A B C D : Type 0} (f : A → B → C → C → C → C → D) (a x : A) (b y : B) (c d e g u v w z : C) → a ≡ x → b ≡ y → c ≡ u → d ≡ v → e ≡ w → g ≡ z → f a b c d e g ≡ f x y u v w z
+made f a x b y c d e g u v w z h i j k l m = cc
 
 made_three : {C D : Type 0} (f : C → C → C → D) (a b c u v w : C) → a ≡ u → b ≡ v → c ≡ w → f a b c ≡ f u v w
 made_three f a b c u v w h i j = cc
 
--- the parts of a base, each at its place
-pub record Parts (head : List ℕ) (generation : ℕ) (settings : Settings) : Type 0 where
-  pub front : take 4 head ≡ magic
+-- the parts of the front of a base, each at its place
+pub record Parts (head : List ℕ) (version : Version) (generation : ℕ) (settings : Settings) : Type 0 where
+  pub front : take 4 head ≡ magic_of version
   pub stored : slice_range head 4 6 ≡ to_be_bytes w16 (65535 - generation)
   pub name : HasName head settings.name
   pub address : slice_range head 247 251 ≡ settings.suite.address
@@ -76,9 +82,9 @@ whole : (head : List ℕ) → take 383 head
     ++ slice_range head 251 255 ++ slice_range head 255 259 ++ slice_range head 259 313 ++ slice_range head 313 329 ++ slice_range head 329 383
 whole head = cc (front_more head 4 6 (omega arith), front_more head 6 7 (omega arith), front_more head 7 247 (omega arith), front_more head 247 251 (omega arith), front_more head 251 255 (omega arith), front_more head 255 259 (omega arith), front_more head 259 313 (omega arith), front_more head 313 329 (omega arith), front_more head 329 383 (omega arith))
 
-pub base_from_parts : (head : List ℕ) (generation : ℕ) (settings : Settings) → 383 ≤ length head → Parts head generation settings → take 383 head ≡ base_of generation settings
-unfolding base_of
-base_from_parts head generation settings l p =
+pub front_from_parts : (head : List ℕ) (version : Version) (generation : ℕ) (settings : Settings) → 383 ≤ length head → Parts head version generation settings → take 383 head ≡ front_of version generation settings
+unfolding front_of
+front_from_parts head version generation settings l p =
     let w = whole head in
     let six = byte_at_six head l in
     cc (w, six, p.front, p.stored, p.name.length, p.name.field, p.address, p.mask, p.gateway, p.im1, p.im2, p.im3)
@@ -87,22 +93,26 @@ length_joined : (a b c d e f g h i j : List ℕ) → length (a ++ b ++ c ++ d ++
     ≡ length a + length b + length c + length d + length e + length f + length g + length h + length i + length j
 length_joined a b c d e f g h i j = simp length-append
 
-pub length-base_of : (generation : ℕ) (settings : Settings) → IsSettings settings → length (base_of generation settings) ≡ 383
-unfolding base_of
-length-base_of generation settings valid =
+pub length-front_of : (version : Version) (generation : ℕ) (settings : Settings) → IsSettings settings → length (front_of version generation settings) ≡ 383
+unfolding front_of
+length-front_of version generation settings valid =
     let name = length-name_field settings.name (name_short settings.name valid.name) in
     let suite = settings.suite in
-    length_joined magic (to_be_bytes w16 (65535 - generation)) (length settings.name ∷ []) (name_field settings.name) suite.address suite.mask suite.gateway settings.im1 settings.im2 settings.im3
+    length_joined (magic_of version) (to_be_bytes w16 (65535 - generation)) (length settings.name ∷ []) (name_field settings.name) suite.address suite.mask suite.gateway settings.im1 settings.im2 settings.im3
     ∙ omega (arith, name, valid.address, valid.mask, valid.gateway, valid.im1, valid.im2, valid.im3)
 
 base_long : (head : List ℕ) → length (take 383 head) ≡ 383 → 383 ≤ length head
 base_long head e = omega (arith, length-take 383 head)
 
--- the parts of what is a base
-pub parts_from_base : (head : List ℕ) (generation : ℕ) (settings : Settings) → IsSettings settings → take 383 head ≡ base_of generation settings → Parts head generation settings
-unfolding base_of
-parts_from_base head generation settings valid base =
-    let l : 383 ≤ length head = base_long head (omega (arith, ap length base, length-base_of generation settings valid)) in
+pub length-base_of : (generation : ℕ) (settings : Settings) → IsSettings settings → length (base_of generation settings) ≡ 437
+length-base_of generation settings valid =
+    omega (arith, length-append (front_of Two generation settings) settings.im4, length-front_of Two generation settings valid, valid.im4)
+
+-- the parts of what is the front of a base
+pub parts_from_front : (head : List ℕ) (version : Version) (generation : ℕ) (settings : Settings) → IsSettings settings → take 383 head ≡ front_of version generation settings → Parts head version generation settings
+unfolding front_of
+parts_from_front head version generation settings valid base =
+    let l : 383 ≤ length head = base_long head (omega (arith, ap length base, length-front_of version generation settings valid)) in
     let e10 = sym (whole head) ∙ base in
     let p10 = split_back _ _ _ _ e10 (length_range head 329 383 l (lit≤ tt) ∙ sym valid.im3) in
     let p9 = split_back _ _ _ _ p10.0 (length_range head 313 329 l (lit≤ tt) ∙ sym valid.im2) in
@@ -128,10 +138,10 @@ parts_from_base head generation settings valid base =
     }
 
 -- settings that agree in each part are the same
-pub settings_same : (s t : Settings) → s.name ≡ t.name → s.suite ≡ t.suite → s.im1 ≡ t.im1 → s.im2 ≡ t.im2 → s.im3 ≡ t.im3 → s ≡ t
-settings_same s t e f g h i =
-    let build : List ℕ → Suite → List ℕ → List ℕ → List ℕ → Settings = λ name suite im1 im2 im3. record { name = name; suite = suite; im1 = im1; im2 = im2; im3 = im3 } in
-    made build _ _ _ _ _ _ _ _ _ _ e f g h i
+pub settings_same : (s t : Settings) → s.name ≡ t.name → s.suite ≡ t.suite → s.im1 ≡ t.im1 → s.im2 ≡ t.im2 → s.im3 ≡ t.im3 → s.im4 ≡ t.im4 → s ≡ t
+settings_same s t e f g h i j =
+    let build : List ℕ → Suite → List ℕ → List ℕ → List ℕ → List ℕ → Settings = λ name suite im1 im2 im3 im4. record { name = name; suite = suite; im1 = im1; im2 = im2; im3 = im3; im4 = im4 } in
+    made build _ _ _ _ _ _ _ _ _ _ _ _ e f g h i j
 
 pub suite_same : (s t : Suite) → s.address ≡ t.address → s.mask ≡ t.mask → s.gateway ≡ t.gateway → s ≡ t
 suite_same s t e f g =
@@ -145,11 +155,11 @@ name_same head name other p q = (split_back _ _ _ _ (sym p.field ∙ q.field) (s
 -- one head spells one settings
 pub Spells-same : (head : List ℕ) (s t : Settings) → Spells head s → Spells head t → s ≡ t
 Spells-same head s t p q =
-    let a = parts_from_base head _ s p.valid p.base in
-    let b = parts_from_base head _ t q.valid q.base in
+    let a = parts_from_front head _ _ s p.valid p.front in
+    let b = parts_from_front head _ _ t q.valid q.front in
     settings_same s t (name_same head _ _ a.name b.name)
     (suite_same _ _ (sym a.address ∙ b.address) (sym a.mask ∙ b.mask) (sym a.gateway ∙ b.gateway))
-    (sym a.im1 ∙ b.im1) (sym a.im2 ∙ b.im2) (sym a.im3 ∙ b.im3)
+    (sym a.im1 ∙ b.im1) (sym a.im2 ∙ b.im2) (sym a.im3 ∙ b.im3) (p.im4 ∙ sym q.im4)
 
 -- two bytes that are read as a number are those of that number
 pub stored_is : (head : List ℕ) → 383 ≤ length head → AreBytes head → slice_range head 4 6 ≡ to_be_bytes w16 (65535 - generation_at head)
@@ -160,14 +170,15 @@ stored_is head l bytes =
     sym (be_bytes_2 (slice_range head 4 6) (65535 - generation_at head) (length_range head 4 6 l (lit≤ tt)) (λ k. range_byte head 4 6 k bytes) (omega arith))
 
 -- a base gives its generation back
-pub generation_at_base : (head : List ℕ) (generation : ℕ) (settings : Settings) → generation ≤ 65535 → Parts head generation settings → generation_at head ≡ generation
-generation_at_base head generation settings le p =
+pub generation_at_base : (head : List ℕ) (version : Version) (generation : ℕ) (settings : Settings) → generation ≤ 65535 → Parts head version generation settings → generation_at head ≡ generation
+generation_at_base head version generation settings le p =
     let e = ap (from_be_bytes w16) p.stored ∙ from_be_bytes-to_be_bytes_2 (65535 - generation) (omega arith) in
     ap (λ n. 65535 - n) e ∙ omega arith
 
 -- what has the parts of valid settings spells them
-pub spelled_by_parts : (head : List ℕ) (settings : Settings) → 383 ≤ length head → IsNameOrNone settings.name → IsSuite settings.suite → Parts head (generation_at head) settings → Spells head settings
-spelled_by_parts head settings l name suite p = record {
+pub spelled_by_parts : (head : List ℕ) (settings : Settings) → 383 ≤ length head → IsNameOrNone settings.name → IsSuite settings.suite → Parts head (version_at head) (generation_at head) settings
+    → length settings.im4 ≡ 54 → settings.im4 ≡ im4_at (version_at head) head → Spells head settings
+spelled_by_parts head settings l name suite p long im4 = record {
   valid = record {
     name = name;
     suite = suite;
@@ -177,20 +188,27 @@ spelled_by_parts head settings l name suite p = record {
     im1 = ap length (sym p.im1) ∙ length_range head 259 313 l (lit≤ tt);
     im2 = ap length (sym p.im2) ∙ length_range head 313 329 l (lit≤ tt);
     im3 = ap length (sym p.im3) ∙ length_range head 329 383 l (lit≤ tt);
+    im4 = long;
   };
-  base = base_from_parts head _ settings l p;
+  front = front_from_parts head _ _ settings l p;
+  im4 = im4;
 }
 
+length-im4_at : (version : Version) (head : List ℕ) → 437 ≤ length head → length (im4_at version head) ≡ 54
+length-im4_at One head l = length-replicate {A = ℕ} 54 0
+length-im4_at Two head l = simp (length-take, length-drop) (omega arith)
+
 -- what a reader of the parts makes of them is spelled
-pub decoded : (head name im1 im2 im3 a m g : List ℕ) (suite : Suite) → 383 ≤ length head → AreBytes head → take 4 head ≡ magic
+pub decoded : (head name im1 im2 im3 im4 a m g : List ℕ) (suite : Suite) → 437 ≤ length head → AreBytes head → take 4 head ≡ magic_of (version_at head)
     → IsNameOrNone name × HasName head name → a ≡ slice_range head 247 251 → m ≡ slice_range head 251 255 → g ≡ slice_range head 255 259
     → IsSuite (record { address = a; mask = m; gateway = g }) → suite ≡ record { address = a; mask = m; gateway = g }
-    → im1 ≡ slice_range head 259 313 → im2 ≡ slice_range head 313 329 → im3 ≡ slice_range head 329 383
-    → Spells head (record { name = name; suite = suite; im1 = im1; im2 = im2; im3 = im3 })
-decoded head name im1 im2 im3 a m g suite l bytes front named ea em eg valid es e1 e2 e3 =
-    spelled_by_parts head _ l named.0 (subst IsSuite (sym es) valid) (record {
+    → im1 ≡ slice_range head 259 313 → im2 ≡ slice_range head 313 329 → im3 ≡ slice_range head 329 383 → im4 ≡ im4_at (version_at head) head
+    → Spells head (record { name = name; suite = suite; im1 = im1; im2 = im2; im3 = im3; im4 = im4 })
+decoded head name im1 im2 im3 im4 a m g suite l bytes front named ea em eg valid es e1 e2 e3 e4 =
+    let short : 383 ≤ length head = omega arith in
+    spelled_by_parts head _ short named.0 (subst IsSuite (sym es) valid) (record {
       front = front;
-      stored = stored_is head l bytes;
+      stored = stored_is head short bytes;
       name = named.1;
       address = sym ea ∙ sym (ap (λ s. s.address) es);
       mask = sym em ∙ sym (ap (λ s. s.mask) es);
@@ -198,30 +216,30 @@ decoded head name im1 im2 im3 a m g suite l bytes front named ea em eg valid es 
       im1 = sym e1;
       im2 = sym e2;
       im3 = sym e3;
-    })
+    }) (ap length e4 ∙ length-im4_at (version_at head) head l) e4
 
 -- what is spelled is what a reader of the parts makes of them
-pub decoded_only : (head name im1 im2 im3 a m g : List ℕ) (suite : Suite) (settings : Settings) → Spells head settings
+pub decoded_only : (head name im1 im2 im3 im4 a m g : List ℕ) (suite : Suite) (settings : Settings) → Spells head settings
     → (HasName head settings.name → name ≡ settings.name) → a ≡ slice_range head 247 251 → m ≡ slice_range head 251 255 → g ≡ slice_range head 255 259
-    → suite ≡ record { address = a; mask = m; gateway = g } → im1 ≡ slice_range head 259 313 → im2 ≡ slice_range head 313 329 → im3 ≡ slice_range head 329 383
-    → record { name = name; suite = suite; im1 = im1; im2 = im2; im3 = im3 } ≡ settings
-decoded_only head name im1 im2 im3 a m g suite settings s named ea em eg es e1 e2 e3 =
-    let p = parts_from_base head _ settings s.valid s.base in
+    → suite ≡ record { address = a; mask = m; gateway = g } → im1 ≡ slice_range head 259 313 → im2 ≡ slice_range head 313 329 → im3 ≡ slice_range head 329 383 → im4 ≡ im4_at (version_at head) head
+    → record { name = name; suite = suite; im1 = im1; im2 = im2; im3 = im3; im4 = im4 } ≡ settings
+decoded_only head name im1 im2 im3 im4 a m g suite settings s named ea em eg es e1 e2 e3 e4 =
+    let p = parts_from_front head _ _ settings s.valid s.front in
     settings_same _ settings (named p.name)
     (suite_same _ _ (ap (λ s. s.address) es ∙ ea ∙ p.address) (ap (λ s. s.mask) es ∙ em ∙ p.mask) (ap (λ s. s.gateway) es ∙ eg ∙ p.gateway))
-    (e1 ∙ p.im1) (e2 ∙ p.im2) (e3 ∙ p.im3)
+    (e1 ∙ p.im1) (e2 ∙ p.im2) (e3 ∙ p.im3) (e4 ∙ sym s.im4)
 
 -- the suite that is spelled is the one at its places
 pub spelled_suite : (head a m g : List ℕ) (settings : Settings) → Spells head settings
     → a ≡ slice_range head 247 251 → m ≡ slice_range head 251 255 → g ≡ slice_range head 255 259
     → IsSuite (record { address = a; mask = m; gateway = g })
 spelled_suite head a m g settings s ea em eg =
-    let p = parts_from_base head _ settings s.valid s.base in
+    let p = parts_from_front head _ _ settings s.valid s.front in
     subst IsSuite (sym (suite_same _ settings.suite (ea ∙ p.address) (em ∙ p.mask) (eg ∙ p.gateway))) s.valid.suite
 
 -- the name that is spelled is the one at its place
 pub spelled_name : (head : List ℕ) (settings : Settings) → Spells head settings → HasName head settings.name
-spelled_name head settings s = (parts_from_base head _ settings s.valid s.base).name
+spelled_name head settings s = (parts_from_front head _ _ settings s.valid s.front).name
 
 -- what is left of zeros behind a name
 pub zeros_behind : (size n : ℕ) → n ≤ size → take {A = ℕ} (size - n) (drop n (replicate size 0)) ≡ replicate (size - n) 0
@@ -230,3 +248,40 @@ zeros_behind size n h = let e = drop-replicate {X = ℕ} n size 0 in rw e (take_
 -- one more piece at the end of what was put so far
 pub put_more : {old new xs piece ys : List ℕ} → old ≡ xs → new ≡ old ++ piece → piece ≡ ys → new ≡ xs ++ ys
 put_more e f g = cc
+
+version_by : (head : List ℕ) (version : Version) → take 4 head ≡ magic_of version → version_at head ≡ version
+version_by head One e =
+    let f : get_or head 3 0 ≡ 1 = sym (get_or-take 4 head 3 0 (lit< tt)) ∙ ap (λ bytes. get_or bytes 3 0) e in
+    rw f refl
+version_by head Two e =
+    let f : get_or head 3 0 ≡ 2 = sym (get_or-take 4 head 3 0 (lit< tt)) ∙ ap (λ bytes. get_or bytes 3 0) e in
+    rw f refl
+
+-- a head that begins with a base as it is written: its version is 2, and it spells the settings
+pub record IsRead (head : List ℕ) (generation : ℕ) (settings : Settings) : Type 0 where
+  pub version : version_at head ≡ Two
+  pub magic : take 4 head ≡ magic_of (version_at head)
+  pub is : generation_at head ≡ generation
+  pub spells : Spells head settings
+
+pub read_base : (head : List ℕ) (generation : ℕ) (settings : Settings) → IsSettings settings → generation ≤ 65535 → take 437 head ≡ base_of generation settings → IsRead head generation settings
+read_base head generation settings valid few base =
+    let long = length-front_of Two generation settings valid in
+    let front : take 383 head ≡ front_of Two generation settings =
+    sym (take-take 383 437 head (lit≤ tt)) ∙ ap (take 383) base ∙ take_at (front_of Two generation settings) settings.im4 383 long in
+    let im4 : slice_range head 383 437 ≡ settings.im4 =
+    sym (drop_at (take 383 head) (slice_range head 383 437) 383 (ap length front ∙ long)) ∙ ap (drop 383) (sym (front_more head 383 437 (lit≤ tt)) ∙ base)
+    ∙ drop_at (front_of Two generation settings) settings.im4 383 long in
+    let parts = parts_from_front head Two generation settings valid front in
+    let version : version_at head ≡ Two = version_by head Two parts.front in
+    let is = generation_at_base head Two generation settings few parts in
+    record {
+      version = version;
+      magic = subst (λ v. take 4 head ≡ magic_of v) (sym version) parts.front;
+      is = is;
+      spells = record {
+        valid = valid;
+        front = subst (λ v. take 383 head ≡ front_of v (generation_at head) settings) (sym version) (subst (λ n. take 383 head ≡ front_of Two n settings) (sym is) front);
+        im4 = subst (λ v. settings.im4 ≡ im4_at v head) (sym version) (sym im4);
+      };
+    }

@@ -1,19 +1,20 @@
--- What the three calls of a write leave, each whether it ended or failed.
-use Rattle.std.proofs.Common.{◌≡◌, ◌≢◌, ◌⊎◌, ℕ, suc, ◌+◌, ◌-◌, ◌%◌, ◌<◌, ◌≤◌, List, [], ◌∷◌, length, take, drop, get_or, replicate, refl, sym, ap, ◌∙◌, inl, inr, arith, lit<, lit≤, min, zero}
+-- What the calls of a write leave, each whether it ended or failed.
+use Rattle.std.proofs.Common.{◌≡◌, ◌≢◌, ◌⊎◌, ℕ, suc, ◌+◌, ◌-◌, ◌*◌, ◌%◌, ◌<◌, ◌≤◌, List, [], ◌∷◌, ◌++◌, length, take, drop, get_or, replicate, refl, sym, ap, subst, ◌∙◌, inl, inr, arith, lit<, lit≤, min, zero}
 use Rattle.std.specs.Prelude.{bit_and, false, Result, Ok, Err, OnOk, OnErr}
 use Rattle.std.specs.Result.{is_err}
 use Rattle.std.specs.Int.{bit_at}
 use Rattle.std.proofs.lemmas.Bool.{cases_lt, cases_eq}
-use Rattle.std.proofs.lemmas.List.{take-take, take-append-le, length-take, get_or-take, get_or-drop, get_or_past, get_or-replicate, get_or-append_right}
+use Rattle.std.proofs.lemmas.List.{take-take, take-append-le, take-replicate, drop-replicate, drop-take, drop-drop, drop_at, length-take, get_or-take, get_or-drop, get_or_past, get_or-replicate, get_or-append_right}
 use Rattle.std.proofs.lemmas.Nat.{and_mask, and_comm}
 use Rattle.std.proofs.lemmas.Nat.Bits.{bit_at_ones, bit_at_ones_above, bit_at_above}
-use Rattle.flash_model.specs.Image.{Image, IsImage, IsSectorSize, AreBytes, sector_of, with_sector, other, anded, programmed, erased}
-use Rattle.flash_model.specs.Torn.{Torn}
+use Rattle.flash_model.specs.Image.{Image, IsImage, IsSectorSize, AreBytes, sector_of, with_sector, other, anded, programmed, erased, slots_in}
+use Rattle.flash_model.specs.Torn.{Torn, TornSector}
 use Rattle.flash_model.specs.declared.flash.Sector.{Sector}
 use Rattle.flash_model.specs.declared.flash.Sector.TheVariants.{First, Second}
 use Rattle.settings_journal.specs.Head.{head_of, gate_of, Rises}
-use Rattle.settings_journal.specs.Image.{head_in}
-use Rattle.settings_journal.specs.Snapshot.{IsSnapshot, MayLeave}
+use Rattle.settings_journal.specs.Image.{head_in, slots_of}
+use Rattle.settings_journal.specs.Slot.{place_of, slot_at, slot_gate, HasEntry}
+use Rattle.settings_journal.specs.Writes.{IsBase, MayLeave, KeepsOthers, MayLeaveSlot}
 
 -- ---- one sector of two
 
@@ -25,7 +26,7 @@ pub other_with : (image : Image) (sector : Sector) (bytes : List ℕ) → sector
 other_with image First bytes = refl
 other_with image Second bytes = refl
 
-sector_size : (size : ℕ) (image : Image) (sector : Sector) → IsImage size image → length (sector_of image sector) ≡ size
+pub sector_size : (size : ℕ) (image : Image) (sector : Sector) → IsImage size image → length (sector_of image sector) ≡ size
 sector_size size image First h = h.first_size
 sector_size size image Second h = h.second_size
 
@@ -65,7 +66,7 @@ module _ (size : ℕ) (sector : Sector) (old new : Image) (wide : IsSectorSize s
     each = λ place bit. elim (cases_lt place 512) [ inl h ↦ inside place bit h | inr h ↦ inl (outside place bit h) ];
   }
 
--- ---- a base over an erased sector
+-- ---- bytes programmed at a place
 
 low_byte : (n : ℕ) → n < 256 → n % 256 ≡ n
 low_byte n h = omega arith
@@ -73,17 +74,78 @@ low_byte n h = omega arith
 masked : (n : ℕ) → n < 256 → bit_and 255 n ≡ n
 masked n h = and_comm 255 n ∙ and_mask n 8 ∙ low_byte n h
 
-front_erased : (size : ℕ) (bytes : List ℕ) → AreBytes bytes → length bytes ≤ size → take (length bytes) (anded (replicate size 255) bytes) ≡ bytes
-front_erased size [] small h = refl
-front_erased zero (b ∷ bs) small h = absurd (omega arith)
-front_erased (suc size) (b ∷ bs) small h = ap (λ n. n ∷ take (length bs) (anded (replicate size 255) bs)) (masked b (small 0)) ∙ ap (λ ns. b ∷ ns) (front_erased size bs (λ k. small (suc k)) (omega arith))
+-- over bytes that are FF they are as they were programmed
+anded_entry : (xs bytes : List ℕ) → AreBytes bytes → take (length bytes) xs ≡ replicate (length bytes) 255 → take (length bytes) (anded xs bytes) ≡ bytes
+anded_entry xs [] small blank = refl
+anded_entry [] (b ∷ bs) small blank = absurd (let e = ap length blank in cc)
+anded_entry (x ∷ xs) (b ∷ bs) small blank =
+    let here : x ≡ 255 = ap (λ l. get_or l 0 0) blank in
+    let rest : take (length bs) xs ≡ replicate (length bs) 255 = ap (drop 1) blank in
+    ap (λ n. n ∷ take (length bs) (anded xs bs)) (ap (λ y. bit_and y b) here ∙ masked b (small 0)) ∙ ap (λ ns. b ∷ ns) (anded_entry xs bs (λ k. small (suc k)) rest)
 
+anded_behind : (xs bytes : List ℕ) (k : ℕ) → length bytes ≤ k → drop k (anded xs bytes) ≡ drop k xs
+anded_behind [] bytes k h = refl
+anded_behind (x ∷ xs) [] k h = refl
+anded_behind (x ∷ xs) (b ∷ bs) zero h = absurd (omega arith)
+anded_behind (x ∷ xs) (b ∷ bs) (suc k) h = anded_behind xs bs k (omega arith)
+
+module _ (sector : List ℕ) (place : ℕ) (bytes : List ℕ) (inside : place ≤ length sector) where
+  long : length (take place sector) ≡ place
+  long = length-take place sector ∙ omega arith
+
+  from_place : drop place (programmed sector place bytes) ≡ anded (drop place sector) bytes
+  from_place = drop_at (take place sector) (anded (drop place sector) bytes) place long
+
+  -- in front of the place nothing changes
+  pub programmed_front : (k : ℕ) → k ≤ place → take k (programmed sector place bytes) ≡ take k sector
+  programmed_front k h = take-append-le k (take place sector) (anded (drop place sector) bytes) (omega (arith, long)) ∙ take-take k place sector h
+
+  -- and behind the bytes nothing does
+  pub programmed_behind : (k : ℕ) → place + length bytes ≤ k → drop k (programmed sector place bytes) ≡ drop k sector
+  programmed_behind k h =
+      let e : place + (k - place) ≡ k = omega arith in
+      let new = sym (drop-drop (k - place) place (programmed sector place bytes)) ∙ ap (drop (k - place)) from_place ∙ anded_behind (drop place sector) bytes (k - place) (omega arith)
+      ∙ drop-drop (k - place) place sector in
+      subst (λ j. drop j (programmed sector place bytes) ≡ drop j sector) e new
+
+  -- where the bytes were FF they are as they were programmed
+  pub programmed_entry : AreBytes bytes → take (length bytes) (drop place sector) ≡ replicate (length bytes) 255 → take (length bytes) (drop place (programmed sector place bytes)) ≡ bytes
+  programmed_entry small blank = ap (take (length bytes)) from_place ∙ anded_entry (drop place sector) bytes small blank
+
+zero_anded : (rest : List ℕ) → get_or (anded rest (0 ∷ [])) 0 0 ≡ 0
+zero_anded [] = refl
+zero_anded (b ∷ bs) = and_comm b 0
+
+-- a gate that is programmed is open
+gate_programmed : (sector : List ℕ) (place : ℕ) → place ≤ length sector → get_or (programmed sector place (0 ∷ [])) place 0 ≡ 0
+gate_programmed sector place inside =
+    get_or-append_right (take place sector) (anded (drop place sector) (0 ∷ [])) place place 0 (length-take place sector ∙ omega arith) (omega arith) ∙ ap (λ n. get_or (anded (drop place sector) (0 ∷ [])) n 0) (omega arith) ∙ zero_anded (drop place sector)
+
+-- what stands behind a place is the same at each place there
 behind : (end : ℕ) (xs ys : List ℕ) (place : ℕ) → end ≤ place → drop end xs ≡ drop end ys → get_or xs place 0 ≡ get_or ys place 0
 behind end xs ys place h e =
     let p : end + (place - end) ≡ place = omega arith in
     let a = rw p at (get_or-drop end xs (place - end) 0) in
     let b = rw p at (get_or-drop end ys (place - end) 0) in
     sym a ∙ ap (λ zs. get_or zs (place - end) 0) e ∙ b
+
+-- a front that is the same has the same parts
+front_part : (front : ℕ) (xs ys : List ℕ) (place size : ℕ) → place + size ≤ front → take front xs ≡ take front ys → take size (drop place xs) ≡ take size (drop place ys)
+front_part front xs ys place size h e =
+    let shorter = sym (take-take (place + size) front xs h) ∙ ap (take (place + size)) e ∙ take-take (place + size) front ys h in
+    sym (drop-take place size xs) ∙ ap (drop place) shorter ∙ drop-take place size ys
+
+-- a shorter front of it is the same too
+front_of_front : (front k : ℕ) (xs ys : List ℕ) → k ≤ front → take front xs ≡ take front ys → take k xs ≡ take k ys
+front_of_front front k xs ys h e = sym (take-take k front xs h) ∙ ap (take k) e ∙ take-take k front ys h
+
+-- and so is what stands farther behind
+behind_part : (end place : ℕ) (xs ys : List ℕ) → end ≤ place → drop end xs ≡ drop end ys → drop place xs ≡ drop place ys
+behind_part end place xs ys h e =
+    let p : end + (place - end) ≡ place = omega arith in
+    subst (λ q. drop q xs ≡ drop q ys) p (sym (drop-drop (place - end) end xs) ∙ ap (drop (place - end)) e ∙ drop-drop (place - end) end ys)
+
+-- ---- a base
 
 zero≢255 : ◌≡◌ {A = ℕ} 0 255 → ⊥
 zero≢255 e = cc
@@ -98,58 +160,137 @@ program_closed size sector image new finished end wide blank before torn e =
     let was = rw blank at here in
     zero≢255 (sym e ∙ gate ∙ was ∙ one)
 
--- ---- the gate
+-- a sector after the erase and the program of the base
+pub record IsWritten (size : ℕ) (sector base : List ℕ) : Type 0 where
+  pub long : length sector ≡ size
+  pub front : take 437 sector ≡ base
+  pub behind : drop 512 sector ≡ drop 512 (erased size)
 
-gate_programmed : (rest : List ℕ) → get_or (anded rest (0 ∷ [])) 0 0 ≡ 0
-gate_programmed [] = refl
-gate_programmed (b ∷ bs) = and_comm b 0
-
-gate_after : (sector : List ℕ) → 511 ≤ length sector → get_or (programmed sector 511 (0 ∷ [])) 511 0 ≡ 0
-gate_after sector long = get_or-append_right (take 511 sector) (anded (drop 511 sector) (0 ∷ [])) 511 511 0 (length-take 511 sector ∙ omega arith) (lit≤ tt) ∙ gate_programmed (drop 511 sector)
-
-front_after : (sector : List ℕ) → 511 ≤ length sector → take 383 (programmed sector 511 (0 ∷ [])) ≡ take 383 sector
-front_after sector long =
-    take-append-le 383 (take 511 sector) (anded (drop 511 sector) (0 ∷ [])) (omega (arith, length-take 511 sector)) ∙ take-take 383 511 sector (lit≤ tt)
-
--- ---- all three
-
--- the sector after the erase and the program of the base
-pub record IsWritten (sector base : List ℕ) : Type 0 where
-  pub long : 511 ≤ length sector
-  pub front : take 383 sector ≡ base
-
-pub written : (size : ℕ) (sector : Sector) (blank new : Image) (base : List ℕ) → IsSectorSize size → sector_of blank sector ≡ erased size → AreBytes base → length base ≡ 383
-    → IsImage size new → new ≡ with_sector blank sector (programmed (sector_of blank sector) 0 base) → IsWritten (sector_of new sector) base
+pub written : (size : ℕ) (sector : Sector) (blank new : Image) (base : List ℕ) → IsSectorSize size → sector_of blank sector ≡ erased size → AreBytes base → length base ≡ 437
+    → IsImage size new → new ≡ with_sector blank sector (programmed (sector_of blank sector) 0 base) → IsWritten size (sector_of new sector) base
 written size sector blank new base wide empty small l sized e =
     let is : sector_of new sector ≡ programmed (erased size) 0 base = ap (λ image. sector_of image sector) e ∙ sector_with blank sector _ ∙ ap (λ bytes. programmed bytes 0 base) empty in
-    let front = front_erased size base small (omega (arith, wide.at_least, wide.whole)) in
+    let ones : take (length base) (erased size) ≡ replicate (length base) 255 = take-replicate (length base) size 255 (omega (arith, l, wide.at_least, wide.whole)) in
+    let front : take (length base) (programmed (erased size) 0 base) ≡ base = programmed_entry (erased size) 0 base (omega arith) small ones in
     record {
-      long = omega (arith, sector_size size new sector sized, wide.at_least, wide.whole);
-      front = ap (take 383) is ∙ rw l at front;
+      long = sector_size size new sector sized;
+      front = ap (take 437) is ∙ subst (λ n. take n (programmed (erased size) 0 base) ≡ base) l front;
+      behind = ap (drop 512) is ∙ programmed_behind (erased size) 0 base (omega arith) 512 (omega (arith, l));
     }
 
-front_of_head : (sector base : List ℕ) → take 383 sector ≡ base → take 383 (head_of sector) ≡ base
-front_of_head sector base e = take-take 383 512 sector (lit≤ tt) ∙ e
+front_of_head : (sector base : List ℕ) → take 437 sector ≡ base → take 437 (head_of sector) ≡ base
+front_of_head sector base e = take-take 437 512 sector (lit≤ tt) ∙ e
 
--- the gate opened, and the snapshot counts
-pub opened : (sector : Sector) (full new : Image) (base : List ℕ) → IsWritten (sector_of full sector) base
-    → new ≡ with_sector full sector (programmed (sector_of full sector) 511 (0 ∷ [])) → IsSnapshot (head_in new sector) base
-opened sector full new base w e =
+-- the slots of a sector that is erased behind its head
+blank_slot : (size : ℕ) (sector : List ℕ) → IsSectorSize size → length sector ≡ size → drop 512 sector ≡ drop 512 (erased size) → (number : ℕ) → number < slots_of sector → slot_at sector number ≡ erased 256
+blank_slot size sector wide long same number inside =
+    let few : number < slots_in size = subst (λ n. number < slots_in n) long inside in
+    let room : 256 ≤ size - place_of number = omega (arith, wide.whole, few) in
+    ap (take 256) (behind_part 512 (place_of number) sector (erased size) (omega arith) same ∙ drop-replicate {X = ℕ} (place_of number) size 255) ∙ take-replicate 256 (size - place_of number) 255 room
+
+-- the gate opened, and the base counts
+pub opened : (size : ℕ) (sector : Sector) (full new : Image) (base : List ℕ) → IsSectorSize size → IsImage size new → IsWritten size (sector_of full sector) base
+    → new ≡ with_sector full sector (programmed (sector_of full sector) 511 (0 ∷ [])) → IsBase (sector_of new sector) base
+opened size sector full new base wide sized w e =
     let is : sector_of new sector ≡ programmed (sector_of full sector) 511 (0 ∷ []) = ap (λ image. sector_of image sector) e ∙ sector_with full sector _ in
+    let inside : 511 ≤ length (sector_of full sector) = omega (arith, w.long, wide.at_least, wide.whole) in
     record {
-      holds = front_of_head _ base (ap (take 383) is ∙ front_after _ w.long ∙ w.front);
-      gate = get_or-take 512 (sector_of new sector) 511 0 (lit< tt) ∙ ap (λ bytes. get_or bytes 511 0) is ∙ gate_after _ w.long;
+      holds = front_of_head _ base (ap (take 437) is ∙ programmed_front (sector_of full sector) 511 (0 ∷ []) inside 437 (lit≤ tt) ∙ w.front);
+      gate = get_or-take 512 (sector_of new sector) 511 0 (lit< tt) ∙ ap (λ bytes. get_or bytes 511 0) is ∙ gate_programmed (sector_of full sector) 511 inside;
+      blank = blank_slot size (sector_of new sector) wide (sector_size size new sector sized) (ap (drop 512) is ∙ programmed_behind (sector_of full sector) 511 (0 ∷ []) inside 512 (lit≤ tt) ∙ w.behind);
     }
 
 -- the gate's call failed: it opened, or it is closed
-pub half_opened : (sector : Sector) (full new : Image) (finished base old : List ℕ) (end : ℕ) → IsWritten (sector_of full sector) base
-    → Torn sector 511 end finished full new → MayLeave old base (head_in new sector)
-half_opened sector full new finished base old end w torn =
-    let front : take 383 (sector_of new sector) ≡ base =
-    sym (take-take 383 511 (sector_of new sector) (lit≤ tt)) ∙ ap (take 383) torn.here.before ∙ take-take 383 511 (sector_of full sector) (lit≤ tt) ∙ w.front in
+pub half_opened : (size : ℕ) (sector : Sector) (full new : Image) (finished base old : List ℕ) → IsSectorSize size → IsImage size new → IsWritten size (sector_of full sector) base
+    → Torn sector 511 512 finished full new → MayLeave old base (sector_of new sector)
+half_opened size sector full new finished base old wide sized w torn =
+    let front : take 437 (sector_of new sector) ≡ base = front_of_front 511 437 (sector_of new sector) (sector_of full sector) (lit≤ tt) torn.here.before ∙ w.front in
     elim (cases_eq (gate_of (head_in new sector)) 0) [
-      | inl e ↦ inr (inr (record { holds = front_of_head _ base front; gate = e }))
+      | inl e ↦ inr (inr (record {
+        holds = front_of_head _ base front;
+        gate = e;
+        blank = blank_slot size (sector_of new sector) wide (sector_size size new sector sized) (torn.here.behind ∙ w.behind);
+      }))
       | inr ne ↦ inr (inl ne)
+    ]
+
+-- ---- a slot
+
+-- its gate is the byte of the sector that is 255 behind its begin
+slot_gate_is : (sector : List ℕ) (number : ℕ) → slot_gate (slot_at sector number) ≡ get_or sector (place_of number + 255) 0
+slot_gate_is sector number = get_or-take 256 (drop (place_of number) sector) 255 0 (lit< tt) ∙ get_or-drop (place_of number) sector 255 0
+
+-- only the bytes of one slot were touched
+pub record IsInSlot (number : ℕ) (old new : List ℕ) : Type 0 where
+  pub front : take (place_of number) new ≡ take (place_of number) old
+  pub behind : drop (place_of number + 256) new ≡ drop (place_of number + 256) old
+
+pub in_slot_then : (number : ℕ) (old between new : List ℕ) → IsInSlot number old between → IsInSlot number between new → IsInSlot number old new
+in_slot_then number old between new p q = record { front = q.front ∙ p.front; behind = q.behind ∙ p.behind }
+
+-- a program of bytes of the slot, which ended
+pub in_slot_done : (number place : ℕ) (sector bytes : List ℕ) → place ≤ length sector → place_of number ≤ place → place + length bytes ≤ place_of number + 256 → IsInSlot number sector (programmed sector place bytes)
+in_slot_done number place sector bytes inside from upto = record {
+  front = programmed_front sector place bytes inside (place_of number) from;
+  behind = programmed_behind sector place bytes inside (place_of number + 256) upto;
+}
+
+-- and one that failed
+pub in_slot_torn : (number start end : ℕ) (finished old new : List ℕ) → place_of number ≤ start → end ≤ place_of number + 256 → TornSector start end finished old new → IsInSlot number old new
+in_slot_torn number start end finished old new from upto torn = record {
+  front = front_of_front start (place_of number) new old from torn.before;
+  behind = behind_part end (place_of number + 256) new old upto torn.behind;
+}
+
+other_slot : (number k : ℕ) (old new : List ℕ) → IsInSlot number old new → k ≢ number → slot_at new k ≡ slot_at old k
+other_slot number k old new kept ne =
+    elim (cases_lt k number) [
+      | inl before ↦ front_part (place_of number) new old (place_of k) 256 (omega arith) kept.front
+      | inr after ↦ ap (take 256) (behind_part (place_of number + 256) (place_of k) new old (omega (arith, ne)) kept.behind)
+    ]
+
+pub keeps_others : (number size : ℕ) (old new : List ℕ) → length old ≡ size → length new ≡ size → IsInSlot number old new → KeepsOthers number old new
+keeps_others number size old new l m kept = record {
+  length = m ∙ sym l;
+  head = front_of_front (place_of number) 512 new old (omega arith) kept.front;
+  others = λ k ne. other_slot number k old new kept ne;
+}
+
+-- where the program of the entry failed, the gate is as it was
+pub entry_closed : (number end : ℕ) (finished old new : List ℕ) → slot_at old number ≡ erased 256 → end ≤ place_of number + 255 → TornSector (place_of number) end finished old new → slot_gate (slot_at new number) ≢ 0
+entry_closed number end finished old new blank upto torn e =
+    let was : slot_gate (slot_at old number) ≡ 255 = ap (λ slot. get_or slot 255 0) blank ∙ get_or-replicate {A = ℕ} 256 255 255 0 (lit< tt) in
+    let here = behind end new old (place_of number + 255) upto torn.behind in
+    zero≢255 (sym e ∙ slot_gate_is new number ∙ here ∙ sym (slot_gate_is old number) ∙ was)
+
+-- the entry stands at the slot's begin
+abbrev pub HasFront : List ℕ → ℕ → List ℕ → Type 0
+HasFront sector number entry = take (length entry) (drop (place_of number) sector) ≡ entry
+
+pub entry_there : (number : ℕ) (sector entry : List ℕ) → place_of number ≤ length sector → slot_at sector number ≡ erased 256 → length entry ≤ 242 → AreBytes entry → HasFront (programmed sector (place_of number) entry) number entry
+entry_there number sector entry inside blank short small =
+    let ones : take (length entry) (drop (place_of number) sector) ≡ replicate (length entry) 255 =
+    sym (take-take (length entry) 256 (drop (place_of number) sector) (omega arith)) ∙ ap (take (length entry)) blank ∙ take-replicate (length entry) 256 255 (omega arith) in
+    programmed_entry sector (place_of number) entry inside small ones
+
+front_stays : (number : ℕ) (old new entry : List ℕ) → length entry ≤ 242 → take (place_of number + 255) new ≡ take (place_of number + 255) old → HasFront old number entry → take (length entry) (slot_at new number) ≡ entry
+front_stays number old new entry short same there =
+    take-take (length entry) 256 (drop (place_of number) new) (omega arith)
+    ∙ front_part (place_of number + 255) new old (place_of number) (length entry) (omega arith) same ∙ there
+
+-- the gate opened, and the entry counts
+pub slot_opened : (number : ℕ) (sector entry : List ℕ) → place_of number + 255 ≤ length sector → length entry ≤ 242 → HasFront sector number entry → HasEntry (slot_at (programmed sector (place_of number + 255) (0 ∷ [])) number) entry
+slot_opened number sector entry inside short there = record {
+  front = front_stays number sector (programmed sector (place_of number + 255) (0 ∷ [])) entry short (programmed_front sector (place_of number + 255) (0 ∷ []) inside (place_of number + 255) (omega arith)) there;
+  gate = slot_gate_is (programmed sector (place_of number + 255) (0 ∷ [])) number ∙ gate_programmed sector (place_of number + 255) inside;
+}
+
+-- the gate's call failed: it opened, or it is closed
+pub slot_half : (number end : ℕ) (finished old new entry : List ℕ) → length entry ≤ 242 → HasFront old number entry → TornSector (place_of number + 255) end finished old new → MayLeaveSlot entry (slot_at new number)
+slot_half number end finished old new entry short there torn =
+    elim (cases_eq (slot_gate (slot_at new number)) 0) [
+      | inl e ↦ inr (record { front = front_stays number old new entry short torn.before there; gate = e })
+      | inr ne ↦ inl ne
     ]
 
 -- what holds of a call that ended, and of one that failed, holds

@@ -1,5 +1,5 @@
 -- The calls that a commit asks of the flash.
-use Rattle.std.specs.Prelude.{◌≡◌, ◌≢◌, ◌+◌, ◌-◌, ℕ, List, [], ◌∷◌, ◌++◌, Option, Result, Ok, Err}
+use Rattle.std.specs.Prelude.{◌≡◌, ◌≢◌, ◌+◌, ◌-◌, ℕ, zero, suc, List, [], ◌∷◌, ◌++◌, Option, Some, None, Result, Ok, Err}
 use Rattle.pn_values.specs.Command.{apply}
 use Rattle.pn_values.specs.declared.command.Command.{Command}
 use Rattle.pn_values.specs.declared.settings.Settings.{Settings}
@@ -7,20 +7,35 @@ use Rattle.flash_model.specs.Calls.{Call, Programs, Erases}
 use Rattle.flash_model.specs.Image.{Image}
 use Rattle.flash_model.specs.declared.flash.Sector.{Sector}
 use Rattle.settings_journal.specs.Head.{base_of}
-use Rattle.settings_journal.specs.Image.{StartsFrom, spare}
+use Rattle.settings_journal.specs.Slot.{place_of, entry_of}
+use Rattle.settings_journal.specs.Image.{StartsAt, spare, slots_of, room_of}
 use Rattle.settings_journal.specs.declared.journal.CommitFault.{CommitFault}
 use Rattle.settings_journal.specs.declared.journal.CommitFault.TheVariants.{Exhausted, FlashFault, Failed}
 
 -- a base written into a sector: it is erased, the base programmed at its begin, and the gate opened by a call of its own
-abbrev pub snapshot_calls : Sector → List ℕ → List Call
-snapshot_calls sector base = Erases sector ∷ Programs sector 0 base ∷ Programs sector 511 (0 ∷ []) ∷ []
+abbrev pub base_calls : Sector → List ℕ → List Call
+base_calls sector base = Erases sector ∷ Programs sector 0 base ∷ Programs sector 511 (0 ∷ []) ∷ []
 
--- The calls of a commit over an image that is read as these settings, with room for so many commits: the base of what the
--- command makes of the settings, with the next generation, is written into the sector that is not active.
+-- an entry written into a slot: it is programmed at the slot's begin, and the gate opened by a call of its own
+abbrev pub slot_calls : Sector → ℕ → List ℕ → List Call
+slot_calls sector number entry = Programs sector (place_of number) entry ∷ Programs sector (place_of number + 255) (0 ∷ []) ∷ []
+
+-- The calls of a commit, in sectors of so many slots. Where a slot of the active sector is left, the command goes into the
+-- first of them. Where none is, or no sector is active, a base goes into the other sector: what the command makes of the
+-- settings, with the next generation.
+abbrev pub calls_of : ℕ → Option Sector → ℕ → ℕ → Settings → Command → List Call
+calls_of slots (Some sector) generation (suc left) settings command = slot_calls sector (slots - suc left) (entry_of command)
+calls_of slots (Some sector) generation zero settings command = base_calls (spare (Some sector)) (base_of (generation + 1) (apply command settings))
+calls_of slots None generation free settings command = base_calls (spare None) (base_of (generation + 1) (apply command settings))
+
+-- the calls of a commit over an image that is read as these settings, with room for so many commits
 pub record CommitCalls (image : Image) (settings : Settings) (room : ℕ) (command : Command) (calls : List Call) : Type 0 where
   pub active : Option Sector
-  pub starts : StartsFrom image active settings room
-  pub are : calls ≡ snapshot_calls (spare active) (base_of (65535 - room + 1) (apply command settings))
+  pub generation : ℕ
+  pub free : ℕ
+  pub starts : StartsAt image active settings generation free
+  pub room_is : room ≡ room_of (slots_of image.first) generation free
+  pub are : calls ≡ calls_of (slots_of image.first) active generation free settings command
 
 -- some of the calls, from the first one on
 pub record IsFront (calls all : List Call) : Type 0 where

@@ -1,15 +1,20 @@
 -- What an image of two sectors is to the journal: which sector is active, and what a start makes of it.
-use Rattle.std.specs.Prelude.{◌≡◌, ◌≢◌, ◌⊎◌, ◌-◌, ◌≤◌, ℕ, List, Option, Some, None}
+use Rattle.std.specs.Prelude.{◌≡◌, ◌≢◌, ◌⊎◌, ◌+◌, ◌-◌, ◌*◌, ◌≤◌, ℕ, List, length, Option, Some, None}
 use Rattle.pn_values.specs.Settings.{factory_settings}
 use Rattle.pn_values.specs.declared.settings.Settings.{Settings}
-use Rattle.flash_model.specs.Image.{Image, sector_of, other}
+use Rattle.flash_model.specs.Image.{Image, sector_of, other, slots_in}
 use Rattle.flash_model.specs.declared.flash.Sector.{Sector}
 use Rattle.flash_model.specs.declared.flash.Sector.TheVariants.{First, Second}
-use Rattle.settings_journal.specs.Head.{head_of, gate_of, generation_at, Counts, Spells, Rises, IsOlder}
+use Rattle.settings_journal.specs.Head.{head_of, gate_of, version_at, generation_at, Counts, Spells, Rises, IsOlder}
+use Rattle.settings_journal.specs.Slot.{After, free_in}
 
 -- the head of a sector of the image
 abbrev pub head_in : Image → Sector → List ℕ
 head_in image sector = head_of (sector_of image sector)
+
+-- how many slots a sector has
+abbrev pub slots_of : List ℕ → ℕ
+slots_of sector = slots_in (length sector)
 
 -- the sector counts, and the other one does not, or is older
 pub record IsActive (image : Image) (sector : Sector) : Type 0 where
@@ -21,28 +26,45 @@ pub record IsClosed (image : Image) : Type 0 where
   pub first : gate_of (head_in image First) ≢ 0
   pub second : gate_of (head_in image Second) ≢ 0
 
--- the sector that the next snapshot goes to
+-- the sector that the next base goes to
 abbrev pub spare : Option Sector → Sector
 spare None = First
 spare (Some active) = other active
 
--- The image is read as these settings, and there is room for so many commits: what the active sector spells, and each
--- commit takes a generation; or, where no gate is open, what a station leaves the factory with.
-abbrev pub StartsFrom : Image → Option Sector → Settings → ℕ → Type 0
-StartsFrom image (Some sector) settings room =
-    IsActive image sector × Spells (head_in image sector) settings × (room ≡ 65535 - generation_at (head_in image sector))
-StartsFrom image None settings room = IsClosed image × (settings ≡ factory_settings) × (room ≡ 65535)
+-- a sector is read as these settings: what its base spells, and its slots make of it
+pub record Reads (sector : List ℕ) (settings : Settings) : Type 0 where
+  pub base : Settings
+  pub spells : Spells (head_of sector) base
+  pub after : After (version_at (head_of sector)) sector (slots_of sector) base settings
 
--- How many commits a blank flash with sectors of this size has room for. Each takes one of the generations.
+-- how many slots of a sector are left
+abbrev pub left_in : List ℕ → ℕ
+left_in sector = free_in (version_at (head_of sector)) sector (slots_of sector)
+
+-- The image is read as these settings, with this generation and so many slots left: what the active sector is read as; or,
+-- where no gate is open, what a station leaves the factory with.
+abbrev pub StartsAt : Image → Option Sector → Settings → ℕ → ℕ → Type 0
+StartsAt image (Some sector) settings generation free =
+    IsActive image sector × Reads (sector_of image sector) settings × (generation ≡ generation_at (head_in image sector)) × (free ≡ left_in (sector_of image sector))
+StartsAt image None settings generation free = IsClosed image × (settings ≡ factory_settings) × (generation ≡ 0) × (free ≡ 0)
+
+-- How many commits there is room for, in sectors of so many slots: one in each slot that is left, and with each generation
+-- that is left one for a base and one for each slot behind it.
+abbrev pub room_of : ℕ → ℕ → ℕ → ℕ
+room_of slots generation free = (65535 - generation) * (slots + 1) + free
+
+-- How many commits a blank flash with sectors of this size has room for.
 unfoldable pub capacity : ℕ → ℕ
-capacity size = 65535
+capacity size = room_of (slots_in size) 0 0
 
 -- a blank flash has room for at least 65,535 commits
 abbrev pub IsAmple : ℕ → Type 0
 IsAmple size = 65535 ≤ capacity size
 
+-- The image is read as these settings, and there is room for so many commits.
 abbrev pub StartsWith : Image → Settings → ℕ → Type 0
-StartsWith image settings room = (active : Option Sector) × StartsFrom image active settings room
+StartsWith image settings room =
+    (active : Option Sector) × (generation : ℕ) × (free : ℕ) × StartsAt image active settings generation free × (room ≡ room_of (slots_of image.first) generation free)
 
 -- a start on the image gives these settings
 abbrev pub BootsTo : Image → Settings → Type 0
@@ -54,13 +76,13 @@ abbrev pub IsForeign : Image → Type 0
 IsForeign image =
     (Counts (head_in image First) × Counts (head_in image Second) × (generation_at (head_in image First) ≡ generation_at (head_in image Second)))
     ⊎ ((¬ Counts (head_in image First)) × (¬ Counts (head_in image Second)) × ((gate_of (head_in image First) ≡ 0) ⊎ (gate_of (head_in image Second) ≡ 0)))
-    ⊎ ((sector : Sector) × IsActive image sector × ((settings : Settings) → ¬ Spells (head_in image sector) settings))
+    ⊎ ((sector : Sector) × IsActive image sector × ((settings : Settings) → ¬ Reads (sector_of image sector) settings))
 
--- The sector is active and spells settings, and the other one, with any of its bits risen as an erase that was cut short
+-- The sector is active and is read as settings, and the other one, with any of its bits risen as an erase that was cut short
 -- leaves them, does not count or is older.
 pub record IsLeft (image : Image) (sector : Sector) : Type 0 where
   pub active : IsActive image sector
-  pub settings : (settings : Settings) × Spells (head_in image sector) settings
+  pub settings : (settings : Settings) × Reads (sector_of image sector) settings
   pub stale : (risen : List ℕ) → Rises (head_in image (other sector)) risen → IsOlder (generation_at (head_in image sector)) risen
 
 abbrev pub LeftAt : Image → Option Sector → Type 0

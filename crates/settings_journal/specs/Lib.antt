@@ -3,6 +3,8 @@ pub mod Commit
 pub mod Faults
 pub mod Head
 pub mod Image
-pub mod Snapshot
+pub mod Slot
 pub mod Start
 pub mod State
+pub mod Store
+pub mod Writes

@@ -1,15 +1,15 @@
-// The base of a sector: a generation and the settings in 383 bytes.
+// The base of a sector: a generation and the settings in 437 bytes.
 ghost use Rattle.std.specs.Prelude.{◌≡◌, ◌↔◌, ◌+◌, ◌≤◌, ◌++◌, ℕ, List, length, replicate, slice_range, take, IsTrue, IfSome};
 ghost use Rattle.pn_values.specs.StationName.{IsNameOrNone};
 ghost use Rattle.pn_values.specs.declared.settings.Settings.{Settings};
-ghost use Rattle.settings_journal.specs.Head.{magic, base_of, name_field, HasName, IsSettings, Spells};
+ghost use Rattle.settings_journal.specs.Head.{magic_of, version_at, base_of, im4_at, name_field, HasName, IsSettings, Spells};
 
-use crate::head::{HEAD, MAGIC, part};
+use crate::head::{HEAD, Version, magic, part, version_of};
 use arrayvec::ArrayVec;
 use pn_values::{IpSuite, Padded, Settings, StationName};
 
 /// How many bytes a base has.
-pub(crate) const BASE: usize = 383;
+pub(crate) const BASE: usize = 437;
 
 // Where the fields of a base begin, behind magic, version and generation.
 const NAME_LENGTH: usize = 6;
@@ -28,6 +28,8 @@ const IM2: usize = 313;
 
 const IM3: usize = 329;
 
+const IM4: usize = 383;
+
 /// How many bytes there are for a name.
 const NAME_FIELD: usize = ADDRESS - NAME;
 
@@ -36,11 +38,11 @@ const NAME_FIELD: usize = ADDRESS - NAME;
 pub(crate) fn encode(generation: u16, settings: &Settings) -> ArrayVec<u8, BASE>
     ensures value { result.items ≡ base_of generation settings.now }
     ensures valid { IsSettings settings.now }
-    ensures length { length result.items ≡ 383 }
+    ensures length { length result.items ≡ 437 }
 {
     let name = settings.name.as_bytes();
     let mut base = ArrayVec::new();
-    put(&mut base, &MAGIC);
+    put(&mut base, &magic(Version::Two));
     put(&mut base, &(u16::MAX - generation).to_be_bytes());
     put(&mut base, &[name.len() as u8]);
     put_name(&mut base, name);
@@ -50,12 +52,13 @@ pub(crate) fn encode(generation: u16, settings: &Settings) -> ArrayVec<u8, BASE>
     put(&mut base, settings.im1.as_bytes());
     put(&mut base, settings.im2.as_bytes());
     put(&mut base, settings.im3.as_bytes());
+    put(&mut base, settings.im4.as_bytes());
     base
 }
 
 // There is room for the bytes.
 fn put(base: &mut ArrayVec<u8, BASE>, bytes: &[u8])
-    requires { length base.old.items + length bytes.now ≤ 383 }
+    requires { length base.old.items + length bytes.now ≤ 437 }
     ensures { base.new.items ≡ base.old.items ++ bytes.now }
 {
     let _ = base.try_extend_from_slice(bytes);
@@ -63,7 +66,7 @@ fn put(base: &mut ArrayVec<u8, BASE>, bytes: &[u8])
 
 // The name, and zeros up to the end of its field.
 fn put_name(base: &mut ArrayVec<u8, BASE>, name: &[u8])
-    requires room { length base.old.items + 240 ≤ 383 }
+    requires room { length base.old.items + 240 ≤ 437 }
     requires short { length name.now ≤ 240 }
     ensures { base.new.items ≡ base.old.items ++ name_field name.now }
 {
@@ -73,7 +76,7 @@ fn put_name(base: &mut ArrayVec<u8, BASE>, name: &[u8])
 
 /// The settings that the base of a head spells, if it spells any. Their generation is not looked at.
 pub(crate) fn decode(head: &[u8; HEAD]) -> Option<Settings>
-    requires { take 4 head.now ≡ magic }
+    requires { take 4 head.now ≡ magic_of (version_at head.now) }
     ensures spelled { IfSome result (λ settings. Spells head.now settings) }
     ensures only { (settings : Settings) → Spells head.now settings → result ≡ Some settings }
 {
@@ -85,7 +88,18 @@ pub(crate) fn decode(head: &[u8; HEAD]) -> Option<Settings>
         im1: Padded::new(part(head, IM1)),
         im2: Padded::new(part(head, IM2)),
         im3: Padded::new(part(head, IM3)),
+        im4: im4_of(head),
     })
+}
+
+// The I&M4 in the base, which version 1 does not have.
+fn im4_of(head: &[u8; HEAD]) -> Padded<54>
+    ensures { result ≡ im4_at (version_at head.now) head.now }
+{
+    match version_of(head) {
+        Version::One => Padded::zero(),
+        Version::Two => Padded::new(part(head, IM4)),
+    }
 }
 
 // The name in the base, with zeros alone behind it.

@@ -1,19 +1,26 @@
 // The head of a sector: its first 512 bytes, with a base and the gate.
 ghost use Rattle.std.specs.Prelude.{◌≡◌, ◌↔◌, ◌+◌, ◌≤◌, slice_range, IsTrue};
-ghost use Rattle.settings_journal.specs.Head.{gate_of};
+ghost use Rattle.settings_journal.specs.Head.{gate_of, magic_of, version_at};
 ghost use Rattle.settings_journal.specs.Start.{IsReadAs};
 
 /// How many bytes of a sector the journal reads: the base, and the gate behind it.
 pub(crate) const HEAD: usize = 512;
 
-/// "PNS" and the version.
-pub(crate) const MAGIC: [u8; 4] = [b'P', b'N', b'S', 1];
+/// The version of a layout. Version 1 has no I&M4; it is read, and never written.
+#[derive(Clone, Copy)]
+pub(crate) enum Version {
+    One,
+    Two,
+}
 
 /// Where the gate is.
 pub(crate) const GATE: usize = 511;
 
 /// What the gate is when the base in front of it counts.
 pub(crate) const OPEN: u8 = 0;
+
+// Where the version is.
+const VERSION: usize = 3;
 
 // Where two bytes, the higher first, keep how many generations are left.
 const LEFT: usize = 4;
@@ -22,11 +29,32 @@ const LEFT: usize = 4;
 pub(crate) fn generation_of(head: &[u8; HEAD]) -> Option<u16>
     ensures { IsReadAs head.now result }
 {
-    if !is_open(head) || part(head, 0) != MAGIC {
+    if !is_open(head) || part(head, 0) != magic(version_of(head)) {
         return None;
     }
     let generation = u16::MAX - u16::from_be_bytes(part(head, LEFT));
     (generation > 0).then_some(generation)
+}
+
+/// "PNJ" and the version.
+pub(crate) fn magic(version: Version) -> [u8; 4]
+    ensures { result ≡ magic_of version }
+{
+    match version {
+        Version::One => [b'P', b'N', b'J', 1],
+        Version::Two => [b'P', b'N', b'J', 2],
+    }
+}
+
+/// The version that a head claims.
+pub(crate) fn version_of(head: &[u8; HEAD]) -> Version
+    ensures { result ≡ version_at head.now }
+{
+    if head[VERSION] == 1 {
+        Version::One
+    } else {
+        Version::Two
+    }
 }
 
 /// Whether the gate is open.

@@ -6,14 +6,13 @@ ghost use Rattle.pn_values.specs.declared.settings.Settings.{Settings};
 ghost use Rattle.flash_model.specs.Calls.{Call, Arms};
 ghost use Rattle.flash_model.specs.Image.{erased};
 ghost use Rattle.settings_journal.specs.Calls.{HasCommitCalls};
-ghost use Rattle.settings_journal.specs.Image.{StartsFrom, StartsWith, IsAmple, capacity, IsForeign, LeftByDevice, IsGeneration, spare};
+ghost use Rattle.settings_journal.specs.Image.{StartsWith, IsAmple, capacity, IsForeign, LeftByDevice, IsGeneration};
 ghost use Rattle.settings_journal.specs.Commit.{IsKept, HasBootCause, HasCommitCause};
 ghost use Rattle.settings_journal.specs.Faults.{boot_number, commit_number};
 
-use crate::base::encode;
-use crate::snapshot::{read_head, write_snapshot};
-use crate::start::start_of;
-use flash_model::{Flash, Order, Sector};
+use crate::start::{Position, read_start};
+use crate::store::store;
+use flash_model::{Flash, Order};
 use pn_values::{Command, Settings};
 use std::marker::Model;
 
@@ -38,7 +37,7 @@ impl BootFault {
 /// Why a commit was refused.
 #[derive(Clone, Copy, Debug, PartialEq, Eq)]
 pub enum CommitFault {
-    /// The last generation is in use; nothing changed.
+    /// The last generation is in use, and no slot is left; nothing changed.
     Exhausted = 1,
     /// A call of the flash failed. What is stored is old or new, and nothing more is stored until the next start.
     FlashFault = 2,
@@ -61,21 +60,21 @@ impl CommitFault {
 pub struct Journal<F: Flash<S>, const S: usize> {
     flash: F,
     settings: Settings,
-    active: Option<Sector>,
-    generation: u16,
+    position: Position,
     has_failed: bool,
 }
 
 impl<F: Flash<S>, const S: usize> Model for Journal<F, S> {
-    ghost use Rattle.std.specs.Prelude.{◌≡◌, ◌-◌, false};
-    ghost use Rattle.settings_journal.specs.Image.{StartsFrom};
+    ghost use Rattle.std.specs.Prelude.{◌≡◌, false};
+    ghost use Rattle.flash_model.specs.Image.{slots_in};
+    ghost use Rattle.settings_journal.specs.Image.{StartsAt, room_of};
     ghost use Rattle.settings_journal.specs.State.{State};
 
     ghost Value = { State F };
 
-    ghost view = { λ j. record { flash = j.flash; settings = j.settings; room = 65535 - j.generation; has_failed = j.has_failed } };
+    ghost view = { λ j. record { flash = j.flash; settings = j.settings; room = room_of (slots_in S) j.position.generation j.position.free; has_failed = j.has_failed } };
 
-    ghost invariant = { λ j. j.has_failed ≡ false → StartsFrom (F.image j.flash) j.active j.settings (65535 - j.generation) };
+    ghost invariant = { λ j. j.has_failed ≡ false → StartsAt (F.image j.flash) j.position.active j.settings j.position.generation j.position.free };
 }
 
 impl<F: Flash<S>, const S: usize> Journal<F, S> {
@@ -110,20 +109,16 @@ impl<F: Flash<S>, const S: usize> Journal<F, S> {
             MatchResult result (λ journal. F.is_reliable journal.flash) (λ refused. F.is_reliable refused.1 × (refused.0 ≡ BootFault.Foreign)) }
     {
         let mut flash = flash;
-        let Ok(first) = read_head(&mut flash, Sector::First) else {
+        let Ok(found) = read_start(&mut flash) else {
             return Err((BootFault::FlashFault, flash));
         };
-        let Ok(second) = read_head(&mut flash, Sector::Second) else {
-            return Err((BootFault::FlashFault, flash));
-        };
-        let Some(start) = start_of(&first, &second) else {
+        let Some(start) = found else {
             return Err((BootFault::Foreign, flash));
         };
         Ok(Journal {
             flash,
             settings: start.settings,
-            active: start.active,
-            generation: start.generation,
+            position: start.position,
             has_failed: false,
         })
     }
@@ -140,7 +135,7 @@ impl<F: Flash<S>, const S: usize> Journal<F, S> {
     pub fn is_exhausted(&self) -> bool
         ensures { IsTrue result ↔ (self.now.room ≡ 0) }
     {
-        self.generation == u16::MAX
+        self.position.generation == u16::MAX && self.position.free == 0
     }
 
     /// Whether a commit failed since the start, so that none is carried out any more.
@@ -213,27 +208,17 @@ impl<F: Flash<S>, const S: usize> Journal<F, S> {
         if self.is_exhausted() {
             return Err(CommitFault::Exhausted);
         }
-        let sector = spare_of(self.active);
-        let settings = command.apply(self.settings.copy());
-        let generation = self.generation + 1;
-        let base = encode(generation, &settings);
-        if write_snapshot(&mut self.flash, sector, base.as_slice()).is_err() {
-            self.has_failed = true;
-            return Err(CommitFault::FlashFault);
+        let next = command.apply(self.settings.copy());
+        match store(&mut self.flash, self.position, command, &next) {
+            Ok(position) => {
+                self.settings = next;
+                self.position = position;
+                Ok(())
+            }
+            Err(_) => {
+                self.has_failed = true;
+                Err(CommitFault::FlashFault)
+            }
         }
-        self.settings = settings;
-        self.active = Some(sector);
-        self.generation = generation;
-        Ok(())
-    }
-}
-
-// The sector that is not active, which the next snapshot goes to.
-fn spare_of(active: Option<Sector>) -> Sector
-    ensures { result ≡ spare active }
-{
-    match active {
-        Some(Sector::First) => Sector::Second,
-        Some(Sector::Second) | None => Sector::First,
     }
 }

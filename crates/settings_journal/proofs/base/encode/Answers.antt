@@ -1,14 +1,15 @@
 -- The pieces, one behind the other, are a base.
 use Rattle.std.proofs.Common.{◌≡◌, [], ◌∷◌, ◌∙◌, ap, length, refl, rules}
-use Rattle.settings_journal.specs.Head.{base_of, name_field, IsSettings}
+use Rattle.settings_journal.specs.Head.{front_of, base_of, magic_of, name_field, IsSettings}
+use Rattle.settings_journal.specs.declared.head.Version.TheVariants.{Two}
 use Rattle.settings_journal.proofs.Parts.{put_more, length-base_of}
 use Rattle.settings_journal.proofs.base.encode.Goals as goal
 
-value : (c : goal.After-put-9) → c.put-9.new.base.items ≡ base_of c.args.generation c.args.settings.now
-unfolding base_of
+value : (c : goal.After-put-10) → c.put-10.new.base.items ≡ base_of c.args.generation c.args.settings.now
+unfolding front_of
 value c =
     let name = c.as_bytes-name.ensures.value in
-    let magic = put_more c.new-base.ensures c.put.ensures refl in
+    let magic = put_more c.new-base.ensures c.put.ensures c.magic.ensures in
     let generation = put_more magic c.put-2.ensures c.to_be_bytes.ensures in
     let counted = put_more generation c.put-3.ensures (ap (λ text. length text ∷ []) name) in
     let named = put_more counted c.put_name.ensures (ap name_field name) in
@@ -17,7 +18,8 @@ value c =
     let gateway = put_more mask c.put-6.ensures c.gateway.ensures.value in
     let im1 = put_more gateway c.put-7.ensures c.as_bytes.ensures.value in
     let im2 = put_more im1 c.put-8.ensures c.as_bytes-2.ensures.value in
-    put_more im2 c.put-9.ensures c.as_bytes-3.ensures.value
+    let im3 = put_more im2 c.put-9.ensures c.as_bytes-3.ensures.value in
+    put_more im3 c.put-10.ensures c.as_bytes-4.ensures.value
 
 pub returns-clause-value : goal.returns-clause-value
 returns-clause-value c = value c

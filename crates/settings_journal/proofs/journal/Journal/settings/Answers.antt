@@ -1,4 +1,7 @@
+use Rattle.std.proofs.Common.{sym, ap}
+use Rattle.flash_model.specs.Image.{slots_in}
+use Rattle.settings_journal.proofs.Active.{starts_with}
 use Rattle.settings_journal.proofs.journal.Journal.settings.Goals as goal
 
 pub returns-clause-stored : goal.returns-clause-stored
-returns-clause-stored g c = rw (← c.self.view_is) (λ going. (c.self.inside.active, c.self.invariant going))
+returns-clause-stored g c = rw (← c.self.view_is) (λ going. starts_with _ _ _ _ _ _ (g.met.F.Flash.sized c.self.inside.flash) (c.self.invariant going))

@@ -5,11 +5,11 @@ use Rattle.flash_model.specs.Calls.{Programs, Erases}
 use Rattle.flash_model.specs.Image.{sector_of}
 use Rattle.settings_journal.proofs.Asking.{front, asked_all}
 use Rattle.settings_journal.proofs.Writes.{IsWritten, sector_with, erase_rises, program_closed, written, opened, half_opened, either}
-use Rattle.settings_journal.proofs.snapshot.write_snapshot.Goals as goal
-use Rattle.settings_journal.proofs.snapshot.write_snapshot.Given as given
-use Rattle.settings_journal.proofs.snapshot.write_snapshot.Goals.{After-program-2}
+use Rattle.settings_journal.proofs.access.write_base.Goals as goal
+use Rattle.settings_journal.proofs.access.write_base.Given as given
+use Rattle.settings_journal.proofs.access.write_base.Goals.{After-program-2}
 
-full : (g : given.Over) (c : After-program-2 g) → IsWritten (sector_of (g.F.Flash.image c.program.new.self) c.args.sector) c.args.base.now
+full : (g : given.Over) (c : After-program-2 g) → IsWritten g.row.S (sector_of (g.F.Flash.image c.program.new.self) c.args.sector) c.args.base.now
 full g c =
     let blank = ap (λ image. sector_of image c.args.sector) c.in_ok-erase.ensures.done ∙ sector_with _ c.args.sector _ in
     written _ _ _ _ c.args.base.now (g.met.F.Flash.sector_size c.args.flash.now) blank (λ k. (c.type_inv.base k).fits) c.requires (g.met.F.Flash.sized c.program.new.self) c.in_ok-program.ensures.done
@@ -24,11 +24,13 @@ returns-in_err-program-clause-left g c =
     inr (inl (program_closed _ _ _ _ _ _ (g.met.F.Flash.sector_size c.args.flash.now) blank (omega arith) c.in_err-program.ensures.torn))
 
 pub returns-clause-done : goal.returns-clause-done
-returns-clause-done g c = on_ok_weaker c.program-2.result (opened _ _ _ _ (full g c)) c.program-2.ensures.done
+returns-clause-done g c =
+    on_ok_weaker c.program-2.result (opened _ _ _ _ _ (g.met.F.Flash.sector_size c.args.flash.now) (g.met.F.Flash.sized c.program-2.new.self) (full g c)) c.program-2.ensures.done
 
 pub returns-clause-left : goal.returns-clause-left
 returns-clause-left g c =
-    either c.program-2.result (λ e. inr (inr (opened _ _ _ _ (full g c) e))) (half_opened _ _ _ _ _ _ _ (full g c)) c.program-2.ensures.done c.program-2.ensures.torn
+    either c.program-2.result (λ e. inr (inr (opened _ _ _ _ _ (g.met.F.Flash.sector_size c.args.flash.now) (g.met.F.Flash.sized c.program-2.new.self) (full g c) e)))
+    (half_opened _ _ _ _ _ _ _ (g.met.F.Flash.sector_size c.args.flash.now) (g.met.F.Flash.sized c.program-2.new.self) (full g c)) c.program-2.ensures.done c.program-2.ensures.torn
 
 pub returns-in_err-program-clause-calls : goal.returns-in_err-program-clause-calls
 returns-in_err-program-clause-calls g c =

@@ -1,0 +1,228 @@
+// A slot of a sector: an entry with a command, and a gate behind it.
+ghost use Rattle.std.specs.Prelude.{◌≡◌, ◌≢◌, ◌<◌, ◌≤◌, ◌++◌, length, true, Some, MatchOption};
+ghost use Rattle.pn_values.specs.IpSuite.{IsSuite};
+ghost use Rattle.pn_values.specs.declared.command.Command.TheVariants.{SetName, SetIp, SetIm};
+ghost use Rattle.pn_values.specs.declared.settings.Settings.{Settings};
+ghost use Rattle.settings_journal.specs.Slot.{command_in, command_of, entry as entry_with, entry_of, im4_in, left_by, next_behind, sized, suite_in, Follows, IsEntryOf, IsJudged};
+
+use crate::head::{OPEN, Version};
+use arrayvec::ArrayVec;
+use pn_values::{Command, ImValue, IpSuite, Padded, Settings, StationName};
+
+/// How many bytes a slot has.
+pub(crate) const SLOT: usize = 256;
+
+/// Where the gate of a slot is.
+pub(crate) const SLOT_GATE: usize = 255;
+
+/// How many bytes an entry has at most: its kind, the length of its payload, and a name.
+pub(crate) const ENTRY: usize = 2 + MOST;
+
+// How many bytes a payload has at most.
+const MOST: usize = 240;
+
+// What an erase leaves.
+const BLANK: [u8; SLOT] = [0xFF; SLOT];
+
+/// The entry of a command: its kind, the length of the payload, and the payload.
+pub(crate) fn encode_command(command: &Command) -> ArrayVec<u8, ENTRY>
+    ensures value { result.items ≡ entry_of command.now }
+    ensures length { length result.items ≤ 242 }
+    ensures kept { IsEntryOf result.items command.now }
+{
+    match command {
+        Command::SetName { permanent, name } if *permanent => entry(1, name.as_bytes()),
+        Command::SetName { .. } => entry(2, &[]),
+        Command::SetIp { permanent, suite } if *permanent => entry(3, octets_of(suite).as_slice()),
+        Command::SetIp { .. } => entry(4, &[]),
+        Command::SetIm(value) => im_entry(value),
+        Command::ResetApplication => entry(8, &[]),
+        Command::ResetCommunication => entry(9, &[]),
+        Command::ResetAll => entry(10, &[]),
+    }
+}
+
+// The entry of an I&M text.
+fn im_entry(value: &ImValue) -> ArrayVec<u8, ENTRY>
+    ensures value { result.items ≡ entry_of (SetIm value.now) }
+    ensures length { length result.items ≤ 242 }
+    ensures kept { IsEntryOf result.items (SetIm value.now) }
+{
+    match value {
+        ImValue::Im1(text) => entry(5, text.as_bytes()),
+        ImValue::Im2(text) => entry(6, text.as_bytes()),
+        ImValue::Im3(text) => entry(7, text.as_bytes()),
+        ImValue::Im4(text) => entry(11, text.as_bytes()),
+    }
+}
+
+// An entry of this kind and payload.
+fn entry(kind: u8, payload: &[u8]) -> ArrayVec<u8, ENTRY>
+    requires { length payload.now ≤ 240 }
+    ensures { result.items ≡ entry_with kind payload.now }
+{
+    let mut entry = ArrayVec::new();
+    let _ = entry.try_extend_from_slice(&[kind, payload.len() as u8]);
+    let _ = entry.try_extend_from_slice(payload);
+    entry
+}
+
+// Address, mask and gateway, one behind the other.
+fn octets_of(suite: &IpSuite) -> ArrayVec<u8, 12>
+    ensures value { result.items ≡ suite.now.address ++ suite.now.mask ++ suite.now.gateway }
+    ensures length { length result.items ≡ 12 }
+    ensures parts { suite_in result.items ≡ suite.now }
+    ensures valid { IsSuite suite.now }
+{
+    let mut octets = ArrayVec::new();
+    let _ = octets.try_extend_from_slice(&suite.address());
+    let _ = octets.try_extend_from_slice(&suite.mask());
+    let _ = octets.try_extend_from_slice(&suite.gateway());
+    octets
+}
+
+/// The settings behind a slot: a closed one changes nothing, and what an open one keeps is applied. None where an open one
+/// keeps no command.
+pub(crate) fn follow(version: Version, slot: &[u8; SLOT], settings: Settings) -> Option<Settings>
+    ensures { MatchOption result ((next : Settings) → ¬ Follows version slot.now settings next) (λ next. Follows version slot.now settings next) }
+{
+    if slot[SLOT_GATE] != OPEN {
+        return Some(settings);
+    }
+    match decode_command(version, slot) {
+        Some(command) => Some(command.apply(settings)),
+        None => None,
+    }
+}
+
+/// The next slot, behind those up to this one: a slot that holds a byte other than FF is in use.
+pub(crate) fn behind(slot: &[u8; SLOT], number: usize, next: usize) -> usize
+    requires { number < 255 }
+    ensures { result ≡ next_behind slot.now number next }
+{
+    if *slot == BLANK { next } else { number + 1 }
+}
+
+/// How many slots are left, from the next one on.
+pub(crate) fn left_of(version: Version, slots: usize, next: usize) -> usize
+    requires { next ≤ slots }
+    ensures { result ≡ left_by version slots next }
+{
+    match version {
+        Version::One => 0,
+        Version::Two => slots - next,
+    }
+}
+
+// The command that an open slot keeps.
+fn decode_command(version: Version, slot: &[u8; SLOT]) -> Option<Command>
+    ensures { IsJudged (command_in version slot.now) result }
+{
+    let length = usize::from(slot[1]);
+    if length > MOST {
+        return None;
+    }
+    command_at(version, slot[0], &slot[2..2 + length])
+}
+
+// The command of a kind and its payload.
+fn command_at(version: Version, kind: u8, payload: &[u8]) -> Option<Command>
+    ensures { IsJudged (command_of version kind payload.now) result }
+{
+    match kind {
+        1 => name_at(payload),
+        2 => bare(
+            payload,
+            Command::SetName {
+                permanent: false,
+                name: StationName::none(),
+            },
+        ),
+        3 => suite_at(payload),
+        4 => bare(
+            payload,
+            Command::SetIp {
+                permanent: false,
+                suite: IpSuite::zero(),
+            },
+        ),
+        5 => Some(Command::SetIm(ImValue::Im1(text_at(payload)?))),
+        6 => Some(Command::SetIm(ImValue::Im2(text_at(payload)?))),
+        7 => Some(Command::SetIm(ImValue::Im3(text_at(payload)?))),
+        8 => bare(payload, Command::ResetApplication),
+        9 => bare(payload, Command::ResetCommunication),
+        10 => bare(payload, Command::ResetAll),
+        11 => im4_at(version, payload),
+        _ => None,
+    }
+}
+
+// A permanent name, or none.
+fn name_at(payload: &[u8]) -> Option<Command>
+    ensures { IsJudged (Some (SetName true payload.now)) result }
+{
+    if payload.is_empty() {
+        return Some(Command::SetName {
+            permanent: true,
+            name: StationName::none(),
+        });
+    }
+    match station_names::check(payload) {
+        Ok(name) => Some(Command::SetName {
+            permanent: true,
+            name,
+        }),
+        Err(_) => None,
+    }
+}
+
+// A permanent IP suite.
+fn suite_at(payload: &[u8]) -> Option<Command>
+    ensures { IsJudged (sized 12 payload.now (SetIp true (suite_in payload.now))) result }
+{
+    let (address, rest) = payload.split_first_chunk::<4>()?;
+    let (mask, rest) = rest.split_first_chunk::<4>()?;
+    let (gateway, rest) = rest.split_first_chunk::<4>()?;
+    if !rest.is_empty() {
+        return None;
+    }
+    let suite = IpSuite::new(*address, *mask, *gateway)?;
+    Some(Command::SetIp {
+        permanent: true,
+        suite,
+    })
+}
+
+// A command that has no payload.
+fn bare(payload: &[u8], command: Command) -> Option<Command>
+    ensures { result ≡ sized 0 payload.now command }
+{
+    if payload.is_empty() {
+        Some(command)
+    } else {
+        None
+    }
+}
+
+// An I&M4, which version 1 does not have.
+fn im4_at(version: Version, payload: &[u8]) -> Option<Command>
+    ensures { IsJudged (im4_in version payload.now) result }
+{
+    match version {
+        Version::One => None,
+        Version::Two => Some(Command::SetIm(ImValue::Im4(text_at(payload)?))),
+    }
+}
+
+// A text of so many bytes, if the payload is one.
+fn text_at<const N: usize>(payload: &[u8]) -> Option<Padded<N>>
+    ensures { MatchOption result (length payload.now ≢ N) (λ text. (text ≡ payload.now) × (length payload.now ≡ N)) }
+{
+    if payload.len() != N {
+        return None;
+    }
+    match payload.split_first_chunk::<N>() {
+        Some((text, _end)) => Some(Padded::new(*text)),
+        None => None,
+    }
+}
