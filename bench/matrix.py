@@ -1,8 +1,8 @@
 #!/usr/bin/env python3
 """Power is lost in each flash call of forty Sets in turn, by the program itself: a script for each call and each mask.
 
-Each script arms the loss, sets the names n1 to n40 (permanent, one commit of three flash calls each), takes the power
-away and gives it back, and asks what the name is. It has to be that of the last Set answered or of the one that was
+Each script arms the loss, sets the names n1 to n40 (permanent, one commit each: three flash calls for a base, and two for
+each of the fourteen slots behind it, 83 in all), takes the power away and gives it back, and asks what the name is. It has to be that of the last Set answered or of the one that was
 stopped; and the new one exactly where the mask lets the last call of the commit open the gate, whose one byte goes from
 FF to 00: where the mask's first byte is FF.
 
@@ -15,7 +15,9 @@ import sys
 from program import proved
 
 SETS = 40
-CALLS = 3  # of a commit: erase the sector that does not count, write it, open its gate
+BASE = 3  # calls of a commit: erase the sector that does not count, write it, open its gate
+SLOT = 2  # calls of a commit into a slot: write it, open its gate
+SLOTS = 14  # behind a base
 MASKS = ("00", "55", "ff", "0f0f", "00000000ffff0000")
 
 ANSWER = "out 0200000000020200000000018892fefd04010000000200000008" + "0504000302020000" + 52 * "0"
@@ -35,6 +37,23 @@ def name(number):
     return f"n{number}" if number else "-"
 
 
+def calls_of(number):
+    """How many flash calls the commit of the Set of this number makes."""
+    return BASE if number % (SLOTS + 1) == 1 else SLOT
+
+
+ALL_CALLS = sum(calls_of(number) for number in range(1, SETS + 1))
+
+
+def met(calls):
+    """How many Sets are answered before so many calls passed, and whether the next call opens a gate."""
+    answered = 0
+    while calls >= calls_of(answered + 1):
+        answered += 1
+        calls -= calls_of(answered)
+    return answered, calls == calls_of(answered + 1) - 1
+
+
 def script_of(calls, mask):
     sets = [set_name(name(number)) for number in range(1, SETS + 1)]
     return "\n".join([f"cut {calls} {mask}", *sets, "restart", "show", ""])
@@ -46,11 +65,10 @@ def front_of(answered):
 
 
 def is_right(lines, calls, mask):
-    answered = calls // CALLS
-    opens_gate = calls % CALLS == CALLS - 1 and mask.startswith("ff")
-    left = name(answered + 1) if opens_gate else name(answered)
+    answered, at_gate = met(calls)
+    left = name(answered + 1) if at_gate and mask.startswith("ff") else name(answered)
     wanted = front_of(answered) + [f"name {left}", f"ip {SUITE}", f"stored-name {left}", f"stored-ip {SUITE}"]
-    texts = ["im1 " + 54 * "20", "im2 " + 16 * "20", "im3 " + 54 * "20", "lamp 0"]
+    texts = ["im1 " + 54 * "20", "im2 " + 16 * "20", "im3 " + 54 * "20", "im4 " + 54 * "00", "lamp 0"]
     return lines == wanted + texts
 
 
@@ -58,7 +76,7 @@ def main():
     program = sys.argv[1] if len(sys.argv) > 1 else proved()
     runs, right = 0, 0
     for mask in MASKS:
-        for calls in range(SETS * CALLS):
+        for calls in range(ALL_CALLS):
             run = subprocess.run([program, "run"], input=script_of(calls, mask), capture_output=True, text=True)
             runs += 1
             if run.returncode == 0 and is_right(run.stdout.split("\n")[:-1], calls, mask):

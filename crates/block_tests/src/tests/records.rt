@@ -33,6 +33,9 @@ const IM2: [u8; 22] = *b"\x00\x22\x00\x12\x01\x002024-05-06 07:08";
 const IM3: [u8; 60] =
     *b"\x00\x23\x00\x38\x01\x00what its user has to say of it in fifty-four octets so";
 
+const IM4: [u8; 60] =
+    *b"\x00\x24\x00\x38\x01\x00the signature that its user has put upon this station.";
+
 /// A station whose numbers and texts all differ.
 fn identity() -> Identity {
     Identity {
@@ -58,6 +61,7 @@ pub(crate) fn settings() -> Settings {
         im1: Padded::new(*b"the function of this station is.between press and oven"),
         im2: Padded::new(*b"2024-05-06 07:08"),
         im3: Padded::new(*b"what its user has to say of it in fifty-four octets so"),
+        im4: Padded::new(*b"the signature that its user has put upon this station."),
         ..Settings::factory()
     }
 }
@@ -109,6 +113,7 @@ fn reads_each_text(rt: HostRuntime) {
     assert!(rt; reads(0xAFF1, 0, 1, &IM1));
     assert!(rt; reads(0xAFF2, 0, 1, &IM2));
     assert!(rt; reads(0xAFF3, 0, 1, &IM3));
+    assert!(rt; reads(0xAFF4, 0, 1, &IM4));
 }
 
 /// I&M2 as it leaves the factory: spaces.
@@ -147,7 +152,8 @@ fn reads_no_others(rt: HostRuntime) {
         (0xAFF0, 1, 2),
         (0xAFF1, 1, 1),
         (0xAFF3, 0, 0x8000),
-        (0xAFF4, 0, 1),
+        (0xAFF4, 0, 2),
+        (0xAFF5, 0, 1),
         (0x0001, 0, 1),
     ] {
         let found = read_record(index, slot, subslot, &identity(), &real(), &settings());
@@ -168,6 +174,7 @@ fn sets_the_text_of_its_index(rt: HostRuntime) {
     assert_eq!(rt; set_by(0xAFF1, &IM1).im1.as_bytes(), &IM1[6..]);
     assert_eq!(rt; set_by(0xAFF2, &IM2).im2.as_bytes(), &IM2[6..]);
     assert_eq!(rt; set_by(0xAFF3, &IM3).im3.as_bytes(), &IM3[6..]);
+    assert_eq!(rt; set_by(0xAFF4, &IM4).im4.as_bytes(), &IM4[6..]);
 }
 
 /// The number of the fault that a record has.

@@ -44,7 +44,7 @@ fn an_order_that_has_not_struck_stays_armed(rt: HostRuntime) -> Result<(), Fail>
 fn a_restart_gives_the_power_back(rt: HostRuntime) -> Result<(), Fail> {
     let alloc = rt.alloc();
     let script = format!(in alloc;
-        "{SET_PUMP_1}\ncut 2 55\n{SET_PUMP_2}\nrestart\nshow\n{SET_PUMP_3}\nrestart\nshow\n"
+        "{SET_PUMP_1}\ncut 1 55\n{SET_PUMP_2}\nrestart\nshow\n{SET_PUMP_3}\nrestart\nshow\n"
     )?;
     let first = shown(alloc, ("pump-1", NO_SUITE), ("pump-1", NO_SUITE))?;
     let third = shown(alloc, ("pump-3", NO_SUITE), ("pump-3", NO_SUITE))?;
@@ -54,9 +54,9 @@ fn a_restart_gives_the_power_back(rt: HostRuntime) -> Result<(), Fail> {
     prints(&rt, alloc, script.as_str(), wanted.as_str())
 }
 
-// Power is lost as the sector that does not count is erased, for the third name.
+// Power is lost as the slot of the third name is written.
 #[test]
-fn an_erase_that_was_cut_short_changes_nothing(rt: HostRuntime) -> Result<(), Fail> {
+fn a_slot_that_was_cut_short_changes_nothing(rt: HostRuntime) -> Result<(), Fail> {
     let alloc = rt.alloc();
     let left = shown(alloc, ("pump-2", NO_SUITE), ("pump-2", NO_SUITE))?;
     let done = format!(in alloc; "{SET_DONE}\nnote done\n")?;
