@@ -60,7 +60,7 @@ unspelled sector head is none = λ settings r. none r.base (subst (λ h. Spells 
 
 -- what is said of an option, where it is known which
 pub at_some : {A P : Type 0} {Q : A → Type 0} (found : Option A) (x : A) → found ≡ Some x → MatchOption found P Q → Q x
-at_some {P = P} {Q = Q} found x e said = subst (λ o. MatchOption o P Q) e said
+at_some {A} {P} {Q} found x e said = subst (λ o. MatchOption o P Q) e said
 
 pub at_none : {A P : Type 0} {Q : A → Type 0} (found : Option A) → found ≡ None → MatchOption found P Q → P
-at_none {P = P} {Q = Q} found e said = subst (λ o. MatchOption o P Q) e said
+at_none {A} {P} {Q} found e said = subst (λ o. MatchOption o P Q) e said

@@ -71,7 +71,9 @@ fn entry(kind: u8, payload: &[u8]) -> ArrayVec<u8, ENTRY>
 fn octets_of(suite: &IpSuite) -> ArrayVec<u8, 12>
     ensures value { result.items ≡ suite.now.address ++ suite.now.mask ++ suite.now.gateway }
     ensures length { length result.items ≡ 12 }
-    ensures parts { suite_in result.items ≡ suite.now }
+    ensures address { length suite.now.address ≡ 4 }
+    ensures mask { length suite.now.mask ≡ 4 }
+    ensures gateway { length suite.now.gateway ≡ 4 }
     ensures valid { IsSuite suite.now }
 {
     let mut octets = ArrayVec::new();

@@ -7,7 +7,7 @@ use record_reads::{Blocks, read_implicit};
 
 /// I&M0 of the station below.
 const IM0: [u8; 60] =
-    *b"\x00\x20\x00\x38\x01\x00\x01\x23                                    \x00\x00V\x00\x00\x00\x00\x00\x00\x00\x00\x00\x01\x01\x00\x0E";
+    *b"\x00\x20\x00\x38\x01\x00\x01\x23                                    \x00\x00V\x00\x00\x00\x00\x00\x00\x00\x00\x00\x01\x01\x00\x1E";
 
 /// A station whose texts are spaces.
 fn station() -> Identity {

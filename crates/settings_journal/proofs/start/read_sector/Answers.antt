@@ -1,6 +1,7 @@
 -- What the base and the slots say of the sector.
 use Rattle.std.proofs.Common.{◌≡◌, ◌∙◌, ap, arith, Some}
 use Rattle.flash_model.specs.Image.{sector_of, slots_in}
+use Rattle.settings_journal.specs.Slot.{left_by}
 use Rattle.settings_journal.proofs.Reading.{reads_as, reads_none, left_as, unspelled, at_some, at_none}
 use Rattle.settings_journal.proofs.Slots.{next_le}
 use Rattle.settings_journal.proofs.Writes.{sector_size}
@@ -26,6 +27,6 @@ returns-clause-read g c =
     let long = sector_size _ _ c.args.sector (g.met.F.Flash.sized c.args.flash.now) in
     let found = at_some c.in_ok-found.field-0 c.in-Some-2.found c.in-Some-2.is c.in_ok-found.ensures.found in
     let free = left_as _ c.args.head.now c.version_of-version.result g.row.S c.requires.head c.version_of-version.ensures long c.in-Some-2.found.next c.left_of.result found.1
-    (rw (← c.slots_of.ensures) c.left_of.ensures) in
+    (c.left_of.ensures ∙ ap (λ n. left_by c.version_of-version.result n c.in-Some-2.found.next) c.slots_of.ensures) in
     (reads_as _ c.args.head.now c.version_of-version.result g.row.S c.requires.head c.version_of-version.ensures long c.in-Some.base _ c.in-Some.ensures.spelled found.0,
     λ i. record { active = Some c.args.sector; generation = c.args.generation; free = free i })
