@@ -3,6 +3,7 @@ use Rattle.std.proofs.Common.{◌≡◌, ◌+◌, ◌<◌, ◌≤◌, ℕ, suc, 
 use Rattle.std.specs.Prelude.{MatchOption}
 use Rattle.pn_values.specs.declared.settings.Settings.{Settings}
 use Rattle.flash_model.specs.Image.{slots_in}
+use Rattle.settings_journal.specs.declared.access.Found.{Found}
 use Rattle.settings_journal.specs.declared.head.Version.{Version}
 use Rattle.settings_journal.specs.Head.{head_of, version_at, Spells}
 use Rattle.settings_journal.specs.Slot.{slot_at, After, Follows, is_blank, left_by, next_behind, next_slot, free_in}
@@ -58,9 +59,16 @@ module _ (sector head : List ℕ) (version : Version) (size : ℕ) (is : head �
 pub unspelled : (sector head : List ℕ) → head ≡ head_of sector → ((settings : Settings) → ¬ Spells head settings) → (settings : Settings) → ¬ Reads sector settings
 unspelled sector head is none = λ settings r. none r.base (subst (λ h. Spells h r.base) (sym is) r.spells)
 
--- what is said of an option, where it is known which
-pub at_some : {A P : Type 0} {Q : A → Type 0} (found : Option A) (x : A) → found ≡ Some x → MatchOption found P Q → Q x
-at_some {A} {P} {Q} found x e said = subst (λ o. MatchOption o P Q) e said
+-- what the slots make of a base
+abbrev pub IsFound : Version → List ℕ → ℕ → Settings → Option Found → Type 0
+IsFound version sector count base found =
+    MatchOption found ((settings : Settings) → ¬ After version sector count base settings)
+    (λ found. After version sector count base found.settings × (found.next ≡ next_slot sector count))
 
-pub at_none : {A P : Type 0} {Q : A → Type 0} (found : Option A) → found ≡ None → MatchOption found P Q → P
-at_none {A} {P} {Q} found e said = subst (λ o. MatchOption o P Q) e said
+pub found_some : (version : Version) (sector : List ℕ) (count : ℕ) (base : Settings) (found : Option Found) (x : Found) → found ≡ Some x → IsFound version sector count base found
+    → After version sector count base x.settings × (x.next ≡ next_slot sector count)
+found_some version sector count base found x e said = subst (IsFound version sector count base) e said
+
+pub found_none : (version : Version) (sector : List ℕ) (count : ℕ) (base : Settings) (found : Option Found) → found ≡ None → IsFound version sector count base found
+    → (settings : Settings) → ¬ After version sector count base settings
+found_none version sector count base found e said = subst (IsFound version sector count base) e said

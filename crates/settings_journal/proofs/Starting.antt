@@ -64,3 +64,10 @@ newest_first first second sector generation e newest = subst (λ s. IsNewestOf f
 
 pub newest_second : (first second : List ℕ) (sector : Sector) (generation : ℕ) → sector ≡ Second → IsNewestOf first second sector generation → IsNewest second first generation
 newest_second first second sector generation e newest = subst (λ s. IsNewestOf first second s generation) e newest
+
+-- of a start that is known
+pub start_some : (image : Image) (found : Option Start) (x : Start) → found ≡ Some x → IsStart image found → StartsAt image x.position.active x.settings x.position.generation x.position.free
+start_some image found x e said = subst (IsStart image) e said
+
+pub start_none : (image : Image) (found : Option Start) → found ≡ None → IsStart image found → IsForeign image
+start_none image found e said = subst (IsStart image) e said
