@@ -9,7 +9,9 @@ use block_codec::{Block, FilterModule, FilterModules, FilterSubmodule, ImFilterD
 use pn_values::{Real, RealModule, RealSubmodule};
 use record_blocks::filter_data_len;
 
-/// Record 0xF840: all submodules that are plugged in, and then the one that stands for the device.
+/// Record 0xF840: all submodules that are plugged in, and then the one that stands for the device. Its lists take ten thousand
+/// octets of stack, which no other call has to carry.
+#[inline(never)]
 #[tactic(auto, unfolding(block_codec::specs::Block::block_size, block_codec::specs::Block::fields_of, block_fields::specs::Fields::body, block_fields::specs::Fields::version))]
 pub(crate) fn filter_of(real: &Real) -> ArrayVec<u8, 1024>
     ensures { result.items ≡ filter_record real.now }
