@@ -48,7 +48,7 @@ IM0 = {
     "VendorIDHigh": 0x01, "VendorIDLow": 0x23, "OrderID": 20 * b" ", "IMSerialNumber": 16 * b" ",
     "IMHardwareRevision": 0, "IMSWRevisionPrefix": b"V", "IMSWRevisionFunctionalEnhancement": 0,
     "IMSWRevisionBugFix": 0, "IMSWRevisionInternalChange": 0, "IMRevisionCounter": 0, "IMProfileID": 0,
-    "IMProfileSpecificType": 0, "IMVersionMajor": 1, "IMVersionMinor": 1, "IMSupported": 0x000E,
+    "IMProfileSpecificType": 0, "IMVersionMajor": 1, "IMVersionMinor": 1, "IMSupported": 0x001E,
 }
 IM1 = {"block_type": 0x0021, "block_length": 56, "IMTagFunction": 32 * b" ", "IMTagLocation": 22 * b" "}
 IM2 = {"block_type": 0x0022, "block_length": 18, "IMDate": 16 * b" "}

@@ -32,8 +32,8 @@ fn a_cycle_with_a_loss(rt: HostRuntime) -> Result<(), Fail> {
         frames: Vec::new(rt.alloc()),
     };
     let mut flash = MemoryFlash::<768>::blank();
-    // The third call of the second commit.
-    flash.fuse(5, [0x55; 8]);
+    // The last call of the second commit: the gate of its slot.
+    flash.fuse(4, [0x55; 8]);
     let events = [
         set_pump(b'1'),
         Event::Tick,
@@ -54,11 +54,11 @@ fn a_cycle_with_a_loss(rt: HostRuntime) -> Result<(), Fail> {
     .ok()
     .ok_or("starts again")?;
     assert_eq!(rt; device.running().name.as_bytes(), b"pump-1".as_slice());
-    let second = device.flash().sector(Sector::Second);
-    assert_eq!(rt; second.get(511).copied(), Some(0xAA));
+    let first = device.flash().sector(Sector::First);
+    assert_eq!(rt; first.get(767).copied(), Some(0xAA));
     assert_eq!(rt; device.lamp(), 0);
     assert_eq!(rt; sink.frames.len(), 1);
-    let first = sink.frames.first();
-    assert!(rt; first.is_some_and(|sent| sent.as_slice().starts_with(&DONE)));
+    let sent = sink.frames.first();
+    assert!(rt; sent.is_some_and(|sent| sent.as_slice().starts_with(&DONE)));
     Ok(())
 }

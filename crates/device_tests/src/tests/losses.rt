@@ -20,7 +20,7 @@ fn the_first_name_lies_in_the_first_sector(rt: HostRuntime) -> Result<(), Fail> 
     let mut device = start(MemoryFlash::blank()).ok_or("starts")?;
     let _ = device.step(&set_pump(b'1'), &mut outbox);
     let first = device.flash().sector(Sector::First);
-    assert!(rt; first.starts_with(b"PNS\x01\xff\xfe\x06pump-1"));
+    assert!(rt; first.starts_with(b"PNJ\x02\xff\xfe\x06pump-1"));
     assert_eq!(rt; first.get(511).copied(), Some(0));
     let second = device.flash().sector(Sector::Second);
     assert!(rt; second.iter().all(|x| *x == 0xFF));
@@ -28,13 +28,28 @@ fn the_first_name_lies_in_the_first_sector(rt: HostRuntime) -> Result<(), Fail> 
 }
 
 #[test]
-fn the_second_name_lies_in_the_other(rt: HostRuntime) -> Result<(), Fail> {
+fn the_second_name_lies_in_the_slot_behind_it(rt: HostRuntime) -> Result<(), Fail> {
     let mut outbox = Outbox::new();
     let device = named_twice(&mut outbox).ok_or("starts")?;
     let first = device.flash().sector(Sector::First);
-    assert!(rt; first.starts_with(b"PNS\x01\xff\xfe\x06pump-1"));
+    assert!(rt; first.starts_with(b"PNJ\x02\xff\xfe\x06pump-1"));
+    assert_eq!(rt; first.get(512).copied(), Some(0x01));
+    assert_eq!(rt; first.get(513).copied(), Some(0x06));
+    assert_eq!(rt; first.get(519).copied(), Some(b'2'));
+    assert_eq!(rt; first.get(767).copied(), Some(0));
     let second = device.flash().sector(Sector::Second);
-    assert!(rt; second.starts_with(b"PNS\x01\xff\xfd\x06pump-2"));
+    assert!(rt; second.iter().all(|x| *x == 0xFF));
+    Ok(())
+}
+
+#[test]
+fn the_third_name_lies_in_the_other_sector(rt: HostRuntime) -> Result<(), Fail> {
+    let mut outbox = Outbox::new();
+    let mut device = named_twice(&mut outbox).ok_or("starts")?;
+    let _ = device.step(&set_pump(b'3'), &mut outbox);
+    let second = device.flash().sector(Sector::Second);
+    assert!(rt; second.starts_with(b"PNJ\x02\xff\xfd\x06pump-3"));
+    assert_eq!(rt; second.get(511).copied(), Some(0));
     Ok(())
 }
 
