@@ -1,10 +1,12 @@
 #!/usr/bin/env python3
-"""Power is lost in each flash call of forty Sets in turn, by the program itself: a script for each call and each mask.
+"""Each flash call of forty Sets fails in turn, by the program itself: a script for each call, each mask, and each order,
+with power lost in that call (`cut`) or there (`fault`).
 
-Each script arms the loss, sets the names n1 to n40 (permanent, one commit each: three flash calls for a base, and two for
-each of the fourteen slots behind it, 83 in all), takes the power away and gives it back, and asks what the name is. It has to be that of the last Set answered or of the one that was
-stopped; and the new one exactly where the mask lets the last call of the commit open the gate, whose one byte goes from
-FF to 00: where the mask's first byte is FF.
+Each script arms the order, sets the names n1 to n40 (permanent, one commit each: three flash calls for a base, and two for
+each of the fourteen slots behind it, 83 in all), takes the power away and gives it back, and asks what the name is. It has
+to be that of the last Set answered 'done' or of the one that was struck; and the new one exactly where the mask lets the
+last call of the commit open the gate, whose one byte goes from FF to 00: where the mask's first byte is FF. Behind a fault
+each Set is answered with error 5.
 
 Use: bench/matrix.py [PROGRAM]   (the proved one if left out). Prints how many runs are right; its status is 1 if one is not.
 """
@@ -20,7 +22,11 @@ SLOT = 2  # calls of a commit into a slot: write it, open its gate
 SLOTS = 14  # behind a base
 MASKS = ("00", "55", "ff", "0f0f", "00000000ffff0000")
 
-ANSWER = "out 0200000000020200000000018892fefd04010000000200000008" + "0504000302020000" + 52 * "0"
+HEAD = "out 0200000000020200000000018892fefd04010000000200000008"
+DONE = [HEAD + "0504000302020000" + 52 * "0", "note done"]
+REFUSED = [HEAD + "0504000302020500" + 52 * "0", "note done"]
+# what is printed of the Set whose call an order strikes, and of each one behind it
+ORDERS = {"cut": (["power lost"], ["off"]), "fault": (REFUSED, REFUSED)}
 SUITE = "0.0.0.0 0.0.0.0 0.0.0.0"
 
 
@@ -54,20 +60,21 @@ def met(calls):
     return answered, calls == calls_of(answered + 1) - 1
 
 
-def script_of(calls, mask):
+def script_of(order, calls, mask):
     sets = [set_name(name(number)) for number in range(1, SETS + 1)]
-    return "\n".join([f"cut {calls} {mask}", *sets, "restart", "show", ""])
+    return "\n".join([f"{order} {calls} {mask}", *sets, "restart", "show", ""])
 
 
-def front_of(answered):
-    """What is printed up to the restart, where so many Sets are answered."""
-    return ["boot ok", *[ANSWER, "note done"] * answered, "power lost", *["off"] * (SETS - answered - 1), "boot ok"]
+def front_of(order, answered):
+    """What is printed up to the restart, where so many Sets are answered 'done'."""
+    struck, behind = ORDERS[order]
+    return ["boot ok", *DONE * answered, *struck, *behind * (SETS - answered - 1), "boot ok"]
 
 
-def is_right(lines, calls, mask):
+def is_right(lines, order, calls, mask):
     answered, at_gate = met(calls)
     left = name(answered + 1) if at_gate and mask.startswith("ff") else name(answered)
-    wanted = front_of(answered) + [f"name {left}", f"ip {SUITE}", f"stored-name {left}", f"stored-ip {SUITE}"]
+    wanted = front_of(order, answered) + [f"name {left}", f"ip {SUITE}", f"stored-name {left}", f"stored-ip {SUITE}"]
     texts = ["im1 " + 54 * "20", "im2 " + 16 * "20", "im3 " + 54 * "20", "im4 " + 54 * "00", "lamp 0"]
     return lines == wanted + texts
 
@@ -75,14 +82,16 @@ def is_right(lines, calls, mask):
 def main():
     program = sys.argv[1] if len(sys.argv) > 1 else proved()
     runs, right = 0, 0
-    for mask in MASKS:
-        for calls in range(ALL_CALLS):
-            run = subprocess.run([program, "run"], input=script_of(calls, mask), capture_output=True, text=True)
-            runs += 1
-            if run.returncode == 0 and is_right(run.stdout.split("\n")[:-1], calls, mask):
-                right += 1
-            else:
-                print(f"cut {calls} {mask}: wrong (status {run.returncode})")
+    for order in ORDERS:
+        for mask in MASKS:
+            for calls in range(ALL_CALLS):
+                script = script_of(order, calls, mask)
+                run = subprocess.run([program, "run"], input=script, capture_output=True, text=True)
+                runs += 1
+                if run.returncode == 0 and is_right(run.stdout.split("\n")[:-1], order, calls, mask):
+                    right += 1
+                else:
+                    print(f"{order} {calls} {mask}: wrong (status {run.returncode})")
     print(f"{runs} runs, {right} right")
     return 0 if right == runs else 1
 

@@ -1,4 +1,4 @@
-// Power is lost in each flash call of forty Sets in turn.
+// Each flash call of forty Sets fails in turn, with power lost or there.
 use super::{NO_SUITE, SET_DONE, TEXTS, output, prints, request};
 use std::alloc::{AllocError, Global};
 use std::process::Abort;
@@ -28,17 +28,43 @@ fn sets(alloc: Global) -> Result<String, AllocError> {
     Ok(script)
 }
 
-/// What is printed up to the restart, where so many Sets are answered and power is lost in the next one.
-fn answers(alloc: Global, answered: u32) -> Result<String, AllocError> {
+/// An order that strikes a flash call, and what is printed of the Set that is struck and of each one behind it.
+#[derive(Clone, Copy)]
+struct Strike {
+    order: &'static str,
+    struck: &'static str,
+    behind: &'static str,
+}
+
+/// Power is lost in the call.
+const CUT: Strike = Strike {
+    order: "cut",
+    struck: "power lost\n",
+    behind: "off\n",
+};
+
+/// That call alone fails: its Set, and each one behind it, is answered with error 5.
+const FAULT: Strike = Strike {
+    order: "fault",
+    struck: REFUSED,
+    behind: REFUSED,
+};
+
+/// The answer to a Set of a name that is refused after a fault.
+const REFUSED: &str =
+    "out 0200000000020200000000018892fefd0401000000020000000805040003020205000000000000000000000000000000000000000000000000000000\nnote done\n";
+
+/// What is printed up to the restart, where so many Sets are answered 'done' and a flash call of the next one is struck.
+fn answers(alloc: Global, strike: Strike, answered: u32) -> Result<String, AllocError> {
     let mut text = String::from_str(alloc, "boot ok\n")?;
     for number in 0..SETS {
         if number < answered {
             text.push_str(SET_DONE)?;
             text.push_str("\nnote done\n")?;
         } else if number == answered {
-            text.push_str("power lost\n")?;
+            text.push_str(strike.struck)?;
         } else {
-            text.push_str("off\n")?;
+            text.push_str(strike.behind)?;
         }
     }
     text.push_str("boot ok\n")?;
@@ -62,13 +88,19 @@ fn named(alloc: Global, number: u32) -> Result<String, AllocError> {
     )
 }
 
-/// Runs the script with power lost after each number of flash calls, at this mask.
+/// Runs the script with the call behind each number of flash calls struck, at this mask.
 ///
 /// The name is that of the last Set answered or of the one that was stopped. It is the new one only where the last call
 /// of the commit opened the gate: its one byte was FF and is to be 00, so the mask's first byte has to be FF. An erase or
 /// a write that was cut short is in a slot or a sector that does not count, or counts as older than the other.
-fn lose(rt: &impl Abort, alloc: Global, mask: &str, opens_gate: bool) -> Result<(), Fail> {
-    let sets = sets(alloc)?;
+fn lose(
+    rt: &impl Abort,
+    alloc: Global,
+    strike: Strike,
+    mask: &str,
+    opens_gate: bool,
+) -> Result<(), Fail> {
+    let (sets, order) = (sets(alloc)?, strike.order);
     let mut answered = 0;
     let mut passed = 0;
     for calls in 0..83u32 {
@@ -77,46 +109,61 @@ fn lose(rt: &impl Abort, alloc: Global, mask: &str, opens_gate: bool) -> Result<
             passed = 0;
         }
         passed += 1;
-        let script = format!(in alloc; "cut {calls} {mask}\n{sets}restart\nshow\n")?;
+        let script = format!(in alloc; "{order} {calls} {mask}\n{sets}restart\nshow\n")?;
         let (result, text) = output(alloc, script.as_bytes());
         assert_eq!(rt; result, Ok(()));
-        let answers = answers(alloc, answered)?;
+        let answers = answers(alloc, strike, answered)?;
         let old = named(alloc, answered)?;
         let new = named(alloc, answered + 1)?;
         let left = text.as_slice().strip_prefix(answers.as_bytes());
         assert!(rt;
             left == Some(old.as_bytes()) || left == Some(new.as_bytes()),
-            "cut {calls} {mask}"
+            "{order} {calls} {mask}"
         );
         let is_new = opens_gate && passed == calls_of(answered + 1);
-        assert_eq!(rt; left == Some(new.as_bytes()), is_new, "cut {calls} {mask}");
+        assert_eq!(rt; left == Some(new.as_bytes()), is_new, "{order} {calls} {mask}");
     }
     Ok(())
 }
 
 #[test]
 fn no_bit_is_changed(rt: HostRuntime) -> Result<(), Fail> {
-    lose(&rt, rt.alloc(), "00", false)
+    lose(&rt, rt.alloc(), CUT, "00", false)
 }
 
 #[test]
 fn every_other_bit_is_changed(rt: HostRuntime) -> Result<(), Fail> {
-    lose(&rt, rt.alloc(), "55", false)
+    lose(&rt, rt.alloc(), CUT, "55", false)
 }
 
 #[test]
 fn each_bit_is_changed(rt: HostRuntime) -> Result<(), Fail> {
-    lose(&rt, rt.alloc(), "ff", true)
+    lose(&rt, rt.alloc(), CUT, "ff", true)
 }
 
 #[test]
 fn half_of_the_first_byte_is_changed(rt: HostRuntime) -> Result<(), Fail> {
-    lose(&rt, rt.alloc(), "0F0F", false)
+    lose(&rt, rt.alloc(), CUT, "0F0F", false)
 }
 
 #[test]
 fn two_bytes_of_eight_are_changed(rt: HostRuntime) -> Result<(), Fail> {
-    lose(&rt, rt.alloc(), "00000000ffff0000", false)
+    lose(&rt, rt.alloc(), CUT, "00000000ffff0000", false)
+}
+
+#[test]
+fn a_fault_changes_no_bit(rt: HostRuntime) -> Result<(), Fail> {
+    lose(&rt, rt.alloc(), FAULT, "00", false)
+}
+
+#[test]
+fn a_fault_changes_every_other_bit(rt: HostRuntime) -> Result<(), Fail> {
+    lose(&rt, rt.alloc(), FAULT, "55", false)
+}
+
+#[test]
+fn a_fault_changes_each_bit(rt: HostRuntime) -> Result<(), Fail> {
+    lose(&rt, rt.alloc(), FAULT, "ff", true)
 }
 
 // The forty commits make 83 calls: an order for one behind the last strikes none, not by the restart either.
@@ -124,9 +171,13 @@ fn two_bytes_of_eight_are_changed(rt: HostRuntime) -> Result<(), Fail> {
 fn no_call_is_left_to_strike(rt: HostRuntime) -> Result<(), Fail> {
     let alloc = rt.alloc();
     let sets = sets(alloc)?;
-    let script = format!(in alloc; "cut 83 ff\n{sets}restart\nshow\n")?;
-    let answers = answers(alloc, SETS)?;
     let left = named(alloc, SETS)?;
-    let wanted = format!(in alloc; "{answers}{left}")?;
-    prints(&rt, alloc, script.as_str(), wanted.as_str())
+    for strike in [CUT, FAULT] {
+        let order = strike.order;
+        let script = format!(in alloc; "{order} 83 ff\n{sets}restart\nshow\n")?;
+        let answers = answers(alloc, strike, SETS)?;
+        let wanted = format!(in alloc; "{answers}{left}")?;
+        prints(&rt, alloc, script.as_str(), wanted.as_str())?;
+    }
+    Ok(())
 }
