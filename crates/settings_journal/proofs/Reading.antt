@@ -27,9 +27,9 @@ pub none_after : (version : Version) (sector slot : List ℕ) (number total : �
     → ((y : Settings) → ¬ Follows version slot x y) → (z : Settings) → ¬ After version sector total base z
 none_after version sector slot number total base x lt p e none =
     λ z q.
-        let front = After-front version sector (suc number) total base z (omega arith) q in
-        let same : front.1.0 ≡ x = After-same version sector number base base front.1.0 x refl front.1.1 p in
-        none front.0 (subst (λ s. Follows version s x front.0) (sym e) (subst (λ b. Follows version (slot_at sector number) b front.0) same front.1.2))
+    let front = After-front version sector (suc number) total base z (omega arith) q in
+    let same : front.1.0 ≡ x = After-same version sector number base base front.1.0 x refl front.1.1 p in
+    none front.0 (subst (λ s. Follows version s x front.0) (sym e) (subst (λ b. Follows version (slot_at sector number) b front.0) same front.1.2))
 
 module _ (sector head : List ℕ) (version : Version) (size : ℕ) (is : head ≡ head_of sector) (claims : version ≡ version_at head) (long : length sector ≡ size) where
   claimed : version ≡ version_at (head_of sector)

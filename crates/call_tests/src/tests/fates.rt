@@ -24,9 +24,13 @@ const ADDRESS: [u8; 4] = [192, 168, 0, 2];
 /// PNIOStatus (IEC 61158-6-10, 5.2.6) of a Read that fails: a block or the counts of blocks are wrong, there is no block of a
 /// Read, another API than 0, no such slot or subslot, no such Index there.
 const WRONG_BLOCK: u32 = 0xDE81_4000;
+
 const OTHER_BLOCK: u32 = 0xDE81_4001;
+
 const OTHER_API: u32 = 0xDE80_B400;
+
 const NO_PLACE: u32 = 0xDE80_B200;
+
 const NO_INDEX: u32 = 0xDE80_B000;
 
 /// An answer without blocks: headers of Ethernet, IPv4, UDP and RPC, and five words.
@@ -76,7 +80,9 @@ fn fate_of_packet(is_own: bool, packet: &[u8]) -> Fate {
         return Fate::Fault;
     };
     let total = usize::from(u16::from_be_bytes([*high, *low]));
-    let Some((header, segment)) = packet.get(..total).and_then(|whole| whole.split_at_checked(20))
+    let Some((header, segment)) = packet
+        .get(..total)
+        .and_then(|whole| whole.split_at_checked(20))
     else {
         return Fate::Fault;
     };
@@ -148,7 +154,8 @@ fn fate_of_call(order: Order, header: &[u8], blocks: Option<&[u8]>) -> Option<Fa
         Order::Little => [0x01, 0x00, 0xA0, 0xDE, 0x97, 0x6C, 0xD1, 0x11],
     };
     let rest = [0x82, 0x71, 0x00, 0xA0, 0x24, 0x42, 0xDF, 0x7D];
-    let is_device = header.get(24..32)? == first.as_slice() && header.get(32..40)? == rest.as_slice();
+    let is_device = header.get(24..32)? == first.as_slice()
+        && header.get(32..40)? == rest.as_slice();
     if !is_device || u16_at(order, header, 68)? != 5 {
         return None;
     }

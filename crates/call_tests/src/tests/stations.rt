@@ -135,11 +135,17 @@ impl Trial {
             self.station.step(&event(octets), &mut outbox)
         };
         let came = outcome(note, &outbox);
-        assert!(rt; came == Some(wanted), "of {octets:?} came {came:?}, not {wanted:?}");
+        assert!(rt;
+            came == Some(wanted),
+            "of {octets:?} came {came:?}, not {wanted:?}"
+        );
         if !is_answered {
             let note = self.station.step(&self.again, &mut outbox);
             let kept = octets_of(self.alloc, &outbox)?;
-            assert!(rt; note == Note::Done && kept.as_slice() == self.kept.as_slice(), "behind {octets:?}");
+            assert!(rt;
+                note == Note::Done && kept.as_slice() == self.kept.as_slice(),
+                "behind {octets:?}"
+            );
         }
         Ok(())
     }
@@ -151,10 +157,17 @@ impl Trial {
         let (mut outbox, mut wanted) = (Outbox::new(), Outbox::new());
         for (activity, sequence, note) in PROBES {
             let event = call(alloc, activity, sequence)?;
-            assert_eq!(rt; self.station.step(&event, &mut outbox), note, "activity {activity}");
+            assert_eq!(rt;
+                self.station.step(&event, &mut outbox),
+                note,
+                "activity {activity}"
+            );
             let _ = other.step(&event, &mut wanted);
             let came = octets_of(alloc, &outbox)?;
-            assert!(rt; came.as_slice() == octets_of(alloc, &wanted)?.as_slice(), "activity {activity}");
+            assert!(rt;
+                came.as_slice() == octets_of(alloc, &wanted)?.as_slice(),
+                "activity {activity}"
+            );
         }
         Ok(())
     }
@@ -202,7 +215,10 @@ fn answered(sent: &[u8]) -> Option<Fate> {
     }
     let (header, datagram) = packet.split_at_checked(20)?;
     let counted = number_at(Order::Big, datagram, 4, 2) as usize;
-    if ones_sum(0, header) != 0xFFFF || udp_sum(header, datagram) != 0xFFFF || datagram.len() != counted {
+    if ones_sum(0, header) != 0xFFFF
+        || udp_sum(header, datagram) != 0xFFFF
+        || datagram.len() != counted
+    {
         return None;
     }
     let status = u32_at(Order::Big, datagram, 88)?;

@@ -121,7 +121,11 @@ fn lose(
             "{order} {calls} {mask}"
         );
         let is_new = opens_gate && passed == calls_of(answered + 1);
-        assert_eq!(rt; left == Some(new.as_bytes()), is_new, "{order} {calls} {mask}");
+        assert_eq!(rt;
+            left == Some(new.as_bytes()),
+            is_new,
+            "{order} {calls} {mask}"
+        );
     }
     Ok(())
 }

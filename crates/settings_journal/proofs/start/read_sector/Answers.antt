@@ -27,6 +27,7 @@ returns-clause-read g c =
     let long = sector_size _ _ c.args.sector (g.met.F.Flash.sized c.args.flash.now) in
     let found = found_some c.version_of-version.result (sector_of (g.F.Flash.image c.args.flash.now) c.args.sector) (slots_in g.row.S) c.in-Some.base c.in_ok-found.field-0 c.in-Some-2.found c.in-Some-2.is c.in_ok-found.ensures.found in
     let free = left_as _ c.args.head.now c.version_of-version.result g.row.S c.requires.head c.version_of-version.ensures long c.in-Some-2.found.next c.left_of.result found.1
-    (c.left_of.ensures ∙ ap (λ n. left_by c.version_of-version.result n c.in-Some-2.found.next) c.slots_of.ensures) in
-    (reads_as _ c.args.head.now c.version_of-version.result g.row.S c.requires.head c.version_of-version.ensures long c.in-Some.base _ c.in-Some.ensures.spelled found.0,
-    λ i. record { active = Some c.args.sector; generation = c.args.generation; free = free i })
+    (c.left_of.ensures ∙ ap (λ n. left_by c.version_of-version.result n c.in-Some-2.found.next) c.slots_of.ensures) in (
+      reads_as _ c.args.head.now c.version_of-version.result g.row.S c.requires.head c.version_of-version.ensures long c.in-Some.base _ c.in-Some.ensures.spelled found.0,
+      λ i. record { active = Some c.args.sector; generation = c.args.generation; free = free i },
+    )
