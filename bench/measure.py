@@ -48,6 +48,14 @@ STEPS = (
     ("a datagram of 172 octets for another port", calls.SET_SUITE, lambda number: calls.read_implicit(number, 161), 1, 3500),
 )
 
+# A Set of a name of six letters, permanent. The first one makes a base, and fourteen more go into the slots behind it.
+SET_NAME = "frame 0200000000010200000000028892fefd0400000000020000000c02020008000170756d702d31\n"
+SLOTS = 14
+
+# Instructions of a commit into a slot, and of a start from a sector whose slots are all open.
+MOST_FOR_A_SLOT = 3000
+MOST_FOR_A_START = 60000
+
 # Octets of a device in memory without the two sectors of its flash, and of the largest frame on the stack of a step.
 MOST_IN_MEMORY = 16 * 1024
 MOST_ON_THE_STACK = 16 * 1024
@@ -173,6 +181,26 @@ def print_step(program, file, name, front, line, steps, bound):
     return keeps(name, step, bound)
 
 
+def more(program, front, line, count, file):
+    """What a line takes where so many of them stand behind the script in front: instructions of the script's step and of the
+    whole run."""
+    once, twice = (instructions(program, front + line * times, file) for times in (count, 2 * count))
+    return [None if a is None or b is None else (b - a) / count for a, b in zip(once[1:], twice[1:])]
+
+
+def print_journal(program, file):
+    """What the journal takes. A commit is what a Set that is done takes beyond one that is refused, with the bytes that the
+    flash itself programs; a start is all of the line `restart`. Says whether they keep their bounds."""
+    done, refused = (more(program, SET_NAME, line, SLOTS // 2, file) for line in (SET_NAME, SET_REFUSED))
+    which = 1 if done[0] is None or refused[0] is None else 0
+    commit = done[which] - refused[which]
+    print(f"a commit into a slot: about {commit:.0f} instructions, with the flash's own (at most {MOST_FOR_A_SLOT} beside them)")
+    start = more(program, SET_NAME * (SLOTS + 1), "restart\n", 100, file)[1]
+    print(f"a start from a sector of {SLOTS} open slots: {start:.0f} instructions with all of its line (at most {MOST_FOR_A_START})")
+    is_short = keeps("a start", start, MOST_FOR_A_START)
+    return keeps("a commit into a slot", commit, MOST_FOR_A_SLOT) and is_short
+
+
 def print_room(program, bench):
     """How large a device is, and the largest frame on the stack of a step. Says whether they keep their bounds."""
     said = subprocess.run([bench], capture_output=True, text=True, check=True).stderr
@@ -199,6 +227,7 @@ def main():
     file = os.path.join(build, "callgrind.out")
     kept.append(print_hex(program, file))
     kept += [print_step(program, file, *step) for step in STEPS]
+    kept.append(print_journal(program, file))
     kept.append(print_room(program, bench))
     return 0 if all(kept) else 1
 
