@@ -22,7 +22,7 @@ im0_revision_sound : IsSound im0_revision
 unfolding im0_revision
 im0_revision_sound = seen_sound _ _ _ (λ _. refl) (then_by_sound _ _ (numeral_sound 2) (λ _. then_by_sound _ _ (octets_sound 4)
     (λ _. then_by_sound _ _ (fixed_sound 9 0) (λ _. then_by_sound _ _ (numeral_sound 2) (λ _. then_by_sound _ _ (numeral_sound 2)
-    (λ _. then_by_sound _ _ (fixed_sound 12 0x0101) (λ _. fixed_sound 13 0x000E)))))))
+    (λ _. then_by_sound _ _ (fixed_sound 12 0x0101) (λ _. fixed_sound 13 0x001E)))))))
 
 pub im0_sound : IsSound im0
 unfolding im0
