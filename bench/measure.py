@@ -48,13 +48,15 @@ STEPS = (
     ("a datagram of 172 octets for another port", calls.SET_SUITE, lambda number: calls.read_implicit(number, 161), 1, 3500),
 )
 
-# A Set of a name of six letters, permanent. The first one makes a base, and fourteen more go into the slots behind it.
-SET_NAME = "frame 0200000000010200000000028892fefd0400000000020000000c02020008000170756d702d31\n"
+# Instructions of a commit into a slot beside the flash's own bytes, and of a start over a sector with fourteen open slots.
+MOST_TO_COMMIT = 3000
+MOST_TO_START = 60000
 SLOTS = 14
 
-# Instructions of a commit into a slot, and of a start from a sector whose slots are all open.
-MOST_FOR_A_SLOT = 3000
-MOST_FOR_A_START = 60000
+# In a listing of callgrind: a commit of the journal, its start, and what the flash does with the bytes of a call.
+COMMIT = r"settings_journal::\S*\bcommit"
+START = r"settings_journal::\S*\bboot"
+FLASH = r"flash_model::\S*\bprogram"
 
 # Octets of a device in memory without the two sectors of its flash, and of the largest frame on the stack of a step.
 MOST_IN_MEMORY = 16 * 1024
@@ -113,15 +115,20 @@ def inclusive(listing, name):
     return max((int(line.replace(",", "")) for line in lines), default=None)
 
 
-def instructions(program, script, file):
-    """Instructions of a run of this script: of the device's steps, of the steps with the printing of their frames, and of
-    the whole run. The first is None where the compiler left no such function, and so is the second."""
+def listed(program, script, file):
+    """Callgrind's listing of a run of this script: each function, with all that it calls."""
     subprocess.run(
         ["valgrind", "--tool=callgrind", "--callgrind-out-file=" + file, program, "run"],
         input=script.encode(), stdout=subprocess.DEVNULL, stderr=subprocess.DEVNULL, check=True)
-    listing = subprocess.run(
+    return subprocess.run(
         ["callgrind_annotate", "--inclusive=yes", "--threshold=100", file],
         capture_output=True, text=True, check=True).stdout
+
+
+def instructions(program, script, file):
+    """Instructions of a run of this script: of the device's steps, of the steps with the printing of their frames, and of
+    the whole run. The first is None where the compiler left no such function, and so is the second."""
+    listing = listed(program, script, file)
     return inclusive(listing, DEVICE_STEP), inclusive(listing, SCRIPT_STEP), inclusive(listing, "PROGRAM TOTALS")
 
 
@@ -181,24 +188,34 @@ def print_step(program, file, name, front, line, steps, bound):
     return keeps(name, step, bound)
 
 
-def more(program, front, line, count, file):
-    """What a line takes where so many of them stand behind the script in front: instructions of the script's step and of the
-    whole run."""
-    once, twice = (instructions(program, front + line * times, file) for times in (count, 2 * count))
-    return [None if a is None or b is None else (b - a) / count for a, b in zip(once[1:], twice[1:])]
+def set_name(number):
+    """The line of a Set of a name of two bytes, permanent."""
+    block = "02020004" + "0001" + f"n{number:x}".encode().hex()
+    return "frame 0200000000010200000000028892fefd04000000000200000008" + block + "\n"
+
+
+def grows(program, file, name, less, more):
+    """By how many instructions the function of this name grows from the one script to the other, with all that it calls.
+    None where the compiler left no such function."""
+    a, b = (inclusive(listed(program, script, file), name) for script in (less, more))
+    return None if a is None or b is None else b - a
 
 
 def print_journal(program, file):
-    """What the journal takes. A commit is what a Set that is done takes beyond one that is refused, with the bytes that the
-    flash itself programs; a start is all of the line `restart`. Says whether they keep their bounds."""
-    done, refused = (more(program, SET_NAME, line, SLOTS // 2, file) for line in (SET_NAME, SET_REFUSED))
-    which = 1 if done[0] is None or refused[0] is None else 0
-    commit = done[which] - refused[which]
-    print(f"a commit into a slot: about {commit:.0f} instructions, with the flash's own (at most {MOST_FOR_A_SLOT} beside them)")
-    start = more(program, SET_NAME * (SLOTS + 1), "restart\n", 100, file)[1]
-    print(f"a start from a sector of {SLOTS} open slots: {start:.0f} instructions with all of its line (at most {MOST_FOR_A_START})")
-    is_short = keeps("a start", start, MOST_FOR_A_START)
-    return keeps("a commit into a slot", commit, MOST_FOR_A_SLOT) and is_short
+    """The instructions of a commit into a slot and of a start over a full sector. Says whether they keep their bounds.
+    Where the compiler made one function of a commit and its callers, the figure is that of the whole line."""
+    base = set_name(0)
+    full = base + "".join(set_name(number) for number in range(1, SLOTS + 1))
+    commits, flash = (grows(program, file, name, base, full) for name in (COMMIT, FLASH))
+    commit = grows(program, file, "PROGRAM TOTALS", base, full) if commits is None else commits - (flash or 0)
+    what = "a commit into a slot" if commits is not None else "a Set of a name with all of its line"
+    print(f"{what}: {commit / SLOTS:.0f} instructions beside the flash's own (at most {MOST_TO_COMMIT})")
+    once, often = full + "restart\n", full + "restart\n" * 11
+    starts = grows(program, file, START, once, often)
+    start = grows(program, file, "PROGRAM TOTALS", once, often) if starts is None else starts
+    print(f"a start over {SLOTS} open slots: {start / 10:.0f} instructions (at most {MOST_TO_START})")
+    is_quick = keeps("a commit into a slot", commit / SLOTS, MOST_TO_COMMIT)
+    return keeps("a start over open slots", start / 10, MOST_TO_START) and is_quick
 
 
 def print_room(program, bench):
