@@ -42,7 +42,9 @@ fn sector(front: &[u8; 13], gate: u8) -> [u8; SIZE] {
 // The same with an entry in its slot, whose gate is open.
 fn with_slot(front: &[u8; 13], entry: &[u8]) -> [u8; SIZE] {
     let mut bytes = sector(front, 0);
-    bytes[512..512 + entry.len()].copy_from_slice(entry);
+    for (byte, written) in bytes.iter_mut().skip(512).zip(entry) {
+        *byte = *written;
+    }
     bytes[767] = 0;
     bytes
 }
