@@ -9,9 +9,10 @@ use Rattle.settings_store.specs.State.{Values}
 use Rattle.settings_store.specs.Legal.{made_of, CrashSafe}
 use Rattle.device_core.specs.declared.event.Event.{Event}
 use Rattle.device_core.specs.State.{State, Live, store_of}
-use Rattle.device_core.specs.Heard.{heard_of}
+use Rattle.device_core.specs.Heard.{Heard, heard_of}
 use Rattle.device_core.specs.Machine.{Ran, Stepped, items_of, heard_step, step_of, run_of}
-use Rattle.device_core.specs.Steps.{HandsOn, Runs, IsExactRun, TakesRoom}
+use Rattle.device_core.specs.declared.event.Note.{Note}
+use Rattle.device_core.specs.Steps.{Steps, HandsOn, Runs, IsExactStep, IsExactRun, TakesRoom}
 use Rattle.device_core.proofs.Machine.{then_step, joined, joined_quiet, run_joined, step_none, step_failed, run_failed, run_made, run_room}
 use Rattle.device_core.proofs.Placed.{placed_more}
 use Rattle.settings_store.proofs.Laws.{safe_then, caused_then, both_empty}
@@ -98,7 +99,28 @@ no_fault : {A : Type 0} (outcomes : List A) (before now : ℕ) (old new : Values
 no_fault outcomes before now old new (inl quiet) fine = quiet.0
 no_fault outcomes before now old new (inr fault) fine = cc
 
+-- a step for no outcomes
+exact_step : {F : Type 0} (image : F → Image) (failures : F → ℕ) (asked : F → List Call → F → Type 0) (old new : State F) (heard : Heard) (event : Event) (frames : List (List ℕ)) (said : Note)
+    → heard ≡ heard_of old.station.identity event → (steps : Steps image failures asked old heard frames said new) → steps.outcomes ≡ [] → IsExactStep old event frames said new
+exact_step image failures asked old new heard event frames said is steps none = record {
+  same = steps.same;
+  live = steps.live ∙ ap (λ o. (heard_step o old.station old.live heard).live) none ∙ ap (λ h. (heard_step [] old.station old.live h).live) is;
+  frames = steps.frames ∙ ap (λ o. (heard_step o old.station old.live heard).frames) none ∙ ap (λ h. (heard_step [] old.station old.live h).frames) is;
+  note = steps.note ∙ ap (λ o. (heard_step o old.station old.live heard).note) none ∙ ap (λ h. (heard_step [] old.station old.live h).note) is;
+}
+
 -- where no call of the flash failed
+pub step_quietly : {F : Type 0} (image : F → Image) (failures : F → ℕ) (asked : F → List Call → F → Type 0) (old new : State F) (heard : Heard) (event : Event) (frames : List (List ℕ)) (said : Note)
+    → heard ≡ heard_of old.station.identity event → Steps image failures asked old heard frames said new → failures new.flash ≡ failures old.flash → failures old.flash < 18446744073709551615
+    → IsExactStep old event frames said new
+step_quietly image failures asked old new heard event frames said is steps same below = exact_step image failures asked old new heard event frames said is steps
+    (no_failure steps.outcomes (failures old.flash) (failures new.flash) old.live.values new.live.values steps.caused same below)
+
+pub step_finely : {F : Type 0} (image : F → Image) (failures : F → ℕ) (asked : F → List Call → F → Type 0) (old new : State F) (heard : Heard) (event : Event) (frames : List (List ℕ)) (said : Note)
+    → heard ≡ heard_of old.station.identity event → Steps image failures asked old heard frames said new → new.live.values.has_failed ≡ false → IsExactStep old event frames said new
+step_finely image failures asked old new heard event frames said is steps fine = exact_step image failures asked old new heard event frames said is steps
+    (no_fault steps.outcomes (failures old.flash) (failures new.flash) old.live.values new.live.values steps.caused fine)
+
 pub run_quietly : {F : Type 0} (image : F → Image) (failures : F → ℕ) (asked : F → List Call → F → Type 0) (old new : State F) (events : List Event) (before now : List (List ℕ))
     → Runs image failures asked old events before now new → failures new.flash ≡ failures old.flash → failures old.flash < 18446744073709551615 → IsExactRun old events before now new
 run_quietly image failures asked old new events before now runs same below = exact_run image failures asked old new events before now runs
