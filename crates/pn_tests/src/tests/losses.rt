@@ -101,26 +101,26 @@ fn lose(
     opens_gate: bool,
 ) -> Result<(), Fail> {
     let (sets, order) = (sets(alloc)?, strike.order);
-    let mut answered = 0;
-    let mut passed = 0;
+    let (mut next, mut passed) = (1u32, 0u32);
     for calls in 0..83u32 {
-        if passed == calls_of(answered + 1) {
-            answered += 1;
+        if passed == calls_of(next) {
+            next = next.saturating_add(1);
             passed = 0;
         }
-        passed += 1;
+        passed = passed.saturating_add(1);
+        let answered = next.saturating_sub(1);
         let script = format!(in alloc; "{order} {calls} {mask}\n{sets}restart\nshow\n")?;
         let (result, text) = output(alloc, script.as_bytes());
         assert_eq!(rt; result, Ok(()));
         let answers = answers(alloc, strike, answered)?;
         let old = named(alloc, answered)?;
-        let new = named(alloc, answered + 1)?;
+        let new = named(alloc, next)?;
         let left = text.as_slice().strip_prefix(answers.as_bytes());
         assert!(rt;
             left == Some(old.as_bytes()) || left == Some(new.as_bytes()),
             "{order} {calls} {mask}"
         );
-        let is_new = opens_gate && passed == calls_of(answered + 1);
+        let is_new = opens_gate && passed == calls_of(next);
         assert_eq!(rt;
             left == Some(new.as_bytes()),
             is_new,
