@@ -1,0 +1,25 @@
+use Rattle.std.proofs.Common.{◌≡◌, ℕ, List, ◌++◌, length, sym, ap, ◌∙◌, append_assoc}
+use Rattle.wire.specs.Formats.{big_bytes}
+use Rattle.pn_alarms.specs.Format.{said, pdu_bytes}
+use Rattle.pn_alarms.proofs.Sound.{pdu_parts, pdu_spelled, pdu_again, pdu_behind}
+use Rattle.pn_alarms.proofs.writing.write_pdu.Goals as goal
+
+-- one behind the other
+joined : (old a b new header lengths inside : List ℕ) → a ≡ old ++ header → b ≡ a ++ lengths → new ≡ b ++ inside → new ≡ old ++ (header ++ (lengths ++ inside))
+joined old a b new header lengths inside x y z =
+    z ∙ ap (λ (xs : List ℕ). xs ++ inside) (y ∙ ap (λ (xs : List ℕ). xs ++ lengths) x)
+    ∙ append_assoc (old ++ header) lengths inside ∙ append_assoc old header (lengths ++ inside)
+
+pub returns-clause-exact : goal.returns-clause-exact
+returns-clause-exact g c =
+    let meaning = said c.args.pdu.now in
+    joined _ _ _ _ _ _ _ c.put_header.ensures.items c.append_u16.ensures.items c.append.ensures.items
+    ∙ ap (λ (xs : List ℕ). c.args.out.now.items ++ xs) (sym (pdu_parts meaning))
+
+pub returns-clause-spelled : goal.returns-clause-spelled
+returns-clause-spelled g c = pdu_spelled (said c.args.pdu.now) c.requires.long c.put_header.ensures.fits c.requires.few
+
+pub returns-clause-behind : goal.returns-clause-behind
+returns-clause-behind g c = λ more.
+    let meaning = said c.args.pdu.now in
+    pdu_again _ meaning (pdu_behind (pdu_bytes meaning) more meaning (pdu_spelled meaning c.requires.long c.put_header.ensures.fits c.requires.few))

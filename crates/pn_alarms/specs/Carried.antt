@@ -1,0 +1,30 @@
+-- The blocks that data carries: an AlarmNotification to a controller, an AlarmAck to a device.
+use Rattle.std.specs.Prelude.{ℕ, List, Option, Some, None, Result, Ok, Err}
+use Rattle.wire.specs.Checks.{or_fault}
+use Rattle.block_fields.specs.declared.fault.BlockFault.{BlockFault}
+use Rattle.record_blocks.specs.declared.alarm_ack.AlarmAck.{AlarmAck}
+use Rattle.record_blocks.specs.declared.alarm_notification.AlarmNotification.{AlarmNotification}
+use Rattle.block_codec.specs.declared.block.Block.{Block}
+use Rattle.block_codec.specs.declared.block.Block.TheVariants as is
+use Rattle.block_codec.specs.Block.{IsBlock, block_of, in_alarm_ack, in_alarm_notification}
+use Rattle.pn_alarms.specs.declared.fault.AlarmFault.{AlarmFault}
+use Rattle.pn_alarms.specs.declared.fault.AlarmFault.TheVariants as fault
+
+-- these octets begin with this block
+abbrev pub IsAck : List ℕ → AlarmAck → Type 0
+IsAck body ack = (rest : List ℕ) × IsBlock body (is.AlarmAck ack) rest
+
+abbrev pub IsNotification : List ℕ → AlarmNotification → Type 0
+IsNotification body alarm = (rest : List ℕ) × IsBlock body (is.AlarmNotification alarm) rest
+
+-- of a block that was read, the one that is wanted
+abbrev pub wanted : {A : Type 0} → (Block → Option A) → Result (Block × List ℕ) BlockFault → Result A AlarmFault
+wanted pick (Ok x) = or_fault fault.Block (pick x.0)
+wanted pick (Err reason) = Err fault.Block
+
+-- the block that octets begin with, if it is of the type that is wanted
+abbrev pub ack_of : List ℕ → Result AlarmAck AlarmFault
+ack_of body = wanted in_alarm_ack (block_of body)
+
+abbrev pub notification_of : List ℕ → Result AlarmNotification AlarmFault
+notification_of body = wanted in_alarm_notification (block_of body)

@@ -1,0 +1,9 @@
+pub mod Format
+pub mod Carried
+pub mod Abort
+pub mod Numbers
+pub mod Receiver
+pub mod Sending
+pub mod Alarming
+pub mod Sender
+pub mod Standing

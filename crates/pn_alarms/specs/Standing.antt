@@ -1,0 +1,17 @@
+-- An alarm as it is kept while it stands.
+use Rattle.std.specs.Prelude.{ℕ}
+use Rattle.record_blocks.specs.declared.alarm_notification.AlarmNotification.{AlarmNotification}
+use Rattle.pn_alarms.specs.declared.sender.Standing.{Standing}
+
+-- its block: a process alarm, of type 2, in API 0
+abbrev pub kept_as : Standing → AlarmNotification
+kept_as alarm = record {
+  alarm_type = 2;
+  api = 0;
+  slot_number = alarm.slot_number;
+  subslot_number = alarm.subslot_number;
+  module_ident_number = alarm.module_ident_number;
+  submodule_ident_number = alarm.submodule_ident_number;
+  alarm_specifier = alarm.alarm_specifier;
+  alarm_data = alarm.alarm_data.items;
+}

@@ -1,0 +1,22 @@
+//! Alarms of PROFINET IO (IEC 61158-6-10, 4.8): the PDUs by which they are sent and acknowledged, the one that ends a relation,
+//! who sends alarms and repeats them, and who takes each of them once.
+#![tactic(auto)]
+
+mod abort;
+mod fault;
+mod numbers;
+mod pdu;
+mod reading;
+mod receiver;
+mod repeats;
+mod sender;
+mod writing;
+
+pub use abort::Abort;
+pub use fault::AlarmFault;
+pub use pdu::{Header, Pdu, PduType};
+pub use reading::{read_ack, read_notification, read_pdu};
+pub use receiver::{Receiver, Taken};
+pub use repeats::{Due, Repeats};
+pub use sender::{Alarm, RaiseFault, Reply, Sender};
+pub use writing::write_pdu;

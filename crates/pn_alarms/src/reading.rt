@@ -1,0 +1,122 @@
+//! From octets to PDUs and to the blocks that they carry.
+ghost use Rattle.std.specs.Prelude.{◌≡◌, ◌++◌, List, ℕ, IfOk, Ok};
+ghost use Rattle.wire.specs.Codec.{Gives};
+ghost use Rattle.record_blocks.specs.declared.alarm_ack.AlarmAck.{AlarmAck as Ack};
+ghost use Rattle.record_blocks.specs.declared.alarm_notification.AlarmNotification.{AlarmNotification as Notification};
+ghost use Rattle.pn_alarms.specs.Format.{Said, said, kind, header, pdu, IsPdu, pdu_of};
+ghost use Rattle.pn_alarms.specs.Carried.{IsAck, ack_of, IsNotification, notification_of};
+
+use crate::{AlarmFault, Header, Pdu, PduType};
+use block_codec::{AlarmAck, AlarmNotification, Block, read_block};
+use wire::{split, u8_at, u16_at};
+
+/// PDUType, and what is behind it.
+#[tactic(auto, unfolding(crate::specs::Format::kind))]
+fn kind_at(bytes: &[u8]) -> Result<(PduType, &[u8]), AlarmFault>
+    ensures { Gives (λ x. (x.0, x.1.now)) result (kind.read bytes.now) }
+{
+    let (octet, rest) = u8_at(bytes, AlarmFault::Short)?;
+    match PduType::of(octet) {
+        Some(kind) => Ok((kind, rest)),
+        None => Err(AlarmFault::Type),
+    }
+}
+
+/// From AlarmDstEndpoint to AckSeqNum, and what is behind them. AddFlags is not looked at.
+#[tactic(auto, unfolding(crate::specs::Format::header))]
+fn header_at(bytes: &[u8]) -> Result<(Header, &[u8]), AlarmFault>
+    ensures { Gives (λ x. (x.0, x.1.now)) result (header.read bytes.now) }
+{
+    let (destination, rest) = u16_at(bytes, AlarmFault::Short)?;
+    let (source, rest) = u16_at(rest, AlarmFault::Short)?;
+    let (kind, rest) = kind_at(rest)?;
+    let (_flags, rest) = u8_at(rest, AlarmFault::Short)?;
+    let (send_number, rest) = u16_at(rest, AlarmFault::Short)?;
+    let (ack_number, rest) = u16_at(rest, AlarmFault::Short)?;
+    Ok((
+        Header {
+            destination,
+            source,
+            kind,
+            send_number,
+            ack_number,
+        },
+        rest,
+    ))
+}
+
+#[tactic(auto, unfolding(crate::specs::Format::pdu_of, crate::specs::Format::pdu))]
+fn pdu_in(bytes: &[u8]) -> Result<Pdu<'_>, AlarmFault>
+    ensures { Gives said result (pdu_of bytes.now) }
+{
+    let (header, rest) = header_at(bytes)?;
+    let (size, rest) = u16_at(rest, AlarmFault::Short)?;
+    let (body, _behind) = split(rest, size as usize, AlarmFault::Short)?;
+    if !header.kind.is_long(body.len()) {
+        return Err(AlarmFault::Cause);
+    }
+    Ok(Pdu { header, body })
+}
+
+/// Reads a PDU from what follows the FrameID of a frame. What is behind the octets that VarPartLen counts is padding, and is
+/// not read. Of the faults the first from the left counts.
+pub fn read_pdu(bytes: &[u8]) -> Result<Pdu<'_>, AlarmFault>
+    // What is read is spelled so.
+    ensures found { IfOk result (λ found. IsPdu bytes.now (said found)) }
+    // What is spelled so is read, and as nothing else.
+    ensures only { (meaning : Said) → IsPdu bytes.now meaning → Gives said result (Ok meaning) }
+    // With anything behind it, too.
+    ensures behind { (first more : List ℕ) (meaning : Said) → IsPdu first meaning → bytes.now ≡ first ++ more → Gives said result (Ok meaning) }
+    // Which fault it is.
+    ensures exact { Gives said result (pdu_of bytes.now) }
+{
+    pdu_in(bytes)
+}
+
+fn ack_in(body: &[u8]) -> Result<AlarmAck, AlarmFault>
+    ensures { result ≡ ack_of body.now }
+{
+    let Ok((block, _behind)) = read_block(body) else {
+        return Err(AlarmFault::Block);
+    };
+    match block {
+        Block::AlarmAck(ack) => Ok(ack),
+        _ => Err(AlarmFault::Block),
+    }
+}
+
+fn notification_in(body: &[u8]) -> Result<AlarmNotification<'_>, AlarmFault>
+    ensures { result ≡ notification_of body.now }
+{
+    let Ok((block, _behind)) = read_block(body) else {
+        return Err(AlarmFault::Block);
+    };
+    match block {
+        Block::AlarmNotification(alarm) => Ok(alarm),
+        _ => Err(AlarmFault::Block),
+    }
+}
+
+/// Reads the AlarmAck that data carries at a device. What is behind the block is not looked at.
+pub fn read_ack(body: &[u8]) -> Result<AlarmAck, AlarmFault>
+    // What is read is spelled so.
+    ensures found { IfOk result (λ found. IsAck body.now found) }
+    // What is spelled so is read, and as nothing else.
+    ensures only { (meaning : Ack) → IsAck body.now meaning → result ≡ Ok meaning }
+    // Which it is.
+    ensures exact { result ≡ ack_of body.now }
+{
+    ack_in(body)
+}
+
+/// Reads the AlarmNotification that data carries at a controller. What is behind the block is not looked at.
+pub fn read_notification(body: &[u8]) -> Result<AlarmNotification<'_>, AlarmFault>
+    // What is read is spelled so.
+    ensures found { IfOk result (λ found. IsNotification body.now found) }
+    // What is spelled so is read, and as nothing else.
+    ensures only { (meaning : Notification) → IsNotification body.now meaning → result ≡ Ok meaning }
+    // Which it is.
+    ensures exact { result ≡ notification_of body.now }
+{
+    notification_in(body)
+}
