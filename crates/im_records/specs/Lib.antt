@@ -1,4 +1,5 @@
 pub mod Plugged
 pub mod Records
 pub mod Writes
+pub mod Writable
 pub mod Faults

@@ -3,6 +3,7 @@ ghost use Rattle.std.specs.Prelude.{◌≡◌, ◌≤◌};
 ghost use Rattle.std.specs.Option.{option_map};
 ghost use Rattle.block_codec.specs.Block.{block_bytes, block_size};
 ghost use Rattle.im_records.specs.Records.{has_subslot, im0_record, im1_record, im2_record, im3_record, im4_record, is_device, is_real, record_of};
+ghost use Rattle.im_records.specs.Writable.{is_writable};
 
 use crate::plugged::filter_of;
 use arrayvec::ArrayVec;
@@ -52,6 +53,13 @@ fn has_subslot(entry: &RealModule, subslot: u16) -> bool
         .as_slice()
         .iter()
         .any(|part| part.subslot == subslot)
+}
+
+/// Whether the record of this index at this slot and subslot is written: I&M1 to I&M4 of the submodule that stands for the device.
+pub fn is_writable(index: u16, slot: u16, subslot: u16) -> bool
+    ensures { result ≡ is_writable index slot subslot }
+{
+    index >= 0xAFF1 && index <= 0xAFF4 && is_device(slot, subslot)
 }
 
 /// Whether this is the submodule that stands for the device.

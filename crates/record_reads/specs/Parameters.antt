@@ -1,18 +1,25 @@
 -- Which parameter records there are.
-use Rattle.std.specs.Prelude.{◌==◌, ◌&&◌, ℕ, Bool}
-use Rattle.std.specs.List.{list_any}
-use Rattle.pn_values.specs.declared.real.Real.{Real}
+use Rattle.std.specs.Prelude.{◌==◌, ℕ, List, [], ◌∷◌, Option, Some, None, if◌then◌else◌}
+use Rattle.std.specs.Option.{option_or}
+use Rattle.pn_values.specs.declared.real.ParameterRecord.{ParameterRecord}
 use Rattle.pn_values.specs.declared.real.RealModule.{RealModule}
 use Rattle.pn_values.specs.declared.real.RealSubmodule.{RealSubmodule}
 
--- whether a submodule has a parameter record of this index
-abbrev pub submodule_has_parameter : ℕ → RealSubmodule → Bool
-submodule_has_parameter index part = list_any (λ parameter. parameter.index == index) part.parameters.items
+-- the length of the record of this index, if it is one of these
+abbrev pub length_in : ℕ → List ParameterRecord → Option ℕ
+length_in index [] = None
+length_in index (parameter ∷ parameters) = if parameter.index == index then Some parameter.length else length_in index parameters
 
--- whether the submodule in this subslot of a module has one
-abbrev pub module_has_parameter : ℕ → ℕ → RealModule → Bool
-module_has_parameter subslot index entry = list_any (λ part. part.subslot == subslot && submodule_has_parameter index part) entry.submodules.items
+-- the length of the record of this index of the submodule in this subslot, if it has one
+abbrev pub submodule_length : ℕ → ℕ → List RealSubmodule → Option ℕ
+submodule_length subslot index [] = None
+submodule_length subslot index (part ∷ parts) =
+    if part.subslot == subslot then option_or (length_in index part.parameters.items) (submodule_length subslot index parts)
+    else submodule_length subslot index parts
 
--- whether the submodule in this slot and subslot has one
-abbrev pub has_parameter : Real → ℕ → ℕ → ℕ → Bool
-has_parameter real slot subslot index = list_any (λ entry. entry.slot == slot && module_has_parameter subslot index entry) real.modules.items
+-- the same of the submodule in this slot and subslot
+abbrev pub parameter_length : List RealModule → ℕ → ℕ → ℕ → Option ℕ
+parameter_length [] slot subslot index = None
+parameter_length (entry ∷ entries) slot subslot index =
+    if entry.slot == slot then option_or (submodule_length subslot index entry.submodules.items) (parameter_length entries slot subslot index)
+    else parameter_length entries slot subslot index

@@ -4,9 +4,15 @@
 mod answering;
 mod implicit;
 mod judging;
+mod naming;
 mod parameters;
+mod serving;
+mod within;
 
 pub use answering::put_read_answer;
-pub use implicit::{Blocks, read_implicit};
+pub use implicit::read_implicit;
 pub use judging::{check_place, read_request};
-pub use parameters::has_parameter;
+pub use naming::names_relation;
+pub use parameters::parameter_length;
+pub use serving::Blocks;
+pub use within::read_within;

@@ -1,31 +1,45 @@
 //! Which parameter records there are.
 ghost use Rattle.std.specs.Prelude.{◌≡◌};
-ghost use Rattle.record_reads.specs.Parameters.{has_parameter, module_has_parameter, submodule_has_parameter};
+ghost use Rattle.record_reads.specs.Parameters.{length_in, parameter_length, submodule_length};
 
-use pn_values::{Real, RealModule, RealSubmodule};
+use pn_values::{ParameterRecord, Real, RealSubmodule};
 
-/// Whether the submodule in this slot and subslot has a parameter record of this index.
-pub fn has_parameter(real: &Real, slot: u16, subslot: u16, index: u16) -> bool
-    ensures { result ≡ has_parameter real.now slot subslot index }
+/// The exact length, in octets, of the parameter record of this index of the submodule in this slot and subslot, if it has one.
+pub fn parameter_length(real: &Real, slot: u16, subslot: u16, index: u16) -> Option<u16>
+    ensures { result ≡ parameter_length real.now.modules.items slot subslot index }
 {
-    real.modules.as_slice().iter().any(|entry| entry.slot == slot
-        && module_has_parameter(entry, subslot, index))
+    for entry in real.modules.as_slice() {
+        if entry.slot == slot {
+            if let Some(length) = submodule_length(entry.submodules.as_slice(), subslot, index) {
+                return Some(length);
+            }
+        }
+    }
+    None
 }
 
-/// Whether the submodule in this subslot of a module has a parameter record of this index.
-fn module_has_parameter(entry: &RealModule, subslot: u16, index: u16) -> bool
-    ensures { result ≡ module_has_parameter subslot index entry.now }
+/// The length of the record of this index of the submodule in this subslot, if it has one.
+fn submodule_length(parts: &[RealSubmodule], subslot: u16, index: u16) -> Option<u16>
+    ensures { result ≡ submodule_length subslot index parts.now }
 {
-    entry.submodules.as_slice().iter().any(|part| part.subslot == subslot
-        && submodule_has_parameter(part, index))
+    for part in parts {
+        if part.subslot == subslot {
+            if let Some(length) = length_in(part.parameters.as_slice(), index) {
+                return Some(length);
+            }
+        }
+    }
+    None
 }
 
-/// Whether a submodule has a parameter record of this index.
-fn submodule_has_parameter(part: &RealSubmodule, index: u16) -> bool
-    ensures { result ≡ submodule_has_parameter index part.now }
+/// The length of the record of this index, if it is one of these.
+fn length_in(parameters: &[ParameterRecord], index: u16) -> Option<u16>
+    ensures { result ≡ length_in index parameters.now }
 {
-    part.parameters
-        .as_slice()
-        .iter()
-        .any(|parameter| parameter.index == index)
+    for parameter in parameters {
+        if parameter.index == index {
+            return Some(parameter.length);
+        }
+    }
+    None
 }

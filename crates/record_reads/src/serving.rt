@@ -1,0 +1,41 @@
+//! What each Read is answered once it is known which record is meant.
+ghost use Rattle.std.specs.Prelude.{◌≡◌, [], IfErr, IfOk, Err, Ok};
+ghost use Rattle.im_records.specs.Records.{record_of};
+ghost use Rattle.record_reads.specs.Judged.{read_of};
+
+use crate::answering::put_read_answer;
+use crate::judging::check_place;
+use crate::parameters::parameter_length;
+use arrayvec::ArrayVec;
+use block_codec::IodReadReq;
+use im_records::read_record;
+use pn_values::{Identity, Real, Settings};
+use pnio_status::CallFault;
+
+/// The blocks of a call or an answer: at most 1,372 octets.
+pub type Blocks = ArrayVec<u8, 1372>;
+
+/// Puts the answer to a request of a record of the device into an empty list, or says why it is refused.
+#[tactic(auto, unfolding(crate::specs::Judged::read_of))]
+pub(crate) fn serve(
+    identity: &Identity,
+    real: &Real,
+    settings: &Settings,
+    request: &IodReadReq,
+    answer: &mut Blocks,
+) -> Result<(), CallFault>
+    requires empty { answer.old.items ≡ [] }
+    ensures done { IfOk result (λ _. read_of real.now request.now (record_of request.now.index request.now.slot_number request.now.subslot_number identity.now real.now settings.now) ≡ Ok answer.new.items) }
+    ensures refused { IfErr result (λ fault. (read_of real.now request.now (record_of request.now.index request.now.slot_number request.now.subslot_number identity.now real.now settings.now) ≡ Err fault) × (answer.new.items ≡ [])) }
+{
+    let (slot, subslot, index) = (request.slot_number, request.subslot_number, request.index);
+    check_place(real, request.api, slot, subslot, index)?;
+    match read_record(index, slot, subslot, identity, real, settings) {
+        Some(record) => {
+            put_read_answer(answer, request, record.as_slice());
+            Ok(())
+        }
+        None if parameter_length(real, slot, subslot, index).is_some() => Err(CallFault::Access),
+        None => Err(CallFault::Index),
+    }
+}

@@ -1,0 +1,81 @@
+//! Read within a relation.
+ghost use Rattle.std.specs.Prelude.{◌≡◌, ◌≤◌, [], length, IfErr, IfOk, Err, Ok};
+ghost use Rattle.std.specs.Option.{option_map};
+ghost use Rattle.record_reads.specs.Judged.{read_of};
+ghost use Rattle.record_reads.specs.Within.{record_within, relation_read, request_within};
+
+use crate::answering::put_read_answer;
+use crate::judging::{check_place, read_request};
+use crate::serving::{Blocks, serve};
+use block_codec::IodReadReq;
+use block_fields::Uuid;
+use call_blocks::check_relation;
+use pn_values::{Identity, Real, Settings};
+use pnio_status::CallFault;
+
+/// The index of the ModuleDiffBlock.
+const MODULE_DIFF: u16 = 0xE002;
+
+/// Serves a Read of the controller while the relation of this ARUUID stands, if one does: puts the blocks of the answer into an empty
+/// list, or says why the call is refused. Of the faults the first in the order of the statuses counts. To what anybody reads comes
+/// the ModuleDiffBlock of the relation, which is these octets: none where nothing differs.
+#[tactic(auto, unfolding(crate::specs::Within::relation_read))]
+pub fn read_within(
+    standing: Option<&Uuid>,
+    differing: &[u8],
+    identity: &Identity,
+    real: &Real,
+    settings: &Settings,
+    blocks: &[u8],
+    answer: &mut Blocks,
+) -> Result<(), CallFault>
+    requires empty { answer.old.items ≡ [] }
+    requires room { length differing.now ≤ 1308 }
+    // The answer,
+    ensures done { IfOk result (λ _. relation_read (option_map (λ uuid. uuid.now) standing.entry) differing.now identity.now real.now settings.now blocks.now ≡ Ok answer.new.items) }
+    // or which fault it is; then there is none.
+    ensures refused { IfErr result (λ fault. (relation_read (option_map (λ uuid. uuid.now) standing.entry) differing.now identity.now real.now settings.now blocks.now ≡ Err fault) × (answer.new.items ≡ [])) }
+{
+    let request = request_within(standing, blocks)?;
+    serve_within(differing, identity, real, settings, &request, answer)
+}
+
+/// The IODReadReqHeader that a call consists of, if it names the relation that stands.
+#[tactic(auto, unfolding(crate::specs::Within::request_within))]
+fn request_within(standing: Option<&Uuid>, blocks: &[u8]) -> Result<IodReadReq, CallFault>
+    ensures { result ≡ request_within (option_map (λ uuid. uuid.now) standing.entry) blocks.now }
+{
+    let request = read_request(blocks)?;
+    check_relation(standing, &request.ar_uuid)?;
+    Ok(request)
+}
+
+/// Puts the answer to a request within the relation whose ModuleDiffBlock is these octets into an empty list, or says why it is
+/// refused.
+#[tactic(auto, unfolding(crate::specs::Judged::read_of))]
+fn serve_within(
+    differing: &[u8],
+    identity: &Identity,
+    real: &Real,
+    settings: &Settings,
+    request: &IodReadReq,
+    answer: &mut Blocks,
+) -> Result<(), CallFault>
+    requires empty { answer.old.items ≡ [] }
+    requires room { length differing.now ≤ 1308 }
+    ensures done { IfOk result (λ _. read_of real.now request.now (record_within differing.now request.now identity.now real.now settings.now) ≡ Ok answer.new.items) }
+    ensures refused { IfErr result (λ fault. (read_of real.now request.now (record_within differing.now request.now identity.now real.now settings.now) ≡ Err fault) × (answer.new.items ≡ [])) }
+{
+    if request.index != MODULE_DIFF {
+        return serve(identity, real, settings, request, answer);
+    }
+    check_place(
+        real,
+        request.api,
+        request.slot_number,
+        request.subslot_number,
+        request.index,
+    )?;
+    put_read_answer(answer, request, differing);
+    Ok(())
+}
