@@ -1,12 +1,12 @@
 -- An image has one start: which sector is active, and what it gives.
-use Rattle.std.proofs.Common.{◌≡◌, ◌≢◌, ◌⊎◌, ◌+◌, ◌*◌, ◌-◌, ◌<◌, ◌≤◌, ℕ, List, refl, sym, ap, subst, ◌∙◌, inl, inr, arith, Option, Some, None, lit<}
+use Rattle.std.proofs.Common.{◌≡◌, ◌≢◌, ◌⊎◌, ◌<◌, ◌≤◌, ℕ, List, refl, sym, ap, subst, ◌∙◌, inl, inr, arith, Option, Some, None, lit<}
 use Rattle.pn_values.specs.Settings.{factory_settings}
 use Rattle.pn_values.specs.declared.settings.Settings.{Settings}
 use Rattle.std.proofs.lemmas.List.{get_or-take, get_or-replicate, length-replicate}
 use Rattle.flash_model.specs.Image.{Image, erased, slots_in, sector_of, IsImage, IsSectorSize}
 use Rattle.flash_model.specs.declared.flash.Sector.{Sector}
 use Rattle.flash_model.specs.declared.flash.Sector.TheVariants.{First, Second}
-use Rattle.settings_journal.specs.Head.{head_of, gate_of, version_at, generation_at, Counts, Spells}
+use Rattle.settings_journal.specs.Head.{head_of, gate_of, version_at, generation_at, Counts}
 use Rattle.settings_journal.specs.Image.{head_in, slots_of, left_in, room_of, IsActive, IsClosed, Reads, StartsAt, StartsWith, IsForeign, LeftByDevice, capacity}
 use Rattle.settings_journal.proofs.Parts.{Spells-same}
 use Rattle.settings_journal.proofs.Slots.{After-same}

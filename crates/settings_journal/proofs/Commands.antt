@@ -1,8 +1,8 @@
 -- What is written as the entry of a command is read as a command of the same effect.
-use Rattle.std.proofs.Common.{◌≡◌, ◌+◌, ◌<◌, ◌≤◌, ℕ, suc, List, [], ◌∷◌, ◌++◌, length, take, drop, get_or, refl, sym, ap, subst, ◌∙◌, arith, Option, Some, None, true, cond, lit<, lit≤}
+use Rattle.std.proofs.Common.{◌≡◌, ◌+◌, ◌≤◌, ℕ, suc, List, [], ◌++◌, length, take, drop, get_or, refl, sym, ap, subst, ◌∙◌, arith, Option, Some, None, true, lit≤}
 use Rattle.std.specs.Prelude.{nat_le, slice_range, Bool, false, ◌==◌}
 use Rattle.std.proofs.lemmas.Bool.{cond-true}
-use Rattle.std.proofs.lemmas.List.{get_or-take, drop-take, take_at, drop_at, drop-drop, take_all, append_assoc, length-append}
+use Rattle.std.proofs.lemmas.List.{get_or-take, drop-take, take_at, drop_at, drop-drop, take_all, append_assoc}
 use Rattle.pn_values.specs.Command.{apply}
 use Rattle.pn_values.specs.IpSuite.{Suite, IsSuite, zero_suite}
 use Rattle.pn_values.specs.StationName.{IsNameOrNone}
@@ -11,9 +11,9 @@ use Rattle.pn_values.specs.declared.command.Command.{Command}
 use Rattle.pn_values.specs.declared.command.Command.TheVariants.{SetName, SetIp, SetIm}
 use Rattle.pn_values.specs.declared.settings.Settings.{Settings}
 use Rattle.settings_journal.specs.declared.head.Version.{Version}
-use Rattle.settings_journal.specs.declared.head.Version.TheVariants.{One, Two}
+use Rattle.settings_journal.specs.declared.head.Version.TheVariants.{Two}
 use Rattle.settings_journal.proofs.Parts.{range_at, suite_same}
-use Rattle.settings_journal.specs.Slot.{command_in, command_of, entry, sized, suite_in, HasEntry, IsCommand, IsEntryOf, IsJudged, Keeps}
+use Rattle.settings_journal.specs.Slot.{command_in, command_of, entry, sized, suite_in, IsCommand, IsEntryOf, IsJudged}
 
 same_true : (a b : ℕ) → a ≡ b → (a == b) ≡ true
 same_true a b e = grind (arith, e)

@@ -1,12 +1,11 @@
 -- From the slots that were read one by one to what a sector is read as.
-use Rattle.std.proofs.Common.{◌≡◌, ◌+◌, ◌<◌, ◌≤◌, ℕ, suc, List, length, refl, sym, ap, subst, ◌∙◌, arith, Option, Some, None}
+use Rattle.std.proofs.Common.{◌≡◌, ◌+◌, ◌<◌, ℕ, suc, List, length, refl, sym, ap, subst, ◌∙◌, arith, Option, Some, None}
 use Rattle.std.specs.Prelude.{MatchOption}
 use Rattle.pn_values.specs.declared.settings.Settings.{Settings}
 use Rattle.flash_model.specs.Image.{slots_in}
-use Rattle.settings_journal.specs.declared.access.Found.{Found}
 use Rattle.settings_journal.specs.declared.head.Version.{Version}
 use Rattle.settings_journal.specs.Head.{head_of, version_at, Spells}
-use Rattle.settings_journal.specs.Slot.{slot_at, After, Follows, is_blank, left_by, next_behind, next_slot, free_in}
+use Rattle.settings_journal.specs.Slot.{slot_at, After, Follows, left_by, next_behind, next_slot, free_in}
 use Rattle.settings_journal.specs.Image.{slots_of, left_in, Reads}
 use Rattle.settings_journal.proofs.Parts.{Spells-same}
 use Rattle.settings_journal.proofs.Slots.{After-front, After-same}
@@ -60,15 +59,15 @@ pub unspelled : (sector head : List ℕ) → head ≡ head_of sector → ((setti
 unspelled sector head is none = λ settings r. none r.base (subst (λ h. Spells h r.base) (sym is) r.spells)
 
 -- what the slots make of a base
-abbrev pub IsFound : Version → List ℕ → ℕ → Settings → Option Found → Type 0
-IsFound version sector count base found =
+abbrev pub IsFound : Version → List ℕ → ℕ → Settings → Settings → Option ℕ → Type 0
+IsFound version sector count base after found =
     MatchOption found ((settings : Settings) → ¬ After version sector count base settings)
-    (λ found. After version sector count base found.settings × (found.next ≡ next_slot sector count))
+    (λ next. After version sector count base after × (next ≡ next_slot sector count))
 
-pub found_some : (version : Version) (sector : List ℕ) (count : ℕ) (base : Settings) (found : Option Found) (x : Found) → found ≡ Some x → IsFound version sector count base found
-    → After version sector count base x.settings × (x.next ≡ next_slot sector count)
-found_some version sector count base found x e said = subst (IsFound version sector count base) e said
+pub found_some : (version : Version) (sector : List ℕ) (count : ℕ) (base after : Settings) (found : Option ℕ) (next : ℕ) → found ≡ Some next → IsFound version sector count base after found
+    → After version sector count base after × (next ≡ next_slot sector count)
+found_some version sector count base after found next e said = subst (IsFound version sector count base after) e said
 
-pub found_none : (version : Version) (sector : List ℕ) (count : ℕ) (base : Settings) (found : Option Found) → found ≡ None → IsFound version sector count base found
+pub found_none : (version : Version) (sector : List ℕ) (count : ℕ) (base after : Settings) (found : Option ℕ) → found ≡ None → IsFound version sector count base after found
     → (settings : Settings) → ¬ After version sector count base settings
-found_none version sector count base found e said = subst (IsFound version sector count base) e said
+found_none version sector count base after found e said = subst (IsFound version sector count base after) e said

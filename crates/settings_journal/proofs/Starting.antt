@@ -1,5 +1,5 @@
 -- From what two heads are read as to the start of an image.
-use Rattle.std.proofs.Common.{◌≡◌, ◌≢◌, ◌⊎◌, ◌-◌, ℕ, List, refl, sym, ap, subst, ◌∙◌, inl, inr, Option, Some, None}
+use Rattle.std.proofs.Common.{◌≡◌, ◌≢◌, ◌⊎◌, ℕ, List, refl, sym, ap, subst, ◌∙◌, inl, inr, Option, Some, None}
 use Rattle.std.specs.Prelude.{MatchOption, IfSome, Result, Ok, Err, IfOk}
 use Rattle.flash_model.specs.declared.flash.FlashFault.{FlashFault}
 use Rattle.pn_values.specs.Settings.{factory_settings}
@@ -7,9 +7,8 @@ use Rattle.pn_values.specs.declared.settings.Settings.{Settings}
 use Rattle.flash_model.specs.Image.{Image, other, sector_of}
 use Rattle.flash_model.specs.declared.flash.Sector.{Sector}
 use Rattle.flash_model.specs.declared.flash.Sector.TheVariants.{First, Second}
-use Rattle.settings_journal.specs.declared.start.Position.{Position}
 use Rattle.settings_journal.specs.declared.start.Start.{Start}
-use Rattle.settings_journal.specs.Head.{gate_of, generation_at}
+use Rattle.settings_journal.specs.Head.{gate_of}
 use Rattle.settings_journal.specs.Image.{head_in, left_in, IsActive, Reads, StartsAt, IsForeign}
 use Rattle.settings_journal.specs.Start.{IsNewest, IsNewestOf, HasNoNewest}
 

@@ -1,6 +1,6 @@
 -- What the store of a command makes of an image, whether its calls ended or failed.
-use Rattle.std.proofs.Common.{◌≡◌, ◌≢◌, ◌⊎◌, ℕ, suc, ◌+◌, ◌-◌, ◌*◌, ◌<◌, ◌≤◌, List, length, refl, sym, ap, subst, ◌∙◌, inl, inr, arith, Option, Some, None}
-use Rattle.std.proofs.lemmas.Bool.{cases_lt, cases_eq}
+use Rattle.std.proofs.Common.{◌≡◌, ◌≢◌, ◌⊎◌, ℕ, suc, ◌+◌, ◌-◌, ◌*◌, ◌<◌, ◌≤◌, List, refl, sym, ap, subst, ◌∙◌, inl, inr, arith, Option, Some, None}
+use Rattle.std.proofs.lemmas.Bool.{cases_eq}
 use Rattle.pn_values.specs.Command.{apply}
 use Rattle.pn_values.specs.declared.command.Command.{Command}
 use Rattle.pn_values.specs.declared.settings.Settings.{Settings}
@@ -11,7 +11,7 @@ use Rattle.settings_journal.specs.declared.head.Version.{Version}
 use Rattle.settings_journal.specs.declared.head.Version.TheVariants.{One, Two}
 use Rattle.settings_journal.specs.Head.{head_of, gate_of, version_at, generation_at, Counts, Spells, IsSettings, base_of, Rises, IsOlder}
 use Rattle.settings_journal.specs.Image.{head_in, slots_of, left_in, room_of, IsActive, IsClosed, Reads, StartsAt, IsLeft, LeftByDevice, BootsTo, IsGeneration, spare}
-use Rattle.settings_journal.specs.Slot.{slot_at, slot_gate, After, Follows, HasEntry, IsEntryOf, is_blank, next_slot, free_in}
+use Rattle.settings_journal.specs.Slot.{slot_at, After, Follows, HasEntry, IsEntryOf, next_slot, free_in}
 use Rattle.settings_journal.specs.Writes.{IsBase, MayLeave, KeepsOthers, MayLeaveSlot}
 use Rattle.flash_model.specs.Calls.{Call}
 use Rattle.settings_journal.specs.Calls.{CommitCalls, calls_of}

@@ -1,5 +1,5 @@
 -- What the store of a command needs, and what it leaves.
-use Rattle.std.specs.Prelude.{◌≡◌, ◌+◌, ◌≤◌, ℕ, Option, Result, IfOk, OnOk}
+use Rattle.std.specs.Prelude.{◌≡◌, ◌+◌, ◌≤◌, ℕ, Result, IfOk, OnOk}
 use Rattle.pn_values.specs.Command.{apply}
 use Rattle.pn_values.specs.declared.command.Command.{Command}
 use Rattle.pn_values.specs.declared.settings.Settings.{Settings}

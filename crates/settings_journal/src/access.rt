@@ -39,52 +39,18 @@ pub(crate) fn slots_of(size: usize) -> usize
     (size - HEAD) / SLOT
 }
 
-/// What the slots of a sector make of its base.
-#[derive(Drop)]
-pub(crate) struct Found {
-    pub(crate) settings: Settings,
-    /// The slot behind the last one that holds a byte other than FF.
-    pub(crate) next: usize,
-}
-
-/// Applies what the open slots keep, in order. None where one of them keeps no command.
+/// Applies to the settings of a base what the open slots of its sector keep, in order. Gives the slot behind the last one
+/// that holds a byte other than FF. None where an open one keeps no command.
 pub(crate) fn read_slots<F: Flash<S>, const S: usize>(
     flash: &mut F,
     sector: Sector,
     version: Version,
-    base: Settings,
-) -> Result<Option<Found>, FlashFault>
+    settings: &mut Settings,
+) -> Result<Option<usize>, FlashFault>
     requires { F.is_lost flash.old ≡ false }
-    ensures found { IfOk result (λ found. MatchOption found ((settings : Settings) → ¬ After version (sector_of (F.image flash.old) sector) (slots_in S) base settings)
-        (λ found. After version (sector_of (F.image flash.old) sector) (slots_in S) base found.settings
-        × (found.next ≡ next_slot (sector_of (F.image flash.old) sector) (slots_in S)))) }
-    ensures same { F.image flash.new ≡ F.image flash.old }
-    ensures calls { F.asked flash.old [] flash.new }
-    ensures cause { HasCause (F.failures flash.old) (F.failures flash.new) result }
-    ensures lost { StaysLost (F.is_lost flash.old) (F.is_lost flash.new) result }
-    ensures reliable { F.is_reliable flash.old → IsOk result × F.is_reliable flash.new }
-{
-    let mut settings = base;
-    let mut next = 0;
-    for number in 0..slots_of(S) {
-        let slot = read_slot(flash, sector, number)?;
-        next = behind(&slot, number, next);
-        let Some(followed) = follow(version, &slot, settings) else {
-            return Ok(None);
-        };
-        settings = followed;
-    }
-    Ok(Some(Found { settings, next }))
-}
-
-// One slot of a sector.
-fn read_slot<F: Flash<S>, const S: usize>(
-    flash: &mut F,
-    sector: Sector,
-    number: usize,
-) -> Result<[u8; SLOT], FlashFault>
-    requires { number < slots_in S }
-    ensures slot { IfOk result (λ slot. slot ≡ slot_at (sector_of (F.image flash.old) sector) number) }
+    ensures found { IfOk result (λ found. MatchOption found ((after : Settings) → ¬ After version (sector_of (F.image flash.old) sector) (slots_in S) settings.old after)
+        (λ next. After version (sector_of (F.image flash.old) sector) (slots_in S) settings.old settings.new
+        × (next ≡ next_slot (sector_of (F.image flash.old) sector) (slots_in S)))) }
     ensures same { F.image flash.new ≡ F.image flash.old }
     ensures calls { F.asked flash.old [] flash.new }
     ensures cause { HasCause (F.failures flash.old) (F.failures flash.new) result }
@@ -92,8 +58,33 @@ fn read_slot<F: Flash<S>, const S: usize>(
     ensures reliable { F.is_reliable flash.old → IsOk result × F.is_reliable flash.new }
 {
     let mut slot = [0; SLOT];
-    flash.read(sector, HEAD + SLOT * number, &mut slot)?;
-    Ok(slot)
+    let mut next = 0;
+    for number in 0..slots_of(S) {
+        read_slot(flash, sector, number, &mut slot)?;
+        next = behind(&slot, number, next);
+        let Some(()) = follow(version, &slot, settings) else {
+            return Ok(None);
+        };
+    }
+    Ok(Some(next))
+}
+
+// Reads one slot of a sector.
+fn read_slot<F: Flash<S>, const S: usize>(
+    flash: &mut F,
+    sector: Sector,
+    number: usize,
+    slot: &mut [u8; SLOT],
+) -> Result<(), FlashFault>
+    requires { number < slots_in S }
+    ensures slot { OnOk result (slot.new ≡ slot_at (sector_of (F.image flash.old) sector) number) }
+    ensures same { F.image flash.new ≡ F.image flash.old }
+    ensures calls { F.asked flash.old [] flash.new }
+    ensures cause { HasCause (F.failures flash.old) (F.failures flash.new) result }
+    ensures lost { StaysLost (F.is_lost flash.old) (F.is_lost flash.new) result }
+    ensures reliable { F.is_reliable flash.old → IsOk result × F.is_reliable flash.new }
+{
+    flash.read(sector, HEAD + SLOT * number, slot)
 }
 
 /// Writes a base into a sector. The gate opens last and by a call of its own, so that a base which was cut short never

@@ -1,5 +1,6 @@
 // A slot of a sector: an entry with a command, and a gate behind it.
 ghost use Rattle.std.specs.Prelude.{◌≡◌, ◌≢◌, ◌<◌, ◌≤◌, ◌++◌, length, true, Some, MatchOption};
+ghost use Rattle.pn_values.specs.Command.{apply};
 ghost use Rattle.pn_values.specs.IpSuite.{IsSuite};
 ghost use Rattle.pn_values.specs.declared.command.Command.TheVariants.{SetName, SetIp, SetIm};
 ghost use Rattle.pn_values.specs.declared.settings.Settings.{Settings};
@@ -83,17 +84,27 @@ fn octets_of(suite: &IpSuite) -> ArrayVec<u8, 12>
     octets
 }
 
-/// The settings behind a slot: a closed one changes nothing, and what an open one keeps is applied. None where an open one
-/// keeps no command.
-pub(crate) fn follow(version: Version, slot: &[u8; SLOT], settings: Settings) -> Option<Settings>
-    ensures { MatchOption result ((next : Settings) → ¬ Follows version slot.now settings next) (λ next. Follows version slot.now settings next) }
+/// Makes of the settings what a slot makes of them: a closed one changes nothing, and what an open one keeps is applied.
+/// None where an open one keeps no command.
+pub(crate) fn follow(version: Version, slot: &[u8; SLOT], settings: &mut Settings) -> Option<()>
+    ensures { MatchOption result ((next : Settings) → ¬ Follows version slot.now settings.old next) (λ _. Follows version slot.now settings.old settings.new) }
 {
-    if slot[SLOT_GATE] != OPEN {
-        return Some(settings);
+    if slot[SLOT_GATE] == OPEN {
+        change(settings, decode_command(version, slot)?);
     }
-    match decode_command(version, slot) {
-        Some(command) => Some(command.apply(settings)),
-        None => None,
+    Some(())
+}
+
+// Applies a command to settings where they lie. Most slots keep a name, for which the texts are not copied.
+fn change(settings: &mut Settings, command: Command)
+    ensures { settings.new ≡ apply command settings.old }
+{
+    match command {
+        Command::SetName {
+            permanent: true,
+            name,
+        } => settings.name = name,
+        other => *settings = other.apply(settings.copy()),
     }
 }
 

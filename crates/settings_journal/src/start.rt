@@ -74,20 +74,20 @@ fn read_sector<F: Flash<S>, const S: usize>(
     ensures lost { StaysLost (F.is_lost flash.old) (F.is_lost flash.new) result }
     ensures reliable { F.is_reliable flash.old → IsOk result × F.is_reliable flash.new }
 {
-    let Some(base) = decode(head) else {
+    let Some(mut settings) = decode(head) else {
         return Ok(None);
     };
     let version = version_of(head);
-    let Some(found) = read_slots(flash, sector, version, base)? else {
+    let Some(next) = read_slots(flash, sector, version, &mut settings)? else {
         return Ok(None);
     };
     Ok(Some(Start {
         position: Position {
             active: Some(sector),
             generation,
-            free: left_of(version, slots_of(S), found.next),
+            free: left_of(version, slots_of(S), next),
         },
-        settings: found.settings,
+        settings,
     }))
 }
 

@@ -1,7 +1,7 @@
 -- What each of the three calls leaves.
 use Rattle.std.proofs.Common.{◌∙◌, ◌∷◌, [], ap, inl, inr, arith}
 use Rattle.std.proofs.lemmas.Result.{on_ok_weaker, err_from_is_err_and}
-use Rattle.flash_model.specs.Calls.{Programs, Erases}
+use Rattle.flash_model.specs.Calls.{Programs}
 use Rattle.flash_model.specs.Image.{sector_of}
 use Rattle.settings_journal.proofs.Asking.{front, asked_all}
 use Rattle.settings_journal.proofs.Writes.{IsWritten, sector_with, erase_rises, program_closed, written, opened, half_opened, either}

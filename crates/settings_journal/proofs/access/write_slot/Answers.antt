@@ -1,7 +1,7 @@
 -- What each of the two calls leaves.
-use Rattle.std.proofs.Common.{◌≡◌, ◌∙◌, ◌∷◌, ◌≤◌, ◌+◌, [], length, ap, inl, inr, arith, subst, sym}
+use Rattle.std.proofs.Common.{◌≡◌, ◌∙◌, ◌∷◌, ◌≤◌, ◌+◌, [], ap, inl, inr, arith, subst, sym}
 use Rattle.std.proofs.lemmas.Result.{on_ok_weaker}
-use Rattle.flash_model.specs.Image.{sector_of, programmed, slots_in}
+use Rattle.flash_model.specs.Image.{sector_of, programmed}
 use Rattle.settings_journal.specs.Slot.{place_of, slot_at, HasEntry}
 use Rattle.settings_journal.proofs.Asking.{asked_all}
 use Rattle.settings_journal.proofs.Writes.{HasFront, IsInSlot, sector_with, sector_size, either, in_slot_then, in_slot_done, in_slot_torn, keeps_others, entry_closed, entry_there, slot_opened, slot_half}

@@ -1,7 +1,6 @@
 -- The pieces, one behind the other, are a base.
-use Rattle.std.proofs.Common.{◌≡◌, [], ◌∷◌, ◌∙◌, ap, length, refl, rules}
-use Rattle.settings_journal.specs.Head.{front_of, base_of, magic_of, name_field, IsSettings}
-use Rattle.settings_journal.specs.declared.head.Version.TheVariants.{Two}
+use Rattle.std.proofs.Common.{◌≡◌, [], ◌∷◌, ◌∙◌, ap, length, rules}
+use Rattle.settings_journal.specs.Head.{front_of, base_of, name_field, IsSettings}
 use Rattle.settings_journal.proofs.Parts.{put_more, length-base_of}
 use Rattle.settings_journal.proofs.base.encode.Goals as goal
 

@@ -1,11 +1,9 @@
 -- What a write into a slot, and that of a base, leave and ask for.
-use Rattle.std.proofs.Common.{◌≡◌, ◌∙◌, ◌+◌, ◌-◌, ◌<◌, ap, sym, subst, arith, refl}
+use Rattle.std.proofs.Common.{◌∙◌, ◌-◌, ap, sym, subst, arith, refl}
 use Rattle.std.proofs.lemmas.Result.{err_from_is_err_and}
-use Rattle.flash_model.specs.Image.{slots_in, sector_of}
-use Rattle.settings_journal.specs.Image.{slots_of}
+use Rattle.flash_model.specs.Image.{slots_in}
 use Rattle.settings_journal.specs.Slot.{IsEntryOf}
-use Rattle.settings_journal.proofs.Asking.{calls_slot, calls_base, asked_as, failed_as}
-use Rattle.settings_journal.proofs.Writes.{sector_size}
+use Rattle.settings_journal.proofs.Asking.{calls_slot, calls_base, failed_as}
 use Rattle.settings_journal.proofs.Storing.{slot_first, in_slot, stored_failed, stored_slot, slot_kept_at, none_free, base_written, stored_base, base_kept}
 use Rattle.settings_journal.proofs.store.store.Goals as goal
 

@@ -1,6 +1,5 @@
 -- What the store of the command says of the journal.
-use Rattle.std.proofs.Common.{◌≡◌, ◌∙◌, ap, subst, refl}
-use Rattle.pn_values.specs.Command.{apply}
+use Rattle.std.proofs.Common.{subst, refl}
 use Rattle.settings_journal.specs.Commit.{IsKept}
 use Rattle.settings_journal.proofs.Active.{starts_with}
 use Rattle.settings_journal.proofs.Storing.{still_kept, before, commit_calls}

@@ -1,5 +1,3 @@
-use Rattle.std.proofs.Common.{sym, ap}
-use Rattle.flash_model.specs.Image.{slots_in}
 use Rattle.settings_journal.proofs.Active.{starts_with}
 use Rattle.settings_journal.proofs.journal.Journal.settings.Goals as goal
 
