@@ -3,5 +3,6 @@ mod faults;
 mod flash;
 mod journal;
 mod names;
+mod sectors;
 mod store;
 mod values;

@@ -1,0 +1,254 @@
+// Sectors of 4,096 bytes, which have fourteen slots, until the next one is needed and until no commit has room. The bytes
+// were worked out by hand from the layout.
+use flash_model::{Flash, FlashFault, Lent, MemoryFlash, Order, Sector};
+use pn_values::{Command, ImValue, IpSuite, Padded, StationName};
+use settings_journal::{BootFault, CommitFault, Journal};
+use std::alloc::Global;
+use std::test::Fail;
+
+/// The size of a sector of the demo device.
+const SIZE: usize = 4096;
+
+/// The smallest size: room for one slot.
+const SMALLEST: usize = 768;
+
+/// How many names fill two sectors: a base, and fourteen slots, in each.
+const FULL: u32 = 30;
+
+/// A journal over a flash that stays where it is.
+type Stored<'a, const S: usize> = Journal<Lent<'a, MemoryFlash<S>>, S>;
+
+fn start<const S: usize>(flash: &mut MemoryFlash<S>) -> Result<Stored<'_, S>, BootFault> {
+    Journal::boot(Lent::new(flash)).map_err(|refused| refused.0)
+}
+
+/// A name, permanent.
+fn set(name: &[u8]) -> Result<Command, Fail> {
+    Ok(Command::SetName {
+        permanent: true,
+        name: station_names::check(name)?,
+    })
+}
+
+/// Sets the names `n1` up to that of this number, each by one commit.
+fn set_names(alloc: Global, journal: &mut Stored<'_, SIZE>, last: u32) -> Result<(), Fail> {
+    for number in 1..=last {
+        let name = format!(in alloc; "n{number}")?;
+        journal.commit(&set(name.as_bytes())?)?;
+    }
+    Ok(())
+}
+
+#[test]
+fn thirty_names_fill_both_sectors(rt: HostRuntime) -> Result<(), Fail> {
+    let mut flash = MemoryFlash::<SIZE>::blank();
+    let mut journal = start(&mut flash)?;
+    set_names(rt.alloc(), &mut journal, FULL)?;
+    drop(journal);
+    let (first, second) = (flash.sector(Sector::First), flash.sector(Sector::Second));
+    assert!(rt; first.starts_with(b"PNJ\x02\xFF\xFE\x02n1"));
+    assert!(rt; first[512..].starts_with(b"\x01\x02n2"));
+    assert!(rt; first[3840..].starts_with(b"\x01\x03n15"));
+    assert!(rt; second.starts_with(b"PNJ\x02\xFF\xFD\x03n16"));
+    assert!(rt; second[512..].starts_with(b"\x01\x03n17"));
+    assert!(rt; second[3840..].starts_with(b"\x01\x03n30"));
+    for gate in [511, 767, 4095] {
+        assert_eq!(rt; (first[gate], second[gate]), (0, 0), "at {gate}");
+    }
+    Ok(())
+}
+
+// The next command erases the first sector, programs a base there and opens its gate. Whichever of the three calls is cut
+// short, the last name is there, unless the gate is open whole.
+#[test]
+fn a_full_sector_outlives_its_follower(rt: HostRuntime) -> Result<(), Fail> {
+    let last = b"n30".as_slice();
+    let cases = [
+        (0, [0x00; 8], last),
+        (0, [0x55; 8], last),
+        (0, [0xFF; 8], last),
+        (0, [0, 0, 0, 0, 0xFF, 0xFF, 0, 0], last),
+        (1, [0x00; 8], last),
+        (1, [0x55; 8], last),
+        (1, [0xFF; 8], last),
+        (2, [0x55; 8], last),
+        (2, [0xFF; 8], b"n31".as_slice()),
+    ];
+    let mut flash = MemoryFlash::<SIZE>::blank();
+    for (after, mask, name) in cases {
+        flash.erase(Sector::First)?;
+        flash.erase(Sector::Second)?;
+        let mut journal = start(&mut flash)?;
+        set_names(rt.alloc(), &mut journal, FULL)?;
+        journal.arm(Order::Cut { after, mask });
+        let cut = journal.commit(&set(b"n31")?);
+        assert!(rt; matches!(cut, Err(CommitFault::FlashFault)));
+        drop(journal);
+        flash.power_up();
+        let again = start(&mut flash)?;
+        assert_eq!(rt;
+            again.settings().name.as_bytes(),
+            name,
+            "at {after} {mask:?}"
+        );
+    }
+    Ok(())
+}
+
+// A slot whose gate opened by half is in use, and changes nothing.
+#[test]
+fn the_slot_behind_one_that_was_cut_short_is_used(rt: HostRuntime) -> Result<(), Fail> {
+    let mut flash = MemoryFlash::<SIZE>::blank();
+    let mut journal = start(&mut flash)?;
+    journal.commit(&set(b"pump-1")?)?;
+    let mask = [0x55; 8];
+    journal.arm(Order::Cut { after: 1, mask });
+    let cut = journal.commit(&set(b"pump-2")?);
+    assert!(rt; matches!(cut, Err(CommitFault::FlashFault)));
+    drop(journal);
+    flash.power_up();
+    let mut journal = start(&mut flash)?;
+    assert_eq!(rt; journal.settings().name.as_bytes(), b"pump-1".as_slice());
+    journal.commit(&set(b"pump-3")?)?;
+    drop(journal);
+    assert_eq!(rt; flash.sector(Sector::First)[767], 0xAA);
+    assert!(rt; flash.sector(Sector::First)[768..].starts_with(b"\x01\x06pump-3"));
+    assert_eq!(rt; flash.sector(Sector::First)[1023], 0x00);
+    let again = start(&mut flash)?;
+    assert_eq!(rt; again.settings().name.as_bytes(), b"pump-3".as_slice());
+    Ok(())
+}
+
+// The gate's byte is the last that a commit programs: where it is 00, the command counts, though power was lost in the call.
+#[test]
+fn a_date_whose_gate_opened_is_kept(rt: HostRuntime) -> Result<(), Fail> {
+    let mut flash = MemoryFlash::<SIZE>::blank();
+    let mut journal = start(&mut flash)?;
+    journal.commit(&set(b"pump-1")?)?;
+    let mask = [0xFF; 8];
+    journal.arm(Order::Cut { after: 1, mask });
+    let date = Padded::new(*b"2024-05-06 07:08");
+    let cut = journal.commit(&Command::SetIm(ImValue::Im2(date)));
+    assert!(rt; matches!(cut, Err(CommitFault::FlashFault)));
+    drop(journal);
+    flash.power_up();
+    let again = start(&mut flash)?;
+    assert_eq!(rt;
+        again.settings().im2.as_bytes(),
+        b"2024-05-06 07:08".as_slice()
+    );
+    assert_eq!(rt; again.settings().name.as_bytes(), b"pump-1".as_slice());
+    Ok(())
+}
+
+/// Writes the last generation into the first sector, in a version of the layout: a base with the name `pump-1`, and fourteen
+/// open slots with a reset of the texts.
+fn write_last(flash: &mut MemoryFlash<SIZE>, version: u8) -> Result<(), FlashFault> {
+    let mut base = [0; 437];
+    base[..13].copy_from_slice(b"PNJ\x02\x00\x00\x06pump-1");
+    base[3] = version;
+    flash.program(Sector::First, 0, &base)?;
+    flash.program(Sector::First, 511, &[0])?;
+    for number in 0..14 {
+        flash.program(Sector::First, 512 + 256 * number, &[8, 0])?;
+        flash.program(Sector::First, 767 + 256 * number, &[0])?;
+    }
+    Ok(())
+}
+
+/// A command of each kind.
+fn commands() -> Result<[Command; 8], Fail> {
+    Ok([
+        set(b"pump-2")?,
+        Command::SetName {
+            permanent: false,
+            name: StationName::none(),
+        },
+        Command::SetIp {
+            permanent: true,
+            suite: IpSuite::zero(),
+        },
+        Command::SetIp {
+            permanent: false,
+            suite: IpSuite::zero(),
+        },
+        Command::SetIm(ImValue::Im4(Padded::zero())),
+        Command::ResetApplication,
+        Command::ResetCommunication,
+        Command::ResetAll,
+    ])
+}
+
+#[test]
+fn a_full_sector_of_the_last_generation_has_no_room(rt: HostRuntime) -> Result<(), Fail> {
+    for version in [1, 2] {
+        let mut flash = MemoryFlash::<SIZE>::blank();
+        write_last(&mut flash, version)?;
+        let mut journal = start(&mut flash)?;
+        assert!(rt; journal.is_exhausted(), "at {version}");
+        for command in commands()? {
+            let refused = journal.commit(&command);
+            assert!(rt; matches!(refused, Err(CommitFault::Exhausted)));
+        }
+        assert!(rt; !journal.has_failed());
+        assert_eq!(rt; journal.settings().name.as_bytes(), b"pump-1".as_slice());
+        assert_eq!(rt; journal.settings().im1.as_bytes(), [b' '; 54].as_slice());
+        drop(journal);
+        let mut untouched = MemoryFlash::<SIZE>::blank();
+        write_last(&mut untouched, version)?;
+        for sector in [Sector::First, Sector::Second] {
+            assert!(rt; flash.sector(sector) == untouched.sector(sector));
+        }
+    }
+    Ok(())
+}
+
+// 100 generations are left of 65,535, each with a base and a slot, and a slot of this one: so many commits there are, and no
+// more, with a start before each of them.
+#[test]
+fn each_generation_has_a_base_and_its_slots(rt: HostRuntime) -> Result<(), Fail> {
+    let mut flash = MemoryFlash::<SMALLEST>::blank();
+    let mut base = [0; 437];
+    base[..13].copy_from_slice(b"PNJ\x02\x00\x64\x06pump-1");
+    flash.program(Sector::First, 0, &base)?;
+    flash.program(Sector::First, 511, &[0])?;
+    let command = set(b"pump-2")?;
+    for _ in 0..201 {
+        let mut journal = start(&mut flash)?;
+        assert!(rt; !journal.is_exhausted());
+        journal.commit(&command)?;
+    }
+    let mut journal = start(&mut flash)?;
+    assert!(rt; journal.is_exhausted());
+    assert!(rt; matches!(journal.commit(&command), Err(CommitFault::Exhausted)));
+    assert_eq!(rt; journal.settings().name.as_bytes(), b"pump-2".as_slice());
+    Ok(())
+}
+
+// A commit into a slot changes that slot alone, and one that needs a sector leaves the active one as it was.
+#[test]
+fn a_commit_leaves_what_is_stored_where_it_lies(rt: HostRuntime) -> Result<(), Fail> {
+    let mut flash = MemoryFlash::<SIZE>::blank();
+    for number in 0..32usize {
+        let (here, there) = if number / 15 % 2 == 0 {
+            (Sector::First, Sector::Second)
+        } else {
+            (Sector::Second, Sector::First)
+        };
+        let was = Vec::from_slice(rt.alloc(), flash.sector(here))?;
+        let other = Vec::from_slice(rt.alloc(), flash.sector(there))?;
+        let mut journal = start(&mut flash)?;
+        journal.commit(&set(b"pump-1")?)?;
+        drop(journal);
+        assert!(rt; flash.sector(there) == other.as_slice(), "at {number}");
+        let now = flash.sector(here);
+        assert!(rt; now != was.as_slice(), "at {number}");
+        let slot = number % 15;
+        if slot > 0 {
+            let place = 256 + 256 * slot;
+            assert!(rt; now[..place] == was[..place], "at {number}");
+            assert!(rt; now[place + 256..] == was[place + 256..], "at {number}");
+        }
+    }
+    Ok(())
+}
