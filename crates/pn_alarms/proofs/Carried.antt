@@ -7,9 +7,8 @@ use Rattle.record_blocks.specs.declared.alarm_ack.AlarmAck.{AlarmAck}
 use Rattle.record_blocks.specs.declared.alarm_notification.AlarmNotification.{AlarmNotification}
 use Rattle.block_codec.specs.declared.block.Block.{Block}
 use Rattle.block_codec.specs.declared.block.Block.TheVariants as is
-use Rattle.block_codec.specs.Block.{IsBlock, block_of, in_alarm_ack, in_alarm_notification}
+use Rattle.block_codec.specs.Block.{block_of, in_alarm_ack, in_alarm_notification}
 use Rattle.block_codec.proofs.Sound.{block_takes, block_again}
-use Rattle.pn_alarms.specs.declared.fault.AlarmFault.{AlarmFault}
 use Rattle.pn_alarms.specs.declared.fault.AlarmFault.TheVariants as fault
 use Rattle.pn_alarms.specs.Carried.{IsAck, ack_of, IsNotification, notification_of, wanted}
 

@@ -1,2 +1,5 @@
 pub mod Sound
 pub mod Carried
+pub mod Numbered
+pub mod Lines
+pub mod Moves

@@ -3,7 +3,7 @@ use Rattle.std.proofs.Common.{◌≡◌, ℕ, ◌<◌, ◌^◌, true, List, [], 
 use Rattle.std.proofs.lemmas.List.{append-nil}
 use Rattle.wire.specs.Codec.{Codec, IsSound, IsOnward}
 use Rattle.wire.specs.Formats.{big_bytes, number, ◌⨾◌}
-use Rattle.wire.specs.Whole.{everything, loose}
+use Rattle.wire.specs.Whole.{everything}
 use Rattle.wire.proofs.Fields.{number_sound, number_onward}
 use Rattle.wire.proofs.Joined.{then_by_sound, then_by_onward, seen_sound, seen_onward, unchecked_sound, unchecked_onward, framed_sound, framed_onward}
 use Rattle.wire.proofs.Judged.{checked_sound, checked_onward, named_sound, named_onward}

@@ -1,5 +1,5 @@
 -- The blocks that data carries: an AlarmNotification to a controller, an AlarmAck to a device.
-use Rattle.std.specs.Prelude.{ℕ, List, Option, Some, None, Result, Ok, Err}
+use Rattle.std.specs.Prelude.{ℕ, List, Option, Result, Ok, Err}
 use Rattle.wire.specs.Checks.{or_fault}
 use Rattle.block_fields.specs.declared.fault.BlockFault.{BlockFault}
 use Rattle.record_blocks.specs.declared.alarm_ack.AlarmAck.{AlarmAck}

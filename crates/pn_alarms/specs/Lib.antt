@@ -7,3 +7,5 @@ pub mod Sending
 pub mod Alarming
 pub mod Sender
 pub mod Standing
+pub mod Line
+pub mod World

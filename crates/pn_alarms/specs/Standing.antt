@@ -1,5 +1,4 @@
 -- An alarm as it is kept while it stands.
-use Rattle.std.specs.Prelude.{ℕ}
 use Rattle.record_blocks.specs.declared.alarm_notification.AlarmNotification.{AlarmNotification}
 use Rattle.pn_alarms.specs.declared.sender.Standing.{Standing}
 

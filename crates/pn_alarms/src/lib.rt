@@ -4,6 +4,7 @@
 
 mod abort;
 mod fault;
+mod law;
 mod numbers;
 mod pdu;
 mod reading;
@@ -14,6 +15,7 @@ mod writing;
 
 pub use abort::Abort;
 pub use fault::AlarmFault;
+pub use law::in_order;
 pub use pdu::{Header, Pdu, PduType};
 pub use reading::{read_ack, read_notification, read_pdu};
 pub use receiver::{Receiver, Taken};

@@ -1,7 +1,5 @@
 -- What is read is spelled, and what is spelled is read.
-use Rattle.std.proofs.Common.{◌≡◌, Result, Ok, Err, sym, ◌∙◌}
-use Rattle.std.specs.Prelude.{IfOk}
-use Rattle.pn_alarms.specs.declared.fault.AlarmFault.{AlarmFault}
+use Rattle.std.proofs.Common.{sym, ◌∙◌}
 use Rattle.pn_alarms.proofs.Carried.{notification_takes, notification_again, of_ok}
 use Rattle.pn_alarms.proofs.reading.read_notification.Goals as goal
 

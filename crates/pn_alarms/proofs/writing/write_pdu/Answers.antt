@@ -1,5 +1,4 @@
-use Rattle.std.proofs.Common.{◌≡◌, ℕ, List, ◌++◌, length, sym, ap, ◌∙◌, append_assoc}
-use Rattle.wire.specs.Formats.{big_bytes}
+use Rattle.std.proofs.Common.{◌≡◌, ℕ, List, ◌++◌, sym, ap, ◌∙◌, append_assoc}
 use Rattle.pn_alarms.specs.Format.{said, pdu_bytes}
 use Rattle.pn_alarms.proofs.Sound.{pdu_parts, pdu_spelled, pdu_again, pdu_behind}
 use Rattle.pn_alarms.proofs.writing.write_pdu.Goals as goal
