@@ -1,4 +1,5 @@
 pub mod Machine
+pub mod Faults
 pub mod Judged
 pub mod Kept
 pub mod Placed

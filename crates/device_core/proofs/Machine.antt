@@ -1,15 +1,13 @@
 -- What one step and runs of steps do.
-use Rattle.std.proofs.Common.{◌≡◌, ◌+◌, ℕ, Bool, true, false, List, [], ◌∷◌, ◌++◌, length, length-append, map, refl, sym, ap, ◌∙◌, append_assoc, arith}
+use Rattle.std.proofs.Common.{◌≡◌, Bool, true, false, List, [], ◌∷◌, ◌++◌, map, refl, ap, ◌∙◌, append_assoc}
 use Rattle.std.proofs.lemmas.List.{append-nil}
-use Rattle.settings_store.specs.Machine.{Outcome, Accepted, carried}
-use Rattle.settings_store.specs.Legal.{made_of}
+use Rattle.settings_store.specs.Machine.{Outcome}
 use Rattle.device_core.specs.declared.event.Event.{Event}
 use Rattle.device_core.specs.State.{Station, Live}
-use Rattle.device_core.specs.Heard.{Heard, heard_of}
+use Rattle.device_core.specs.Heard.{Heard}
 use Rattle.device_core.specs.Sent.{bytes_of}
 use Rattle.device_core.specs.Judged.{Judged, Refuses, Sets, Moves, judged}
 use Rattle.device_core.specs.Machine.{Stepped, Ran, items_in, items_of, finished, judged_step, heard_step, step_of, handed, first_step, later_steps, then_run, run_of}
-use Rattle.settings_store.proofs.Laws.{failed_accepted, stays_failed, stored_made, made_append, room_left}
 
 -- whether a Set was judged, which alone asks the settings for something
 abbrev pub is_set : Judged → Bool
@@ -47,27 +45,6 @@ pub judged_as : (outcomes : List Outcome) (station : Station) (live : Live) (hea
     → heard_step outcomes station live heard ≡ judged_step outcomes station live what
 unfolding heard_step
 judged_as outcomes station live heard what is = ap (judged_step outcomes station live) is
-
--- after a commit that failed nothing is accepted
-pub step_none : (outcomes : List Outcome) (station : Station) (live : Live) (heard : Heard) → live.values.has_failed ≡ true → (heard_step outcomes station live heard).accepted ≡ []
-unfolding heard_step judged_step
-step_none outcomes station live heard failed = failed_accepted outcomes live.values (items_of station live heard) failed
-
-pub step_failed : (outcomes : List Outcome) (station : Station) (live : Live) (heard : Heard) → live.values.has_failed ≡ true → (heard_step outcomes station live heard).live.values.has_failed ≡ true
-unfolding heard_step judged_step
-step_failed outcomes station live heard failed = stays_failed outcomes live.values (items_of station live heard) failed
-
--- while no commit failed, what is stored is what the accepted commands make
-pub step_stored : (outcomes : List Outcome) (station : Station) (live : Live) (heard : Heard) → (heard_step outcomes station live heard).live.values.has_failed ≡ false
-    → (heard_step outcomes station live heard).live.values.stored ≡ made_of (heard_step outcomes station live heard).accepted live.values.stored
-unfolding heard_step judged_step
-step_stored outcomes station live heard fine = stored_made outcomes live.values (items_of station live heard) fine
-
--- while no commit failed, each accepted command takes one of the room for commits, and nothing else does
-pub step_room : (outcomes : List Outcome) (station : Station) (live : Live) (heard : Heard) → (heard_step outcomes station live heard).live.values.has_failed ≡ false
-    → (heard_step outcomes station live heard).live.values.room + length (heard_step outcomes station live heard).accepted ≡ live.values.room
-unfolding heard_step judged_step
-step_room outcomes station live heard fine = room_left outcomes live.values (items_of station live heard) fine
 
 -- a run, and then a step
 unfoldable pub then_step : Ran → Stepped → Ran
@@ -110,37 +87,3 @@ unfolding joined
 run_joined [] [] station live events event = run_quiet station live events event
 run_joined [] (outcome ∷ outcomes) station live events event = run_snoc [] (outcome ∷ outcomes) station live events event
 run_joined (one ∷ front) last station live events event = run_snoc (one ∷ front) last station live events event
-
-still_fine : (before now : Bool) → (before ≡ true → now ≡ true) → now ≡ false → before ≡ false
-still_fine true now stays fine = let failed : now ≡ true = stays refl in cc
-still_fine false now stays fine = refl
-
--- once a commit failed, one has failed
-pub run_failed : (outcomes : List (List Outcome)) (station : Station) (live : Live) (events : List Event) → live.values.has_failed ≡ true → (run_of outcomes station live events).live.values.has_failed ≡ true
-run_failed outcomes station live [] failed = failed
-run_failed outcomes station live (event ∷ events) failed =
-    run_failed (later_steps outcomes) station (step_of (first_step outcomes) station live event).live events (step_failed (first_step outcomes) station live (heard_of station.identity event) failed)
-
--- while no commit failed, what is stored is what the accepted commands make
-pub run_made : (outcomes : List (List Outcome)) (station : Station) (live : Live) (events : List Event) → (run_of outcomes station live events).live.values.has_failed ≡ false
-    → (run_of outcomes station live events).live.values.stored ≡ made_of (run_of outcomes station live events).accepted live.values.stored
-run_made outcomes station live [] fine = refl
-run_made outcomes station live (event ∷ events) fine =
-    let step : Stepped = step_of (first_step outcomes) station live event in
-    let still : step.live.values.has_failed ≡ false = still_fine _ _ (run_failed (later_steps outcomes) station step.live events) fine in
-    run_made (later_steps outcomes) station step.live events fine
-    ∙ ap (made_of (run_of (later_steps outcomes) station step.live events).accepted) (step_stored (first_step outcomes) station live (heard_of station.identity event) still)
-    ∙ sym (made_append step.accepted (run_of (later_steps outcomes) station step.live events).accepted live.values.stored)
-
-room_then : (before between now : ℕ) (front back : List Accepted) → between + length front ≡ before → now + length back ≡ between → now + length (front ++ back) ≡ before
-room_then before between now front back one two = let e = length-append front back in omega (arith, one, two, e)
-
--- while no commit failed, each accepted command takes one of the room for commits, and nothing else does
-pub run_room : (outcomes : List (List Outcome)) (station : Station) (live : Live) (events : List Event) → (run_of outcomes station live events).live.values.has_failed ≡ false
-    → (run_of outcomes station live events).live.values.room + length (run_of outcomes station live events).accepted ≡ live.values.room
-run_room outcomes station live [] fine = omega arith
-run_room outcomes station live (event ∷ events) fine =
-    let step : Stepped = step_of (first_step outcomes) station live event in
-    let still : step.live.values.has_failed ≡ false = still_fine _ _ (run_failed (later_steps outcomes) station step.live events) fine in
-    room_then _ _ _ step.accepted (run_of (later_steps outcomes) station step.live events).accepted
-    (step_room (first_step outcomes) station live (heard_of station.identity event) still) (run_room (later_steps outcomes) station step.live events fine)

@@ -69,12 +69,13 @@ cycled_from image failures asked station flash begun first room events before no
     record {
       begun = begun;
       begins = (same_image, same_failures, quiet);
-      caused = subst (λ n. IsCaused runs.outcomes n (failures ran.flash) (started first room).values end.live.values) same_failures
-          (subst (λ v. IsCaused runs.outcomes (failures begun) (failures ran.flash) (started first room).values v) values runs.caused);
+      caused = subst (λ n. IsCaused n (failures ran.flash) (started first room).values end.live.values) same_failures
+          (subst (λ v. IsCaused (failures begun) (failures ran.flash) (started first room).values v) values runs.stretch.caused);
+      quiet = λ fine. runs.quiet (ap (λ v. v.has_failed) values ∙ fine);
       placed = runs.placed;
       handed_on = runs.frames;
-      safe = subst (λ i. CrashSafe false first end.accepted i (image ran.flash)) same_image runs.safe;
-      untouched = runs.untouched;
+      safe = subst (λ i. CrashSafe false first end.accepted i (image ran.flash)) same_image runs.stretch.safe;
+      untouched = runs.stretch.untouched;
     }
 
 -- the run of a device that started so
@@ -109,7 +110,7 @@ cycle_restarts image failures asked power_up station flash first room events bef
       clean = λ fine.
           known end.live.values.stored end.live.values.room
           (subst (λ i. StartsWith i end.live.values.stored end.live.values.room) (sym kept)
-          (subst (λ v. StartsWith (image ran.flash) v.stored v.room) values (runs.holds (ap (λ v. v.has_failed) values ∙ fine))));
+          (subst (λ v. StartsWith (image ran.flash) v.stored v.room) values (runs.stretch.holds (ap (λ v. v.has_failed) values ∙ fine))));
       is_started = is_started_from image station back again (same_station ∙ runs.same) fresh starts image_is;
       left = subst LeftByDevice (sym (image_is ∙ kept)) (cycled.safe.left left);
       same = (image_is ∙ kept, failures_is, none_asked);

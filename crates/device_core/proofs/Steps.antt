@@ -1,14 +1,16 @@
 -- What a step does, from what its parts do.
 use Rattle.std.proofs.lemmas.Bool.{cond_both, cond-true}
-use Rattle.std.proofs.Common.{◌≡◌, ◌≢◌, ℕ, Bool, false, List, [], ◌∷◌, map, refl, sym, ap, subst, ◌∙◌, inl}
+use Rattle.std.proofs.Common.{◌≡◌, ◌≢◌, ℕ, Bool, false, List, [], ◌∷◌, ◌++◌, map, refl, sym, ap, subst, ◌∙◌, inl, arith}
+use Rattle.std.proofs.lemmas.List.{append-nil}
 use Rattle.flash_model.specs.Calls.{Call}
 use Rattle.flash_model.specs.Image.{Image}
 use Rattle.pn_values.specs.declared.mac.Mac.{Mac}
 use Rattle.pn_values.specs.declared.set_item.BlockError.{BlockError}
 use Rattle.pn_values.specs.declared.settings.Settings.{Settings}
-use Rattle.settings_store.specs.Machine.{Outcome}
+use Rattle.settings_store.specs.Machine.{Outcome, carried}
 use Rattle.settings_store.specs.State as store
-use Rattle.settings_store.specs.Carries.{Carries, OneByOne, Holds}
+use Rattle.settings_store.specs.Carries.{Carries, OneByOne, Holds, Stretch, Continues}
+use Rattle.settings_store.specs.Faults.{GoesOn}
 use Rattle.rpc_core.specs.Call.{Asked as Called}
 use Rattle.rpc_core.specs.Cache.{Kept, looked, again}
 use Rattle.dcp_core.specs.declared.request.Service.TheVariants as service
@@ -22,9 +24,10 @@ use Rattle.device_core.specs.State.{Station, State, Rest, Live, store_of, with_r
 use Rattle.device_core.specs.Heard.{Heard, Asks}
 use Rattle.device_core.specs.Sent.{Sent, GetAnswer, SetAnswer, Again, bytes_of}
 use Rattle.device_core.specs.Judged.{Judged, Refuses, Sets, Moves, identified, judged_request, judged_looked, judged_blocks, judged}
-use Rattle.device_core.specs.Machine.{Stepped, items_in, finished, end_of, judged_step, heard_step}
+use Rattle.device_core.specs.Machine.{Stepped, items_in, items_of, finished, end_of, judged_step, heard_step}
 use Rattle.device_core.specs.Steps.{Steps, Identifies, IsIdentified, IsServed, IsAgain}
 use Rattle.device_core.proofs.Machine.{is_set, nothing_asked, quiet_step, is_quiet, judged_as}
+use Rattle.device_core.proofs.Faults.{step_goes_on}
 
 -- a state by its parts
 pub same_state : {F : Type 0} (a b : State F) → a.flash ≡ b.flash → a.station ≡ b.station → a.live ≡ b.live → a ≡ b
@@ -53,26 +56,54 @@ pub record IsQuiet {F : Type 0} (old new : State F) (heard : Heard) (frames : Li
   pub frames_are : frames ≡ map (bytes_of old.station.identity) (finished old.live.rest (judged old.station old.live heard) []).sent
   pub note_is : said ≡ (finished old.live.rest (judged old.station old.live heard) []).note
 
+-- where nothing is asked for, nothing happens to the settings
+pub no_stretch : {F : Type 0} (image : F → Image) (failures : F → ℕ) (state : store.State F) → Holds (image state.flash) state.values → Stretch image failures state [] state
+no_stretch image failures state holds = record {
+  caused = inl (refl, refl);
+  safe = record { left = λ left. left; legal = λ fine left. inl (state.values.room, holds fine); untouched = λ failed. refl };
+  holds = holds;
+  untouched = λ _. refl;
+  stays_failed = λ failed. (failed, refl);
+  made = λ _. refl;
+  room = λ _. omega arith;
+  stays_lost = λ lost. lost;
+}
+
 pub is_quiet_steps : {F : Type 0} (image : F → Image) (failures : F → ℕ) (asked : F → List Call → F → Type 0) (old new : State F) (heard : Heard) (frames : List (List ℕ)) (said : Note)
     → Holds (image old.flash) old.live.values → IsQuiet old new heard frames said → Steps image failures asked old heard frames said new
 unfolding quiet_step
 is_quiet_steps image failures asked old new heard frames said holds parts =
+    let step = heard_step [] old.station old.live heard in
     let quiet = is_quiet [] old.station old.live heard parts.not_set in
-    let flash = parts.flash in
-    let live = parts.live in
-    let same_store : store_of new ≡ store_of old = ap (λ f. record { flash = f; values = new.live.values }) flash ∙ ap (λ l. record { flash = old.flash; values = l.values }) live in
+    let none : step.accepted ≡ [] = ap (λ s. s.accepted) quiet in
+    let nothing = nothing_asked old.station old.live heard parts.not_set in
+    let live_is : new.live ≡ step.live = rw quiet parts.live in
+    let frames_are : frames ≡ step.frames = rw quiet parts.frames_are in
+    let note_is : said ≡ step.note = rw quiet parts.note_is in
+    let same_store : store_of new ≡ store_of old = ap (λ f. record { flash = f; values = new.live.values }) parts.flash ∙ ap (λ l. record { flash = old.flash; values = l.values }) parts.live in
     record {
       outcomes = [];
       same = parts.same;
-      live = rw quiet live;
-      frames = rw quiet parts.frames_are;
-      note = rw quiet parts.note_is;
-      caused = inl (refl, ap failures flash);
-      placed = subst (λ items. OneByOne image failures asked [] (store_of old) items (store_of new)) (sym (nothing_asked old.station old.live heard parts.not_set)) same_store;
-      safe = rw (quiet, flash) (record { left = λ left. left; legal = λ fine left. inl (old.live.values.room, holds fine); untouched = λ failed. refl });
-      holds = λ fine. rw (flash, ap (λ l. l.values) live) (holds (sym (ap (λ l. l.values.has_failed) live) ∙ fine));
-      untouched = λ _. flash;
-      stays_lost = λ lost. ap (λ l. l.values.is_lost) live ∙ lost;
+      live = live_is;
+      frames = frames_are;
+      note = note_is;
+      quiet = λ _. refl;
+      placed = subst (λ items. OneByOne image failures asked [] (store_of old) items (store_of new)) (sym nothing) same_store;
+      stretch = subst (λ a. Stretch image failures (store_of old) a (store_of new)) (sym none)
+          (subst (λ s. Stretch image failures (store_of old) [] s) (sym same_store) (no_stretch image failures (store_of old) holds));
+      continues = λ first front so_far. subst (λ a. Stretch image failures first a (store_of new)) (sym (ap (λ a. front ++ a) none ∙ append-nil front))
+          (subst (λ s. Stretch image failures first front s) (sym same_store) so_far);
+      goes_on = step_goes_on [] old.station old.live new.live heard frames said [] live_is frames_are note_is (ap (λ items. (carried [] old.live.values items).answers) (sym nothing))
+          (record {
+            done = [];
+            refused = [];
+            parts = nothing;
+            failed_before = λ _. refl;
+            none_failed = λ _. refl;
+            running = ap (λ l. l.values.running) parts.live;
+            stored = ap (λ l. l.values.stored) parts.live;
+            answered = refl;
+          });
     }
 
 -- what was judged and asks nothing of the settings
@@ -147,18 +178,26 @@ pub set_steps : {F : Type 0} (image : F → Image) (failures : F → ℕ) (asked
     → Steps image failures asked old heard frames said new
 unfolding judged_step
 set_steps image failures asked old new heard asker request in_operation answers frames said sets carries same rest frames_are done =
-    let is = judged_as carries.outcomes old.station old.live heard (Sets asker request in_operation) sets in record {
+    let step = heard_step carries.outcomes old.station old.live heard in
+    let is = judged_as carries.outcomes old.station old.live heard (Sets asker request in_operation) sets in
+    let items : items_of old.station old.live heard ≡ plan_of in_operation request = ap items_in sets in
+    let accepted : (carried carries.outcomes old.live.values (plan_of in_operation request)).accepted ≡ step.accepted = sym (ap (λ s. s.accepted) is) in
+    let live_is : new.live ≡ step.live = rw is (same_live _ _ carries.values rest) in
+    let frames_is : frames ≡ step.frames = rw is (frames_are ∙ ap (λ a. bytes_of old.station.identity (SetAnswer asker request a) ∷ []) carries.answers_are) in
+    let note_is : said ≡ step.note = rw is done in
+    record {
       outcomes = carries.outcomes;
       same = same;
-      live = rw is (same_live _ _ carries.values rest);
-      frames = rw is (frames_are ∙ ap (λ a. bytes_of old.station.identity (SetAnswer asker request a) ∷ []) carries.answers_are);
-      note = rw is done;
-      caused = carries.caused;
-      placed = subst (λ what. OneByOne image failures asked carries.outcomes (store_of old) (items_in what) (store_of new)) (sym sets) carries.placed;
-      safe = rw is carries.safe;
-      holds = carries.holds;
-      untouched = rw is carries.untouched;
-      stays_lost = carries.stays_lost;
+      live = live_is;
+      frames = frames_is;
+      note = note_is;
+      quiet = carries.quiet;
+      placed = subst (λ i. OneByOne image failures asked carries.outcomes (store_of old) i (store_of new)) (sym items) carries.placed;
+      stretch = subst (λ a. Stretch image failures (store_of old) a (store_of new)) accepted carries.stretch;
+      continues = subst (λ a. Continues image failures (store_of old) a (store_of new)) accepted carries.continues;
+      goes_on = step_goes_on carries.outcomes old.station old.live new.live heard frames said answers live_is frames_is note_is
+          (carries.answers_are ∙ ap (λ i. (carried carries.outcomes old.live.values i).answers) (sym items))
+          (subst (λ i. GoesOn old.live.values i answers new.live.values) (sym items) carries.goes_on);
     }
 
 -- a Set of a station
@@ -190,7 +229,7 @@ pub refused_step : {F : Type 0} (image : F → Image) (failures : F → ℕ) (as
     → Steps image failures asked old heard frames said new → said ≢ note.Done → (new ≡ old) × (frames ≡ [])
 refused_step image failures asked old new heard frames said steps refused =
     let nothing = refused_heard steps.outcomes old.station old.live heard (λ done. refused (steps.note ∙ done)) in
-    (same_state new old (steps.untouched nothing.none_accepted) steps.same (steps.live ∙ nothing.live_is), steps.frames ∙ nothing.none_sent)
+    (same_state new old (steps.stretch.untouched nothing.none_accepted) steps.same (steps.live ∙ nothing.live_is), steps.frames ∙ nothing.none_sent)
 
 pub none_sent : {A B : Type 0} (f : A → B) (xs : List A) → map f xs ≡ [] → xs ≡ []
 none_sent f [] none = refl
@@ -216,7 +255,7 @@ pub identify_step : {F : Type 0} (image : F → Image) (failures : F → ℕ) (a
 identify_step image failures asked old new heard frames said steps asker request is identify =
     let one = identify_heard steps.outcomes old.station old.live heard asker request is identify in
     record {
-      unchanged = same_state new old (steps.untouched one.none_accepted) steps.same (steps.live ∙ one.unchanged);
+      unchanged = same_state new old (steps.stretch.untouched one.none_accepted) steps.same (steps.live ∙ one.unchanged);
       answered = λ match. let end = one.answered match in (steps.note ∙ end.0, steps.frames ∙ end.1);
       filtered = λ match. let end = one.filtered match in (steps.note ∙ end.0, steps.frames ∙ end.1);
     }
@@ -246,7 +285,7 @@ again_step image failures asked old new heard frames said steps call frame serve
     let is = judged_as steps.outcomes old.station old.live heard (Moves old.live.rest (Again frame ∷ [])) (again_judged old.station old.live heard call frame served told) in
     let one = subst (IsSame old.live frame) (sym is) (moved_again steps.outcomes old.station old.live frame) in
     record {
-      unchanged = same_state new old (steps.untouched one.none_accepted) steps.same (steps.live ∙ one.live_is);
+      unchanged = same_state new old (steps.stretch.untouched one.none_accepted) steps.same (steps.live ∙ one.live_is);
       same = steps.frames ∙ one.sent;
       done = steps.note ∙ one.done;
     }

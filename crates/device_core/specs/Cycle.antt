@@ -34,12 +34,13 @@ IsMadeOf accepted first settings =
     ⊎ ((front : List Accepted) × (last : Accepted) × (accepted ≡ front ++ last ∷ []) × (last.is_done ≡ false) × (settings ≡ made_of front first))
 
 -- The events of a cycle were run, from a start on the flash that gave the first settings, with whatever outcomes the flash
--- chose for the calls that store: these have their cause, each in its own item, what was sent was handed on, what was left
--- of the flash is safe, and where no command was accepted it was left as the start left it.
+-- chose for the calls that store: there are none where no commit failed, each has its cause in its own item, what was sent
+-- was handed on, what was left of the flash is safe, and where no command was accepted it was left as the start left it.
 pub record Cycled {F : Type 0} (image : F → Image) (failures : F → ℕ) (asked : F → List Call → F → Type 0) (station : Station) (flash : F) (first : Settings) (room : ℕ) (events : List Event) (before now : List (List ℕ)) (outcomes : List (List Outcome)) (lost : F) : Type 0 where
   pub begun : F
   pub begins : (image begun ≡ image flash) × (failures begun ≡ failures flash) × asked flash [] begun
-  pub caused : IsCaused outcomes (failures flash) (failures lost) (started first room).values (cycle_of outcomes station first room events).live.values
+  pub caused : IsCaused (failures flash) (failures lost) (started first room).values (cycle_of outcomes station first room events).live.values
+  pub quiet : (cycle_of outcomes station first room events).live.values.has_failed ≡ false → outcomes ≡ []
   pub placed : EventByEvent image failures asked outcomes station begun (started first room) events lost
   pub handed_on : now ≡ before ++ (cycle_of outcomes station first room events).frames
   pub safe : CrashSafe false first (cycle_of outcomes station first room events).accepted (image flash) (image lost)

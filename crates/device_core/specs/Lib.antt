@@ -4,5 +4,6 @@ pub mod Hearing
 pub mod Sent
 pub mod Judged
 pub mod Machine
+pub mod Faults
 pub mod Steps
 pub mod Cycle

@@ -6,8 +6,7 @@ use Rattle.pn_values.specs.declared.mac.Mac.{Mac}
 use Rattle.pn_values.specs.declared.identity.Identity.{Identity}
 use Rattle.pn_values.specs.declared.settings.Settings.{Settings}
 use Rattle.settings_store.specs.Machine.{Outcome}
-use Rattle.settings_store.specs.Legal.{CrashSafe}
-use Rattle.settings_store.specs.Carries.{IsCaused, OneByOne, Holds}
+use Rattle.settings_store.specs.Carries.{OneByOne, Stretch, Continues}
 use Rattle.dcp_core.specs.declared.request.Service.TheVariants.{Identify}
 use Rattle.dcp_core.specs.Request.{Asked}
 use Rattle.rpc_core.specs.Call.{Asked as Called}
@@ -23,22 +22,22 @@ use Rattle.device_core.specs.Sent.{answer_frame}
 use Rattle.device_core.specs.Heard.{Heard, Asks, Told, Calls, heard_of}
 use Rattle.device_core.specs.Judged.{is_running, is_served}
 use Rattle.device_core.specs.Machine.{Stepped, items_of, heard_step, step_of, first_step, later_steps, run_of}
+use Rattle.device_core.specs.Faults.{StepGoesOn}
 
 -- What was heard is carried out, for some outcomes of the calls that store, which the flash chose: what changes, the frames
--- and the note are those of the step, the outcomes have their cause, each in its own item, the image is safe and holds what
--- is stored, where no command is accepted the flash is left alone, and power that is lost stays lost.
+-- and the note are those of the step, there are no outcomes where no commit failed, each has its cause in its own item, what
+-- happened to the settings is a stretch of a cycle and continues any, and whatever the flash does the device goes on.
 pub record Steps {F : Type 0} (image : F → Image) (failures : F → ℕ) (asked : F → List Call → F → Type 0) (old : State F) (heard : Heard) (sent : List (List ℕ)) (said : Note) (new : State F) : Type 0 where
   pub outcomes : List Outcome
   pub same : new.station ≡ old.station
   pub live : new.live ≡ (heard_step outcomes old.station old.live heard).live
   pub frames : sent ≡ (heard_step outcomes old.station old.live heard).frames
   pub note : said ≡ (heard_step outcomes old.station old.live heard).note
-  pub caused : IsCaused outcomes (failures old.flash) (failures new.flash) old.live.values new.live.values
+  pub quiet : new.live.values.has_failed ≡ old.live.values.has_failed → outcomes ≡ []
   pub placed : OneByOne image failures asked outcomes (store_of old) (items_of old.station old.live heard) (store_of new)
-  pub safe : CrashSafe old.live.values.has_failed old.live.values.stored (heard_step outcomes old.station old.live heard).accepted (image old.flash) (image new.flash)
-  pub holds : Holds (image new.flash) new.live.values
-  pub untouched : (heard_step outcomes old.station old.live heard).accepted ≡ [] → new.flash ≡ old.flash
-  pub stays_lost : old.live.values.is_lost ≡ true → new.live.values.is_lost ≡ true
+  pub stretch : Stretch image failures (store_of old) (heard_step outcomes old.station old.live heard).accepted (store_of new)
+  pub continues : Continues image failures (store_of old) (heard_step outcomes old.station old.live heard).accepted (store_of new)
+  pub goes_on : StepGoesOn old.station old.live heard sent said new.live
 
 -- An Identify request changes nothing. It is answered, by identity and running settings alone, where it matches them.
 pub record Identifies {F : Type 0} (old : State F) (asker : Mac) (request : Asked) (sent : List (List ℕ)) (said : Note) (new : State F) : Type 0 where
@@ -96,20 +95,18 @@ EventByEvent {F} image failures asked outcomes station old live (event ∷ event
     (items_of station live (heard_of station.identity event)) (record { flash = between; values = next.values })
     × EventByEvent image failures asked (later_steps outcomes) station between next events new
 
--- Steps after one another, for some outcomes of each, which have their cause, each in its own item of its own event; where
--- no command is accepted the flash is left alone. Before and now are what the sink has taken; once power is lost it takes no
--- more.
+-- Steps after one another, for some outcomes of each, none where no commit failed, which have their cause each in its own
+-- item of its own event; what happened to the settings is a stretch of a cycle. Before and now are what the sink has taken;
+-- once power is lost it takes no more.
 pub record Runs {F : Type 0} (image : F → Image) (failures : F → ℕ) (asked : F → List Call → F → Type 0) (old : State F) (events : List Event) (before now : List (List ℕ)) (new : State F) : Type 0 where
   pub outcomes : List (List Outcome)
   pub same : new.station ≡ old.station
   pub live : new.live ≡ (run_of outcomes old.station old.live events).live
   pub frames : now ≡ before ++ (run_of outcomes old.station old.live events).frames
-  pub caused : IsCaused outcomes (failures old.flash) (failures new.flash) old.live.values new.live.values
+  pub quiet : new.live.values.has_failed ≡ old.live.values.has_failed → outcomes ≡ []
   pub placed : EventByEvent image failures asked outcomes old.station old.flash old.live events new.flash
-  pub safe : CrashSafe old.live.values.has_failed old.live.values.stored (run_of outcomes old.station old.live events).accepted (image old.flash) (image new.flash)
-  pub holds : Holds (image new.flash) new.live.values
-  pub untouched : (run_of outcomes old.station old.live events).accepted ≡ [] → new.flash ≡ old.flash
-  pub stays_lost : old.live.values.is_lost ≡ true → (new.live.values.is_lost ≡ true) × (now ≡ before)
+  pub stretch : Stretch image failures (store_of old) (run_of outcomes old.station old.live events).accepted (store_of new)
+  pub after_loss : old.live.values.is_lost ≡ true → now ≡ before
 
 -- the step with no flash call failing
 pub record IsExactStep {F : Type 0} (old : State F) (event : Event) (sent : List (List ℕ)) (said : Note) (new : State F) : Type 0 where

@@ -1,6 +1,7 @@
 // Runs of steps.
 ghost use Rattle.std.specs.Prelude.{◌≡◌, ◌<◌, ◌-◌, ◌^◌, ◌++◌, true, false, map};
 ghost use Rattle.device_core.specs.Heard.{heard_of};
+ghost use Rattle.device_core.specs.Faults.{RunGoesOn};
 ghost use Rattle.device_core.specs.Steps.{HandsOn, Runs, IsExactRun, IsBehindCalls, TakesRoom};
 
 use crate::{Device, Event, Sink};
@@ -18,6 +19,8 @@ impl<F: Flash<S>, const S: usize> Device<F, S> {
         ensures reliable { F.is_reliable self.old.flash → self.old.live.values.has_failed ≡ false →
             F.is_reliable self.new.flash × (self.new.live.values.has_failed ≡ false)
             × IsExactRun self.old events.now (K.taken sink.old) (K.taken sink.new) self.new }
+        // Whatever faults strike, while power is there: each event goes on, and all its frames are handed on.
+        ensures goes_on { self.new.live.values.is_lost ≡ false → RunGoesOn self.old events.now (K.taken sink.old) (K.taken sink.new) self.new }
         // Nothing but calls changes what is kept of them: what `CallCache::look` says of calls that come again holds over the run.
         ensures calls { IsBehindCalls self.old.live.rest.calls self.new.live.rest.calls }
         ensures room { self.new.live.values.has_failed ≡ false → TakesRoom self.old events.now self.new }

@@ -8,6 +8,7 @@ ghost use Rattle.device_core.specs.Hearing.{meaning_of};
 ghost use Rattle.device_core.specs.Judged.{ticked};
 ghost use Rattle.rpc_core.specs.Call.{Asked as Called};
 ghost use Rattle.rpc_core.specs.Cache.{looked, again};
+ghost use Rattle.device_core.specs.Faults.{StepGoesOn};
 ghost use Rattle.device_core.specs.Steps.{Steps, Identifies, IsServed, IsAgain, IsExactStep};
 
 use crate::hearing::{Heard, hear};
@@ -27,6 +28,9 @@ impl<F: Flash<S>, const S: usize> Device<F, S> {
         ensures reliable { F.is_reliable self.old.flash → self.old.live.values.has_failed ≡ false →
             F.is_reliable self.new.flash × (self.new.live.values.has_failed ≡ false)
             × IsExactStep self.old event.now (map (λ frame. frame.items) outbox.new.items) result self.new }
+
+        // Whatever the flash does, the device goes on: a fault shows in the answers to commands and in the settings alone.
+        ensures goes_on { StepGoesOn self.old.station self.old.live (heard_of self.old.station.identity event.now) (map (λ frame. frame.items) outbox.new.items) result self.new.live }
 
         // An event that is refused changes nothing at all.
         ensures refused { result ≢ Note.Done → (self.new ≡ self.old) × (outbox.new.items ≡ []) }

@@ -1,5 +1,5 @@
 -- What holds of two stretches, one after the other.
-use Rattle.std.proofs.Common.{◌≡◌, ℕ, Bool, true, false, List, [], ◌∷◌, ◌++◌, refl, sym, ap, subst, ◌∙◌, inl, inr, append_assoc, arith}
+use Rattle.std.proofs.Common.{◌≡◌, ◌+◌, ℕ, Bool, true, false, List, [], ◌∷◌, ◌++◌, length, length-append, refl, sym, ap, subst, ◌∙◌, inl, inr, append_assoc, arith}
 use Rattle.std.proofs.lemmas.List.{append-nil}
 use Rattle.pn_values.specs.declared.settings.Settings.{Settings}
 use Rattle.pn_values.specs.declared.set_item.SetItem.{SetItem}
@@ -11,9 +11,10 @@ use Rattle.settings_journal.specs.Image.{LeftByDevice}
 use Rattle.settings_store.specs.State.{State, Values}
 use Rattle.settings_store.specs.Machine.{Accepted, followed_by, carried}
 use Rattle.settings_store.specs.Legal.{made_of, LegalEnd, CrashSafe}
-use Rattle.settings_store.specs.Carries.{IsCaused, Carries}
+use Rattle.settings_store.specs.Carries.{IsCaused, Stretch, Continues, Carries}
 use Rattle.settings_store.proofs.Placed.{placed_then, both_empty}
-use Rattle.settings_store.proofs.Machine.{failed_accepted, stays_failed, stored_made, made_append, joined, joined_quiet, joined_then}
+use Rattle.settings_store.proofs.Machine.{made_append, joined, joined_quiet, joined_then}
+use Rattle.settings_store.proofs.Faults.{goes_as}
 
 -- a legal end of what comes after is one of all
 legal_after : (image : Image) (front back : List Accepted) (first : Settings) → LegalEnd image back (made_of front first) → LegalEnd image (front ++ back) first
@@ -36,7 +37,7 @@ legal_then false first middle front back mid new none made left legal two =
     legal_after new front back first (subst (LegalEnd new back) (made refl) (two.legal refl left))
 
 -- crash clauses of two stretches make that of both
-pub safe_then : (before between : Bool) (first middle : Settings) (front back : List Accepted) (old mid new : Image)
+safe_then : (before between : Bool) (first middle : Settings) (front back : List Accepted) (old mid new : Image)
     → (before ≡ true → between ≡ true) → (between ≡ true → back ≡ []) → (between ≡ false → middle ≡ made_of front first)
     → CrashSafe before first front old mid → CrashSafe between middle back mid new → CrashSafe before first (front ++ back) old new
 safe_then before between first middle front back old mid new stays none made one two = record {
@@ -45,53 +46,78 @@ safe_then before between first middle front back old mid new stays none made one
   untouched = λ failed. two.untouched (stays failed) ∙ one.untouched failed;
 }
 
-fault_then : (a b c : ℕ) → HasRisen a b → HasRisen b c → HasRisen a c
-fault_then a b c one two = grind arith
-
 fault_quiet : (a b c : ℕ) → HasRisen a b → c ≡ b → HasRisen a c
 fault_quiet a b c one same = rw same one
+
+-- no failed call in two stretches, or the one with its commit
+caused_then : (before mid now : ℕ) (old between new : Values) → IsCaused before mid old between → IsCaused mid now between new → IsCaused before now old new
+caused_then before mid now old between new (inl one) (inl two) = inl (two.0 ∙ one.0, two.1 ∙ one.1)
+caused_then before mid now old between new (inl one) (inr two) = inr (subst (λ n. HasRisen n now) one.0 two.0, sym one.1 ∙ two.1, two.2)
+caused_then before mid now old between new (inr one) (inl two) = inr (fault_quiet before mid now one.0 two.0, one.1, two.1 ∙ one.2)
+caused_then before mid now old between new (inr one) (inr two) = cc
 
 still_fine : (before now : Bool) → (before ≡ true → now ≡ true) → now ≡ false → before ≡ false
 still_fine true now stays fine = let failed : now ≡ true = stays refl in cc
 still_fine false now stays fine = refl
 
--- no failed call in two stretches, or the one with its commit
-pub caused_then : {A B C : Type 0} (front : List A) (back : List B) (all : List C) (before mid now : ℕ) (old between new : Values)
-    → (front ≡ [] → back ≡ [] → all ≡ []) → (old.has_failed ≡ true → between.has_failed ≡ true) → (between.has_failed ≡ true → new.has_failed ≡ true)
-    → IsCaused front before mid old between → IsCaused back mid now between new → IsCaused all before now old new
-caused_then front back all before mid now old between new quiet first second (inl one) (inl two) = inl (quiet one.0 two.0, two.1 ∙ one.1)
-caused_then front back all before mid now old between new quiet first second (inl one) (inr two) = inr (subst (λ n. HasRisen n now) one.1 two.0, still_fine _ _ first two.1, two.2)
-caused_then front back all before mid now old between new quiet first second (inr one) (inl two) = inr (fault_quiet before mid now one.0 two.1, one.1, second one.2)
-caused_then front back all before mid now old between new quiet first second (inr one) (inr two) = cc
+room_then : (before between now : ℕ) (front back : List Accepted) → between + length front ≡ before → now + length back ≡ between → now + length (front ++ back) ≡ before
+room_then before between now front back one two = let e = length-append front back in omega (arith, one, two, e)
+
+-- two stretches, one after the other, are one
+stretch_then : {F : Type 0} (image : F → Image) (failures : F → ℕ) (first mid new : State F) (front back : List Accepted)
+    → Stretch image failures first front mid → Stretch image failures mid back new → Stretch image failures first (front ++ back) new
+stretch_then image failures first mid new front back one two =
+    let still : new.values.has_failed ≡ false → mid.values.has_failed ≡ false = λ fine. still_fine _ _ (λ failed. (two.stays_failed failed).0) fine in
+    record {
+      caused = caused_then _ _ _ first.values mid.values new.values one.caused two.caused;
+      safe = safe_then first.values.has_failed mid.values.has_failed first.values.stored mid.values.stored front back (image first.flash) (image mid.flash) (image new.flash)
+          (λ failed. (one.stays_failed failed).0) (λ failed. (two.stays_failed failed).1) one.made one.safe two.safe;
+      holds = two.holds;
+      untouched = λ none. let neither = both_empty front back none in two.untouched neither.1 ∙ one.untouched neither.0;
+      stays_failed = λ failed.
+          let so = one.stays_failed failed in
+          let on = two.stays_failed so.0 in
+          (on.0, ap (λ f. f ++ back) so.1 ∙ on.1);
+      made = λ fine. two.made fine ∙ ap (made_of back) (one.made (still fine)) ∙ sym (made_append front back first.values.stored);
+      room = λ fine. room_then _ _ _ front back (one.room (still fine)) (two.room fine);
+      stays_lost = λ lost. two.stays_lost (one.stays_lost lost);
+    }
+
+-- so a stretch continues any
+pub stretch_continues : {F : Type 0} (image : F → Image) (failures : F → ℕ) (old new : State F) (accepted : List Accepted)
+    → Stretch image failures old accepted new → Continues image failures old accepted new
+stretch_continues image failures old new accepted stretch first front so_far = stretch_then image failures first old new front accepted so_far stretch
+
+-- one commit failed in neither of two parts where none failed in both
+none_in_both : (a b c : Bool) → (a ≡ true → b ≡ true) → (b ≡ true → c ≡ true) → c ≡ a → (b ≡ a) × (c ≡ b)
+none_in_both true b c one two same = (one refl, same ∙ sym (one refl))
+none_in_both false true c one two same = let failed : c ≡ true = two refl in cc
+none_in_both false false c one two same = (refl, same)
 
 -- what carries some items out, and then what carries more out, carries all of them out
 pub carries_then : {F : Type 0} (image : F → Image) (failures : F → ℕ) (asked : F → List Call → F → Type 0) (old mid new : State F) (items more : List SetItem) (front back : List BlockError)
     → Carries image failures asked old items front mid → Carries image failures asked mid more back new → Carries image failures asked old (items ++ more) (front ++ back) new
 carries_then image failures asked old mid new items more front back one two =
-    let m : (carried one.outcomes old.values items).values ≡ mid.values = sym one.values in
-    let all : carried (joined one.outcomes two.outcomes items) old.values (items ++ more)
+    let all_outcomes = joined one.outcomes two.outcomes items in
+    let all : carried all_outcomes old.values (items ++ more)
     ≡ followed_by (carried one.outcomes old.values items) (carried two.outcomes mid.values more) =
-    joined_then one.outcomes two.outcomes old.values items more ∙ ap (λ v. followed_by (carried one.outcomes old.values items) (carried two.outcomes v more)) m in
-    let answers : (carried (joined one.outcomes two.outcomes items) old.values (items ++ more)).answers
+    joined_then one.outcomes two.outcomes old.values items more ∙ ap (λ v. followed_by (carried one.outcomes old.values items) (carried two.outcomes v more)) (sym one.values) in
+    let answers : (carried all_outcomes old.values (items ++ more)).answers
     ≡ (carried one.outcomes old.values items).answers ++ (carried two.outcomes mid.values more).answers = ap (λ r. r.answers) all in
-    let failed : old.values.has_failed ≡ true → mid.values.has_failed ≡ true =
-    λ h. ap (λ v. v.has_failed) one.values ∙ stays_failed one.outcomes old.values items h in
+    let values : new.values ≡ (carried all_outcomes old.values (items ++ more)).values = two.values ∙ sym (ap (λ r. r.values) all) in
+    let answers_are : front ++ back ≡ (carried all_outcomes old.values (items ++ more)).answers =
+    ap (λ f. f ++ back) one.answers_are ∙ ap (λ b. (carried one.outcomes old.values items).answers ++ b) two.answers_are ∙ sym answers in
+    let stretch : Stretch image failures old (carried all_outcomes old.values (items ++ more)).accepted new =
+    subst (λ l. Stretch image failures old l new) (sym (ap (λ r. r.accepted) all)) (stretch_then image failures old mid new _ _ one.stretch two.stretch) in
     record {
-      outcomes = joined one.outcomes two.outcomes items;
-      values = two.values ∙ sym (ap (λ r. r.values) all);
-      answers_are = cc;
-      caused = caused_then one.outcomes two.outcomes (joined one.outcomes two.outcomes items) _ _ _ old.values mid.values new.values
-          (joined_quiet one.outcomes two.outcomes items) failed
-          (λ h. ap (λ v. v.has_failed) two.values ∙ stays_failed two.outcomes mid.values more h) one.caused two.caused;
+      outcomes = all_outcomes;
+      values = values;
+      answers_are = answers_are;
+      quiet = λ same.
+          let neither = none_in_both _ _ _ (λ failed. (one.stretch.stays_failed failed).0) (λ failed. (two.stretch.stays_failed failed).0) same in
+          joined_quiet one.outcomes two.outcomes items (one.quiet neither.0) (two.quiet neither.1);
       placed = placed_then image failures asked one.outcomes two.outcomes old mid new items more one.placed two.placed;
-      safe = subst (λ l. CrashSafe old.values.has_failed old.values.stored l (image old.flash) (image new.flash)) (sym (ap (λ r. r.accepted) all))
-          (safe_then old.values.has_failed mid.values.has_failed old.values.stored mid.values.stored _ _ (image old.flash) (image mid.flash) (image new.flash) failed
-          (failed_accepted two.outcomes mid.values more)
-          (λ fine. ap (λ v. v.stored) one.values ∙ stored_made one.outcomes old.values items (ap (λ v. v.has_failed) m ∙ fine))
-          one.safe two.safe);
-      holds = two.holds;
-      untouched = λ none.
-          let neither = both_empty _ _ (sym (ap (λ r. r.accepted) all) ∙ none) in
-          two.untouched neither.1 ∙ one.untouched neither.0;
-      stays_lost = λ lost. two.stays_lost (one.stays_lost lost);
+      stretch = stretch;
+      continues = stretch_continues image failures old new _ stretch;
+      goes_on = goes_as all_outcomes old.values new.values (items ++ more) (front ++ back) values answers_are;
     }

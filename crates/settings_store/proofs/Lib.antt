@@ -1,5 +1,5 @@
 pub mod Crash
-pub mod Laws
+pub mod Faults
 pub mod Machine
 pub mod Placed
 pub mod Steps

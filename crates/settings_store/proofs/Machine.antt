@@ -1,9 +1,7 @@
 -- What the machine does over more items than one.
 use Rattle.std.proofs.Common.{◌≡◌, ◌==◌, ℕ, Bool, true, false, List, [], ◌∷◌, ◌++◌, map, refl, ap, ◌∙◌, append_assoc, length, suc, ◌+◌, ◌-◌, arith}
-use Rattle.std.specs.Prelude.{All}
-use Rattle.std.proofs.lemmas.Bool.{cond_both}
+use Rattle.std.proofs.lemmas.Bool.{cond_both, cond-true, cond-false}
 use Rattle.std.proofs.lemmas.Bool.Decides.{nat_tests}
-use Rattle.std.proofs.lemmas.List.Elements.{All-nil, All-cons}
 use Rattle.pn_values.specs.declared.settings.Settings.{Settings}
 use Rattle.pn_values.specs.declared.command.Command.{Command}
 use Rattle.pn_values.specs.declared.set_item.SetItem.{SetItem}
@@ -11,8 +9,9 @@ use Rattle.pn_values.specs.declared.set_item.SetItem.TheVariants.{Ask, Signal, A
 use Rattle.pn_values.specs.declared.set_item.BlockError.{BlockError}
 use Rattle.pn_values.specs.declared.set_item.BlockError.TheVariants.{Done, Exhausted, Local}
 use Rattle.settings_store.specs.State.{Values}
-use Rattle.settings_store.specs.Machine.{Outcome, Pass, Fault, Accepted, Carried, answered, accepted, carried_one, first_of, rest_of, followed_by, carried}
+use Rattle.settings_store.specs.Machine.{Outcome, Pass, Fault, Accepted, Carried, answered, accepted, committed, carried_one, first_of, rest_of, followed_by, carried}
 use Rattle.settings_store.specs.Legal.{made_of}
+use Rattle.settings_store.specs.Faults.{answer_after_fault}
 
 -- a command that is accepted passes, or has its fault
 accepted_is : (P : Carried → Type 0) (outcome : Outcome) (values : Values) (command : Command)
@@ -33,22 +32,29 @@ item_is P outcome values (Ask command) alone passed fault =
     (λ fine. cond_both (values.room == 0) _ _ P (λ _. alone Exhausted)
     (λ room. accepted_is P outcome values command (passed command fine room) (λ is_lost. fault is_lost command fine room)))
 
--- after a commit that failed nothing changes
-pub failed_values : (outcomes : List Outcome) (values : Values) (items : List SetItem) → values.has_failed ≡ true → (carried outcomes values items).values ≡ values
-failed_values outcomes values [] failed = refl
-failed_values outcomes values (item ∷ items) failed =
-    item_is (λ one. (carried (rest_of outcomes) one.values items).values ≡ values) (first_of outcomes) values item
-    (λ _. failed_values (rest_of outcomes) values items failed) (λ _ fine _. cc) (λ _ _ fine _. cc)
+pub committed_full : (outcome : Outcome) (values : Values) (command : Command) → values.has_failed ≡ false → values.room ≡ 0
+    → committed outcome values command ≡ answered Exhausted values
+committed_full outcome values command fine full = cond-false _ _ _ fine ∙ cond-true _ _ _ (ap (λ n. n == 0) full)
 
--- and nothing more is accepted
-pub failed_accepted : (outcomes : List Outcome) (values : Values) (items : List SetItem) → values.has_failed ≡ true → (carried outcomes values items).accepted ≡ []
-failed_accepted outcomes values [] failed = refl
-failed_accepted outcomes values (item ∷ items) failed =
-    item_is (λ one. one.accepted ++ (carried (rest_of outcomes) one.values items).accepted ≡ []) (first_of outcomes) values item
-    (λ _. failed_accepted (rest_of outcomes) values items failed) (λ _ fine _. cc) (λ _ _ fine _. cc)
+pub committed_taken : (outcome : Outcome) (values : Values) (command : Command) → values.has_failed ≡ false → (values.room == 0) ≡ false
+    → committed outcome values command ≡ accepted outcome values command
+committed_taken outcome values command fine room = cond-false _ _ _ fine ∙ cond-false _ _ _ room
+
+pub failed_one : (outcome : Outcome) (values : Values) (item : SetItem) → values.has_failed ≡ true → carried_one outcome values item ≡ answered (answer_after_fault item) values
+failed_one outcome values (Ask command) failed = cond-true _ _ _ failed
+failed_one outcome values Signal failed = refl
+failed_one outcome values (Answer answer) failed = refl
+
+-- after a commit that failed each command is refused, and nothing changes
+pub failed_all : (outcomes : List Outcome) (values : Values) (items : List SetItem) → values.has_failed ≡ true
+    → carried outcomes values items ≡ record { values = values; answers = map answer_after_fault items; accepted = [] }
+failed_all outcomes values [] failed = refl
+failed_all outcomes values (item ∷ items) failed =
+    ap (λ one. followed_by one (carried (rest_of outcomes) one.values items)) (failed_one (first_of outcomes) values item failed)
+    ∙ ap (followed_by (answered (answer_after_fault item) values)) (failed_all (rest_of outcomes) values items failed)
 
 pub stays_failed : (outcomes : List Outcome) (values : Values) (items : List SetItem) → values.has_failed ≡ true → (carried outcomes values items).values.has_failed ≡ true
-stays_failed outcomes values items failed = ap (λ v. v.has_failed) (failed_values outcomes values items failed) ∙ failed
+stays_failed outcomes values items failed = ap (λ r. r.values.has_failed) (failed_all outcomes values items failed) ∙ failed
 
 -- what all of two lists make of the first settings
 pub made_append : (front back : List Accepted) (first : Settings) → made_of (front ++ back) first ≡ made_of back (made_of front first)

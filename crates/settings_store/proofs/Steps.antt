@@ -1,7 +1,6 @@
 -- What carrying out one item comes to, by what its call of the journal did.
-use Rattle.std.proofs.Common.{◌≡◌, ◌==◌, ◌+◌, ◌-◌, ℕ, Bool, true, false, List, [], ◌∷◌, refl, sym, ap, subst, ◌∙◌, inl, inr, arith}
+use Rattle.std.proofs.Common.{◌≡◌, ◌==◌, ◌+◌, ◌-◌, ℕ, Bool, true, false, List, [], ◌∷◌, length, refl, sym, ap, subst, ◌∙◌, inl, inr, arith}
 use Rattle.std.proofs.lemmas.List.{append-nil}
-use Rattle.std.proofs.lemmas.Bool.{cond-true, cond-false}
 use Rattle.pn_values.specs.Command.{apply, show}
 use Rattle.pn_values.specs.declared.command.Command.{Command}
 use Rattle.pn_values.specs.declared.set_item.SetItem.{SetItem}
@@ -18,20 +17,12 @@ use Rattle.settings_journal.specs.State as journal
 use Rattle.pn_values.specs.declared.settings.Settings.{Settings}
 use Rattle.std.proofs.lemmas.Bool.Decides.{nat_tests}
 use Rattle.settings_store.specs.State.{State, Values}
-use Rattle.settings_store.specs.Machine.{Outcome, Pass, Fault, Accepted, Carried, answered, accepted, committed, carried_one, first_of}
+use Rattle.settings_store.specs.Machine.{Outcome, Pass, Fault, Accepted, Carried, answered, accepted, carried_one, first_of, carried}
 use Rattle.settings_store.specs.Legal.{CrashSafe}
-use Rattle.settings_store.specs.Carries.{IsCaused, IsCausedAlone, Holds, Asks, CarriesOne, CarriesItem, Carries}
-
-committed_failed : (outcome : Outcome) (values : Values) (command : Command) → values.has_failed ≡ true → committed outcome values command ≡ answered Local values
-committed_failed outcome values command failed = cond-true _ _ _ failed
-
-committed_full : (outcome : Outcome) (values : Values) (command : Command) → values.has_failed ≡ false → values.room ≡ 0
-    → committed outcome values command ≡ answered Exhausted values
-committed_full outcome values command fine full = cond-false _ _ _ fine ∙ cond-true _ _ _ (ap (λ n. n == 0) full)
-
-committed_taken : (outcome : Outcome) (values : Values) (command : Command) → values.has_failed ≡ false → (values.room == 0) ≡ false
-    → committed outcome values command ≡ accepted outcome values command
-committed_taken outcome values command fine room = cond-false _ _ _ fine ∙ cond-false _ _ _ room
+use Rattle.settings_store.specs.Carries.{IsCaused, IsCausedAlone, Holds, Asks, CarriesOne, CarriesItem, Stretch, Carries}
+use Rattle.settings_store.proofs.Machine.{committed_full, committed_taken, failed_one, failed_all, stays_failed, stored_made, room_left}
+use Rattle.settings_store.proofs.Faults.{goes_as}
+use Rattle.settings_store.proofs.Crash.{stretch_continues}
 
 -- one item by itself, by what becomes of it
 one_item : {F : Type 0} (image : F → Image) (failures : F → ℕ) (asked : F → List Call → F → Type 0) (old new : State F) (item : SetItem) (outcome : Outcome) (one : Carried)
@@ -154,7 +145,7 @@ pub refused : {F : Type 0} (image : F → Image) (failures : F → ℕ) (asked :
 refused image failures asked is_lost old new running command same failed =
     let state : State _ = seen is_lost old running in
     subst (λ j. CarriesItem image failures asked state (Ask command) Local (seen is_lost j running)) (sym same)
-    (alone image failures asked state (Ask command) Local (committed_failed Pass state.values command failed) (λ fine. absurd (cc)))
+    (alone image failures asked state (Ask command) Local (failed_one Pass state.values (Ask command) failed) (λ fine. absurd (cc)))
 
 -- refused, since there is no room
 pub full : {F : Type 0} (image : F → Image) (failures : F → ℕ) (asked : F → List Call → F → Type 0) (is_lost : F → Bool) (old new : journal.State F) (running : Settings) (command : Command)
@@ -176,42 +167,66 @@ signals image failures asked state holds = alone image failures asked state Sign
 
 -- nothing to do
 pub nothing : {F : Type 0} (image : F → Image) (failures : F → ℕ) (asked : F → List Call → F → Type 0) (state : State F) → Holds (image state.flash) state.values → Carries image failures asked state [] [] state
-nothing image failures asked state holds = record {
-  outcomes = [];
-  values = refl;
-  answers_are = refl;
-  caused = inl (refl, refl);
-  placed = refl;
-  safe = record { left = λ left. left; legal = λ fine left. inl (state.values.room, holds fine); untouched = λ failed. refl };
-  holds = holds;
-  untouched = λ _. refl;
-  stays_lost = λ lost. lost;
-}
+nothing image failures asked state holds =
+    let stretch : Stretch image failures state [] state = record {
+      caused = inl (refl, refl);
+      safe = record { left = λ left. left; legal = λ fine left. inl (state.values.room, holds fine); untouched = λ failed. refl };
+      holds = holds;
+      untouched = λ _. refl;
+      stays_failed = λ failed. (failed, refl);
+      made = λ _. refl;
+      room = λ _. omega arith;
+      stays_lost = λ lost. lost;
+    } in
+    record {
+      outcomes = [];
+      values = refl;
+      answers_are = refl;
+      quiet = λ _. refl;
+      placed = refl;
+      stretch = stretch;
+      continues = stretch_continues image failures state state [] stretch;
+      goes_on = goes_as [] state.values state.values [] [] refl refl;
+    }
 
 -- a list of one item, for outcomes that have their cause
 listed : {F : Type 0} (image : F → Image) (failures : F → ℕ) (asked : F → List Call → F → Type 0) (old new : State F) (item : SetItem) (answer : BlockError) (outcomes : List Outcome)
-    → IsCaused outcomes (failures old.flash) (failures new.flash) old.values new.values → CarriesOne image failures asked (first_of outcomes) old item new
+    → (new.values.has_failed ≡ old.values.has_failed → outcomes ≡ [])
+    → IsCaused (failures old.flash) (failures new.flash) old.values new.values → CarriesOne image failures asked (first_of outcomes) old item new
     → (carried_one (first_of outcomes) old.values item).answers ≡ answer ∷ [] → (old.values.is_lost ≡ true → new.values.is_lost ≡ true)
     → Carries image failures asked old (item ∷ []) (answer ∷ []) new
-listed image failures asked old new item answer outcomes caused one answers lost = record {
-  outcomes = outcomes;
-  values = one.values;
-  answers_are = sym (append-nil _ ∙ answers);
-  caused = caused;
-  placed = (new, one, refl);
-  safe = subst (λ l. CrashSafe old.values.has_failed old.values.stored l (image old.flash) (image new.flash)) (sym (append-nil _)) one.safe;
-  holds = one.holds;
-  untouched = λ none. one.untouched (sym (append-nil _) ∙ none);
-  stays_lost = lost;
-}
+listed image failures asked old new item answer outcomes quiet caused one answers lost =
+    let values : new.values ≡ (carried outcomes old.values (item ∷ [])).values = one.values in
+    let answers_are : answer ∷ [] ≡ (carried outcomes old.values (item ∷ [])).answers = sym (append-nil _ ∙ answers) in
+    let failed : new.values.has_failed ≡ (carried outcomes old.values (item ∷ [])).values.has_failed = ap (λ v. v.has_failed) values in
+    let stretch : Stretch image failures old (carried outcomes old.values (item ∷ [])).accepted new = record {
+      caused = caused;
+      safe = subst (λ l. CrashSafe old.values.has_failed old.values.stored l (image old.flash) (image new.flash)) (sym (append-nil _)) one.safe;
+      holds = one.holds;
+      untouched = λ none. one.untouched (sym (append-nil _) ∙ none);
+      stays_failed = λ h. (failed ∙ stays_failed outcomes old.values (item ∷ []) h, ap (λ r. r.accepted) (failed_all outcomes old.values (item ∷ []) h));
+      made = λ fine. ap (λ v. v.stored) values ∙ stored_made outcomes old.values (item ∷ []) (sym failed ∙ fine);
+      room = λ fine. ap (λ v. v.room + length (carried outcomes old.values (item ∷ [])).accepted) values ∙ room_left outcomes old.values (item ∷ []) (sym failed ∙ fine);
+      stays_lost = lost;
+    } in
+    record {
+      outcomes = outcomes;
+      values = values;
+      answers_are = answers_are;
+      quiet = quiet;
+      placed = (new, one, refl);
+      stretch = stretch;
+      continues = stretch_continues image failures old new _ stretch;
+      goes_on = goes_as outcomes old.values new.values (item ∷ []) (answer ∷ []) values answers_are;
+    }
 
 one_listed : {F : Type 0} (image : F → Image) (failures : F → ℕ) (asked : F → List Call → F → Type 0) (old new : State F) (item : SetItem) (answer : BlockError) (outcome : Outcome)
     → CarriesOne image failures asked outcome old item new → (carried_one outcome old.values item).answers ≡ answer ∷ [] → (old.values.is_lost ≡ true → new.values.is_lost ≡ true)
     → Carries image failures asked old (item ∷ []) (answer ∷ []) new
 one_listed image failures asked old new item answer Pass one answers lost =
-    listed image failures asked old new item answer [] (inl (refl, one.caused.0)) one answers lost
+    listed image failures asked old new item answer [] (λ _. refl) (inl one.caused) one answers lost
 one_listed image failures asked old new item answer (Fault is_lost) one answers lost =
-    listed image failures asked old new item answer (Fault is_lost ∷ []) (inr one.caused) one answers lost
+    listed image failures asked old new item answer (Fault is_lost ∷ []) (λ same. cc (one.caused.1, one.caused.2)) (inr one.caused) one answers lost
 
 -- an item by itself is a list of one
 pub item_listed : {F : Type 0} (image : F → Image) (failures : F → ℕ) (asked : F → List Call → F → Type 0) (old new : State F) (item : SetItem) (answer : BlockError)

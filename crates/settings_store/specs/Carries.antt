@@ -1,5 +1,5 @@
 -- What carrying out some items does, whatever the flash does.
-use Rattle.std.specs.Prelude.{◌≡◌, ◌⊎◌, ℕ, Bool, true, false, List, [], ◌∷◌}
+use Rattle.std.specs.Prelude.{◌≡◌, ◌+◌, ◌⊎◌, ℕ, Bool, true, false, List, [], ◌∷◌, ◌++◌, length}
 use Rattle.pn_values.specs.declared.set_item.SetItem.{SetItem}
 use Rattle.pn_values.specs.declared.set_item.BlockError.{BlockError}
 use Rattle.flash_model.specs.Calls.{Call}
@@ -9,19 +9,39 @@ use Rattle.settings_journal.specs.Calls.{CommitCalls, IsFront}
 use Rattle.settings_journal.specs.Image.{StartsWith}
 use Rattle.settings_store.specs.State.{State, Values}
 use Rattle.settings_store.specs.Machine.{Outcome, Pass, Fault, Accepted, first_of, rest_of, carried_one, carried}
-use Rattle.settings_store.specs.Legal.{CrashSafe}
+use Rattle.settings_store.specs.Legal.{made_of, CrashSafe}
+use Rattle.settings_store.specs.Faults.{GoesOn}
 
--- Every call passed and no call of the flash failed; or one failed, and a commit failed with it, the first since the
--- start. The outcomes may be those of one stretch, or those of many in a list of lists.
-abbrev pub IsCaused : {A : Type 0} → List A → ℕ → ℕ → Values → Values → Type 0
-IsCaused outcomes before now old new =
-    ((outcomes ≡ []) × (now ≡ before)) ⊎ (HasRisen before now × (old.has_failed ≡ false) × (new.has_failed ≡ true))
+-- No call of the flash failed, and no commit did; or one failed, and a commit with it, the first since the start.
+abbrev pub IsCaused : ℕ → ℕ → Values → Values → Type 0
+IsCaused before now old new =
+    ((now ≡ before) × (new.has_failed ≡ old.has_failed)) ⊎ (HasRisen before now × (old.has_failed ≡ false) × (new.has_failed ≡ true))
 
 -- where no commit failed since the start, a start on the image gives the stored settings, and room for as many commits
 abbrev pub Holds : Image → Values → Type 0
 Holds image values = values.has_failed ≡ false → StartsWith image values.stored values.room
 
--- The same of one item, by its outcome: where it passes no call of the flash failed, and no commit did; a fault is that of
+-- A stretch of a cycle, from its first state to the state now, in which these commands were accepted. A call of the flash
+-- failed with a commit and only so, the image is safe and holds what is stored, and where no command was accepted the flash
+-- was left alone. Once a commit failed, one has failed, and nothing is accepted; while none failed, what is stored is what
+-- the accepted commands make of what was stored, and each of them took one of the room for commits. Power that is lost stays
+-- lost.
+pub record Stretch {F : Type 0} (image : F → Image) (failures : F → ℕ) (first : State F) (accepted : List Accepted) (now : State F) : Type 0 where
+  pub caused : IsCaused (failures first.flash) (failures now.flash) first.values now.values
+  pub safe : CrashSafe first.values.has_failed first.values.stored accepted (image first.flash) (image now.flash)
+  pub holds : Holds (image now.flash) now.values
+  pub untouched : accepted ≡ [] → now.flash ≡ first.flash
+  pub stays_failed : first.values.has_failed ≡ true → (now.values.has_failed ≡ true) × (accepted ≡ [])
+  pub made : now.values.has_failed ≡ false → now.values.stored ≡ made_of accepted first.values.stored
+  pub room : now.values.has_failed ≡ false → now.values.room + length accepted ≡ first.values.room
+  pub stays_lost : first.values.is_lost ≡ true → now.values.is_lost ≡ true
+
+-- Whatever stretch came before, these commands behind it make a longer one.
+abbrev pub Continues : {F : Type 0} → (F → Image) → (F → ℕ) → State F → List Accepted → State F → Type 0
+Continues {F} image failures old accepted new =
+    (first : State F) (front : List Accepted) → Stretch image failures first front old → Stretch image failures first (front ++ accepted) new
+
+-- The same cause of one item, by its outcome: where it passes no call of the flash failed, and no commit did; a fault is that of
 -- its commit, the first since the start, in which a call failed.
 abbrev pub IsCausedAlone : Outcome → ℕ → ℕ → Values → Values → Type 0
 IsCausedAlone Pass before now old new = (now ≡ before) × (new.has_failed ≡ old.has_failed)
@@ -64,16 +84,15 @@ OneByOne image failures asked outcomes old [] new = new ≡ old
 OneByOne {F} image failures asked outcomes old (item ∷ items) new =
     (between : State F) × CarriesOne image failures asked (first_of outcomes) old item between × OneByOne image failures asked (rest_of outcomes) between items new
 
--- For some outcomes of the calls, which the flash chose: the values and the answers are those of the items in order,
--- the outcomes have their cause, each in its own item, the image is safe, where no command is accepted the flash is left
--- alone, and power that is lost stays lost.
+-- For some outcomes of the calls, which the flash chose: the values and the answers are those of the items in order, there
+-- are none where no commit failed, each has its cause in its own item, what happened is a stretch of a cycle and continues
+-- any, and whatever the flash does the settings go on.
 pub record Carries {F : Type 0} (image : F → Image) (failures : F → ℕ) (asked : F → List Call → F → Type 0) (old : State F) (items : List SetItem) (answers : List BlockError) (new : State F) : Type 0 where
   pub outcomes : List Outcome
   pub values : new.values ≡ (carried outcomes old.values items).values
   pub answers_are : answers ≡ (carried outcomes old.values items).answers
-  pub caused : IsCaused outcomes (failures old.flash) (failures new.flash) old.values new.values
+  pub quiet : new.values.has_failed ≡ old.values.has_failed → outcomes ≡ []
   pub placed : OneByOne image failures asked outcomes old items new
-  pub safe : CrashSafe old.values.has_failed old.values.stored (carried outcomes old.values items).accepted (image old.flash) (image new.flash)
-  pub holds : Holds (image new.flash) new.values
-  pub untouched : (carried outcomes old.values items).accepted ≡ [] → new.flash ≡ old.flash
-  pub stays_lost : old.values.is_lost ≡ true → new.values.is_lost ≡ true
+  pub stretch : Stretch image failures old (carried outcomes old.values items).accepted new
+  pub continues : Continues image failures old (carried outcomes old.values items).accepted new
+  pub goes_on : GoesOn old.values items answers new.values

@@ -29,7 +29,7 @@ pub returns-clause-left : goal.returns-clause-left
 returns-clause-left g c = λ left.
     let powered = rw (ap (λ t. t.2) c.into_parts-identity.ensures) at c.power_up.ensures in
     c.boot-2.ensures.left (subst LeftByDevice (sym (c.requires.keeps c.run.new.self.flash c.power_up.result powered))
-    (c.run.ensures.runs.safe.left (subst LeftByDevice (sym c.in_ok-device.ensures.same) left)))
+    (c.run.ensures.runs.stretch.safe.left (subst LeftByDevice (sym c.in_ok-device.ensures.same) left)))
 
 pub returns-in_err-device-clause-refused : goal.returns-in_err-device-clause-refused
 returns-in_err-device-clause-refused g c =

@@ -3,6 +3,7 @@ use Rattle.std.proofs.Common.{rules, ap, subst, sym, ◌∙◌}
 use Rattle.settings_store.specs.Carries.{Holds}
 use Rattle.device_core.specs.Heard.{heard_of}
 use Rattle.device_core.specs.Steps.{IsServed}
+use Rattle.device_core.proofs.Faults.{heard_goes_on}
 use Rattle.device_core.proofs.Steps.{refused_step, none_sent, identify_step, again_step}
 use Rattle.device_core.proofs.Runs.{step_quietly, step_finely}
 use Rattle.device_core.proofs.device.Device.step.Goals as goal
@@ -11,6 +12,11 @@ pub respond-requires : goal.respond-requires
 respond-requires g c =
     let holds : Holds (g.F.Flash.image c.args.self.now.flash) c.args.self.now.live.values = subst (λ s. Holds (g.F.Flash.image s.flash) s.live.values) c.self.view_is c.self.invariant in
     search rules
+
+pub returns-clause-goes_on : goal.returns-clause-goes_on
+returns-clause-goes_on g c =
+    heard_goes_on c.args.self.now.station c.args.self.now.live _ _ _ _ c.respond.new.self.live
+    (sym c.hear-heard.ensures ∙ ap (λ s. heard_of s.station.identity c.args.event.now) c.self.view_is) c.respond.ensures.steps.goes_on
 
 pub returns-clause-exact : goal.returns-clause-exact
 returns-clause-exact g c = step_quietly g.F.Flash.image g.F.Flash.failures g.F.Flash.asked c.args.self.now c.respond.new.self _ c.args.event.now _ _
