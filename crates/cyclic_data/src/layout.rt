@@ -1,5 +1,5 @@
 //! The layout of the frames of a communication relation.
-ghost use Rattle.std.specs.Prelude.{◌≡◌, ◌≤◌, length, IfOk, IfErr, IsOk};
+ghost use Rattle.std.specs.Prelude.{◌≡◌, ◌≤◌, [], length, IfOk, IfErr, IsOk};
 ghost use Rattle.cyclic_data.specs.Places.{asked};
 ghost use Rattle.cyclic_data.specs.Layout.{IsLayout, IsFirstFault, Table};
 
@@ -30,6 +30,16 @@ impl Model for Layout {
 }
 
 impl Layout {
+    /// The layout of no frames: no place.
+    pub fn new() -> Layout
+        ensures { result ≡ record { data_length = 0; places = [] } }
+    {
+        Layout {
+            data_length: 0,
+            places: ArrayVec::new(),
+        }
+    }
+
     /// Judges the places that a communication relation asks for: its direction, its DataLength, at most 1,440 octets, its
     /// IODataObjects and its IOCS, by the submodules that are expected, at most 64 (IEC 61158-6-10, 5.2.4.3).
     ///
