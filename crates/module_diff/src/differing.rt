@@ -36,8 +36,8 @@ pub fn diff(expected: &Expected, real: &Real) -> DiffRows
 
 /// Appends the rows of the modules that differ, and of their submodules, to empty lists.
 fn fill_rows(
-    modules: &mut ArrayVec<DiffModule, 256>,
-    submodules: &mut ArrayVec<DiffSubmodule, 256>,
+    modules: &mut ArrayVec<DiffModule, 64>,
+    submodules: &mut ArrayVec<DiffSubmodule, 64>,
     expected: &Expected,
     real: &Real,
 )
@@ -70,14 +70,14 @@ fn split_own(
 
 /// Appends the row of a module, if it differs, and those of its submodules that are listed. There must be room.
 fn push_module(
-    modules: &mut ArrayVec<DiffModule, 256>,
-    submodules: &mut ArrayVec<DiffSubmodule, 256>,
+    modules: &mut ArrayVec<DiffModule, 64>,
+    submodules: &mut ArrayVec<DiffSubmodule, 64>,
     real: &Real,
     entry: &ExpectedModule,
     own: &[ExpectedSubmodule],
 )
-    requires modules_room { array_vec_len modules.old + 1 ≤ 256 }
-    requires submodules_room { array_vec_len submodules.old + length own.now ≤ 256 }
+    requires modules_room { array_vec_len modules.old + 1 ≤ 64 }
+    requires submodules_room { array_vec_len submodules.old + length own.now ≤ 64 }
     ensures modules { modules.new.items ≡ modules.old.items ++ module_rows real.now.modules.items (record { entry = entry.now; submodules = own.now } ∷ []) }
     ensures submodules { submodules.new.items ≡ submodules.old.items ++ submodule_rows real.now.modules.items (record { entry = entry.now; submodules = own.now } ∷ []) }
     ensures few_modules { array_vec_len modules.new ≤ array_vec_len modules.old + 1 }
@@ -94,8 +94,8 @@ fn push_module(
 }
 
 /// Appends a row where it is to be listed. There must be room.
-fn push_where(modules: &mut ArrayVec<DiffModule, 256>, listed: bool, row: DiffModule)
-    requires { array_vec_len modules.old + 1 ≤ 256 }
+fn push_where(modules: &mut ArrayVec<DiffModule, 64>, listed: bool, row: DiffModule)
+    requires { array_vec_len modules.old + 1 ≤ 64 }
     ensures items { modules.new.items ≡ modules.old.items ++ cond listed (row ∷ []) [] }
     ensures few { array_vec_len modules.new ≤ array_vec_len modules.old + 1 }
 {
@@ -131,13 +131,13 @@ fn row_with(entry: &ExpectedModule, ident: Option<u32>, number_of_submodules: u1
 /// Appends the rows of submodules, of a proper module only of those that are not as expected, and says how many they are.
 /// There must be room.
 fn push_submodules(
-    submodules: &mut ArrayVec<DiffSubmodule, 256>,
+    submodules: &mut ArrayVec<DiffSubmodule, 64>,
     real: &Real,
     slot: u16,
     own: &[ExpectedSubmodule],
     proper: bool,
 ) -> u16
-    requires { array_vec_len submodules.old + length own.now ≤ 256 }
+    requires { array_vec_len submodules.old + length own.now ≤ 64 }
     ensures rows { submodules.new.items ≡ submodules.old.items ++ map (submodule_row real.now.modules.items slot) (filter (λ part. not (proper && is_as_expected real.now.modules.items slot part)) own.now) }
     ensures count { result ≡ length (filter (λ part. not (proper && is_as_expected real.now.modules.items slot part)) own.now) }
     ensures few { array_vec_len submodules.new ≤ array_vec_len submodules.old + length own.now }

@@ -1,6 +1,6 @@
 //! The rows of a ModuleDiffBlock.
 ghost use Rattle.std.specs.Prelude.{◌≡◌, ◌==◌, ◌≤◌, length};
-ghost use Rattle.module_blocks.specs.ModuleDiff.{IsModuleDiff};
+ghost use Rattle.module_blocks.specs.ModuleDiff.{IsModuleDiff, module_diff};
 ghost use Rattle.module_diff.specs.Rows.{AreRows};
 
 use arrayvec::ArrayVec;
@@ -11,8 +11,8 @@ use std::marker::Model;
 /// most 64 submodules.
 #[derive(Drop)]
 pub struct DiffRows {
-    modules: ArrayVec<DiffModule, 256>,
-    submodules: ArrayVec<DiffSubmodule, 256>,
+    modules: ArrayVec<DiffModule, 64>,
+    submodules: ArrayVec<DiffSubmodule, 64>,
 }
 
 impl Model for DiffRows {
@@ -33,8 +33,8 @@ impl Model for DiffRows {
 impl DiffRows {
     /// These rows.
     pub(crate) fn new(
-        modules: ArrayVec<DiffModule, 256>,
-        submodules: ArrayVec<DiffSubmodule, 256>,
+        modules: ArrayVec<DiffModule, 64>,
+        submodules: ArrayVec<DiffSubmodule, 64>,
     ) -> DiffRows
         requires { AreRows modules.items submodules.items }
         ensures { result ≡ record { modules = modules.items; submodules = submodules.items } }
@@ -53,13 +53,15 @@ impl DiffRows {
     }
 
     /// The block that says so.
+    #[tactic(auto, using(crate::proofs::Sizes::rows_small))]
     pub fn to_block(&self) -> ModuleDiffBlock<'_>
         ensures value { result ≡ record { api = 0; modules = self.now } }
         // What is written of it is read as it,
         ensures accepted { IsModuleDiff result }
-        // and there is room for it.
+        // and there is room for it: so many octets at most behind its header.
         ensures few_modules { length result.modules.modules ≤ 64 }
         ensures few_submodules { length result.modules.submodules ≤ 64 }
+        ensures small { module_diff.size result ≤ 1160 }
     {
         ModuleDiffBlock {
             api: 0,

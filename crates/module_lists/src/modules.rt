@@ -39,11 +39,14 @@ impl<'a, M: Module, S: Entry> Model for Modules<'a, M, S> {
 }
 
 impl<'a, M: Module, S: Entry> Modules<'a, M, S> {
-    /// The modules of a list, and in a second one the submodules of all of them: first those of the first module.
-    pub fn lent(
-        modules: &'a ArrayVec<M, 256>,
-        submodules: &'a ArrayVec<S, 256>,
+    /// The modules of a list, and in a second one the submodules of all of them: first those of the first module. Either has
+    /// room for at most 256.
+    pub fn lent<const N: usize, const K: usize>(
+        modules: &'a ArrayVec<M, N>,
+        submodules: &'a ArrayVec<S, K>,
     ) -> Modules<'a, M, S>
+        requires few_modules { N ≤ 256 }
+        requires few_submodules { K ≤ 256 }
         ensures { result ≡ record { modules = modules.now.items; submodules = submodules.now.items } }
     {
         Modules {
