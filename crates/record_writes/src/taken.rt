@@ -1,0 +1,75 @@
+//! The parameter records that a relation has taken.
+ghost use Rattle.std.specs.Prelude.{◌≡◌, [], IfErr, IfOk, Err, Ok};
+ghost use Rattle.record_writes.specs.Taken.{keep_of};
+
+use arrayvec::ArrayVec;
+use pnio_status::CallFault;
+use std::marker::Model;
+
+/// A parameter record that was written.
+#[derive(Default, Drop)]
+pub struct Taken {
+    /// SlotNumber of the submodule.
+    pub slot: u16,
+    /// SubslotNumber of the submodule.
+    pub subslot: u16,
+    /// Index of the record.
+    pub index: u16,
+    /// Its octets: as many as the submodule takes.
+    pub value: ArrayVec<u8, 64>,
+}
+
+/// The parameter records that a relation has taken, in their order: at most 64. A record that is written again is there again.
+#[derive(Drop)]
+pub struct TakenRecords {
+    records: ArrayVec<Taken, 64>,
+}
+
+impl Model for TakenRecords {
+    ghost use Rattle.std.specs.Prelude.{List};
+    ghost use Rattle.record_writes.specs.declared.taken.Taken.{Taken};
+
+    ghost Value = { List Taken };
+
+    ghost view = { λ all. all.records.items };
+}
+
+impl TakenRecords {
+    /// None.
+    pub fn new() -> Self
+        ensures { result ≡ [] }
+    {
+        TakenRecords {
+            records: ArrayVec::new(),
+        }
+    }
+
+    /// Forgets them.
+    pub fn clear(&mut self)
+        ensures { self.new ≡ [] }
+    {
+        self.records.clear();
+    }
+
+    /// Keeps one more: TooManyRecords where 64 are kept already.
+    #[tactic(auto, unfolding(crate::specs::Taken::keep_of))]
+    pub fn keep(&mut self, taken: Taken) -> Result<(), CallFault>
+        // It comes behind the others,
+        ensures kept { IfOk result (λ _. keep_of taken self.old ≡ Ok self.new) }
+        // or it is refused, and they stay.
+        ensures refused { IfErr result (λ fault. (keep_of taken self.old ≡ Err fault) × (self.new ≡ self.old)) }
+    {
+        if self.records.is_full() {
+            return Err(CallFault::TooManyRecords);
+        }
+        self.records.push(taken);
+        Ok(())
+    }
+
+    /// Them, in the order in which they were taken.
+    pub fn as_slice(&self) -> &[Taken]
+        ensures { result.now ≡ self.now }
+    {
+        self.records.as_slice()
+    }
+}
