@@ -14,8 +14,9 @@ use Rattle.pn_alarms.specs.Sending.{Sending, sent, due, ticked, rested, acked}
 use Rattle.pn_alarms.specs.Alarming.{Alarming}
 use Rattle.pn_alarms.specs.Sender.{notified, raised, is_end, ended_by, answered, later}
 use Rattle.pn_alarms.specs.Receiver.{taken_as}
+use Rattle.pn_alarms.specs.Device.{sender_after}
 use Rattle.pn_alarms.specs.Line.{Line, with_sent, more_taken, with_come}
-use Rattle.pn_alarms.specs.World.{World, Move, start, after_raise, after_confirm, line_after, acks_after, after_alarm, sender_after, after_confirms, after_ack_to_device, after_ack_to_controller, happens, behind_all, raise, confirm, device_tick, controller_tick, alarm_comes, confirm_comes, ack_comes_to_device, ack_comes_to_controller}
+use Rattle.pn_alarms.specs.World.{World, Move, start, after_raise, after_confirm, line_after, acks_after, after_alarm, after_confirms, after_ack_to_device, after_ack_to_controller, happens, behind_all, raise, confirm, device_tick, controller_tick, alarm_comes, confirm_comes, ack_comes_to_device, ack_comes_to_controller}
 use Rattle.pn_alarms.proofs.Lines.{IsLine, IsLast, line_starts, few_taken, line_sends, line_ticks, same_sent, same_taken, line_comes, more_is_more}
 
 -- how many stand

@@ -7,5 +7,8 @@ pub mod Sending
 pub mod Alarming
 pub mod Sender
 pub mod Standing
+pub mod Message
+pub mod Ending
+pub mod Device
 pub mod Line
 pub mod World

@@ -13,6 +13,7 @@ use Rattle.pn_alarms.specs.Sending.{Sending, silent, sent, due, ticked, acked}
 use Rattle.pn_alarms.specs.Alarming.{Alarming}
 use Rattle.pn_alarms.specs.Sender.{quiet, notified, raised, answered, later}
 use Rattle.pn_alarms.specs.Receiver.{taken_as}
+use Rattle.pn_alarms.specs.Device.{sender_after}
 use Rattle.pn_alarms.specs.Line.{Line, empty, with_sent, with_again, with_come}
 
 -- both ends: who sends alarms, at the device; who sends AlarmAcks, at the controller, and the last one; the alarms on their way
@@ -88,12 +89,6 @@ after_alarm w (Some pdu) = record w {
   alarms = with_come w.alarms pdu;
   acks_to_device = acks_after w.acks_to_device pdu.0 (taken_as w.alarms.seen pdu.0);
 }
-
--- an AlarmAck that is taken may end the alarm that stands
-abbrev pub sender_after : Alarming → AlarmAck → Taken → Alarming
-sender_after sender ack New = answered sender (reply.AlarmAck ack)
-sender_after sender ack Again = sender
-sender_after sender ack Refused = sender
 
 abbrev pub after_confirms : World → Option (ℕ × AlarmAck) → World
 after_confirms w None = w

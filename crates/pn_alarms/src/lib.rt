@@ -3,8 +3,10 @@
 #![tactic(auto)]
 
 mod abort;
+mod alarms;
 mod fault;
 mod law;
+mod message;
 mod numbers;
 mod pdu;
 mod reading;
@@ -14,8 +16,10 @@ mod sender;
 mod writing;
 
 pub use abort::Abort;
+pub use alarms::{Alarms, Heard};
 pub use fault::AlarmFault;
 pub use law::in_order;
+pub use message::{Message, read_message};
 pub use pdu::{Header, Pdu, PduType};
 pub use reading::{read_ack, read_notification, read_pdu};
 pub use receiver::{Receiver, Taken};

@@ -1,0 +1,137 @@
+//! A device's end of a relation's alarms.
+ghost use Rattle.std.specs.Prelude.{◌≡◌, ◌<◌, ◌≤◌, length, is_ok, is_none, OnOk, OnErr};
+ghost use Rattle.std.specs.Prelude.{if◌then◌else◌};
+ghost use Rattle.pn_alarms.specs.declared.alarms.Heard.TheVariants.{Done, Ignored};
+ghost use Rattle.pn_alarms.specs.declared.sender.Reply.TheVariants.{Ack};
+ghost use Rattle.pn_alarms.specs.Numbers.{is_last};
+ghost use Rattle.pn_alarms.specs.Receiver.{taken_as, last_behind, answer_to};
+ghost use Rattle.pn_alarms.specs.Sender.{answered};
+ghost use Rattle.pn_alarms.specs.Sending.{due};
+ghost use Rattle.pn_alarms.specs.Device.{idle, heard_as, sender_after, end_behind, header_now, end_raised, end_later};
+
+use crate::{Alarm, Due, Header, Message, PduType, RaiseFault, Receiver, Reply, Sender, Taken};
+use block_codec::{AlarmAck, AlarmNotification};
+use std::marker::Model;
+
+/// What becomes of a PDU.
+#[derive(Clone, Copy, Debug, PartialEq, Eq)]
+pub enum Heard {
+    /// It was data, which this PDU answers.
+    Answer(PduType),
+    /// It was an ACK of the last alarm.
+    Done,
+    /// It was another ACK, or a NACK.
+    Ignored,
+    /// It was an ERR: the relation is over.
+    Aborted,
+}
+
+/// A device's end of a relation's alarms: it sends alarms, one at a time, and takes AlarmAcks, each once.
+#[derive(Drop)]
+pub struct Alarms {
+    sender: Sender,
+    receiver: Receiver,
+}
+
+// Clauses see who sends alarms, and the number of the last AlarmAck that was taken.
+impl Model for Alarms {
+    ghost use Rattle.pn_alarms.specs.Ending.{Ending};
+
+    ghost Value = { Ending };
+
+    ghost view = { λ alarms. record { sender = alarms.sender; seen = alarms.receiver } };
+}
+
+impl Alarms {
+    /// Those of a new relation, with this RTATimeoutFactor, from 1, and RTARetries, up to 15.
+    pub fn new(timeout_factor: u16, retries: u16) -> Alarms
+        requires factor { 0 < timeout_factor }
+        requires few { retries ≤ 15 }
+        ensures { result ≡ idle timeout_factor retries }
+    {
+        Alarms {
+            sender: Sender::new(timeout_factor, retries),
+            receiver: Receiver::new(),
+        }
+    }
+
+    /// Raises an alarm, which is then to be sent as data.
+    pub fn raise(&mut self, alarm: &Alarm) -> Result<(), RaiseFault>
+        requires { length alarm.now.alarm_data.now ≤ 32 }
+        ensures ok { OnOk result (self.new ≡ end_raised self.old alarm.now) }
+        ensures err { OnErr result (self.new ≡ self.old) }
+        // It is refused exactly where one stands.
+        ensures busy { is_ok result ≡ is_none self.old.sender.standing }
+    {
+        self.sender.raise(alarm)
+    }
+
+    /// The block of the alarm that stands.
+    pub fn standing(&self) -> Option<AlarmNotification<'_>>
+        ensures { result ≡ self.now.sender.standing }
+    {
+        self.sender.standing()
+    }
+
+    /// The header of a PDU of this type that is sent now, with these endpoints: it has the numbers of the last data that was sent
+    /// and that was taken.
+    pub fn header(&self, kind: PduType, destination: u16, source: u16) -> Header
+        ensures { result ≡ header_now self.now kind destination source }
+    {
+        Header {
+            destination,
+            source,
+            kind,
+            send_number: self.sender.number(),
+            ack_number: self.receiver.number(),
+        }
+    }
+
+    /// A unit passes. Answers what is due.
+    pub fn tick(&mut self) -> Due
+        ensures due { result ≡ due self.old.sender.sending }
+        ensures state { self.new ≡ end_later self.old }
+    {
+        self.sender.tick()
+    }
+
+    /// A PDU of the relation comes. Answers what becomes of it.
+    pub fn hear(&mut self, message: &Message) -> Heard
+        ensures heard { result ≡ heard_as self.old message.now }
+        ensures state { self.new ≡ end_behind self.old message.now }
+    {
+        match message {
+            Message::Data(number, ack) => Heard::Answer(self.take(*number, ack)),
+            Message::Ack(number) => self.hear_ack(*number),
+            Message::Nack => Heard::Ignored,
+            Message::Abort => Heard::Aborted,
+        }
+    }
+
+    /// Data comes. What is taken may end the alarm that stands. Answers by which PDU it is answered.
+    fn take(&mut self, number: u16, ack: &AlarmAck) -> PduType
+        ensures answer { result ≡ answer_to (taken_as self.old.seen number) }
+        ensures state { self.new ≡ record { sender = sender_after self.old.sender ack.now (taken_as self.old.seen number); seen = last_behind self.old.seen number } }
+    {
+        let taken = self.receiver.take(number);
+        match taken {
+            Taken::New => {
+                self.sender.hear(&Reply::AlarmAck(*ack));
+            }
+            Taken::Again | Taken::Refused => {}
+        }
+        taken.answer()
+    }
+
+    /// An ACK comes.
+    fn hear_ack(&mut self, number: u16) -> Heard
+        ensures heard { result ≡ (if is_last self.old.sender.sending.last number then Done else Ignored) }
+        ensures state { self.new ≡ record { sender = answered self.old.sender (Ack number); seen = self.old.seen } }
+    {
+        if self.sender.hear(&Reply::Ack(number)) {
+            Heard::Done
+        } else {
+            Heard::Ignored
+        }
+    }
+}
