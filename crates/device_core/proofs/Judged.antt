@@ -1,6 +1,6 @@
 -- What is judged of an event and asks nothing of the settings.
 use Rattle.std.proofs.lemmas.Bool.{cond_both}
-use Rattle.std.proofs.Common.{◌≡◌, ◌&&◌, ℕ, Bool, false, List, Option, Some, None, refl}
+use Rattle.std.proofs.Common.{◌≡◌, ◌&&◌, ℕ, false, List, Option, Some, None, refl}
 use Rattle.pn_values.specs.declared.mac.Mac.{Mac}
 use Rattle.frame_codec.specs.declared.arp.Arp.{Arp}
 use Rattle.rpc_core.specs.Call.{Asked as Call}
@@ -9,7 +9,7 @@ use Rattle.pnio_status.specs.Operation.{operation_of}
 use Rattle.device_core.specs.declared.hearing.Caller.{Caller}
 use Rattle.device_core.specs.State.{Station, Live}
 use Rattle.device_core.specs.Heard.{Said, Calls, Responds, Garbled}
-use Rattle.device_core.specs.Judged.{Judged, is_running, is_request, is_served, judged_arp, judged_looked, judged_blocks, judged_call, judged_said, judged_datagram}
+use Rattle.device_core.specs.Judged.{is_running, is_request, is_served, judged_arp, judged_looked, judged_blocks, judged_said, judged_datagram}
 use Rattle.device_core.specs.Machine.{end_of}
 use Rattle.device_core.proofs.Machine.{is_set}
 

@@ -1,6 +1,6 @@
 -- What a step does, from what its parts do.
 use Rattle.std.proofs.lemmas.Bool.{cond_both, cond-true}
-use Rattle.std.proofs.Common.{◌≡◌, ◌≢◌, ℕ, Bool, false, List, [], ◌∷◌, ◌++◌, map, refl, sym, ap, subst, ◌∙◌, inl, arith}
+use Rattle.std.proofs.Common.{◌≡◌, ◌≢◌, ℕ, false, List, [], ◌∷◌, ◌++◌, map, refl, sym, ap, subst, ◌∙◌, inl, arith}
 use Rattle.std.proofs.lemmas.List.{append-nil}
 use Rattle.flash_model.specs.Calls.{Call}
 use Rattle.flash_model.specs.Image.{Image}
@@ -169,33 +169,35 @@ get_steps image failures asked state asker request frames said holds get frames_
     moves_steps image failures asked state state (Asks asker request) state.live.rest (GetAnswer asker state.live.values.running request ∷ []) frames said holds
     (ap (λ s. judged_request state.station state.live asker s request) get) refl frames_are done
 
--- what was judged a Set
-pub set_steps : {F : Type 0} (image : F → Image) (failures : F → ℕ) (asked : F → List Call → F → Type 0) (old new : State F) (heard : Heard) (asker : Mac) (request : Asked) (in_operation : Bool) (answers : List BlockError)
-    (frames : List (List ℕ)) (said : Note) → judged old.station old.live heard ≡ Sets asker request in_operation
-    → Carries image failures asked (store_of old) (plan_of in_operation request) answers (store_of new)
-    → new.station ≡ old.station → new.live.rest ≡ (finished old.live.rest (Sets asker request in_operation) answers).rest
-    → frames ≡ bytes_of old.station.identity (SetAnswer asker request answers) ∷ [] → said ≡ note.Done
+-- what was judged and asks the settings for something, which is carried out
+pub settled_steps : {F : Type 0} (image : F → Image) (failures : F → ℕ) (asked : F → List Call → F → Type 0) (old new : State F) (heard : Heard) (what : Judged) (answers : List BlockError)
+    (frames : List (List ℕ)) (said : Note) → judged old.station old.live heard ≡ what
+    → Carries image failures asked (store_of old) (items_in what) answers (store_of new)
+    → new.station ≡ old.station → new.live.rest ≡ (finished old.live.rest what answers).rest
+    → frames ≡ map (bytes_of old.station.identity) (finished old.live.rest what answers).sent → said ≡ (finished old.live.rest what answers).note
     → Steps image failures asked old heard frames said new
 unfolding judged_step
-set_steps image failures asked old new heard asker request in_operation answers frames said sets carries same rest frames_are done =
+settled_steps image failures asked old new heard what answers frames said is_what carries same rest frames_are note_is =
     let step = heard_step carries.outcomes old.station old.live heard in
-    let is = judged_as carries.outcomes old.station old.live heard (Sets asker request in_operation) sets in
-    let items : items_of old.station old.live heard ≡ plan_of in_operation request = ap items_in sets in
-    let accepted : (carried carries.outcomes old.live.values (plan_of in_operation request)).accepted ≡ step.accepted = sym (ap (λ s. s.accepted) is) in
-    let live_is : new.live ≡ step.live = rw is (same_live _ _ carries.values rest) in
-    let frames_is : frames ≡ step.frames = rw is (frames_are ∙ ap (λ a. bytes_of old.station.identity (SetAnswer asker request a) ∷ []) carries.answers_are) in
-    let note_is : said ≡ step.note = rw is done in
+    let is = judged_as carries.outcomes old.station old.live heard what is_what in
+    let items : items_of old.station old.live heard ≡ items_in what = ap items_in is_what in
+    let end : finished old.live.rest what answers ≡ finished old.live.rest what (carried carries.outcomes old.live.values (items_in what)).answers =
+    ap (finished old.live.rest what) carries.answers_are in
+    let accepted : (carried carries.outcomes old.live.values (items_in what)).accepted ≡ step.accepted = sym (ap (λ s. s.accepted) is) in
+    let live_now : new.live ≡ step.live = rw is (same_live _ _ carries.values (rest ∙ ap (λ e. e.rest) end)) in
+    let frames_now : frames ≡ step.frames = rw is (frames_are ∙ ap (λ e. map (bytes_of old.station.identity) e.sent) end) in
+    let note_now : said ≡ step.note = rw is (note_is ∙ ap (λ e. e.note) end) in
     record {
       outcomes = carries.outcomes;
       same = same;
-      live = live_is;
-      frames = frames_is;
-      note = note_is;
+      live = live_now;
+      frames = frames_now;
+      note = note_now;
       quiet = carries.quiet;
       placed = subst (λ i. OneByOne image failures asked carries.outcomes (store_of old) i (store_of new)) (sym items) carries.placed;
       stretch = subst (λ a. Stretch image failures (store_of old) a (store_of new)) accepted carries.stretch;
       continues = subst (λ a. Continues image failures (store_of old) a (store_of new)) accepted carries.continues;
-      goes_on = step_goes_on carries.outcomes old.station old.live new.live heard frames said answers live_is frames_is note_is
+      goes_on = step_goes_on carries.outcomes old.station old.live new.live heard frames said answers live_now frames_now note_now
           (carries.answers_are ∙ ap (λ i. (carried carries.outcomes old.live.values i).answers) (sym items))
           (subst (λ i. GoesOn old.live.values i answers new.live.values) (sym items) carries.goes_on);
     }
@@ -206,7 +208,7 @@ pub asked_set_steps : {F : Type 0} (image : F → Image) (failures : F → ℕ) 
     → new.live.rest ≡ (finished old.live.rest (Sets asker request false) answers).rest → frames ≡ bytes_of old.station.identity (SetAnswer asker request answers) ∷ [] → said ≡ note.Done
     → Steps image failures asked old (Asks asker request) frames said new
 asked_set_steps image failures asked old new asker request answers frames said set carries same rest frames_are done =
-    set_steps image failures asked old new (Asks asker request) asker request false answers frames said
+    settled_steps image failures asked old new (Asks asker request) (Sets asker request false) answers frames said
     (ap (λ s. judged_request old.station old.live asker s request) set) carries same rest frames_are done
 
 -- what is not done changes nothing and sends nothing

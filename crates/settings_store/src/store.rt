@@ -141,6 +141,8 @@ impl<F: Flash<S>, const S: usize> Store<F, S> {
     /// Carries one item of a Set out by itself, and says how it is answered.
     pub fn carry(&mut self, item: &SetItem) -> BlockError
         ensures carries { CarriesItem F.image F.failures F.asked self.old item.now result self.new }
+        // As a list of one.
+        ensures listed { Carries F.image F.failures F.asked self.old (item.now ∷ []) (result ∷ []) self.new }
         ensures reliable { F.is_reliable self.old.flash → F.is_reliable self.new.flash × (self.new.values.has_failed ≡ self.old.values.has_failed) }
     {
         // What the journal keeps holds before the item, too.

@@ -1,7 +1,5 @@
 -- An Identify request and a Get change nothing.
-use Rattle.std.proofs.Common.{refl}
 use Rattle.dcp_core.specs.Request.{asked}
-use Rattle.device_core.specs.Heard.{Asks}
 use Rattle.device_core.proofs.Steps.{identify_steps, get_steps}
 use Rattle.device_core.proofs.device.Device.serve.Goals as goal
 

@@ -1,7 +1,7 @@
 -- A signal and an answer change nothing.
 use Rattle.std.proofs.Common.{subst}
 use Rattle.settings_store.specs.Carries.{Holds}
-use Rattle.settings_store.proofs.Steps.{answers, signals}
+use Rattle.settings_store.proofs.Steps.{answers, signals, item_listed}
 use Rattle.settings_store.proofs.store.Store.carry.Goals as goal
 
 pub returns-in-Answer-clause-carries : goal.returns-in-Answer-clause-carries
@@ -15,3 +15,12 @@ returns-in-Signal-clause-carries g c =
     let holds : Holds (g.F.Flash.image c.args.self.now.flash) c.args.self.now.values =
     subst (λ s. Holds (g.F.Flash.image s.flash) s.values) c.self.view_is c.self.invariant in
     rw c.in-Signal.is (signals g.F.Flash.image g.F.Flash.failures g.F.Flash.asked c.args.self.now holds)
+
+pub returns-in-Answer-clause-listed : goal.returns-in-Answer-clause-listed
+returns-in-Answer-clause-listed g c = item_listed g.F.Flash.image g.F.Flash.failures g.F.Flash.asked _ _ _ _ (returns-in-Answer-clause-carries g c)
+
+pub returns-in-Signal-clause-listed : goal.returns-in-Signal-clause-listed
+returns-in-Signal-clause-listed g c = item_listed g.F.Flash.image g.F.Flash.failures g.F.Flash.asked _ _ _ _ (returns-in-Signal-clause-carries g c)
+
+pub returns-in-Ask-clause-listed : goal.returns-in-Ask-clause-listed
+returns-in-Ask-clause-listed g c = rw c.in-Ask.is (item_listed g.F.Flash.image g.F.Flash.failures g.F.Flash.asked _ _ _ _ c.commit.ensures.carries)

@@ -3,7 +3,7 @@ use Rattle.std.proofs.Common.{◌+◌, ◌++◌, ◌∷◌, [], length, take, ta
 use Rattle.std.proofs.lemmas.List.{take_more}
 use Rattle.settings_store.specs.Carries.{Carries, Holds}
 use Rattle.settings_store.proofs.Crash.{carries_then}
-use Rattle.settings_store.proofs.Steps.{nothing, item_listed}
+use Rattle.settings_store.proofs.Steps.{nothing}
 use Rattle.settings_store.proofs.store.Store.carry_out.Goals as goal
 
 pub loop-item-init : goal.loop-item-init
@@ -20,7 +20,7 @@ pub loop-item-preserved : goal.loop-item-preserved
 loop-item-preserved g c = record {
   carries = rw (take_more c.args.items.now c.loop-item.item-index c.item-item.result c.loop-item-test.true ∙ ap (λ i. take c.loop-item.item-index c.args.items.now ++ i ∷ []) (sym c.item-item.is), c.push.ensures.items)
       (carries_then g.F.Flash.image g.F.Flash.failures g.F.Flash.asked c.args.self.now c.loop-item.self c.carry-answer.new.self _ _ _ _
-      c.loop-item.invariant.carries (item_listed g.F.Flash.image g.F.Flash.failures g.F.Flash.asked _ _ _ _ c.carry-answer.ensures.carries));
+      c.loop-item.invariant.carries c.carry-answer.ensures.listed);
   each = omega (arith, c.loop-item.invariant.each, c.push.ensures.len);
   reliable = λ sound.
       let so = c.loop-item.invariant.reliable sound in
