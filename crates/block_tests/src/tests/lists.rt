@@ -108,14 +108,14 @@ fn modules_that_were_read_are_copied(rt: HostRuntime) {
 
 #[test]
 fn modules_that_are_lent_are_written(rt: HostRuntime) {
-    let mut modules = ArrayVec::new();
+    let mut modules: ArrayVec<ExpectedModule, 64> = ArrayVec::new();
     modules.push(ExpectedModule {
         slot_number: 1,
         module_ident_number: 0x10,
         module_properties: 0,
         number_of_submodules: 1,
     });
-    let mut submodules = ArrayVec::new();
+    let mut submodules: ArrayVec<ExpectedSubmodule, 64> = ArrayVec::new();
     submodules.push(ExpectedSubmodule {
         subslot_number: 1,
         submodule_ident_number: 0x10,
