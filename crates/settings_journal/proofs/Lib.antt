@@ -1,4 +1,5 @@
 pub mod Active
+pub mod Apart
 pub mod Asking
 pub mod Commands
 pub mod Parts

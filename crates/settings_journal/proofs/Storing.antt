@@ -29,7 +29,7 @@ use Rattle.settings_journal.proofs.Writes.{sector_size}
 few_more : (generation : ℕ) → generation < 65535 → generation + 1 ≤ 65535
 few_more generation few = omega arith
 
-other_other : (sector : Sector) → other (other sector) ≡ sector
+pub other_other : (sector : Sector) → other (other sector) ≡ sector
 other_other First = refl
 other_other Second = refl
 

@@ -5,6 +5,7 @@ ghost use Rattle.pn_values.specs.Settings.{factory_settings};
 ghost use Rattle.pn_values.specs.declared.settings.Settings.{Settings};
 ghost use Rattle.flash_model.specs.Calls.{Call, Arms};
 ghost use Rattle.flash_model.specs.Image.{erased};
+ghost use Rattle.settings_journal.specs.Apart.{StandsApart};
 ghost use Rattle.settings_journal.specs.Calls.{HasCommitCalls};
 ghost use Rattle.settings_journal.specs.Image.{StartsWith, IsAmple, capacity, IsForeign, LeftByDevice, IsGeneration};
 ghost use Rattle.settings_journal.specs.Commit.{IsKept, HasBootCause, HasCommitCause};
@@ -195,6 +196,9 @@ impl<F: Flash<S>, const S: usize> Journal<F, S> {
         // The calls that it asks of the flash: its own, in order, and no others.
         ensures calls { (calls : List Call) × F.asked self.old.flash calls self.new.flash
             × HasCommitCalls result (F.image self.old.flash) self.old.settings self.old.room command.now calls }
+
+        // Whichever call failed: all but the next slot is as it was, or, where no slot is left, the active sector.
+        ensures apart { self.old.has_failed ≡ false → StandsApart (F.image self.old.flash) self.old.settings (F.image self.new.flash) }
 
         // Whichever call failed, with power lost or not: the image is left by this device, and a start on it gives the
         // settings from before or those after the command.

@@ -4,6 +4,7 @@ ghost use Rattle.pn_values.specs.declared.settings.Settings.{Settings};
 ghost use Rattle.flash_model.specs.Calls.{Call};
 ghost use Rattle.flash_model.specs.Image.{slots_in};
 ghost use Rattle.flash_model.specs.Torn.{HasCause, StaysLost};
+ghost use Rattle.settings_journal.specs.Apart.{IsApart};
 ghost use Rattle.settings_journal.specs.Calls.{IsAskedFor, calls_of};
 ghost use Rattle.settings_journal.specs.Image.{spare};
 ghost use Rattle.settings_journal.specs.Store.{IsBefore, Stored};
@@ -29,6 +30,7 @@ pub(crate) fn store<F: Flash<S>, const S: usize>(
     ensures calls { (before : Settings) → IsBefore (F.image flash.old) position command.now before next.now →
         (calls : List Call) × F.asked flash.old calls flash.new
         × IsAskedFor result (calls_of (slots_in S) position.active position.generation position.free before command.now) calls }
+    ensures apart { IsApart (slots_in S) position.active position.free (F.image flash.old) (F.image flash.new) }
     ensures cause { HasCause (F.failures flash.old) (F.failures flash.new) result }
     ensures lost { StaysLost (F.is_lost flash.old) (F.is_lost flash.new) result }
     ensures reliable { F.is_reliable flash.old → IsOk result × F.is_reliable flash.new }

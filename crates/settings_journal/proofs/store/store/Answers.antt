@@ -3,6 +3,7 @@ use Rattle.std.proofs.Common.{◌∙◌, ◌-◌, ap, sym, subst, arith, refl}
 use Rattle.std.proofs.lemmas.Result.{err_from_is_err_and}
 use Rattle.flash_model.specs.Image.{slots_in}
 use Rattle.settings_journal.specs.Slot.{IsEntryOf}
+use Rattle.settings_journal.proofs.Apart.{apart_slot, apart_base}
 use Rattle.settings_journal.proofs.Asking.{calls_slot, calls_base, failed_as}
 use Rattle.settings_journal.proofs.Storing.{slot_first, in_slot, stored_failed, stored_slot, slot_kept_at, none_free, base_written, stored_base, base_kept}
 use Rattle.settings_journal.proofs.store.store.Goals as goal
@@ -72,3 +73,21 @@ returns-in_ok-write_base-in-None-clause-calls g c = λ before b.
     let none = none_free _ _ before _ _ b.starts c.in-None.ensures in
     let asked = c.in_ok-write_base-in-None.ensures.calls in
     (asked.0, asked.1, asked.2 ∙ calls_base (slots_in g.row.S) _ _ c.args.position.generation _ _ before _ _ _ none c.spare_of-sector.ensures refl b.next_is bytes)
+
+pub returns-in_err-write_slot-in-Some-clause-apart : goal.returns-in_err-write_slot-in-Some-clause-apart
+returns-in_err-write_slot-in-Some-clause-apart g c =
+    let number = ap (λ n. n - c.args.position.free) c.slots_of.ensures in
+    apart_slot (slots_in g.row.S) c.args.position.free _ c.args.position.active _ (g.F.Flash.image c.args.flash.now) (g.F.Flash.image c.write_slot.new.flash) c.in-Some.ensures.0 c.in-Some.ensures.1 number c.write_slot.ensures.others c.write_slot.ensures.other
+
+pub returns-in_ok-write_slot-in-Some-clause-apart : goal.returns-in_ok-write_slot-in-Some-clause-apart
+returns-in_ok-write_slot-in-Some-clause-apart g c =
+    let number = ap (λ n. n - c.args.position.free) c.slots_of.ensures in
+    apart_slot (slots_in g.row.S) c.args.position.free _ c.args.position.active _ (g.F.Flash.image c.args.flash.now) (g.F.Flash.image c.write_slot.new.flash) c.in-Some.ensures.0 c.in-Some.ensures.1 number c.write_slot.ensures.others c.write_slot.ensures.other
+
+pub returns-in_err-write_base-in-None-clause-apart : goal.returns-in_err-write_base-in-None-clause-apart
+returns-in_err-write_base-in-None-clause-apart g c =
+    apart_base (slots_in g.row.S) c.args.position.free c.args.position.active _ (g.F.Flash.image c.args.flash.now) (g.F.Flash.image c.write_base.new.flash) c.in-None.ensures c.spare_of-sector.ensures c.write_base.ensures.other
+
+pub returns-in_ok-write_base-in-None-clause-apart : goal.returns-in_ok-write_base-in-None-clause-apart
+returns-in_ok-write_base-in-None-clause-apart g c =
+    apart_base (slots_in g.row.S) c.args.position.free c.args.position.active _ (g.F.Flash.image c.args.flash.now) (g.F.Flash.image c.write_base.new.flash) c.in-None.ensures c.spare_of-sector.ensures c.write_base.ensures.other

@@ -2,6 +2,7 @@
 use Rattle.std.proofs.Common.{subst, refl}
 use Rattle.settings_journal.specs.Commit.{IsKept}
 use Rattle.settings_journal.proofs.Active.{starts_with}
+use Rattle.settings_journal.proofs.Apart.{apart_same, apart_at}
 use Rattle.settings_journal.proofs.Storing.{still_kept, before, commit_calls}
 use Rattle.settings_journal.proofs.journal.Journal.commit.Goals as goal
 
@@ -58,3 +59,15 @@ returns-in-Err-clause-kept g c =
     let b = before _ c.self.inside.position _ _ _ _ (c.self.invariant c.if-self.false) c.apply-next.ensures c.copy.ensures in
     let s = c.in-Err.ensures.stored _ b in
     rw (← c.self.view_is) (λ going left. subst (λ x. IsKept (g.F.Flash.image c.store.new.flash) c.self.inside.settings x) b.next_is (s.kept left))
+
+pub returns-then-is_exhausted-clause-apart : goal.returns-then-is_exhausted-clause-apart
+returns-then-is_exhausted-clause-apart g c =
+    rw (← c.self.view_is) (λ going. apart_at _ _ _ _ _ _ _ (g.met.F.Flash.sized c.self.inside.flash) (c.self.invariant going) (apart_same _ _ _ (g.F.Flash.image c.self.inside.flash)))
+
+pub returns-in-Ok-clause-apart : goal.returns-in-Ok-clause-apart
+returns-in-Ok-clause-apart g c =
+    rw (← c.self.view_is) (λ going. apart_at _ (g.F.Flash.image c.store.new.flash) _ _ _ _ _ (g.met.F.Flash.sized c.self.inside.flash) (c.self.invariant going) c.in-Ok.ensures.apart)
+
+pub returns-in-Err-clause-apart : goal.returns-in-Err-clause-apart
+returns-in-Err-clause-apart g c =
+    rw (← c.self.view_is) (λ going. apart_at _ (g.F.Flash.image c.store.new.flash) _ _ _ _ _ (g.met.F.Flash.sized c.self.inside.flash) (c.self.invariant going) c.in-Err.ensures.apart)
