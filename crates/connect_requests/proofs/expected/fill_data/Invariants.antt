@@ -1,0 +1,10 @@
+-- what the submodules of the modules so far have, and that there is room for those that are left
+use Rattle.std.proofs.Common.{◌≡◌, ◌+◌, ◌≤◌, ◌++◌, length, drop}
+use Rattle.connect_requests.specs.Layouts.{data_of, data_of_modules}
+use Rattle.connect_requests.proofs.expected.fill_data.Given as goal
+
+abbrev pub invariant-loop-entry : goal.invariant-loop-entry
+invariant-loop-entry l = record {
+  items : l.parts.items ++ data_of_modules (drop l.entry-index l.expected.modules.items) l.left ≡ data_of l.expected;
+  few : length l.parts.items + length l.left ≤ 64;
+}

@@ -1,0 +1,182 @@
+-- In which order the blocks of a Connect are judged (IEC 61158-6-10, 5.2.4 and 5.2.6): the ARBlockReq first, then the others as
+-- they stand, then which are missing, and then the layouts.
+use Rattle.std.specs.Prelude.{◌+◌, ◌==◌, ◌&&◌, ◌||◌, ℕ, Bool, true, false, not, List, [], ◌∷◌, ◌++◌, length, nat_eq, nat_lt, Option, Some, None, is_some, Result, Ok, Err, if◌then◌else◌}
+use Rattle.std.specs.List.{list_any}
+use Rattle.std.specs.Cmp.Lexicographic.{pointwise}
+use Rattle.wire.specs.Checks.{or_fault}
+use Rattle.wire.specs.Codec.{◌>>=◌}
+use Rattle.block_fields.specs.declared.fault.BlockFault.{BlockFault}
+use Rattle.block_fields.specs.declared.fault.BlockFault.TheVariants as form
+use Rattle.connect_blocks.specs.declared.iocr.IocrType.{IocrType}
+use Rattle.connect_blocks.specs.declared.iocr.IocrType.TheVariants.{Input, Output}
+use Rattle.connect_blocks.specs.declared.iocr.IocrBlockReq.{IocrBlockReq}
+use Rattle.module_blocks.specs.declared.expected.ExpectedModule.{ExpectedModule}
+use Rattle.module_blocks.specs.declared.expected.ExpectedSubmodule.{ExpectedSubmodule}
+use Rattle.module_lists.specs.Lists.{Listed}
+use Rattle.block_codec.specs.declared.block.Block.{Block}
+use Rattle.block_codec.specs.declared.block.Block.TheVariants as is
+use Rattle.block_codec.specs.declared.block_type.BlockType.TheVariants as kind
+use Rattle.block_codec.specs.Kinds.{number_of}
+use Rattle.block_codec.specs.Block.{in_ar_block_req}
+use Rattle.module_diff.specs.declared.expected.Expected.{Expected}
+use Rattle.pnio_status.specs.declared.call_fault.CallFault.{CallFault}
+use Rattle.pnio_status.specs.declared.call_fault.CallFault.TheVariants as fault
+use Rattle.call_blocks.specs.Judged.{judged}
+use Rattle.connect_requests.specs.declared.parts.Ar.{Ar}
+use Rattle.connect_requests.specs.declared.parts.AlarmCr.{AlarmCr}
+use Rattle.connect_requests.specs.Pieces.{Piece, pieces_of}
+use Rattle.connect_requests.specs.Layouts.{data_of, layout_of, in_order}
+use Rattle.connect_requests.specs.Request.{Request, ar_of, alarm_of, iocr_of}
+
+-- ---- the form of a block
+
+-- the field that a block's fault is one of: the version and each field are counted, and BlockLength is field 1, which is wrong too
+-- where octets or entries are more or fewer than there may be
+abbrev pub field_of : BlockFault → ℕ
+field_of (form.Version field) = field
+field_of (form.Field field) = field
+field_of form.Truncated = 1
+field_of form.Kind = 1
+field_of form.Length = 1
+field_of form.Count = 1
+
+-- the fault of a call one of whose blocks, of this BlockType, has this fault
+abbrev pub faulty : ℕ → BlockFault → CallFault
+faulty number form =
+    if number == number_of kind.ArBlockReq then fault.ArField (field_of form)
+    else if number == number_of kind.IocrBlockReq then fault.IocrField (field_of form)
+    else if number == number_of kind.AlarmCrBlockReq then fault.AlarmCrField (field_of form)
+    else fault.ExpectedField (field_of form)
+
+-- a block, or the fault of the call
+abbrev pub well_formed : ℕ → Result Block BlockFault → Result Block CallFault
+well_formed number (Ok block) = Ok block
+well_formed number (Err form) = Err (faulty number form)
+
+-- ---- the first block
+
+-- the relation that stands is the one that is asked for, or another one
+abbrev pub conflict : List ℕ → List ℕ → CallFault
+conflict standing asked = if pointwise nat_eq asked standing then fault.RelationExists else fault.OtherRelationExists
+
+-- no relation is made while one stands
+abbrev pub admitted : Option (List ℕ) → Ar → Result (Unit {0}) CallFault
+admitted None ar = Ok tt
+admitted (Some standing) ar = Err (conflict standing ar.uuid)
+
+-- an ARBlockReq
+unfoldable pub ar_in : Piece → Result Ar CallFault
+ar_in piece = judged
+    ((nat_lt piece.left 4, fault.BlockHeader)
+    ∷ (not (piece.number == number_of kind.ArBlockReq), fault.BlockType)
+    ∷ [])
+    (well_formed piece.number piece.found >>= λ block. or_fault fault.BlockType (in_ar_block_req block) >>= λ ar. Ok (ar_of ar))
+
+-- ---- the other blocks
+
+-- what the blocks behind the ARBlockReq said so far
+pub record Sofar : Type 0 where
+  pub input : Option IocrBlockReq
+  pub output : Option IocrBlockReq
+  pub input_first : Bool
+  pub alarm : Option AlarmCr
+  pub has_expected : Bool
+  pub expected : Expected
+
+-- before the first of them
+abbrev pub nothing : Sofar
+nothing = record {
+  input = None;
+  output = None;
+  input_first = false;
+  alarm = None;
+  has_expected = false;
+  expected = record { modules = record { items = [] }; submodules = record { items = [] } };
+}
+
+-- the types that there are
+abbrev pub is_further : ℕ → Bool
+is_further number =
+    number == number_of kind.IocrBlockReq || number == number_of kind.AlarmCrBlockReq || number == number_of kind.ExpectedSubmoduleBlockReq
+
+-- whether there was an IOCRBlockReq of this type, and one more
+abbrev pub has_iocr : Sofar → IocrType → Bool
+has_iocr sofar Input = is_some sofar.input
+has_iocr sofar Output = is_some sofar.output
+
+abbrev pub with_iocr : Sofar → IocrBlockReq → IocrType → Sofar
+with_iocr sofar block Input = record sofar { input = Some block; input_first = not (is_some sofar.output) }
+with_iocr sofar block Output = record sofar { output = Some block }
+
+-- whether one of these modules is in a slot in which one is expected already
+abbrev pub repeats_slot : List ExpectedModule → List ExpectedModule → Bool
+repeats_slot before modules = list_any (λ entry. list_any (λ other. other.slot_number == entry.slot_number) before) modules
+
+-- what is expected with one more ExpectedSubmoduleBlockReq: each slot once, and at most 64 modules and 64 submodules in all
+abbrev pub expected_with : Expected → Listed ExpectedModule ExpectedSubmodule → Result Expected CallFault
+expected_with before block = judged
+    ((repeats_slot before.modules.items block.modules, fault.ExpectedField 6)
+    ∷ (nat_lt 64 (length before.modules.items + length block.modules), fault.TooManyModules)
+    ∷ (nat_lt 64 (length before.submodules.items + length block.submodules), fault.TooManySubmodules)
+    ∷ [])
+    (Ok (record {
+      modules = record { items = before.modules.items ++ block.modules };
+      submodules = record { items = before.submodules.items ++ block.submodules };
+    }))
+
+-- with one more block that reads; each IOCRType stands once
+abbrev pub with_block : Sofar → Block → Result Sofar CallFault
+with_block sofar (is.IocrBlockReq block) =
+    judged ((has_iocr sofar block.iocr_type, fault.IocrField 4) ∷ []) (Ok (with_iocr sofar block block.iocr_type))
+with_block sofar (is.AlarmCrBlockReq block) = Ok (record sofar { alarm = Some (alarm_of block) })
+with_block sofar (is.ExpectedSubmoduleBlockReq block) =
+    expected_with sofar.expected block.modules >>= λ expected. Ok (record sofar { has_expected = true; expected = expected })
+with_block sofar _ = Err fault.BlockType
+
+-- one more block: its header, its type, that it may stand there, its form, and then what it says
+unfoldable pub with_piece : Sofar → Piece → Result Sofar CallFault
+with_piece sofar piece = judged
+    ((nat_lt piece.left 4, fault.BlockHeader)
+    ∷ (not (is_further piece.number), fault.BlockType)
+    ∷ (piece.number == number_of kind.AlarmCrBlockReq && is_some sofar.alarm, fault.AlarmCrRepeated)
+    ∷ [])
+    (well_formed piece.number piece.found >>= λ block. with_block sofar block)
+
+-- all of them
+unfoldable pub with_pieces : Sofar → List Piece → Result Sofar CallFault
+with_pieces sofar [] = Ok sofar
+with_pieces sofar (piece ∷ pieces) = with_piece sofar piece >>= λ next. with_pieces next pieces
+
+-- ---- behind the last block
+
+-- which blocks are missing, and the layouts, that of the first IOCRBlockReq before that of the second
+unfoldable pub request_with : Ar → Sofar → Result Request CallFault
+request_with ar sofar =
+    judged ((not sofar.has_expected, fault.BlockMissing) ∷ []) (or_fault fault.IocrMissing sofar.input) >>= λ input.
+    or_fault fault.IocrMissing sofar.output >>= λ output.
+    or_fault fault.AlarmCrMissing sofar.alarm >>= λ alarm.
+    in_order sofar.input_first (layout_of (data_of sofar.expected) input) (layout_of (data_of sofar.expected) output) >>= λ layouts.
+    Ok (record {
+      ar = ar;
+      input_first = sofar.input_first;
+      input = iocr_of input layouts.0;
+      output = iocr_of output layouts.1;
+      alarm = alarm;
+      expected = sofar.expected;
+    })
+
+-- ---- the whole
+
+-- the blocks behind the ARBlockReq
+unfoldable pub request_behind : Ar → List Piece → Result Request CallFault
+request_behind ar pieces = with_pieces nothing pieces >>= λ sofar. request_with ar sofar
+
+-- all blocks
+unfoldable pub request_in : Option (List ℕ) → List Piece → Result Request CallFault
+request_in standing [] = Err fault.BlockMissing
+request_in standing (piece ∷ pieces) =
+    ar_in piece >>= λ ar. admitted standing ar >>= λ _. request_behind ar pieces
+
+-- what the blocks of a Connect ask for, while the relation of this ARUUID stands, if any, or their first fault
+unfoldable pub request_of : Option (List ℕ) → List ℕ → Result Request CallFault
+request_of standing blocks = request_in standing (pieces_of blocks)

@@ -1,0 +1,65 @@
+-- What a Connect asks for (IEC 61158-6-10, 5.2.4.1 to 5.2.4.7).
+use Rattle.std.specs.Prelude.{◌==◌, ℕ, Bool, if◌then◌else◌}
+use Rattle.connect_blocks.specs.declared.ar_block.ArBlockReq.{ArBlockReq}
+use Rattle.connect_blocks.specs.declared.alarm_cr.AlarmCrBlockReq.{AlarmCrBlockReq}
+use Rattle.connect_blocks.specs.declared.iocr.IocrType.{IocrType}
+use Rattle.connect_blocks.specs.declared.iocr.IocrType.TheVariants.{Input, Output}
+use Rattle.connect_blocks.specs.declared.iocr.RtClass.{RtClass}
+use Rattle.connect_blocks.specs.declared.iocr.RtClass.TheVariants.{Class1, Class2}
+use Rattle.connect_blocks.specs.declared.iocr.IocrBlockReq.{IocrBlockReq}
+use Rattle.module_diff.specs.declared.expected.Expected.{Expected}
+use Rattle.cyclic_data.specs.Layout.{Table}
+use Rattle.connect_requests.specs.declared.parts.Ar.{Ar}
+use Rattle.connect_requests.specs.declared.parts.Iocr.{Iocr}
+use Rattle.connect_requests.specs.declared.parts.AlarmCr.{AlarmCr}
+
+-- what is asked for: the relation, the communication relations of inputs, of outputs and of alarms, which of the first two was
+-- asked for first, and what is expected to be plugged
+pub record Request : Type 0 where
+  pub ar : Ar
+  pub input_first : Bool
+  pub input : Iocr
+  pub output : Iocr
+  pub alarm : AlarmCr
+  pub expected : Expected
+
+-- ---- what is wanted of each block
+
+abbrev pub ar_of : ArBlockReq → Ar
+ar_of block = record {
+  uuid = block.ar_uuid;
+  session_key = block.session_key;
+  initiator = block.cm_initiator_mac_add;
+  object = block.cm_initiator_object_uuid;
+  timeout_factor = block.cm_initiator_activity_timeout_factor;
+}
+
+abbrev pub alarm_of : AlarmCrBlockReq → AlarmCr
+alarm_of block = record {
+  timeout_factor = block.rta_timeout_factor;
+  retries = block.rta_retries;
+  reference = block.local_alarm_reference;
+  tag_high = block.tag_header_high;
+  tag_low = block.tag_header_low;
+}
+
+-- the FrameID that the device chooses for a class
+abbrev pub chosen_id : RtClass → ℕ
+chosen_id Class1 = 0xC000
+chosen_id Class2 = 0x8000
+
+-- the FrameID that is given: an output may leave the choice to the device
+abbrev pub given_id : IocrType → RtClass → ℕ → ℕ
+given_id Input class id = id
+given_id Output class id = if id == 0xFFFF then chosen_id class else id
+
+abbrev pub iocr_of : IocrBlockReq → Table → Iocr
+iocr_of block layout = record {
+  reference = block.iocr_reference;
+  frame_id = given_id block.iocr_type block.iocr_properties block.frame_id;
+  send_clock_factor = block.send_clock_factor;
+  reduction_ratio = block.reduction_ratio;
+  data_hold_factor = block.data_hold_factor;
+  tag = block.iocr_tag_header;
+  layout = layout;
+}

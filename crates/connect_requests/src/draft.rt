@@ -1,0 +1,177 @@
+//! The blocks behind the ARBlockReq, one behind the other.
+ghost use Rattle.std.specs.Prelude.{◌≡◌, IfOk};
+ghost use Rattle.wire.specs.Codec.{Gives};
+ghost use Rattle.block_codec.specs.Block.{block_of};
+ghost use Rattle.connect_requests.specs.Pieces.{behind, block_in, piece_at, pieces_in};
+ghost use Rattle.connect_requests.specs.Judged.{faulty, field_of, has_iocr, is_further, nothing, well_formed, with_block, with_iocr, with_piece, with_pieces};
+ghost use Rattle.connect_requests.specs.Drafts.{AreShort, IsShort, sofar_of};
+
+use crate::expected::add_modules;
+use crate::parts::{AlarmCr, alarm_of};
+use block_codec::{Block, BlockFault, BlockType, IocrBlockReq, IocrType, read_block};
+use module_diff::Expected;
+use pnio_status::CallFault;
+use wire::u16_at;
+
+/// What was read so far, but for what is expected to be plugged.
+#[derive(Drop)]
+pub(crate) struct Draft<'a> {
+    pub(crate) input: Option<IocrBlockReq<'a>>,
+    pub(crate) output: Option<IocrBlockReq<'a>>,
+    pub(crate) input_first: bool,
+    pub(crate) alarm: Option<AlarmCr>,
+    pub(crate) has_expected: bool,
+}
+
+/// The field that a block's fault is one of.
+fn field_of(fault: BlockFault) -> u8
+    ensures { result ≡ field_of fault }
+{
+    match fault {
+        BlockFault::Version(field) | BlockFault::Field(field) => field,
+        BlockFault::Truncated | BlockFault::Kind | BlockFault::Length | BlockFault::Count => 1,
+    }
+}
+
+/// The fault of a Connect one of whose blocks, of this BlockType, has this fault.
+pub(crate) fn faulty(number: u16, fault: BlockFault) -> CallFault
+    ensures { result ≡ faulty number fault }
+{
+    let field = field_of(fault);
+    if number == BlockType::ArBlockReq.number() {
+        CallFault::ArField(field)
+    } else if number == BlockType::IocrBlockReq.number() {
+        CallFault::IocrField(field)
+    } else if number == BlockType::AlarmCrBlockReq.number() {
+        CallFault::AlarmCrField(field)
+    } else {
+        CallFault::ExpectedField(field)
+    }
+}
+
+/// The block at the front, whose BlockType is this, and what is behind it.
+#[tactic(auto, using(crate::proofs::Accepted::spelled_short))]
+pub(crate) fn block_at(number: u16, bytes: &[u8]) -> Result<(Block<'_>, &[u8]), CallFault>
+    ensures block { Gives (λ x. x.0) result (well_formed number (block_in (block_of bytes.now))) }
+    ensures behind { IfOk result (λ x. x.1.now ≡ behind (block_of bytes.now)) }
+    ensures short { IfOk result (λ x. IsShort x.0) }
+{
+    match read_block(bytes) {
+        Ok(front) => Ok(front),
+        Err(fault) => Err(faulty(number, fault)),
+    }
+}
+
+/// Whether a block of this type stands behind the ARBlockReq.
+fn is_further(number: u16) -> bool
+    ensures { result ≡ is_further number }
+{
+    number == BlockType::IocrBlockReq.number()
+        || number == BlockType::AlarmCrBlockReq.number()
+        || number == BlockType::ExpectedSubmoduleBlockReq.number()
+}
+
+impl<'a> Draft<'a> {
+    /// Nothing.
+    pub(crate) fn new() -> Draft<'a>
+        ensures nothing { (expected : Expected) → sofar_of result expected ≡ record nothing { expected = expected } }
+        ensures short { AreShort result }
+    {
+        Draft {
+            input: None,
+            output: None,
+            input_first: false,
+            alarm: None,
+            has_expected: false,
+        }
+    }
+
+    /// Whether there was an IOCRBlockReq of this type.
+    fn has_iocr(&self, iocr_type: IocrType) -> bool
+        ensures { (expected : Expected) → result ≡ has_iocr (sofar_of self.now expected) iocr_type }
+    {
+        match iocr_type {
+            IocrType::Input => self.input.is_some(),
+            IocrType::Output => self.output.is_some(),
+        }
+    }
+
+    /// One more IOCRBlockReq: each type stands once.
+    fn add_iocr(&mut self, block: IocrBlockReq<'a>) -> Result<(), CallFault>
+        ensures added { (expected : Expected) → Gives (λ _. sofar_of self.new expected) result (with_block (sofar_of self.old expected) (Block.IocrBlockReq block.entry)) }
+        ensures short { AreShort self.old → IsShort (Block.IocrBlockReq block.entry) → AreShort self.new }
+    {
+        if self.has_iocr(block.iocr_type) {
+            return Err(CallFault::IocrField(4));
+        }
+        match block.iocr_type {
+            IocrType::Input => {
+                self.input_first = self.output.is_none();
+                self.input = Some(block);
+            }
+            IocrType::Output => self.output = Some(block),
+        }
+        Ok(())
+    }
+
+    /// One more block that reads.
+    fn add_block(&mut self, block: Block<'a>, expected: &mut Expected) -> Result<(), CallFault>
+        ensures added { Gives (λ _. sofar_of self.new expected.new) result (with_block (sofar_of self.old expected.old) block.entry) }
+        ensures short { AreShort self.old → IsShort block.entry → AreShort self.new }
+    {
+        match block {
+            Block::IocrBlockReq(block) => self.add_iocr(block),
+            Block::AlarmCrBlockReq(block) => {
+                self.alarm = Some(alarm_of(&block));
+                Ok(())
+            }
+            Block::ExpectedSubmoduleBlockReq(block) => {
+                self.has_expected = true;
+                add_modules(&block, expected)
+            }
+            _ => Err(CallFault::BlockType),
+        }
+    }
+
+    /// Takes the block at the front of octets, and gives what is behind it.
+    #[tactic(auto, unfolding(crate::specs::Judged::with_piece))]
+    fn add_piece(&mut self, bytes: &'a [u8], expected: &mut Expected) -> Result<&'a [u8], CallFault>
+        ensures piece { Gives (λ _. sofar_of self.new expected.new) result (with_piece (sofar_of self.old expected.old) (piece_at bytes.now)) }
+        ensures behind { IfOk result (λ rest. rest.now ≡ behind (block_of bytes.now)) }
+        ensures short { AreShort self.old → AreShort self.new }
+    {
+        if bytes.len() < 4 {
+            return Err(CallFault::BlockHeader);
+        }
+        let (number, _fields) = u16_at(bytes, CallFault::BlockHeader)?;
+        if !is_further(number) {
+            return Err(CallFault::BlockType);
+        }
+        if number == BlockType::AlarmCrBlockReq.number() && self.alarm.is_some() {
+            return Err(CallFault::AlarmCrRepeated);
+        }
+        let (block, rest) = block_at(number, bytes)?;
+        self.add_block(block, expected)?;
+        Ok(rest)
+    }
+
+    /// Takes all the blocks in octets, at most so many.
+    pub(crate) fn add_pieces(
+        &mut self,
+        bytes: &'a [u8],
+        most: usize,
+        expected: &mut Expected,
+    ) -> Result<(), CallFault>
+        ensures pieces { Gives (λ _. sofar_of self.new expected.new) result (with_pieces (sofar_of self.old expected.old) (pieces_in most bytes.now)) }
+        ensures short { AreShort self.old → AreShort self.new }
+    {
+        let mut rest = bytes;
+        for _index in 0..most {
+            if rest.is_empty() {
+                return Ok(());
+            }
+            rest = self.add_piece(rest, expected)?;
+        }
+        Ok(())
+    }
+}

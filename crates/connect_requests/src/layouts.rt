@@ -1,0 +1,62 @@
+//! The layouts of the two communication relations.
+ghost use Rattle.std.specs.Prelude.{◌≡◌, ◌≤◌, length};
+ghost use Rattle.wire.specs.Codec.{Gives};
+ghost use Rattle.connect_requests.specs.Layouts.{fault_of, in_order, layout_of};
+
+use block_codec::IocrBlockReq;
+use cyclic_data::{ExpectedData, Layout, LayoutFault};
+use pnio_status::CallFault;
+
+/// The fault of a Connect whose places have this fault.
+fn fault_of(fault: LayoutFault) -> CallFault
+    ensures { result ≡ fault_of fault }
+{
+    match fault {
+        LayoutFault::Outside => CallFault::LayoutOutside,
+        LayoutFault::Overlap => CallFault::LayoutOverlap,
+        LayoutFault::Unknown => CallFault::LayoutUnknown,
+        LayoutFault::Missing => CallFault::LayoutMissing,
+    }
+}
+
+/// The layout that an IOCRBlockReq asks for, by what the submodules that are expected have in cyclic frames.
+fn layout_of(block: &IocrBlockReq, parts: &[ExpectedData]) -> Result<Layout, CallFault>
+    requires short { block.now.data_length ≤ 1440 }
+    requires few { length parts.now ≤ 64 }
+    ensures { Gives (λ x. x) result (layout_of parts.now block.now) }
+{
+    let checked = Layout::check(
+        block.iocr_type,
+        block.data_length,
+        &block.io_data_objects,
+        &block.iocs,
+        parts,
+    );
+    match checked {
+        Ok(layout) => Ok(layout),
+        Err(fault) => Err(fault_of(fault)),
+    }
+}
+
+/// Puts the layouts of inputs and of outputs into their places, that of the first IOCRBlockReq before that of the second.
+pub(crate) fn fill_layouts(
+    input_first: bool,
+    input: &IocrBlockReq,
+    output: &IocrBlockReq,
+    parts: &[ExpectedData],
+    inputs: &mut Layout,
+    outputs: &mut Layout,
+) -> Result<(), CallFault>
+    requires short { (input.now.data_length ≤ 1440) × (output.now.data_length ≤ 1440) }
+    requires few { length parts.now ≤ 64 }
+    ensures { Gives (λ _. (inputs.new, outputs.new)) result (in_order input_first (layout_of parts.now input.now) (layout_of parts.now output.now)) }
+{
+    if input_first {
+        *inputs = layout_of(input, parts)?;
+        *outputs = layout_of(output, parts)?;
+    } else {
+        *outputs = layout_of(output, parts)?;
+        *inputs = layout_of(input, parts)?;
+    }
+    Ok(())
+}

@@ -1,0 +1,147 @@
+//! What is wanted of each block.
+ghost use Rattle.std.specs.Prelude.{◌≡◌};
+ghost use Rattle.connect_requests.specs.Request.{alarm_of, ar_of, given_id, iocr_of};
+
+use block_codec::{AlarmCrBlockReq, ArBlockReq, IocrBlockReq, IocrType, RtClass};
+use block_fields::Uuid;
+use cyclic_data::Layout;
+use pn_values::Mac;
+
+/// The application relation that is asked for.
+#[derive(Clone, Copy)]
+pub struct Ar {
+    /// ARUUID.
+    pub uuid: Uuid,
+    /// SessionKey.
+    pub session_key: u16,
+    /// CMInitiatorMacAdd: the controller.
+    pub initiator: Mac,
+    /// CMInitiatorObjectUUID.
+    pub object: Uuid,
+    /// CMInitiatorActivityTimeoutFactor, 1 to 1,000, in units of 100 ms.
+    pub timeout_factor: u16,
+}
+
+/// A communication relation of cyclic frames.
+#[derive(Drop)]
+pub struct Iocr {
+    /// IOCRReference.
+    pub reference: u16,
+    /// The FrameID that is given: where an output leaves the choice to the device, one of its class.
+    pub frame_id: u16,
+    /// SendClockFactor, 1 to 128, in units of 31.25 microseconds.
+    pub send_clock_factor: u16,
+    /// ReductionRatio, 1 to 512.
+    pub reduction_ratio: u16,
+    /// DataHoldFactor, 1 to 7,680.
+    pub data_hold_factor: u16,
+    /// IOCRTagHeader.
+    pub tag: u16,
+    /// Where each submodule has its place.
+    pub layout: Layout,
+}
+
+/// The communication relation of alarms.
+#[derive(Clone, Copy)]
+pub struct AlarmCr {
+    /// RTATimeoutFactor, at least 1, in units of 100 ms.
+    pub timeout_factor: u16,
+    /// RTARetries, 1 to 15.
+    pub retries: u16,
+    /// LocalAlarmReference: the controller's end.
+    pub reference: u16,
+    /// AlarmCRTagHeaderHigh.
+    pub tag_high: u16,
+    /// AlarmCRTagHeaderLow.
+    pub tag_low: u16,
+}
+
+impl Ar {
+    /// None.
+    pub(crate) fn blank() -> Ar {
+        Ar {
+            uuid: Uuid::from_bytes([0; 16]),
+            session_key: 0,
+            initiator: Mac { octets: [0; 6] },
+            object: Uuid::from_bytes([0; 16]),
+            timeout_factor: 1,
+        }
+    }
+}
+
+impl AlarmCr {
+    /// None.
+    pub(crate) fn blank() -> AlarmCr {
+        AlarmCr {
+            timeout_factor: 1,
+            retries: 1,
+            reference: 0,
+            tag_high: 0,
+            tag_low: 0,
+        }
+    }
+}
+
+/// What is wanted of an ARBlockReq.
+pub(crate) fn ar_of(block: &ArBlockReq) -> Ar
+    ensures { result ≡ ar_of block.now }
+{
+    Ar {
+        uuid: block.ar_uuid,
+        session_key: block.session_key,
+        initiator: block.cm_initiator_mac_add,
+        object: block.cm_initiator_object_uuid,
+        timeout_factor: block.cm_initiator_activity_timeout_factor,
+    }
+}
+
+/// What is wanted of an AlarmCRBlockReq.
+pub(crate) fn alarm_of(block: &AlarmCrBlockReq) -> AlarmCr
+    ensures { result ≡ alarm_of block.now }
+{
+    AlarmCr {
+        timeout_factor: block.rta_timeout_factor,
+        retries: block.rta_retries,
+        reference: block.local_alarm_reference,
+        tag_high: block.tag_header_high,
+        tag_low: block.tag_header_low,
+    }
+}
+
+/// The FrameID that is given where an IOCRBlockReq of this type and class asks for this one.
+fn given_id(iocr_type: IocrType, class: RtClass, id: u16) -> u16
+    ensures { result ≡ given_id iocr_type class id }
+{
+    match (iocr_type, class) {
+        (IocrType::Output, RtClass::Class1) if id == 0xFFFF => 0xC000,
+        (IocrType::Output, RtClass::Class2) if id == 0xFFFF => 0x8000,
+        _ => id,
+    }
+}
+
+impl Iocr {
+    /// None.
+    pub(crate) fn blank() -> Iocr {
+        Iocr {
+            reference: 0,
+            frame_id: 0,
+            send_clock_factor: 1,
+            reduction_ratio: 1,
+            data_hold_factor: 1,
+            tag: 0,
+            layout: Layout::new(),
+        }
+    }
+
+    /// Takes all from an IOCRBlockReq but the layout, which stays.
+    pub(crate) fn fill(&mut self, block: &IocrBlockReq)
+        ensures { self.new ≡ iocr_of block.now self.old.layout }
+    {
+        self.reference = block.iocr_reference;
+        self.frame_id = given_id(block.iocr_type, block.iocr_properties, block.frame_id);
+        self.send_clock_factor = block.send_clock_factor;
+        self.reduction_ratio = block.reduction_ratio;
+        self.data_hold_factor = block.data_hold_factor;
+        self.tag = block.iocr_tag_header;
+    }
+}

@@ -1,0 +1,208 @@
+//! What a Connect asks for, held in place.
+ghost use Rattle.std.specs.Prelude.{◌≡◌, ◌≤◌, None, Some, Err, IfOk, IfSome};
+ghost use Rattle.wire.specs.Codec.{Gives};
+ghost use Rattle.block_codec.specs.Block.{block_of};
+ghost use Rattle.connect_requests.specs.Pieces.{behind, piece_at, pieces_in};
+ghost use Rattle.connect_requests.specs.Judged.{conflict, ar_in, request_behind, request_of, request_with};
+ghost use Rattle.connect_requests.specs.Drafts.{AreShort, sofar_of};
+
+use crate::draft::{Draft, block_at};
+use crate::expected::{clear, fill_data};
+use crate::layouts::fill_layouts;
+use crate::parts::{AlarmCr, Ar, Iocr, ar_of};
+use arrayvec::ArrayVec;
+use block_codec::{Block, BlockType};
+use block_fields::Uuid;
+use module_diff::Expected;
+use pnio_status::CallFault;
+use std::marker::Model;
+use wire::u16_at;
+
+/// What a Connect asks for. It is large, and filled where it lies.
+#[derive(Drop)]
+pub struct ConnectRequest {
+    ar: Ar,
+    input_first: bool,
+    input: Iocr,
+    output: Iocr,
+    alarm: AlarmCr,
+    expected: Expected,
+}
+
+impl Model for ConnectRequest {
+    ghost use Rattle.connect_requests.specs.Request.{Request};
+
+    ghost Value = { Request };
+
+    ghost view = { λ inside. record {
+      ar = inside.ar;
+      input_first = inside.input_first;
+      input = inside.input;
+      output = inside.output;
+      alarm = inside.alarm;
+      expected = inside.expected;
+    } };
+}
+
+/// The ARBlockReq, which is the first block, and what is behind it.
+#[tactic(auto, unfolding(crate::specs::Judged::ar_in))]
+fn first_block(bytes: &[u8]) -> Result<(Ar, &[u8]), CallFault>
+    ensures ar { Gives (λ x. x.0) result (ar_in (piece_at bytes.now)) }
+    ensures behind { IfOk result (λ x. x.1.now ≡ behind (block_of bytes.now)) }
+{
+    if bytes.len() < 4 {
+        return Err(CallFault::BlockHeader);
+    }
+    let (number, _fields) = u16_at(bytes, CallFault::BlockHeader)?;
+    if number != BlockType::ArBlockReq.number() {
+        return Err(CallFault::BlockType);
+    }
+    let (block, rest) = block_at(number, bytes)?;
+    match block {
+        Block::ArBlockReq(block) => Ok((ar_of(&block), rest)),
+        _ => Err(CallFault::BlockType),
+    }
+}
+
+/// The fault of a Connect that asks for a relation while one stands: it is the same, or another one.
+fn conflict(standing: &Uuid, asked: &Uuid) -> CallFault
+    ensures { result ≡ conflict standing.now asked.now }
+{
+    if asked.into_bytes() == standing.into_bytes() {
+        CallFault::RelationExists
+    } else {
+        CallFault::OtherRelationExists
+    }
+}
+
+/// Why a Connect with these blocks is refused while the relation of an ARUUID stands.
+pub fn refuse(standing: &Uuid, blocks: &[u8]) -> CallFault
+    ensures { request_of (Some standing.now) blocks.now ≡ Err result }
+{
+    if blocks.is_empty() {
+        return CallFault::BlockMissing;
+    }
+    match first_block(blocks) {
+        Ok((ar, _others)) => conflict(standing, &ar.uuid),
+        Err(fault) => fault,
+    }
+}
+
+impl ConnectRequest {
+    /// A request of nothing, to be read into.
+    pub fn new() -> ConnectRequest {
+        ConnectRequest {
+            ar: Ar::blank(),
+            input_first: false,
+            input: Iocr::blank(),
+            output: Iocr::blank(),
+            alarm: AlarmCr::blank(),
+            expected: Expected {
+                modules: ArrayVec::new(),
+                submodules: ArrayVec::new(),
+            },
+        }
+    }
+
+    /// Reads what the blocks of a Connect ask for, where no relation stands, or gives the first fault in the order of the
+    /// statuses; then what is held is of no use.
+    pub fn read(&mut self, blocks: &[u8]) -> Result<(), CallFault>
+        ensures { Gives (λ _. self.new) result (request_of None blocks.now) }
+    {
+        if blocks.is_empty() {
+            return Err(CallFault::BlockMissing);
+        }
+        match first_block(blocks) {
+            Ok((ar, others)) => self.read_others(ar, others, blocks.len() - 1),
+            Err(fault) => Err(fault),
+        }
+    }
+
+    /// Reads the blocks behind the ARBlockReq, at most so many.
+    fn read_others(&mut self, ar: Ar, others: &[u8], most: usize) -> Result<(), CallFault>
+        ensures { Gives (λ _. self.new) result (request_behind ar (pieces_in most others.now)) }
+    {
+        let mut draft = Draft::new();
+        clear(&mut self.expected);
+        draft.add_pieces(others, most, &mut self.expected)?;
+        self.finish(ar, &draft)
+    }
+
+    /// Takes what was read, if no block is missing and the layouts are such.
+    #[tactic(auto, unfolding(crate::specs::Judged::request_with))]
+    fn finish(&mut self, ar: Ar, draft: &Draft) -> Result<(), CallFault>
+        requires short { AreShort draft.now }
+        ensures { Gives (λ _. self.new) result (request_with ar (sofar_of draft.now self.old.expected)) }
+    {
+        if !draft.has_expected {
+            return Err(CallFault::BlockMissing);
+        }
+        let Some(input) = &draft.input else {
+            return Err(CallFault::IocrMissing);
+        };
+        let Some(output) = &draft.output else {
+            return Err(CallFault::IocrMissing);
+        };
+        let Some(alarm) = draft.alarm else {
+            return Err(CallFault::AlarmCrMissing);
+        };
+        let mut parts = ArrayVec::new();
+        fill_data(&mut parts, &self.expected);
+        fill_layouts(
+            draft.input_first,
+            input,
+            output,
+            parts.as_slice(),
+            &mut self.input.layout,
+            &mut self.output.layout,
+        )?;
+        self.ar = ar;
+        self.input_first = draft.input_first;
+        self.input.fill(input);
+        self.output.fill(output);
+        self.alarm = alarm;
+        Ok(())
+    }
+
+    /// The application relation.
+    pub fn ar(&self) -> &Ar
+        ensures { result.now ≡ self.now.ar }
+    {
+        &self.ar
+    }
+
+    /// Whether the IOCRBlockReq of inputs stood before that of outputs.
+    pub fn input_first(&self) -> bool
+        ensures { result ≡ self.now.input_first }
+    {
+        self.input_first
+    }
+
+    /// The communication relation of inputs, from the device to the controller.
+    pub fn input(&self) -> &Iocr
+        ensures { result.now ≡ self.now.input }
+    {
+        &self.input
+    }
+
+    /// The communication relation of outputs, from the controller to the device.
+    pub fn output(&self) -> &Iocr
+        ensures { result.now ≡ self.now.output }
+    {
+        &self.output
+    }
+
+    /// The communication relation of alarms.
+    pub fn alarm(&self) -> &AlarmCr
+        ensures { result.now ≡ self.now.alarm }
+    {
+        &self.alarm
+    }
+
+    /// The modules and submodules that are expected.
+    pub fn expected(&self) -> &Expected
+        ensures { result.now ≡ self.now.expected }
+    {
+        &self.expected
+    }
+}
