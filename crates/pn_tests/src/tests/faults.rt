@@ -1,32 +1,14 @@
 // Flash calls that fail while power stays, and what goes on after them.
 use super::{
-    IDENTIFY, NO_SUITE, SET_DONE, SET_PUMP_1, SET_PUMP_2, SET_PUMP_3, answer, output, prints,
-    request, shown,
+    IDENTIFIED_PUMP_1, IDENTIFY, NO_SUITE, SET_DONE, SET_PUMP_1, SET_PUMP_2, SET_PUMP_3,
+    SET_REFUSED, answer, output, prints, request, shown,
 };
 use script_runner::RunFault;
 use std::alloc::{AllocError, Global};
 use std::test::Fail;
 
-/// The answer 'local application error' to the Set of a name.
-const SET_REFUSED: &str =
-    "out 0200000000020200000000018892fefd0401000000020000000805040003020205000000000000000000000000000000000000000000000000000000";
-
-/// The answer of the station "pump-1" to Identify.
-const IDENTIFIED: &str =
-    "out 0200000000020200000000018892feff05010000000100000064020100090000706e2d64656d6f0002020008000070756d702d310203000600000123045602040004000001000205001a000001010102020102020203020402050207050305040505050602070004000000010102000e0000000000000000000000000000";
-
 /// A Signal, and its answer.
 const SIGNAL: (&str, &str) = ("0503000400000100", "0504000305030000");
-
-/// What is printed of a Set that is done.
-fn done(alloc: Global) -> Result<String, AllocError> {
-    format!(in alloc; "{SET_DONE}\nnote done\n")
-}
-
-/// What is printed of a Set that is refused after a fault.
-fn refused(alloc: Global) -> Result<String, AllocError> {
-    format!(in alloc; "{SET_REFUSED}\nnote done\n")
-}
 
 /// What is shown where this name runs and is stored.
 fn named(alloc: Global, name: &'static str) -> Result<String, AllocError> {
@@ -39,8 +21,10 @@ fn after_a_fault_no_set_is_carried_out(rt: HostRuntime) -> Result<(), Fail> {
     let script = format!(in alloc;
         "{SET_PUMP_1}\nfault 0 ff\n{SET_PUMP_2}\n{SET_PUMP_3}\nshow\nrestart\nshow\n"
     )?;
-    let (done, refused, pump_1) = (done(alloc)?, refused(alloc)?, named(alloc, "pump-1")?);
-    let wanted = format!(in alloc; "boot ok\n{done}{refused}{refused}{pump_1}boot ok\n{pump_1}")?;
+    let pump_1 = named(alloc, "pump-1")?;
+    let wanted = format!(in alloc;
+        "boot ok\n{SET_DONE}{SET_REFUSED}{SET_REFUSED}{pump_1}boot ok\n{pump_1}"
+    )?;
     prints(&rt, alloc, script.as_str(), wanted.as_str())
 }
 
@@ -48,8 +32,8 @@ fn after_a_fault_no_set_is_carried_out(rt: HostRuntime) -> Result<(), Fail> {
 fn after_a_fault_no_reset_is_carried_out(rt: HostRuntime) -> Result<(), Fail> {
     let alloc = rt.alloc();
     let mut script = format!(in alloc; "{SET_PUMP_1}\nfault 0 ff\n{SET_PUMP_2}\n")?;
-    let (done, refused, pump_1) = (done(alloc)?, refused(alloc)?, named(alloc, "pump-1")?);
-    let mut wanted = format!(in alloc; "boot ok\n{done}{refused}")?;
+    let pump_1 = named(alloc, "pump-1")?;
+    let mut wanted = format!(in alloc; "boot ok\n{SET_DONE}{SET_REFUSED}")?;
     for (block, answered) in [
         ("050600020002", "0504000305060500"),
         ("050600020004", "0504000305060500"),
@@ -72,9 +56,9 @@ fn after_a_fault_all_else_goes_on(rt: HostRuntime) -> Result<(), Fail> {
     )?;
     let signalled = answer(alloc, "fefd0401", SIGNAL.1)?;
     let ticked = format!(in alloc; "{signalled}note done\n")?;
-    let (done, refused, pump_1) = (done(alloc)?, refused(alloc)?, named(alloc, "pump-1")?);
+    let pump_1 = named(alloc, "pump-1")?;
     let wanted = format!(in alloc;
-        "boot ok\n{done}{refused}{IDENTIFIED}\nnote done\n{ticked}{ticked}{pump_1}"
+        "boot ok\n{SET_DONE}{SET_REFUSED}{IDENTIFIED_PUMP_1}\nnote done\n{ticked}{ticked}{pump_1}"
     )?;
     prints(&rt, alloc, script.as_str(), wanted.as_str())
 }
@@ -94,13 +78,14 @@ fn what_a_fault_leaves(rt: HostRuntime) -> Result<(), Fail> {
         ("1 ff", "pump-2"),
         ("1 FF000000", "pump-2"),
     ];
-    let (done, refused) = (done(alloc)?, refused(alloc)?);
     for (order, name) in cases {
         let script = format!(in alloc;
             "{SET_PUMP_1}\nfault {order}\n{SET_PUMP_2}\n{SET_PUMP_2}\nrestart\nshow\n"
         )?;
         let left = named(alloc, name)?;
-        let wanted = format!(in alloc; "boot ok\n{done}{refused}{refused}boot ok\n{left}")?;
+        let wanted = format!(in alloc;
+            "boot ok\n{SET_DONE}{SET_REFUSED}{SET_REFUSED}boot ok\n{left}"
+        )?;
         prints(&rt, alloc, script.as_str(), wanted.as_str())?;
     }
     Ok(())
@@ -112,8 +97,8 @@ fn a_fault_strikes_once(rt: HostRuntime) -> Result<(), Fail> {
     let script = format!(in alloc;
         "fault 1 55\n{SET_PUMP_1}\nrestart\n{SET_PUMP_2}\nrestart\nshow\n"
     )?;
-    let (done, refused, pump_2) = (done(alloc)?, refused(alloc)?, named(alloc, "pump-2")?);
-    let wanted = format!(in alloc; "boot ok\n{refused}boot ok\n{done}boot ok\n{pump_2}")?;
+    let pump_2 = named(alloc, "pump-2")?;
+    let wanted = format!(in alloc; "boot ok\n{SET_REFUSED}boot ok\n{SET_DONE}boot ok\n{pump_2}")?;
     prints(&rt, alloc, script.as_str(), wanted.as_str())
 }
 
@@ -121,8 +106,7 @@ fn a_fault_strikes_once(rt: HostRuntime) -> Result<(), Fail> {
 fn a_fault_that_has_not_struck_stays_armed(rt: HostRuntime) -> Result<(), Fail> {
     let alloc = rt.alloc();
     let script = format!(in alloc; "fault 3 00\n{SET_PUMP_1}\nrestart\n{SET_PUMP_2}\n")?;
-    let (done, refused) = (done(alloc)?, refused(alloc)?);
-    let wanted = format!(in alloc; "boot ok\n{done}boot ok\n{refused}")?;
+    let wanted = format!(in alloc; "boot ok\n{SET_DONE}boot ok\n{SET_REFUSED}")?;
     prints(&rt, alloc, script.as_str(), wanted.as_str())
 }
 
@@ -132,8 +116,7 @@ fn one_order_takes_the_place_of_another(rt: HostRuntime) -> Result<(), Fail> {
     let script = format!(in alloc; "fault 0 ff\ncut 0 ff\n{SET_PUMP_1}\nshow\n")?;
     prints(&rt, alloc, script.as_str(), "boot ok\npower lost\noff\n")?;
     let script = format!(in alloc; "cut 0 ff\nfault 0 ff\n{SET_PUMP_1}\n")?;
-    let refused = refused(alloc)?;
-    let wanted = format!(in alloc; "boot ok\n{refused}")?;
+    let wanted = format!(in alloc; "boot ok\n{SET_REFUSED}")?;
     prints(&rt, alloc, script.as_str(), wanted.as_str())
 }
 
@@ -141,8 +124,7 @@ fn one_order_takes_the_place_of_another(rt: HostRuntime) -> Result<(), Fail> {
 fn without_power_a_fault_is_not_heard(rt: HostRuntime) -> Result<(), Fail> {
     let alloc = rt.alloc();
     let script = format!(in alloc; "cut 0 55\n{SET_PUMP_1}\nfault 0 ff\nrestart\n{SET_PUMP_2}\n")?;
-    let done = done(alloc)?;
-    let wanted = format!(in alloc; "boot ok\npower lost\noff\nboot ok\n{done}")?;
+    let wanted = format!(in alloc; "boot ok\npower lost\noff\nboot ok\n{SET_DONE}")?;
     prints(&rt, alloc, script.as_str(), wanted.as_str())
 }
 

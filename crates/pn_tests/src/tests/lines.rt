@@ -1,5 +1,7 @@
 // The lines of a script, and what each prints.
-use super::{IDENTIFIED, IDENTIFY, NO_SUITE, SET_DONE, SET_PUMP_1, TEXTS, output, prints};
+use super::{
+    IDENTIFIED, IDENTIFIED_PUMP_1, IDENTIFY, NO_SUITE, SET_DONE, SET_PUMP_1, TEXTS, output, prints,
+};
 use script_runner::RunFault;
 use std::test::Fail;
 
@@ -20,9 +22,7 @@ fn a_tag_that_bears_no_priority_is_read_over(rt: HostRuntime) -> Result<(), Fail
 fn a_name_is_kept_over_a_restart(rt: HostRuntime) -> Result<(), Fail> {
     let alloc = rt.alloc();
     let script = format!(in alloc; "{SET_PUMP_1}\r\nrestart\n# a comment\n\n{IDENTIFY}")?;
-    let wanted = format!(in alloc;
-        "boot ok\n{SET_DONE}\nnote done\nboot ok\nout 0200000000020200000000018892feff05010000000100000064020100090000706e2d64656d6f0002020008000070756d702d310203000600000123045602040004000001000205001a000001010102020102020203020402050207050305040505050602070004000000010102000e0000000000000000000000000000\nnote done\n"
-    )?;
+    let wanted = format!(in alloc; "boot ok\n{SET_DONE}boot ok\n{IDENTIFIED_PUMP_1}\nnote done\n")?;
     prints(&rt, alloc, script.as_str(), wanted.as_str())
 }
 

@@ -1,5 +1,5 @@
 // Each flash call of forty Sets fails in turn, with power lost or there.
-use super::{NO_SUITE, SET_DONE, TEXTS, output, prints, request};
+use super::{NO_SUITE, SET_DONE, SET_REFUSED, TEXTS, output, prints, request};
 use std::alloc::{AllocError, Global};
 use std::process::Abort;
 use std::test::Fail;
@@ -46,13 +46,9 @@ const CUT: Strike = Strike {
 /// That call alone fails: its Set, and each one behind it, is answered with error 5.
 const FAULT: Strike = Strike {
     order: "fault",
-    struck: REFUSED,
-    behind: REFUSED,
+    struck: SET_REFUSED,
+    behind: SET_REFUSED,
 };
-
-/// The answer to a Set of a name that is refused after a fault.
-const REFUSED: &str =
-    "out 0200000000020200000000018892fefd0401000000020000000805040003020205000000000000000000000000000000000000000000000000000000\nnote done\n";
 
 /// What is printed up to the restart, where so many Sets are answered 'done' and a flash call of the next one is struck.
 fn answers(alloc: Global, strike: Strike, answered: u32) -> Result<String, AllocError> {
@@ -60,7 +56,6 @@ fn answers(alloc: Global, strike: Strike, answered: u32) -> Result<String, Alloc
     for number in 0..SETS {
         if number < answered {
             text.push_str(SET_DONE)?;
-            text.push_str("\nnote done\n")?;
         } else if number == answered {
             text.push_str(strike.struck)?;
         } else {
@@ -156,18 +151,11 @@ fn two_bytes_of_eight_are_changed(rt: HostRuntime) -> Result<(), Fail> {
 }
 
 #[test]
-fn a_fault_changes_no_bit(rt: HostRuntime) -> Result<(), Fail> {
-    lose(&rt, rt.alloc(), FAULT, "00", false)
-}
-
-#[test]
-fn a_fault_changes_every_other_bit(rt: HostRuntime) -> Result<(), Fail> {
-    lose(&rt, rt.alloc(), FAULT, "55", false)
-}
-
-#[test]
-fn a_fault_changes_each_bit(rt: HostRuntime) -> Result<(), Fail> {
-    lose(&rt, rt.alloc(), FAULT, "ff", true)
+fn a_fault_changes_no_bit_every_other_or_each(rt: HostRuntime) -> Result<(), Fail> {
+    for (mask, opens_gate) in [("00", false), ("55", false), ("ff", true)] {
+        lose(&rt, rt.alloc(), FAULT, mask, opens_gate)?;
+    }
+    Ok(())
 }
 
 // The forty commits make 83 calls: an order for one behind the last strikes none, not by the restart either.

@@ -26,7 +26,7 @@ fn without_power_a_byte_past_ascii_is_refused(rt: HostRuntime) -> Result<(), Fai
 fn without_power_an_order_is_not_heard(rt: HostRuntime) -> Result<(), Fail> {
     let alloc = rt.alloc();
     let script = format!(in alloc; "cut 0 55\n{SET_PUMP_1}\ncut 0 ff\nrestart\n{SET_PUMP_2}\n")?;
-    let wanted = format!(in alloc; "boot ok\npower lost\noff\nboot ok\n{SET_DONE}\nnote done\n")?;
+    let wanted = format!(in alloc; "boot ok\npower lost\noff\nboot ok\n{SET_DONE}")?;
     prints(&rt, alloc, script.as_str(), wanted.as_str())
 }
 
@@ -34,9 +34,7 @@ fn without_power_an_order_is_not_heard(rt: HostRuntime) -> Result<(), Fail> {
 fn an_order_that_has_not_struck_stays_armed(rt: HostRuntime) -> Result<(), Fail> {
     let alloc = rt.alloc();
     let script = format!(in alloc; "cut 0 00\nrestart\n{SET_PUMP_1}\nrestart\n{SET_PUMP_1}\n")?;
-    let wanted = format!(in alloc;
-        "boot ok\nboot ok\npower lost\nboot ok\n{SET_DONE}\nnote done\n"
-    )?;
+    let wanted = format!(in alloc; "boot ok\nboot ok\npower lost\nboot ok\n{SET_DONE}")?;
     prints(&rt, alloc, script.as_str(), wanted.as_str())
 }
 
@@ -49,7 +47,7 @@ fn a_restart_gives_the_power_back(rt: HostRuntime) -> Result<(), Fail> {
     let first = shown(alloc, ("pump-1", NO_SUITE), ("pump-1", NO_SUITE))?;
     let third = shown(alloc, ("pump-3", NO_SUITE), ("pump-3", NO_SUITE))?;
     let wanted = format!(in alloc;
-        "boot ok\n{SET_DONE}\nnote done\npower lost\nboot ok\n{first}{SET_DONE}\nnote done\nboot ok\n{third}"
+        "boot ok\n{SET_DONE}power lost\nboot ok\n{first}{SET_DONE}boot ok\n{third}"
     )?;
     prints(&rt, alloc, script.as_str(), wanted.as_str())
 }
@@ -59,8 +57,7 @@ fn a_restart_gives_the_power_back(rt: HostRuntime) -> Result<(), Fail> {
 fn a_slot_that_was_cut_short_changes_nothing(rt: HostRuntime) -> Result<(), Fail> {
     let alloc = rt.alloc();
     let left = shown(alloc, ("pump-2", NO_SUITE), ("pump-2", NO_SUITE))?;
-    let done = format!(in alloc; "{SET_DONE}\nnote done\n")?;
-    let wanted = format!(in alloc; "boot ok\n{done}{done}power lost\nboot ok\n{left}")?;
+    let wanted = format!(in alloc; "boot ok\n{SET_DONE}{SET_DONE}power lost\nboot ok\n{left}")?;
     for mask in ["00", "55", "ff", "00000000ffff0000"] {
         let script = format!(in alloc;
             "{SET_PUMP_1}\n{SET_PUMP_2}\ncut 0 {mask}\n{SET_PUMP_3}\nrestart\nshow\n"

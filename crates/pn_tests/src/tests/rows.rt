@@ -1,5 +1,5 @@
 // What a station is asked by DCP and answers, byte by byte.
-use super::{NO_SUITE, SET_DONE, SET_PUMP_1, answer, prints, request, shown};
+use super::{IDENTIFIED_PUMP_1, NO_SUITE, SET_DONE, SET_PUMP_1, answer, prints, request, shown};
 use std::alloc::Global;
 use std::process::Abort;
 use std::test::Fail;
@@ -35,7 +35,7 @@ fn a_station_is_found_by_its_stored_name_alone(rt: HostRuntime) -> Result<(), Fa
     let identify = "frame 010ecf0000000200000000028892fefe0500000000010001000a0202000670756d702d";
     let script = format!(in alloc; "{SET_PUMP_1}\nrestart\n{identify}31\n{identify}32\n")?;
     let wanted = format!(in alloc;
-        "boot ok\n{SET_DONE}\nnote done\nboot ok\nout 0200000000020200000000018892feff05010000000100000064020100090000706e2d64656d6f0002020008000070756d702d310203000600000123045602040004000001000205001a000001010102020102020203020402050207050305040505050602070004000000010102000e0000000000000000000000000000\nnote done\nnote filter\n"
+        "boot ok\n{SET_DONE}boot ok\n{IDENTIFIED_PUMP_1}\nnote done\nnote filter\n"
     )?;
     prints(&rt, alloc, script.as_str(), wanted.as_str())
 }
@@ -53,7 +53,7 @@ fn a_temporary_name_runs_until_the_restart_and_empties_the_stored_one(
     let running = shown(alloc, ("test", NO_SUITE), ("-", NO_SUITE))?;
     let restarted = shown(alloc, ("-", NO_SUITE), ("-", NO_SUITE))?;
     let wanted = format!(in alloc;
-        "boot ok\n{SET_DONE}\nnote done\n{SET_DONE}\nnote done\n{has_test}{running}boot ok\n{has_none}{restarted}"
+        "boot ok\n{SET_DONE}{SET_DONE}{has_test}{running}boot ok\n{has_none}{restarted}"
     )?;
     prints(&rt, alloc, script.as_str(), wanted.as_str())
 }
