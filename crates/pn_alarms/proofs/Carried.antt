@@ -1,5 +1,6 @@
 -- Data that is read carries the block that is wanted.
-use Rattle.std.proofs.Common.{◌≡◌, ℕ, List, Option, Some, None, Result, Ok, Err, refl, ap, ◌∙◌}
+use Rattle.std.proofs.Common.{◌≡◌, ℕ, List, [], ◌++◌, Option, Some, None, Result, Ok, Err, refl, sym, ap, ◌∙◌}
+use Rattle.std.proofs.lemmas.List.{append-nil}
 use Rattle.std.specs.Prelude.{IfOk}
 use Rattle.wire.specs.Checks.{or_fault}
 use Rattle.block_fields.specs.declared.fault.BlockFault.{BlockFault}
@@ -7,7 +8,7 @@ use Rattle.record_blocks.specs.declared.alarm_ack.AlarmAck.{AlarmAck}
 use Rattle.record_blocks.specs.declared.alarm_notification.AlarmNotification.{AlarmNotification}
 use Rattle.block_codec.specs.declared.block.Block.{Block}
 use Rattle.block_codec.specs.declared.block.Block.TheVariants as is
-use Rattle.block_codec.specs.Block.{block_of, in_alarm_ack, in_alarm_notification}
+use Rattle.block_codec.specs.Block.{block_of, block_bytes, in_alarm_ack, in_alarm_notification}
 use Rattle.block_codec.proofs.Sound.{block_takes, block_again}
 use Rattle.pn_alarms.specs.declared.fault.AlarmFault.TheVariants as fault
 use Rattle.pn_alarms.specs.Carried.{IsAck, ack_of, IsNotification, notification_of, wanted}
@@ -50,3 +51,10 @@ notification_again body alarm s = rw (block_again body (is.AlarmNotification ala
 pub of_ok : {A F : Type 0} (P : A → Type 0) (result : Result A F) → ((value : A) → result ≡ Ok value → P value) → IfOk result P
 of_ok P (Ok value) holds = holds value refl
 of_ok P (Err fault) holds = tt
+
+-- the block of an alarm is read as it
+pub carried : (alarm : AlarmNotification) (out : List ℕ) → out ≡ block_bytes (is.AlarmNotification alarm)
+    → block_of (block_bytes (is.AlarmNotification alarm) ++ []) ≡ Ok (is.AlarmNotification alarm, []) → notification_of out ≡ Ok alarm
+carried alarm out e read =
+    let whole : block_of out ≡ Ok (is.AlarmNotification alarm, []) = ap block_of (e ∙ sym (append-nil (block_bytes (is.AlarmNotification alarm)))) ∙ read in
+    rw whole refl

@@ -9,6 +9,7 @@ use Rattle.pn_alarms.specs.declared.receiver.Taken.TheVariants.{New, Again, Refu
 use Rattle.pn_alarms.specs.declared.repeats.Due.{Due}
 use Rattle.pn_alarms.specs.declared.repeats.Due.TheVariants as due_is
 use Rattle.pn_alarms.specs.Numbers.{next_number, send_number, is_last}
+use Rattle.pn_alarms.specs.Receiver.{last_behind}
 use Rattle.pn_alarms.specs.Line.{Line, empty, with_sent, with_again, more_taken, with_come}
 use Rattle.pn_alarms.specs.World.{line_after}
 use Rattle.pn_alarms.proofs.Numbered.{number_of, last_of, next_is, same_number}
@@ -50,10 +51,10 @@ pub record IsSent {A : Type 0} (sent : List A) (pdu : ℕ × A) : Type 0 where
   pub parts : sent ≡ front ++ pdu.1 ∷ back
   pub number : pdu.0 ≡ number_of (length front)
 
-pub record IsLine {A : Type 0} (last : Option ℕ) (line : Line A) : Type 0 where
+pub record IsLine {A : Type 0} (last seen : Option ℕ) (line : Line A) : Type 0 where
   -- the numbers of the last data that was sent, and that was taken
   pub last_is : last ≡ last_of (length line.sent)
-  pub seen_is : line.seen ≡ last_of (length line.taken)
+  pub seen_is : seen ≡ last_of (length line.taken)
   pub pdus : AllByRecursion (IsSent line.sent) line.pdus
   -- what is taken begins what was sent
   pub rest : List A
@@ -77,15 +78,15 @@ module _ {A : Type 0} where
   all_grow sent more [] all = tt
   all_grow sent more (pdu ∷ pdus) all = (grows sent more pdu all.0, all_grow sent more pdus all.1)
 
-  pub line_starts : IsLine {A = A} None empty
+  pub line_starts : IsLine {A = A} None None empty
   line_starts = record { last_is = refl; seen_is = refl; pdus = tt; rest = []; begins = refl }
 
   -- what is taken is no more than what was sent
-  pub few_taken : (last : Option ℕ) (line : Line A) → IsLine last line → length line.taken ≤ length line.sent
-  few_taken last line l = omega (arith, length-append line.taken l.rest, ap length l.begins)
+  pub few_taken : (last seen : Option ℕ) (line : Line A) → IsLine last seen line → length line.taken ≤ length line.sent
+  few_taken last seen line l = omega (arith, length-append line.taken l.rest, ap length l.begins)
 
-  pub line_sends : (last : Option ℕ) (line : Line A) (value : A) → IsLine last line → IsLine (Some (next_number last)) (with_sent line (next_number last) value)
-  line_sends last line value l =
+  pub line_sends : (last seen : Option ℕ) (line : Line A) (value : A) → IsLine last seen line → IsLine (Some (next_number last)) seen (with_sent line (next_number last) value)
+  line_sends last seen line value l =
       let here : next_number last ≡ number_of (length line.sent) = ap next_number l.last_is ∙ next_is (length line.sent) in
       record {
         last_is = ap (λ (n : ℕ). Some n) here ∙ sym (ap last_of (one_more line.sent value));
@@ -96,8 +97,8 @@ module _ {A : Type 0} where
         begins = sym (append_assoc line.taken l.rest (value ∷ [])) ∙ ap (λ (xs : List A). xs ++ value ∷ []) l.begins;
       }
 
-  line_repeats : (last : Option ℕ) (line : Line A) (value : A) → IsLast line.sent (Some value) → IsLine last line → IsLine last (with_again line (send_number last) value)
-  line_repeats last line value there l =
+  line_repeats : (last seen : Option ℕ) (line : Line A) (value : A) → IsLast line.sent (Some value) → IsLine last seen line → IsLine last seen (with_again line (send_number last) value)
+  line_repeats last seen line value there l =
       let long : length line.sent ≡ suc (length there.0) = ap length there.1 ∙ one_more there.0 value in
       let here : send_number last ≡ number_of (length there.0) = ap send_number (l.last_is ∙ ap last_of long) in
       record {
@@ -108,11 +109,11 @@ module _ {A : Type 0} where
         begins = l.begins;
       }
 
-  pub line_ticks : (last : Option ℕ) (line : Line A) (o : Option A) (due : Due) → IsLast line.sent o → IsLine last line → IsLine last (line_after line (send_number last) o due)
-  line_ticks last line None due there l = l
-  line_ticks last line (Some value) due_is.Nothing there l = l
-  line_ticks last line (Some value) due_is.Again there l = line_repeats last line value there l
-  line_ticks last line (Some value) due_is.Spent there l = l
+  pub line_ticks : (last seen : Option ℕ) (line : Line A) (o : Option A) (due : Due) → IsLast line.sent o → IsLine last seen line → IsLine last seen (line_after line (send_number last) o due)
+  line_ticks last seen line None due there l = l
+  line_ticks last seen line (Some value) due_is.Nothing there l = l
+  line_ticks last seen line (Some value) due_is.Again there l = line_repeats last seen line value there l
+  line_ticks last seen line (Some value) due_is.Spent there l = l
 
   pub same_sent : (line : Line A) (number : ℕ) (o : Option A) (due : Due) → (line_after line number o due).sent ≡ line.sent
   same_sent line number None due = refl
@@ -131,18 +132,17 @@ module _ {A : Type 0} where
   not_taken taken value false = refl
 
   -- data comes that has the expected number, or another
-  comes_as : (last : Option ℕ) (line : Line A) (pdu : ℕ × A) (b : Bool) → eqb pdu.0 (next_number line.seen) ≡ b → length line.sent ≤ 32768 → IsLine last line → IsSent line.sent pdu
-      → IsLine last (record {
+  comes_as : (last seen : Option ℕ) (line : Line A) (pdu : ℕ × A) (b : Bool) → eqb pdu.0 (next_number seen) ≡ b → length line.sent ≤ 32768 → IsLine last seen line → IsSent line.sent pdu
+      → IsLine last (cond b (Some pdu.0) seen) (record {
         sent = line.sent;
         pdus = line.pdus;
-        taken = more_taken line.taken pdu.1 (cond b New (cond (is_last line.seen pdu.0) Again Refused));
-        seen = cond b (Some pdu.0) line.seen;
+        taken = more_taken line.taken pdu.1 (cond b New (cond (is_last seen pdu.0) Again Refused));
       })
-  comes_as last line pdu true e few l s =
+  comes_as last seen line pdu true e few l s =
       let here : pdu.0 ≡ number_of (length line.taken) = eqb-true _ _ e ∙ ap next_number l.seen_is ∙ next_is (length line.taken) in
       let inside : length line.sent ≡ length s.front + suc (length s.back) = ap length s.parts ∙ length-append s.front (pdu.1 ∷ s.back) in
       let same : length line.taken ≡ length s.front =
-      same_number (length line.taken) (length s.front) (omega (arith, few_taken last line l, few)) (omega (arith, inside, few)) (sym here ∙ s.number) in
+      same_number (length line.taken) (length s.front) (omega (arith, few_taken last seen line l, few)) (omega (arith, inside, few)) (sym here ∙ s.number) in
       let both = same_front line.taken l.rest s.front (pdu.1 ∷ s.back) same (l.begins ∙ s.parts) in
       record {
         last_is = l.last_is;
@@ -151,8 +151,8 @@ module _ {A : Type 0} where
         rest = s.back;
         begins = append_assoc line.taken (pdu.1 ∷ []) s.back ∙ ap (λ (xs : List A). line.taken ++ xs) (sym both.1) ∙ l.begins;
       }
-  comes_as last line pdu false e few l s =
-      let none = not_taken line.taken pdu.1 (is_last line.seen pdu.0) in
+  comes_as last seen line pdu false e few l s =
+      let none = not_taken line.taken pdu.1 (is_last seen pdu.0) in
       record {
         last_is = l.last_is;
         seen_is = l.seen_is ∙ ap (λ (xs : List A). last_of (length xs)) (sym none);
@@ -161,9 +161,9 @@ module _ {A : Type 0} where
         begins = ap (λ (xs : List A). xs ++ l.rest) none ∙ l.begins;
       }
 
-  pub line_comes : (last : Option ℕ) (line : Line A) (k : ℕ) (pdu : ℕ × A) → slice_get line.pdus k ≡ Some pdu → length line.sent ≤ 32768 → IsLine last line → IsLine last (with_come line pdu)
-  line_comes last line k pdu there few l =
-      comes_as last line pdu (eqb pdu.0 (next_number line.seen)) refl few l (all_at (IsSent line.sent) line.pdus k pdu l.pdus there)
+  pub line_comes : (last seen : Option ℕ) (line : Line A) (k : ℕ) (pdu : ℕ × A) → slice_get line.pdus k ≡ Some pdu → length line.sent ≤ 32768 → IsLine last seen line → IsLine last (last_behind seen pdu.0) (with_come line seen pdu)
+  line_comes last seen line k pdu there few l =
+      comes_as last seen line pdu (eqb pdu.0 (next_number seen)) refl few l (all_at (IsSent line.sent) line.pdus k pdu l.pdus there)
 
   -- what is taken grows, by one where it is new
   pub more_is_more : (taken : List A) (value : A) (t : Taken) → length taken ≤ length (more_taken taken value t)

@@ -15,6 +15,7 @@ use Rattle.pn_alarms.specs.Alarming.{Alarming}
 use Rattle.pn_alarms.specs.Sender.{notified, raised, is_end, ended_by, answered, later}
 use Rattle.pn_alarms.specs.Receiver.{taken_as}
 use Rattle.pn_alarms.specs.Device.{sender_after}
+use Rattle.pn_alarms.specs.Controller.{confirmed}
 use Rattle.pn_alarms.specs.Line.{Line, with_sent, more_taken, with_come}
 use Rattle.pn_alarms.specs.World.{World, Move, start, after_raise, after_confirm, line_after, acks_after, after_alarm, after_confirms, after_ack_to_device, after_ack_to_controller, happens, behind_all, raise, confirm, device_tick, controller_tick, alarm_comes, confirm_comes, ack_comes_to_device, ack_comes_to_controller}
 use Rattle.pn_alarms.proofs.Lines.{IsLine, IsLast, line_starts, few_taken, line_sends, line_ticks, same_sent, same_taken, line_comes, more_is_more}
@@ -26,14 +27,14 @@ standing_count (Some alarm) = 1
 
 -- what holds of both ends
 pub record IsWorld (w : World) : Type 0 where
-  pub alarms : IsLine w.sender.sending.last w.alarms
-  pub confirms : IsLine w.confirmer.last w.confirms
+  pub alarms : IsLine w.device.sender.sending.last w.controller.seen w.alarms
+  pub confirms : IsLine w.controller.sending.last w.device.seen w.confirms
   -- what is sent again is the last that was sent
-  pub standing : IsLast w.alarms.sent w.sender.standing
-  pub confirming : IsLast w.confirms.sent w.confirming
+  pub standing : IsLast w.alarms.sent w.device.sender.standing
+  pub confirming : IsLast w.confirms.sent w.controller.confirming
   -- no more AlarmAcks were sent than alarms were taken, and each alarm but one that stands was ended by one that was taken
   pub few : length w.confirms.sent ≤ length w.alarms.taken
-  pub settled : length w.alarms.sent ≤ length w.confirms.taken + standing_count w.sender.standing
+  pub settled : length w.alarms.sent ≤ length w.confirms.taken + standing_count w.device.sender.standing
 
 -- a step: no fewer alarms are raised, and what holds goes on to hold
 abbrev Step : World → World → Type 0
@@ -72,12 +73,12 @@ settled_by a ack Refused taken raised so_far = so_far
 
 -- ---- each move
 
-raise_step : (w : World) (alarm : Alarm) (o : Option AlarmNotification) → w.sender.standing ≡ o → Step w (after_raise w alarm o)
+raise_step : (w : World) (alarm : Alarm) (o : Option AlarmNotification) → w.device.sender.standing ≡ o → Step w (after_raise w alarm o)
 raise_step w alarm None none =
-    let block = notified w.sender.specifier alarm in (
+    let block = notified w.device.sender.specifier alarm in (
       omega (arith, length-append w.alarms.sent (block ∷ [])),
       λ few i. record {
-        alarms = line_sends w.sender.sending.last w.alarms block i.alarms;
+        alarms = line_sends w.device.sender.sending.last w.controller.seen w.alarms block i.alarms;
         confirms = i.confirms;
         standing = (w.alarms.sent, refl);
         confirming = i.confirming;
@@ -89,15 +90,14 @@ raise_step w alarm (Some standing) there = (omega arith, λ few i. i)
 
 confirm_as : (w : World) (ack : AlarmAck) (b : Bool) → ltb (length w.confirms.sent) (length w.alarms.taken) ≡ b
     → Step w (cond b (record w {
-      confirmer = sent w.confirmer;
-      confirming = Some ack;
-      confirms = with_sent w.confirms (send_number (sent w.confirmer).last) ack;
+      controller = confirmed w.controller ack;
+      confirms = with_sent w.confirms (send_number (confirmed w.controller ack).sending.last) ack;
     }) w)
 confirm_as w ack true more = (
   omega arith,
   λ few i. record {
     alarms = i.alarms;
-    confirms = line_sends w.confirmer.last w.confirms ack i.confirms;
+    confirms = line_sends w.controller.sending.last w.device.seen w.confirms ack i.confirms;
     standing = i.standing;
     confirming = (w.confirms.sent, refl);
     few = omega (arith, ltb-true _ _ more, length-append w.confirms.sent (ack ∷ []));
@@ -108,14 +108,14 @@ confirm_as w ack false more = (omega arith, λ few i. i)
 
 device_tick_step : (w : World) → Step w (happens w device_tick)
 device_tick_step w =
-    let number = send_number w.sender.sending.last in
-    let sent_is = same_sent w.alarms number w.sender.standing (due w.sender.sending) in
-    let taken_is = same_taken w.alarms number w.sender.standing (due w.sender.sending) in (
+    let number = send_number w.device.sender.sending.last in
+    let sent_is = same_sent w.alarms number w.device.sender.standing (due w.device.sender.sending) in
+    let taken_is = same_taken w.alarms number w.device.sender.standing (due w.device.sender.sending) in (
       omega (arith, ap length sent_is),
       λ few i. record {
-        alarms = line_ticks w.sender.sending.last w.alarms w.sender.standing (due w.sender.sending) i.standing i.alarms;
+        alarms = line_ticks w.device.sender.sending.last w.controller.seen w.alarms w.device.sender.standing (due w.device.sender.sending) i.standing i.alarms;
         confirms = i.confirms;
-        standing = subst (λ (xs : List AlarmNotification). IsLast xs w.sender.standing) (sym sent_is) i.standing;
+        standing = subst (λ (xs : List AlarmNotification). IsLast xs w.device.sender.standing) (sym sent_is) i.standing;
         confirming = i.confirming;
         few = omega (arith, i.few, ap length taken_is);
         settled = omega (arith, i.settled, ap length sent_is);
@@ -124,15 +124,15 @@ device_tick_step w =
 
 controller_tick_step : (w : World) → Step w (happens w controller_tick)
 controller_tick_step w =
-    let number = send_number w.confirmer.last in
-    let sent_is = same_sent w.confirms number w.confirming (due w.confirmer) in
-    let taken_is = same_taken w.confirms number w.confirming (due w.confirmer) in (
+    let number = send_number w.controller.sending.last in
+    let sent_is = same_sent w.confirms number w.controller.confirming (due w.controller.sending) in
+    let taken_is = same_taken w.confirms number w.controller.confirming (due w.controller.sending) in (
       omega arith,
       λ few i. record {
         alarms = i.alarms;
-        confirms = line_ticks w.confirmer.last w.confirms w.confirming (due w.confirmer) i.confirming i.confirms;
+        confirms = line_ticks w.controller.sending.last w.device.seen w.confirms w.controller.confirming (due w.controller.sending) i.confirming i.confirms;
         standing = i.standing;
-        confirming = subst (λ (xs : List AlarmAck). IsLast xs w.confirming) (sym sent_is) i.confirming;
+        confirming = subst (λ (xs : List AlarmAck). IsLast xs w.controller.confirming) (sym sent_is) i.confirming;
         few = omega (arith, i.few, ap length sent_is);
         settled = omega (arith, i.settled, ap length taken_is);
       },
@@ -143,11 +143,11 @@ alarm_step w k None none = (omega arith, λ few i. i)
 alarm_step w k (Some pdu) there = (
   omega arith,
   λ few i. record {
-    alarms = line_comes w.sender.sending.last w.alarms k pdu there few i.alarms;
+    alarms = line_comes w.device.sender.sending.last w.controller.seen w.alarms k pdu there few i.alarms;
     confirms = i.confirms;
     standing = i.standing;
     confirming = i.confirming;
-    few = omega (arith, i.few, more_is_more w.alarms.taken pdu.1 (taken_as w.alarms.seen pdu.0));
+    few = omega (arith, i.few, more_is_more w.alarms.taken pdu.1 (taken_as w.controller.seen pdu.0));
     settled = i.settled;
   },
 )
@@ -155,16 +155,16 @@ alarm_step w k (Some pdu) there = (
 confirms_step : (w : World) (k : ℕ) (o : Option (ℕ × AlarmAck)) → slice_get w.confirms.pdus k ≡ o → Step w (after_confirms w o)
 confirms_step w k None none = (omega arith, λ few i. i)
 confirms_step w k (Some pdu) there =
-    let t = taken_as w.confirms.seen pdu.0 in
-    let left = left_by w.sender pdu.1 t in (
+    let t = taken_as w.device.seen pdu.0 in
+    let left = left_by w.device.sender pdu.1 t in (
       omega arith,
       λ few i. record {
-        alarms = subst (λ (last : Option ℕ). IsLine last w.alarms) (sym left.number) i.alarms;
-        confirms = line_comes w.confirmer.last w.confirms k pdu there (omega (arith, few, i.few, few_taken _ _ i.alarms)) i.confirms;
+        alarms = subst (λ (last : Option ℕ). IsLine last w.controller.seen w.alarms) (sym left.number) i.alarms;
+        confirms = line_comes w.controller.sending.last w.device.seen w.confirms k pdu there (omega (arith, few, i.few, few_taken _ _ _ i.alarms)) i.confirms;
         standing = left.standing w.alarms.sent i.standing;
         confirming = i.confirming;
         few = i.few;
-        settled = settled_by w.sender pdu.1 t w.confirms.taken (length w.alarms.sent) i.settled;
+        settled = settled_by w.device.sender pdu.1 t w.confirms.taken (length w.alarms.sent) i.settled;
       },
     )
 
@@ -173,7 +173,7 @@ ack_to_device_step w None = (omega arith, λ few i. i)
 ack_to_device_step w (Some number) = (
   omega arith,
   λ few i. record {
-    alarms = subst (λ (last : Option ℕ). IsLine last w.alarms) (sym (last_acked w.sender.sending (is_last w.sender.sending.last number))) i.alarms;
+    alarms = subst (λ (last : Option ℕ). IsLine last w.controller.seen w.alarms) (sym (last_acked w.device.sender.sending (is_last w.device.sender.sending.last number))) i.alarms;
     confirms = i.confirms;
     standing = i.standing;
     confirming = i.confirming;
@@ -188,7 +188,7 @@ ack_to_controller_step w (Some number) = (
   omega arith,
   λ few i. record {
     alarms = i.alarms;
-    confirms = subst (λ (last : Option ℕ). IsLine last w.confirms) (sym (last_acked w.confirmer (is_last w.confirmer.last number))) i.confirms;
+    confirms = subst (λ (last : Option ℕ). IsLine last w.device.seen w.confirms) (sym (last_acked w.controller.sending (is_last w.controller.sending.last number))) i.confirms;
     standing = i.standing;
     confirming = i.confirming;
     few = i.few;
@@ -197,7 +197,7 @@ ack_to_controller_step w (Some number) = (
 )
 
 step : (w : World) (move : Move) → Step w (happens w move)
-step w (raise alarm) = raise_step w alarm w.sender.standing refl
+step w (raise alarm) = raise_step w alarm w.device.sender.standing refl
 step w (confirm ack) = confirm_as w ack (ltb (length w.confirms.sent) (length w.alarms.taken)) refl
 step w device_tick = device_tick_step w
 step w controller_tick = controller_tick_step w
@@ -223,4 +223,4 @@ runs (move ∷ moves) w =
 
 -- at most the last is lacking
 pub lacks_one : (w : World) → IsWorld w → length w.alarms.sent ≤ length w.alarms.taken + 1
-lacks_one w i = omega (arith, i.settled, i.few, few_taken _ _ i.confirms, one_stands w.sender.standing)
+lacks_one w i = omega (arith, i.settled, i.few, few_taken _ _ _ i.confirms, one_stands w.device.sender.standing)

@@ -6,8 +6,10 @@ use Rattle.record_blocks.specs.declared.alarm_ack.AlarmAck.{AlarmAck}
 use Rattle.record_blocks.specs.declared.alarm_notification.AlarmNotification.{AlarmNotification}
 use Rattle.block_codec.specs.declared.block.Block.{Block}
 use Rattle.block_codec.specs.declared.block.Block.TheVariants as is
-use Rattle.block_codec.specs.Block.{IsBlock, block_of, in_alarm_ack, in_alarm_notification}
+use Rattle.block_codec.specs.Block.{IsBlock, block_of, block_bytes, in_alarm_ack, in_alarm_notification}
 use Rattle.pn_alarms.specs.declared.fault.AlarmFault.{AlarmFault}
+use Rattle.pn_alarms.specs.declared.pdu.Header.{Header}
+use Rattle.pn_alarms.specs.Format.{Said}
 use Rattle.pn_alarms.specs.declared.fault.AlarmFault.TheVariants as fault
 
 -- these octets begin with this block
@@ -28,3 +30,7 @@ ack_of body = wanted in_alarm_ack (block_of body)
 
 abbrev pub notification_of : List ℕ → Result AlarmNotification AlarmFault
 notification_of body = wanted in_alarm_notification (block_of body)
+
+-- data that carries an alarm
+abbrev pub alarm_pdu : Header → AlarmNotification → Said
+alarm_pdu header alarm = record { header = header; body = block_bytes (is.AlarmNotification alarm) }

@@ -1,8 +1,8 @@
 -- A device's end of a relation's alarms: it sends alarms, and takes AlarmAcks.
 use Rattle.std.specs.Prelude.{ℕ, Option, Some, None, if◌then◌else◌}
 use Rattle.record_blocks.specs.declared.alarm_ack.AlarmAck.{AlarmAck}
-use Rattle.pn_alarms.specs.declared.alarms.Heard.{Heard}
-use Rattle.pn_alarms.specs.declared.alarms.Heard.TheVariants.{Answer, Done, Ignored, Aborted}
+use Rattle.pn_alarms.specs.declared.device.Heard.{Heard}
+use Rattle.pn_alarms.specs.declared.device.Heard.TheVariants.{Data, Done, Ignored, Aborted}
 use Rattle.pn_alarms.specs.declared.message.Message.{Message}
 use Rattle.pn_alarms.specs.declared.message.Message.TheVariants as message
 use Rattle.pn_alarms.specs.declared.pdu.Header.{Header}
@@ -13,18 +13,18 @@ use Rattle.pn_alarms.specs.declared.sender.Alarm.{Alarm}
 use Rattle.pn_alarms.specs.declared.sender.Reply.TheVariants as reply
 use Rattle.pn_alarms.specs.Numbers.{is_last, send_number, ack_number}
 use Rattle.pn_alarms.specs.Alarming.{Alarming}
-use Rattle.pn_alarms.specs.Ending.{Ending}
+use Rattle.pn_alarms.specs.Ends.{DeviceEnd}
 use Rattle.pn_alarms.specs.Sender.{quiet, raised, answered, later}
-use Rattle.pn_alarms.specs.Receiver.{taken_as, last_behind, answer_to}
+use Rattle.pn_alarms.specs.Receiver.{taken_as, last_behind}
 
 -- nothing was raised, and nothing taken
-abbrev pub idle : ℕ → ℕ → Ending
+abbrev pub idle : ℕ → ℕ → DeviceEnd
 idle factor retries = record { sender = quiet factor retries; seen = None }
 
--- what becomes of a PDU: data is answered; an ACK counts if it is of the last alarm that was sent; a NACK does not; an ERR ends the
+-- what becomes of a PDU: data is taken, or not; an ACK counts if it is of the last alarm that was sent; a NACK does not; an ERR ends the
 -- relation
-abbrev pub heard_as : Ending → Message → Heard
-heard_as e (message.Data number ack) = Answer (answer_to (taken_as e.seen number))
+abbrev pub heard_as : DeviceEnd → Message → Heard
+heard_as e (message.Data number ack) = Data (taken_as e.seen number)
 heard_as e (message.Ack number) = if is_last e.sender.sending.last number then Done else Ignored
 heard_as e message.Nack = Ignored
 heard_as e message.Abort = Aborted
@@ -36,14 +36,14 @@ sender_after sender ack Again = sender
 sender_after sender ack Refused = sender
 
 -- behind it
-abbrev pub end_behind : Ending → Message → Ending
+abbrev pub end_behind : DeviceEnd → Message → DeviceEnd
 end_behind e (message.Data number ack) = record { sender = sender_after e.sender ack (taken_as e.seen number); seen = last_behind e.seen number }
 end_behind e (message.Ack number) = record { sender = answered e.sender (reply.Ack number); seen = e.seen }
 end_behind e message.Nack = e
 end_behind e message.Abort = e
 
 -- the header of a PDU that is sent now
-abbrev pub header_now : Ending → PduType → ℕ → ℕ → Header
+abbrev pub header_now : DeviceEnd → PduType → ℕ → ℕ → Header
 header_now e kind destination source = record {
   destination = destination;
   source = source;
@@ -53,8 +53,8 @@ header_now e kind destination source = record {
 }
 
 -- behind an alarm that is raised, and behind a unit
-abbrev pub end_raised : Ending → Alarm → Ending
+abbrev pub end_raised : DeviceEnd → Alarm → DeviceEnd
 end_raised e alarm = record { sender = raised alarm e.sender; seen = e.seen }
 
-abbrev pub end_later : Ending → Ending
+abbrev pub end_later : DeviceEnd → DeviceEnd
 end_later e = record { sender = later e.sender; seen = e.seen }

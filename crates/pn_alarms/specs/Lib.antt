@@ -8,7 +8,8 @@ pub mod Alarming
 pub mod Sender
 pub mod Standing
 pub mod Message
-pub mod Ending
+pub mod Ends
 pub mod Device
+pub mod Controller
 pub mod Line
 pub mod World

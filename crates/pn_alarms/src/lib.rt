@@ -3,7 +3,8 @@
 #![tactic(auto)]
 
 mod abort;
-mod alarms;
+mod controller;
+mod device;
 mod fault;
 mod law;
 mod message;
@@ -16,7 +17,8 @@ mod sender;
 mod writing;
 
 pub use abort::Abort;
-pub use alarms::{Alarms, Heard};
+pub use controller::ControllerAlarms;
+pub use device::{DeviceAlarms, Heard};
 pub use fault::AlarmFault;
 pub use law::in_order;
 pub use message::{Message, read_message};
@@ -25,4 +27,4 @@ pub use reading::{read_ack, read_notification, read_pdu};
 pub use receiver::{Receiver, Taken};
 pub use repeats::{Due, Repeats};
 pub use sender::{Alarm, RaiseFault, Reply, Sender};
-pub use writing::write_pdu;
+pub use writing::{write_alarm, write_pdu};

@@ -1,5 +1,5 @@
 //! Who sends alarms.
-ghost use Rattle.std.specs.Prelude.{◌≡◌, ◌<◌, ◌≤◌, length, is_ok, is_none, OnOk, OnErr};
+ghost use Rattle.std.specs.Prelude.{◌≡◌, ◌<◌, ◌≤◌, length, is_ok, is_none, IfSome, OnOk, OnErr};
 ghost use Rattle.pn_alarms.specs.Numbers.{send_number};
 ghost use Rattle.pn_alarms.specs.Sending.{due};
 ghost use Rattle.pn_alarms.specs.Sender.{notified, quiet, raised, is_of, ended_by, counts, answered, later};
@@ -84,7 +84,8 @@ impl Standing {
 
     /// Its block.
     fn notification(&self) -> AlarmNotification<'_>
-        ensures { result ≡ kept_as self.now }
+        ensures value { result ≡ kept_as self.now }
+        ensures few { length result.alarm_data ≤ 32 }
     {
         AlarmNotification {
             alarm_type: PROCESS,
@@ -156,7 +157,8 @@ impl Sender {
 
     /// The block of the alarm that stands.
     pub fn standing(&self) -> Option<AlarmNotification<'_>>
-        ensures { result ≡ self.now.standing }
+        ensures value { result ≡ self.now.standing }
+        ensures few { IfSome result (λ alarm. length alarm.alarm_data ≤ 32) }
     {
         match &self.standing {
             Some(standing) => Some(standing.notification()),

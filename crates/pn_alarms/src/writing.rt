@@ -1,10 +1,16 @@
 //! From PDUs to octets.
 ghost use Rattle.std.specs.Prelude.{◌≡◌, ◌+◌, ◌≤◌, ◌<◌, ◌++◌, [], List, ℕ, length, true, Ok};
 ghost use Rattle.arrayvec.specs.ArrayVec.{array_vec_len};
+ghost use Rattle.block_codec.specs.declared.block.Block.TheVariants.{AlarmNotification as notification};
+ghost use Rattle.block_codec.specs.Block.{block_bytes};
+ghost use Rattle.pn_alarms.specs.declared.pdu.PduType.TheVariants.{Data};
+ghost use Rattle.pn_alarms.specs.Carried.{notification_of, alarm_pdu};
 ghost use Rattle.pn_alarms.specs.Format.{said, is_long, header, IsPdu, pdu_of, pdu_bytes};
 
 use crate::{Header, Pdu};
 use arrayvec::ArrayVec;
+use block_codec::{AlarmNotification, Block, write_block};
+use record_blocks::alarm_notification_len;
 use wire::{append, append_u8, append_u16};
 
 /// Appends from AlarmDstEndpoint to AckSeqNum. There must be room.
@@ -42,4 +48,41 @@ pub fn write_pdu<const N: usize>(out: &mut ArrayVec<u8, N>, pdu: &Pdu)
     put_header(out, &pdu.header);
     append_u16(out, pdu.body.len() as u16);
     append(out, pdu.body);
+}
+
+/// Appends the block of an alarm, at most 60 octets.
+#[tactic(auto, unfolding(block_codec::specs::Block::block_size, block_codec::specs::Block::fields_of, block_fields::specs::Fields::open_body, block_fields::specs::Fields::version, record_blocks::specs::AlarmNotification::alarm_notification, record_blocks::specs::AlarmNotification::alarm_place, record_blocks::specs::AlarmNotification::alarm_subject))]
+fn put_alarm(out: &mut ArrayVec<u8, 60>, alarm: AlarmNotification)
+    requires empty { out.old.items ≡ [] }
+    requires few { length alarm.alarm_data ≤ 32 }
+    ensures exact { out.new.items ≡ block_bytes (notification alarm.entry) }
+    ensures read { notification_of out.new.items ≡ Ok alarm.entry }
+{
+    // what counts its octets says that there is room for them
+    let _size = alarm_notification_len(&alarm);
+    write_block(out, &Block::AlarmNotification(alarm));
+}
+
+/// Appends data that carries an alarm, which follows the FrameID of a frame: at most 72 octets. There must be room.
+pub fn write_alarm<const N: usize>(
+    out: &mut ArrayVec<u8, N>,
+    header: &Header,
+    alarm: AlarmNotification,
+)
+    requires room { array_vec_len out.old + 72 ≤ N }
+    requires kind { header.now.kind ≡ Data }
+    requires few { length alarm.alarm_data ≤ 32 }
+    // The octets, each of them.
+    ensures exact { out.new.items ≡ out.old.items ++ pdu_bytes (alarm_pdu header.now alarm.entry) }
+    // With anything behind it, it is read as that, and what it carries as the alarm.
+    ensures behind { (more : List ℕ) → pdu_of (pdu_bytes (alarm_pdu header.now alarm.entry) ++ more) ≡ Ok (alarm_pdu header.now alarm.entry) }
+    ensures carried { notification_of (alarm_pdu header.now alarm.entry).body ≡ Ok alarm.entry }
+{
+    let mut body = ArrayVec::new();
+    put_alarm(&mut body, alarm);
+    let pdu = Pdu {
+        header: *header,
+        body: body.as_slice(),
+    };
+    write_pdu(out, &pdu);
 }

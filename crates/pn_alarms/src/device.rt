@@ -1,10 +1,10 @@
 //! A device's end of a relation's alarms.
-ghost use Rattle.std.specs.Prelude.{◌≡◌, ◌<◌, ◌≤◌, length, is_ok, is_none, OnOk, OnErr};
+ghost use Rattle.std.specs.Prelude.{◌≡◌, ◌<◌, ◌≤◌, length, is_ok, is_none, IfSome, OnOk, OnErr};
 ghost use Rattle.std.specs.Prelude.{if◌then◌else◌};
-ghost use Rattle.pn_alarms.specs.declared.alarms.Heard.TheVariants.{Done, Ignored};
+ghost use Rattle.pn_alarms.specs.declared.device.Heard.TheVariants.{Done, Ignored};
 ghost use Rattle.pn_alarms.specs.declared.sender.Reply.TheVariants.{Ack};
 ghost use Rattle.pn_alarms.specs.Numbers.{is_last};
-ghost use Rattle.pn_alarms.specs.Receiver.{taken_as, last_behind, answer_to};
+ghost use Rattle.pn_alarms.specs.Receiver.{taken_as, last_behind};
 ghost use Rattle.pn_alarms.specs.Sender.{answered};
 ghost use Rattle.pn_alarms.specs.Sending.{due};
 ghost use Rattle.pn_alarms.specs.Device.{idle, heard_as, sender_after, end_behind, header_now, end_raised, end_later};
@@ -16,8 +16,8 @@ use std::marker::Model;
 /// What becomes of a PDU.
 #[derive(Clone, Copy, Debug, PartialEq, Eq)]
 pub enum Heard {
-    /// It was data, which this PDU answers.
-    Answer(PduType),
+    /// It was data, which was taken or not, and is answered.
+    Data(Taken),
     /// It was an ACK of the last alarm.
     Done,
     /// It was another ACK, or a NACK.
@@ -28,28 +28,28 @@ pub enum Heard {
 
 /// A device's end of a relation's alarms: it sends alarms, one at a time, and takes AlarmAcks, each once.
 #[derive(Drop)]
-pub struct Alarms {
+pub struct DeviceAlarms {
     sender: Sender,
     receiver: Receiver,
 }
 
 // Clauses see who sends alarms, and the number of the last AlarmAck that was taken.
-impl Model for Alarms {
-    ghost use Rattle.pn_alarms.specs.Ending.{Ending};
+impl Model for DeviceAlarms {
+    ghost use Rattle.pn_alarms.specs.Ends.{DeviceEnd};
 
-    ghost Value = { Ending };
+    ghost Value = { DeviceEnd };
 
     ghost view = { λ alarms. record { sender = alarms.sender; seen = alarms.receiver } };
 }
 
-impl Alarms {
+impl DeviceAlarms {
     /// Those of a new relation, with this RTATimeoutFactor, from 1, and RTARetries, up to 15.
-    pub fn new(timeout_factor: u16, retries: u16) -> Alarms
+    pub fn new(timeout_factor: u16, retries: u16) -> DeviceAlarms
         requires factor { 0 < timeout_factor }
         requires few { retries ≤ 15 }
         ensures { result ≡ idle timeout_factor retries }
     {
-        Alarms {
+        DeviceAlarms {
             sender: Sender::new(timeout_factor, retries),
             receiver: Receiver::new(),
         }
@@ -68,7 +68,8 @@ impl Alarms {
 
     /// The block of the alarm that stands.
     pub fn standing(&self) -> Option<AlarmNotification<'_>>
-        ensures { result ≡ self.now.sender.standing }
+        ensures value { result ≡ self.now.sender.standing }
+        ensures few { IfSome result (λ alarm. length alarm.alarm_data ≤ 32) }
     {
         self.sender.standing()
     }
@@ -101,16 +102,16 @@ impl Alarms {
         ensures state { self.new ≡ end_behind self.old message.now }
     {
         match message {
-            Message::Data(number, ack) => Heard::Answer(self.take(*number, ack)),
+            Message::Data(number, ack) => Heard::Data(self.take(*number, ack)),
             Message::Ack(number) => self.hear_ack(*number),
             Message::Nack => Heard::Ignored,
             Message::Abort => Heard::Aborted,
         }
     }
 
-    /// Data comes. What is taken may end the alarm that stands. Answers by which PDU it is answered.
-    fn take(&mut self, number: u16, ack: &AlarmAck) -> PduType
-        ensures answer { result ≡ answer_to (taken_as self.old.seen number) }
+    /// Data comes. What is taken may end the alarm that stands.
+    fn take(&mut self, number: u16, ack: &AlarmAck) -> Taken
+        ensures taken { result ≡ taken_as self.old.seen number }
         ensures state { self.new ≡ record { sender = sender_after self.old.sender ack.now (taken_as self.old.seen number); seen = last_behind self.old.seen number } }
     {
         let taken = self.receiver.take(number);
@@ -120,7 +121,7 @@ impl Alarms {
             }
             Taken::Again | Taken::Refused => {}
         }
-        taken.answer()
+        taken
     }
 
     /// An ACK comes.

@@ -1,0 +1,95 @@
+//! A controller's end of a relation's alarms.
+ghost use Rattle.std.specs.Prelude.{◌≡◌, ◌<◌, ◌≤◌};
+ghost use Rattle.pn_alarms.specs.Numbers.{is_last};
+ghost use Rattle.pn_alarms.specs.Receiver.{taken_as};
+ghost use Rattle.pn_alarms.specs.Sending.{due};
+ghost use Rattle.pn_alarms.specs.Controller.{unheard, confirmed, controller_later, with_data, with_ack, controller_header};
+
+use crate::{Due, Header, PduType, Receiver, Repeats, Taken};
+use block_codec::AlarmAck;
+use std::marker::Model;
+
+/// A controller's end of a relation's alarms: it takes alarms, each once, and sends AlarmAcks.
+#[derive(Drop)]
+pub struct ControllerAlarms {
+    receiver: Receiver,
+    repeats: Repeats,
+    ack: Option<AlarmAck>,
+}
+
+// Clauses see how AlarmAcks are sent, the last one, and the number of the last alarm that was taken.
+impl Model for ControllerAlarms {
+    ghost use Rattle.pn_alarms.specs.Ends.{ControllerEnd};
+
+    ghost Value = { ControllerEnd };
+
+    ghost view = { λ alarms. record { sending = alarms.repeats; confirming = alarms.ack; seen = alarms.receiver } };
+}
+
+impl ControllerAlarms {
+    /// Those of a new relation, with this RTATimeoutFactor, from 1, and RTARetries, up to 15.
+    pub fn new(timeout_factor: u16, retries: u16) -> ControllerAlarms
+        requires factor { 0 < timeout_factor }
+        requires few { retries ≤ 15 }
+        ensures { result ≡ unheard timeout_factor retries }
+    {
+        ControllerAlarms {
+            receiver: Receiver::new(),
+            repeats: Repeats::new(timeout_factor, retries),
+            ack: None,
+        }
+    }
+
+    /// An alarm comes, as data of this number. Answers whether it is taken.
+    pub fn take(&mut self, number: u16) -> Taken
+        ensures taken { result ≡ taken_as self.old.seen number }
+        ensures state { self.new ≡ with_data self.old number }
+    {
+        self.receiver.take(number)
+    }
+
+    /// Confirms an alarm that was taken by this AlarmAck, which is then to be sent as data, in the place of the one before.
+    pub fn confirm(&mut self, ack: AlarmAck)
+        ensures { self.new ≡ confirmed self.old ack }
+    {
+        self.ack = Some(ack);
+        self.repeats.send();
+    }
+
+    /// The last AlarmAck.
+    pub fn confirming(&self) -> Option<AlarmAck>
+        ensures { result ≡ self.now.confirming }
+    {
+        self.ack
+    }
+
+    /// An ACK comes. Answers whether it is of the last AlarmAck that was sent, which then is not sent again.
+    pub fn hear_ack(&mut self, number: u16) -> bool
+        ensures counts { result ≡ is_last self.old.sending.last number }
+        ensures state { self.new ≡ with_ack self.old number }
+    {
+        self.repeats.hear_ack(number)
+    }
+
+    /// The header of a PDU of this type that is sent now, with these endpoints: it has the numbers of the last data that was sent
+    /// and that was taken.
+    pub fn header(&self, kind: PduType, destination: u16, source: u16) -> Header
+        ensures { result ≡ controller_header self.now kind destination source }
+    {
+        Header {
+            destination,
+            source,
+            kind,
+            send_number: self.repeats.number(),
+            ack_number: self.receiver.number(),
+        }
+    }
+
+    /// A unit passes. Answers what is due.
+    pub fn tick(&mut self) -> Due
+        ensures due { result ≡ due self.old.sending }
+        ensures state { self.new ≡ controller_later self.old }
+    {
+        self.repeats.tick()
+    }
+}
