@@ -46,6 +46,10 @@ new_image n places octets blank table = record {
   zeros = λ k off. ap (λ (xs : List ℕ). get_or xs k 0) blank ∙ zero_octets 1440 k;
 }
 
+-- no place
+pub no_table : IsTable 0 []
+no_table = record { short = omega arith; inside = tt; apart = tt; solid = tt; once = λ kind slot subslot. omega arith }
+
 pub new_shown : (n : ℕ) (places : List Place) (octets : List ℕ) (layout : Table) → ◌≡◌ {A = Table} (record { data_length = n; places = places }) layout
     → ◌≡◌ {A = List ℕ} octets (replicate 1440 0) → IsTable n places
     → ◌≡◌ {A = Shown} (record { data_length = n; cells = map (cell_of octets) places }) (record { data_length = layout.data_length; cells = map zero_cell layout.places })

@@ -39,7 +39,7 @@ of_parts kind slot subslot place h =
     let two = and_parts (place.slot == slot) (place.subslot == subslot) all.1 in
     (same_kind kind place.kind all.0, eqb-true place.slot slot two.0, eqb-true place.subslot subslot two.1)
 
-at_parts : (slot subslot : ℕ) (sub : ExpectedData) → is_at slot subslot sub ≡ true → (sub.slot ≡ slot) × (sub.subslot ≡ subslot)
+pub at_parts : (slot subslot : ℕ) (sub : ExpectedData) → is_at slot subslot sub ≡ true → (sub.slot ≡ slot) × (sub.subslot ≡ subslot)
 at_parts slot subslot sub h =
     let two = and_parts (sub.slot == slot) (sub.subslot == subslot) h in (eqb-true sub.slot slot two.0, eqb-true sub.subslot subslot two.1)
 

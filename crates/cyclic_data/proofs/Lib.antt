@@ -1,7 +1,10 @@
 pub mod Overlap
 pub mod Marks
 pub mod Known
+pub mod Rising
 pub mod Checked
 pub mod Units
 pub mod Cells
 pub mod Frames
+pub mod Taken
+pub mod Cyclic

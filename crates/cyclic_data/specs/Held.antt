@@ -10,6 +10,11 @@ pub record IsImage (data_length : ℕ) (places : List Place) (octets : List ℕ)
   pub size : length octets ≡ 1440
   pub zeros : (k : ℕ) → AllByRecursion (λ place. Covers place k → ⊥) places → get_or octets k 0 ≡ 0
 
+-- the octets of the longest frame: at no place they are any
+pub record IsReceived (data_length : ℕ) (places : List Place) (octets : List ℕ) : Type 0 where
+  pub table : IsTable data_length places
+  pub size : length octets ≡ 1440
+
 -- octets with these from a place on, and else as they were
 pub record IsWritten (old new : List ℕ) (start : ℕ) (value : List ℕ) : Type 0 where
   pub size : length new ≡ length old

@@ -17,13 +17,15 @@ pub record Shown : Type 0 where
   pub data_length : ℕ
   pub cells : List Cell
 
--- what octets hold at a place
+-- what octets hold at a place: its data and its status
+abbrev pub value_in : List ℕ → Place → List ℕ
+value_in octets place = take (place.size - 1) (drop place.offset octets)
+
+abbrev pub status_in : List ℕ → Place → ℕ
+status_in octets place = get_or octets (place.offset + (place.size - 1)) 0
+
 abbrev pub cell_of : List ℕ → Place → Cell
-cell_of octets place = record {
-  place = place;
-  value = take (place.size - 1) (drop place.offset octets);
-  status = get_or octets (place.offset + (place.size - 1)) 0;
-}
+cell_of octets place = record { place = place; value = value_in octets place; status = status_in octets place }
 
 -- nothing was given
 abbrev pub zero_cell : Place → Cell
@@ -55,6 +57,18 @@ with_value value cell = record { place = cell.place; value = value; status = cel
 
 abbrev pub with_status : ℕ → Cell → Cell
 with_status status cell = record { place = cell.place; value = cell.value; status = status }
+
+-- behind a frame that was taken: each cell is what its octets hold at the place, and what they hold at no place is not kept
+abbrev pub with_frame : List ℕ → Shown → Shown
+with_frame octets shown = record { data_length = shown.data_length; cells = map (λ cell. cell_of octets cell.place) shown.cells }
+
+-- the status of good data (IEC 61158-6-10, 4.7.2.1.1)
+abbrev pub good : ℕ
+good = 0x80
+
+-- the output of a cell: its data, and zeros in place of it where its IOPS is not good
+abbrev pub output_of : Cell → List ℕ
+output_of cell = if cell.status == good then cell.value else replicate (length cell.value) 0
 
 -- whether a submodule has data of so many octets there
 abbrev pub has_size : ℕ → Option Cell → Bool

@@ -1,7 +1,9 @@
 pub mod Places
 pub mod Layout
+pub mod Rising
 pub mod Seen
 pub mod Marked
 pub mod Timing
+pub mod Tail
 pub mod Image
 pub mod Held

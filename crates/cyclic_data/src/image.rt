@@ -1,15 +1,15 @@
-//! Images of cyclic data.
-ghost use Rattle.std.specs.Prelude.{◌≡◌, ◌+◌, ◌≤◌, length, slice_range, map, replicate, option_map, is_some, if◌then◌else◌};
+//! Images of cyclic data that is sent.
+ghost use Rattle.std.specs.Prelude.{◌≡◌, ◌+◌, ◌≤◌, [], length, map, option_map, is_some, if◌then◌else◌};
 ghost use Rattle.cyclic_data.specs.declared.place.PlaceKind.TheVariants.{Data};
-ghost use Rattle.cyclic_data.specs.Image.{zero_cell, place_at, cell_at, changed, with_value, with_status, has_size, IsFrame};
+ghost use Rattle.cyclic_data.specs.Image.{zero_cell, cell_at, changed, with_value, with_status, has_size, IsFrame};
 
 use crate::layout::Layout;
-use crate::octets::write_at;
+use crate::octets::{blank, place_at, status_at, value_at, write_at};
 use crate::place::{Place, PlaceKind};
 use arrayvec::ArrayVec;
 use std::marker::Model;
 
-/// What the frames of a layout hold: the data and the status at each place, in octets as they are sent.
+/// What the frames of a layout hold that are sent: the data and the status at each place, in octets as they are sent.
 #[derive(Drop)]
 pub struct Image {
     data_length: u16,
@@ -32,48 +32,26 @@ impl Model for Image {
     ghost invariant = { λ image. IsImage image.data_length image.places.items image.octets };
 }
 
-/// The place of a kind and submodule.
-fn place_at(places: &[Place], kind: PlaceKind, slot: u16, subslot: u16) -> Option<Place>
-    ensures { result ≡ place_at kind slot subslot places.now }
-{
-    for place in places {
-        if place.is_of(kind, slot, subslot) {
-            return Some(*place);
-        }
-    }
-    None
-}
-
-/// So many octets from a place on.
-fn part(octets: &[u8], start: usize, size: usize) -> &[u8]
-    requires { start + size ≤ length octets.now }
-    ensures { result.now ≡ slice_range octets.now start (start + size) }
-{
-    &octets[start..start + size]
-}
-
-/// The octets of a frame in which nothing was given.
-fn blank() -> [u8; 1440]
-    ensures { result ≡ replicate 1440 0 }
-{
-    let octets = [0; 1440];
-    octets
-}
-
 impl Image {
-    /// The image of a layout in which nothing was given: zeros everywhere.
-    pub fn new(layout: Layout) -> Image
-        ensures { result ≡ record { data_length = layout.data_length; cells = map zero_cell layout.places } }
+    /// The image of no layout.
+    pub fn new() -> Image
+        ensures { result ≡ record { data_length = 0; cells = [] } }
     {
-        let Layout {
-            data_length,
-            places,
-        } = layout;
         Image {
-            data_length,
-            places,
+            data_length: 0,
+            places: ArrayVec::new(),
             octets: blank(),
         }
+    }
+
+    /// Becomes the image of a layout in which nothing was given: zeros everywhere.
+    pub fn start(&mut self, layout: &Layout)
+        ensures { self.new ≡ record { data_length = layout.now.data_length; cells = map zero_cell layout.now.places } }
+    {
+        self.data_length = layout.data_length;
+        self.places.clear();
+        let _ = self.places.try_extend_from_slice(layout.places.as_slice());
+        self.octets = blank();
     }
 
     /// Gives a submodule other data. Answers whether it has data of this length in these frames; if not, nothing changes.
@@ -108,27 +86,20 @@ impl Image {
     pub fn get(&self, slot: u16, subslot: u16) -> Option<&[u8]>
         ensures { option_map (λ value. value.now) result ≡ option_map (λ cell. cell.value) (cell_at Data slot subslot self.now.cells) }
     {
-        let Some(place) = place_at(self.places.as_slice(), PlaceKind::Data, slot, subslot) else {
-            return None;
-        };
-        let size = place.size as usize - 1;
-        Some(part(&self.octets, place.offset as usize, size))
+        value_at(&self.octets, self.places.as_slice(), slot, subslot)
     }
 
     /// The status at a place, if there is this place.
     pub fn status(&self, kind: PlaceKind, slot: u16, subslot: u16) -> Option<u8>
         ensures { result ≡ option_map (λ cell. cell.status) (cell_at kind slot subslot self.now.cells) }
     {
-        let Some(place) = place_at(self.places.as_slice(), kind, slot, subslot) else {
-            return None;
-        };
-        let last = place.offset as usize + place.size as usize - 1;
-        Some(self.octets[last])
+        status_at(&self.octets, self.places.as_slice(), kind, slot, subslot)
     }
 
     /// The octets that a frame holds, as many as DataLength counts.
     pub fn bytes(&self) -> &[u8]
-        ensures { IsFrame self.now result.now }
+        ensures frame { IsFrame self.now result.now }
+        ensures few { length result.now ≤ 1440 }
     {
         &self.octets[..self.data_length as usize]
     }

@@ -3,7 +3,8 @@ ghost use Rattle.std.specs.Prelude.{◌≡◌, ◌+◌, ◌<◌, ◌≤◌, ◌+
 ghost use Rattle.std.specs.List.{AllByRecursion};
 ghost use Rattle.arrayvec.specs.ArrayVec.{array_vec_len};
 ghost use Rattle.cyclic_data.specs.declared.fault.LayoutFault.TheVariants.{Outside};
-ghost use Rattle.cyclic_data.specs.Places.{taken_at, place_of};
+ghost use Rattle.cyclic_data.specs.Places.{found_from, taken_at, place_of};
+ghost use Rattle.cyclic_data.specs.Rising.{rises};
 ghost use Rattle.cyclic_data.specs.Layout.{IsInside, IsOutside, AnyByRecursion};
 ghost use Rattle.cyclic_data.specs.Seen.{mark_in, mark_of, has_unknown, seen_behind, lacks, has_missing};
 
@@ -11,6 +12,7 @@ use crate::fault::LayoutFault;
 use crate::place::{ExpectedData, Place, PlaceKind, find, taken};
 use arrayvec::ArrayVec;
 use connect_blocks::{IoObject, IoObjects, IocrType};
+use module_blocks::SubmoduleData;
 
 /// What the places of a communication relation are judged by.
 #[derive(Clone, Copy)]
@@ -19,6 +21,9 @@ pub(crate) struct Judge<'a> {
     /// DataLength, in octets.
     pub(crate) data_length: u16,
     pub(crate) expected: &'a [ExpectedData],
+    /// Whether they stand in the order of their slots and subslots.
+    pub(crate) rising: bool,
+    ghost known: { rising ≡ rises expected.now },
 }
 
 /// The mark of the data or the IOCS of the submodule with this number.
@@ -33,24 +38,44 @@ fn mark_in(kind: PlaceKind, index: usize) -> usize
 }
 
 impl<'a> Judge<'a> {
+    /// The submodule that is expected in a subslot: its number and its data. Where they stand in order, it is looked for behind
+    /// the one that was found last, since places mostly stand in the same order.
+    fn find(&self, slot: u16, subslot: u16, last: &mut usize) -> Option<(usize, SubmoduleData)>
+        ensures found { result ≡ found_from slot subslot 0 self.now.expected.now }
+        ensures below { IfSome result (λ found. found.0 < length self.now.expected.now) }
+    {
+        let from = if self.rising { *last } else { 0 };
+        let (index, io_data) = match find(self.expected, from, slot, subslot) {
+            Some(found) => found,
+            None => find(self.expected, 0, slot, subslot)?,
+        };
+        *last = index;
+        Some((index, io_data))
+    }
+
     /// How many octets are at a place: one where none is expected.
-    fn size_of(&self, kind: PlaceKind, slot: u16, subslot: u16) -> u32
+    fn size_of(&self, kind: PlaceKind, slot: u16, subslot: u16, last: &mut usize) -> u32
         ensures value { result ≡ unwrap_or (taken_at self.now.direction self.now.expected.now kind slot subslot) 1 }
         ensures few { result ≤ 65536 }
     {
-        match find(self.expected, slot, subslot) {
+        match self.find(slot, subslot, last) {
             Some((_, io_data)) => taken(self.direction, kind, io_data).unwrap_or(1),
             None => 1,
         }
     }
 
     /// The place of an object, if it ends within the frame.
-    fn place_of(&self, kind: PlaceKind, object: IoObject) -> Result<Place, LayoutFault>
+    fn place_of(
+        &self,
+        kind: PlaceKind,
+        object: IoObject,
+        last: &mut usize,
+    ) -> Result<Place, LayoutFault>
         ensures ok { IfOk result (λ place. place ≡ place_of self.now.direction self.now.expected.now kind object) }
         ensures inside { OnOk result (IsInside self.now.data_length (place_of self.now.direction self.now.expected.now kind object)) }
         ensures err { IfErr result (λ fault. (fault ≡ Outside) × IsOutside self.now.data_length (place_of self.now.direction self.now.expected.now kind object)) }
     {
-        let size = self.size_of(kind, object.slot_number, object.subslot_number);
+        let size = self.size_of(kind, object.slot_number, object.subslot_number, last);
         if u32::from(object.frame_offset) + size > u32::from(self.data_length) {
             return Err(LayoutFault::Outside);
         }
@@ -76,21 +101,22 @@ impl<'a> Judge<'a> {
         ensures inside { OnOk result (AllByRecursion (IsInside self.now.data_length) (map (place_of self.now.direction self.now.expected.now kind) objects.now)) }
         ensures err { IfErr result (λ fault. (fault ≡ Outside) × AnyByRecursion (IsOutside self.now.data_length) (map (place_of self.now.direction self.now.expected.now kind) objects.now)) }
     {
+        let mut last = 0;
         for index in 0..objects.len() {
             if let Some(object) = objects.get(index) {
-                places.push(self.place_of(kind, object)?);
+                places.push(self.place_of(kind, object, &mut last)?);
             }
         }
         Ok(())
     }
 
     /// The mark of a place, if one is expected there.
-    fn mark_of(&self, kind: PlaceKind, slot: u16, subslot: u16) -> Option<usize>
+    fn mark_of(&self, kind: PlaceKind, slot: u16, subslot: u16, last: &mut usize) -> Option<usize>
         requires { length self.now.expected.now ≤ 64 }
         ensures value { result ≡ mark_of self.now.direction self.now.expected.now kind slot subslot }
         ensures below { IfSome result (λ mark. mark < 128) }
     {
-        let (index, io_data) = find(self.expected, slot, subslot)?;
+        let (index, io_data) = self.find(slot, subslot, last)?;
         let _size = taken(self.direction, kind, io_data)?;
         Some(mark_in(kind, index))
     }
@@ -101,8 +127,9 @@ impl<'a> Judge<'a> {
         ensures value { result ≡ has_unknown self.now.direction self.now.expected.now seen.old places.now }
         ensures seen { seen.new ≡ seen_behind self.now.direction self.now.expected.now seen.old places.now }
     {
+        let mut last = 0;
         for place in places {
-            match self.mark_of(place.kind, place.slot, place.subslot) {
+            match self.mark_of(place.kind, place.slot, place.subslot, &mut last) {
                 Some(mark) if !seen[mark] => seen[mark] = true,
                 _ => return true,
             }
@@ -110,12 +137,13 @@ impl<'a> Judge<'a> {
         false
     }
 
-    /// Whether a place is expected and was not seen.
-    fn lacks(&self, kind: PlaceKind, sub: &ExpectedData, seen: &[bool; 128]) -> bool
+    /// Whether a place of the submodule of this number is expected and was not seen.
+    fn lacks(&self, kind: PlaceKind, index: usize, sub: &ExpectedData, seen: &[bool; 128]) -> bool
         requires { length self.now.expected.now ≤ 64 }
         ensures { result ≡ lacks seen.now (mark_of self.now.direction self.now.expected.now kind sub.now.slot sub.now.subslot) }
     {
-        match self.mark_of(kind, sub.slot, sub.subslot) {
+        let mut last = index;
+        match self.mark_of(kind, sub.slot, sub.subslot, &mut last) {
             Some(mark) => !seen[mark],
             None => false,
         }
@@ -126,8 +154,10 @@ impl<'a> Judge<'a> {
         requires { length self.now.expected.now ≤ 64 }
         ensures { result ≡ has_missing self.now.direction self.now.expected.now seen.now self.now.expected.now }
     {
-        for sub in self.expected {
-            if self.lacks(PlaceKind::Data, sub, seen) || self.lacks(PlaceKind::Iocs, sub, seen) {
+        for (index, sub) in self.expected.iter().enumerate() {
+            if self.lacks(PlaceKind::Data, index, sub, seen)
+                || self.lacks(PlaceKind::Iocs, index, sub, seen)
+            {
                 return true;
             }
         }

@@ -6,7 +6,7 @@ ghost use Rattle.cyclic_data.specs.Layout.{IsLayout, IsFirstFault, Table};
 use crate::fault::LayoutFault;
 use crate::judge::Judge;
 use crate::octets::has_overlap;
-use crate::place::{ExpectedData, Place, PlaceKind};
+use crate::place::{ExpectedData, Place, PlaceKind, rises};
 use arrayvec::ArrayVec;
 use connect_blocks::{IoObjects, IocrType};
 use std::marker::Model;
@@ -63,6 +63,7 @@ impl Layout {
             direction,
             data_length,
             expected,
+            rising: rises(expected),
         };
         let mut places = ArrayVec::new();
         judge.place_all(PlaceKind::Data, objects, &mut places)?;

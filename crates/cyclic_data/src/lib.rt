@@ -8,14 +8,18 @@ mod judge;
 mod layout;
 mod octets;
 mod place;
+mod received;
 mod status;
+mod tail;
 mod timing;
 
 pub use fault::LayoutFault;
 pub use image::Image;
 pub use layout::Layout;
 pub use place::{ExpectedData, Place, PlaceKind};
+pub use received::ReceivedImage;
 pub use status::DataStatus;
+pub use tail::{CyclicTail, ShortFrame, put_cyclic, read_cyclic};
 pub use timing::{Consumer, Provider};
 
 #[cfg(test)]

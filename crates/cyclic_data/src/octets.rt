@@ -1,11 +1,13 @@
-//! Which octets of a frame are taken.
-ghost use Rattle.std.specs.Prelude.{◌≡◌, ◌+◌, ◌<◌, ◌≤◌, ℕ, true, false, length, get_or, MatchBool};
+//! The octets of a frame: which are taken, and what they hold at a place.
+ghost use Rattle.std.specs.Prelude.{◌≡◌, ◌+◌, ◌-◌, ◌<◌, ◌≤◌, ℕ, true, false, length, get_or, slice_range, replicate, option_map, IfSome, MatchBool};
 ghost use Rattle.std.specs.List.{list_any, AllByRecursion};
-ghost use Rattle.cyclic_data.specs.Layout.{IsInside, DoMeet, AreAllApart};
+ghost use Rattle.cyclic_data.specs.Layout.{IsInside, IsSolid, DoMeet, AreAllApart};
 ghost use Rattle.cyclic_data.specs.Marked.{IsTaken, IsFree, IsMarkedWith};
 ghost use Rattle.cyclic_data.specs.Held.{IsWritten};
+ghost use Rattle.cyclic_data.specs.declared.place.PlaceKind.TheVariants.{Data};
+ghost use Rattle.cyclic_data.specs.Image.{place_at, value_in, status_in};
 
-use crate::place::Place;
+use crate::place::{Place, PlaceKind};
 
 /// Whether one of these is marked.
 fn is_any(marked: &[bool]) -> bool
@@ -58,4 +60,63 @@ pub(crate) fn write_at(octets: &mut [u8], start: usize, value: &[u8])
     ensures { IsWritten octets.old octets.new start value.now }
 {
     octets[start..start + value.len()].copy_from_slice(value);
+}
+
+/// The octets of a frame in which nothing was given.
+pub(crate) fn blank() -> [u8; 1440]
+    ensures { result ≡ replicate 1440 0 }
+{
+    let octets = [0; 1440];
+    octets
+}
+
+/// The place of a kind and submodule.
+pub(crate) fn place_at(places: &[Place], kind: PlaceKind, slot: u16, subslot: u16) -> Option<Place>
+    ensures { result ≡ place_at kind slot subslot places.now }
+{
+    for place in places {
+        if place.is_of(kind, slot, subslot) {
+            return Some(*place);
+        }
+    }
+    None
+}
+
+/// So many octets from a place on.
+fn part(octets: &[u8], start: usize, size: usize) -> &[u8]
+    requires { start + size ≤ length octets.now }
+    ensures { result.now ≡ slice_range octets.now start (start + size) }
+{
+    &octets[start..start + size]
+}
+
+/// What octets hold at the place of a submodule's data, if there is this place.
+pub(crate) fn value_at<'a>(
+    octets: &'a [u8],
+    places: &[Place],
+    slot: u16,
+    subslot: u16,
+) -> Option<&'a [u8]>
+    requires inside { AllByRecursion (IsInside (length octets.now)) places.now }
+    requires solid { AllByRecursion IsSolid places.now }
+    ensures { option_map (λ value. value.now) result ≡ option_map (value_in octets.now) (place_at Data slot subslot places.now) }
+{
+    let place = place_at(places, PlaceKind::Data, slot, subslot)?;
+    Some(part(octets, place.offset as usize, place.size as usize - 1))
+}
+
+/// The status that octets hold at a place, if there is this place.
+pub(crate) fn status_at(
+    octets: &[u8],
+    places: &[Place],
+    kind: PlaceKind,
+    slot: u16,
+    subslot: u16,
+) -> Option<u8>
+    requires inside { AllByRecursion (IsInside (length octets.now)) places.now }
+    requires solid { AllByRecursion IsSolid places.now }
+    ensures { result ≡ option_map (status_in octets.now) (place_at kind slot subslot places.now) }
+{
+    let place = place_at(places, kind, slot, subslot)?;
+    Some(octets[place.offset as usize + place.size as usize - 1])
 }

@@ -1,6 +1,7 @@
 //! Places in cyclic frames, and the submodules that are expected to have them.
-ghost use Rattle.std.specs.Prelude.{◌≡◌, ◌<◌, ◌≤◌, length, IfSome};
+ghost use Rattle.std.specs.Prelude.{◌≡◌, ◌<◌, ◌≤◌, length, drop, IfSome};
 ghost use Rattle.cyclic_data.specs.Places.{opposite_of, data_in, taken, found_from};
+ghost use Rattle.cyclic_data.specs.Rising.{is_before, rises, rises_from};
 ghost use Rattle.cyclic_data.specs.Layout.{is_same_kind, is_of};
 
 use connect_blocks::IocrType;
@@ -63,6 +64,15 @@ pub struct ExpectedData {
     pub io_data: SubmoduleData,
 }
 
+impl ExpectedData {
+    /// Whether it is in an earlier slot, or in an earlier subslot of the same slot.
+    fn is_before(&self, other: &ExpectedData) -> bool
+        ensures { result ≡ is_before self.now other.now }
+    {
+        self.slot < other.slot || (self.slot == other.slot && self.subslot < other.subslot)
+    }
+}
+
 /// The other direction.
 fn opposite_of(direction: IocrType) -> IocrType
     ensures { result ≡ opposite_of direction }
@@ -96,19 +106,45 @@ pub(crate) fn taken(direction: IocrType, kind: PlaceKind, io_data: SubmoduleData
     }
 }
 
-/// The submodule that is expected in a subslot: its number and its data.
+/// The submodule that is expected in a subslot, of those from a number on: its number and its data.
 pub(crate) fn find(
     expected: &[ExpectedData],
+    from: usize,
     slot: u16,
     subslot: u16,
 ) -> Option<(usize, SubmoduleData)>
-    ensures found { result ≡ found_from slot subslot 0 expected.now }
+    ensures found { result ≡ found_from slot subslot from (drop from expected.now) }
     ensures below { IfSome result (λ found. found.0 < length expected.now) }
 {
-    for (index, sub) in expected.iter().enumerate() {
+    for index in from..expected.len() {
+        let sub = &expected[index];
         if sub.slot == slot && sub.subslot == subslot {
             return Some((index, sub.io_data));
         }
     }
     None
+}
+
+/// Whether submodules stand in the order of their slots and subslots.
+pub(crate) fn rises(expected: &[ExpectedData]) -> bool
+    ensures { result ≡ rises expected.now }
+{
+    match expected {
+        [first, rest @ ..] => rises_from(*first, rest),
+        [] => true,
+    }
+}
+
+/// Whether submodules behind this one do.
+fn rises_from(first: ExpectedData, rest: &[ExpectedData]) -> bool
+    ensures { result ≡ rises_from first rest.now }
+{
+    let mut last = first;
+    for sub in rest {
+        if !last.is_before(sub) {
+            return false;
+        }
+        last = *sub;
+    }
+    true
 }

@@ -1,6 +1,7 @@
 // Worked layouts, each fault, and the order of faults.
 use crate::{
-    Consumer, DataStatus, ExpectedData, Image, Layout, LayoutFault, Place, PlaceKind, Provider,
+    Consumer, CyclicTail, DataStatus, ExpectedData, Image, Layout, LayoutFault, Place, PlaceKind,
+    Provider, ReceivedImage, ShortFrame, put_cyclic, read_cyclic,
 };
 use arrayvec::ArrayVec;
 use connect_blocks::{IoObject, IoObjects, IocrType};
@@ -177,7 +178,9 @@ fn an_image_of_inputs(rt: HostRuntime) {
     let Ok(layout) = checked(IocrType::Input, &INPUTS, &INPUT_IOCS) else {
         panic!(rt; "no layout of inputs");
     };
-    let mut image = Image::new(layout);
+    let mut image = Image::new();
+    assert_eq!(rt; image.bytes().len(), 0);
+    image.start(&layout);
     for (slot, subslot, _) in &INPUTS {
         assert!(rt; image.set_status(PlaceKind::Data, *slot, *subslot, 0x80));
     }
@@ -196,4 +199,55 @@ fn an_image_of_inputs(rt: HostRuntime) {
     assert_eq!(rt; image.get(1, 1), Some(&[0x12, 0x34][..]));
     assert_eq!(rt; image.get(2, 1), None);
     assert_eq!(rt; image.status(PlaceKind::Iocs, 2, 1), Some(0x80));
+}
+
+#[test]
+fn an_image_of_outputs(rt: HostRuntime) {
+    let Ok(layout) = checked(IocrType::Output, &OUTPUTS, &OUTPUT_IOCS) else {
+        panic!(rt; "no layout of outputs");
+    };
+    let mut image = ReceivedImage::new();
+    assert_eq!(rt; image.output(2, 1), None);
+    image.start(&layout);
+    assert_eq!(rt; image.output(2, 1), Some(&[0, 0][..]));
+    let mut octets = [0xEE; 40];
+    octets[0] = 0xAB;
+    octets[1] = 0xCD;
+    octets[2] = 0x80;
+    octets[3] = 0x80;
+    assert!(rt; image.data_length() == 40);
+    image.accept(&octets);
+    assert_eq!(rt; image.output(2, 1), Some(&[0xAB, 0xCD][..]));
+    assert_eq!(rt; image.status(PlaceKind::Data, 2, 1), Some(0x80));
+    assert_eq!(rt; image.status(PlaceKind::Iocs, 0, 1), Some(0x80));
+    assert_eq!(rt; image.output(1, 1), None);
+    // data that is not good
+    octets[2] = 0x60;
+    assert!(rt; image.data_length() == 40);
+    image.accept(&octets);
+    assert_eq!(rt; image.get(2, 1), Some(&[0xAB, 0xCD][..]));
+    assert_eq!(rt; image.output(2, 1), Some(&[0, 0][..]));
+    // a layout of its own again
+    image.start(&layout);
+    assert_eq!(rt; image.get(2, 1), Some(&[0, 0][..]));
+    assert_eq!(rt; image.status(PlaceKind::Iocs, 0, 1), Some(0));
+}
+
+#[test]
+fn octets_of_a_frame(rt: HostRuntime) {
+    let mut out = ArrayVec::<u8, 20>::new();
+    put_cyclic(&mut out, &[1, 2, 3], CyclicTail::running(0x1234));
+    let wanted = [1, 2, 3, 0x12, 0x34, 0x35, 0];
+    assert_eq!(rt; out.as_slice(), &wanted[..]);
+    // padding is not looked at
+    assert!(rt; out.try_push(0xFF).is_ok());
+    let tail = CyclicTail {
+        counter: 0x1234,
+        data_status: DataStatus(0x35),
+        transfer_status: 0,
+    };
+    assert_eq!(rt; read_cyclic(out.as_slice(), 3), Ok((&[1, 2, 3][..], tail)));
+    assert_eq!(rt; read_cyclic(&wanted, 3), Ok((&[1, 2, 3][..], tail)));
+    assert_eq!(rt; read_cyclic(&wanted, 4), Err(ShortFrame));
+    assert_eq!(rt; read_cyclic(&wanted[..3], 3), Err(ShortFrame));
 }

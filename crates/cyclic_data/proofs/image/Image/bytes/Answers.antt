@@ -2,5 +2,5 @@
 use Rattle.cyclic_data.proofs.Frames.{frame_of}
 use Rattle.cyclic_data.proofs.image.Image.bytes.Goals as goal
 
-pub returns : goal.returns
-returns c = frame_of c.self.inside.data_length c.self.inside.places.items c.self.inside.octets c.args.self.now c.self.view_is c.self.invariant
+pub returns-clause-frame : goal.returns-clause-frame
+returns-clause-frame c = frame_of c.self.inside.data_length c.self.inside.places.items c.self.inside.octets c.args.self.now c.self.view_is c.self.invariant

@@ -1,7 +1,7 @@
 -- the places so far are others
 use Rattle.std.proofs.Common.{◌≡◌, drop}
 use Rattle.cyclic_data.specs.Image.{place_at}
-use Rattle.cyclic_data.proofs.image.place_at.Given as goal
+use Rattle.cyclic_data.proofs.octets.place_at.Given as goal
 
 abbrev pub invariant-loop-place : goal.invariant-loop-place
 invariant-loop-place l = place_at l.kind l.slot l.subslot (drop l.place-index l.places) ≡ place_at l.kind l.slot l.subslot l.places

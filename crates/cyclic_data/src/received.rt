@@ -1,0 +1,113 @@
+//! Images of cyclic data that is received.
+ghost use Rattle.std.specs.Prelude.{◌≡◌, ◌≤◌, [], length, map, replicate, option_map, IfSome};
+ghost use Rattle.cyclic_data.specs.declared.place.PlaceKind.TheVariants.{Data};
+ghost use Rattle.cyclic_data.specs.Image.{zero_cell, cell_at, with_frame, output_of};
+
+use crate::layout::Layout;
+use crate::octets::{blank, status_at, value_at, write_at};
+use crate::place::{Place, PlaceKind};
+use arrayvec::ArrayVec;
+use std::marker::Model;
+
+/// The status of good data (IEC 61158-6-10, 4.7.2.1.1).
+const GOOD: u8 = 0x80;
+
+/// As many zeros as the longest data has, and more.
+static ZEROS: [u8; 1440] = [0; 1440];
+
+/// What the last frame of a layout held that was taken: the data and the status at each place.
+#[derive(Drop)]
+pub struct ReceivedImage {
+    data_length: u16,
+    places: ArrayVec<Place, 128>,
+    octets: [u8; 1440],
+}
+
+// Clauses see a cell for each place.
+impl Model for ReceivedImage {
+    ghost use Rattle.cyclic_data.specs.Image.{Shown};
+
+    ghost Value = { Shown };
+
+    ghost use Rattle.std.specs.Prelude.{map};
+    ghost use Rattle.cyclic_data.specs.Image.{cell_of};
+    ghost use Rattle.cyclic_data.specs.Held.{IsReceived};
+
+    ghost view = { λ image. record { data_length = image.data_length; cells = map (cell_of image.octets) image.places.items } };
+
+    ghost invariant = { λ image. IsReceived image.data_length image.places.items image.octets };
+}
+
+/// So many zeros.
+fn zeros(size: usize) -> &'static [u8]
+    requires { size ≤ 1440 }
+    ensures { result.now ≡ replicate size 0 }
+{
+    &ZEROS[..size]
+}
+
+impl ReceivedImage {
+    /// The image of no layout.
+    pub fn new() -> ReceivedImage
+        ensures { result ≡ record { data_length = 0; cells = [] } }
+    {
+        ReceivedImage {
+            data_length: 0,
+            places: ArrayVec::new(),
+            octets: blank(),
+        }
+    }
+
+    /// Becomes the image of a layout of which no frame was taken: zeros everywhere.
+    pub fn start(&mut self, layout: &Layout)
+        ensures { self.new ≡ record { data_length = layout.now.data_length; cells = map zero_cell layout.now.places } }
+    {
+        self.data_length = layout.data_length;
+        self.places.clear();
+        let _ = self.places.try_extend_from_slice(layout.places.as_slice());
+        self.octets = blank();
+    }
+
+    /// DataLength, in octets.
+    pub fn data_length(&self) -> u16
+        ensures value { result ≡ self.now.data_length }
+        ensures few { result ≤ 1440 }
+    {
+        self.data_length
+    }
+
+    /// Takes the octets of a frame, as many as DataLength counts; what is behind them is not looked at.
+    pub fn accept(&mut self, octets: &[u8])
+        requires { self.old.data_length ≤ length octets.now }
+        ensures { self.new ≡ with_frame octets.now self.old }
+    {
+        write_at(&mut self.octets, 0, &octets[..self.data_length as usize]);
+    }
+
+    /// The data of a submodule, if it has data in these frames, whatever its IOPS.
+    pub fn get(&self, slot: u16, subslot: u16) -> Option<&[u8]>
+        ensures value { option_map (λ value. value.now) result ≡ option_map (λ cell. cell.value) (cell_at Data slot subslot self.now.cells) }
+        ensures short { IfSome result (λ value. length value.now ≤ 1440) }
+    {
+        value_at(&self.octets, self.places.as_slice(), slot, subslot)
+    }
+
+    /// The status at a place, if there is this place.
+    pub fn status(&self, kind: PlaceKind, slot: u16, subslot: u16) -> Option<u8>
+        ensures { result ≡ option_map (λ cell. cell.status) (cell_at kind slot subslot self.now.cells) }
+    {
+        status_at(&self.octets, self.places.as_slice(), kind, slot, subslot)
+    }
+
+    /// The output of a submodule, if it has data in these frames: its data in the last frame that was taken, and zeros where
+    /// none was or its IOPS is not good.
+    pub fn output(&self, slot: u16, subslot: u16) -> Option<&[u8]>
+        ensures { option_map (λ value. value.now) result ≡ option_map output_of (cell_at Data slot subslot self.now.cells) }
+    {
+        let value = self.get(slot, subslot)?;
+        match self.status(PlaceKind::Data, slot, subslot) {
+            Some(GOOD) => Some(value),
+            _ => Some(zeros(value.len())),
+        }
+    }
+}
