@@ -1,12 +1,12 @@
 -- Cells of an image, and octets that are written.
-use Rattle.std.proofs.Common.{◌≡◌, ◌⊎◌, inl, inr, ℕ, zero, suc, ◌+◌, ◌-◌, ◌<◌, ◌≤◌, ◌++◌, min, Bool, true, false, cond, List, [], ◌∷◌, length, take, drop, map, get_or, replicate, Option, Some, None, option_map, refl, sym, ap, subst, ◌∙◌, arith}
+use Rattle.std.proofs.Common.{◌≡◌, inl, inr, ℕ, ◌+◌, ◌-◌, ◌<◌, ◌≤◌, ◌++◌, Bool, cond, List, [], ◌∷◌, length, take, drop, map, get_or, replicate, Option, Some, None, option_map, refl, sym, ap, subst, ◌∙◌, arith}
 use Rattle.std.specs.List.{AllByRecursion}
-use Rattle.std.proofs.lemmas.Bool.{cases_Bool, cases_lt, true≢false}
+use Rattle.std.proofs.lemmas.Bool.{cases_Bool, cases_lt}
 use Rattle.std.proofs.lemmas.List.{ext_get_or, length-append, length-take, length-drop, length-take-le, get_or-take, get_or-drop, get_or-append_right, get_or_append_left, get_or-replicate, get_or_past, drop-replicate, take-replicate, length-replicate}
 use borrow.Rule.Slice.PartMut.{put_mid, post_of}
 use Rattle.cyclic_data.specs.declared.place.PlaceKind.{PlaceKind}
 use Rattle.cyclic_data.specs.declared.place.Place.{Place}
-use Rattle.cyclic_data.specs.Layout.{Covers, AreApart, AreAllApart, IsSolid, IsInside, IsTable, is_of, times_listed}
+use Rattle.cyclic_data.specs.Layout.{Covers, AreApart, AreAllApart, IsSolid, IsInside, is_of, times_listed}
 use Rattle.cyclic_data.specs.Image.{Cell, Shown, cell_of, zero_cell, place_at, cell_at, changed_in, changed, with_value, with_status}
 use Rattle.cyclic_data.specs.Held.{IsImage, IsWritten}
 use Rattle.cyclic_data.proofs.Known.{cond_cases}

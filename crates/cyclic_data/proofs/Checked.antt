@@ -1,5 +1,5 @@
 -- Places that were judged.
-use Rattle.std.proofs.Common.{◌≡◌, ◌⊎◌, inl, inr, ℕ, suc, zero, ◌+◌, ◌<◌, ◌≤◌, ◌++◌, Bool, true, false, List, [], ◌∷◌, length, map, drop, Option, Some, None, option_map, option_and_then, unwrap_or, slice_get, get_or, replicate, Result, Ok, Err, is_ok, refl, sym, ap, subst, ◌∙◌, arith, append_assoc}
+use Rattle.std.proofs.Common.{◌≡◌, inl, inr, ℕ, ◌+◌, ◌<◌, ◌≤◌, ◌++◌, Bool, true, false, List, [], ◌∷◌, length, map, drop, Option, Some, None, option_map, option_and_then, unwrap_or, slice_get, get_or, replicate, Result, Ok, Err, is_ok, sym, ap, subst, ◌∙◌, arith, append_assoc}
 use Rattle.std.specs.Prelude.{OnOk}
 use Rattle.std.specs.List.{AllByRecursion}
 use Rattle.std.proofs.lemmas.Bool.{false≢true}
@@ -15,7 +15,7 @@ use Rattle.cyclic_data.specs.declared.place.ExpectedData.{ExpectedData}
 use Rattle.cyclic_data.specs.declared.fault.LayoutFault.{LayoutFault}
 use Rattle.cyclic_data.specs.declared.fault.LayoutFault.TheVariants as faults
 use Rattle.cyclic_data.specs.Places.{opposite_of, data_in, taken, found_from, place_of, asked}
-use Rattle.cyclic_data.specs.Layout.{IsInside, IsOutside, IsSolid, AreAllApart, AnyByRecursion, DoMeet, AreKnown, IsLayout, IsTable, IsFirstFault, times_listed, times_required}
+use Rattle.cyclic_data.specs.Layout.{IsInside, IsOutside, IsSolid, AreAllApart, AnyByRecursion, DoMeet, IsLayout, IsTable, IsFirstFault}
 use Rattle.cyclic_data.specs.Seen.{has_unknown, seen_behind, has_missing}
 use Rattle.cyclic_data.specs.Marked.{IsFree, IsTaken, IsMarkedWith}
 use Rattle.cyclic_data.proofs.Overlap.{IsHit, IsClear, hit_before, clear_before, not_outside, not_meet}

@@ -1,11 +1,10 @@
 -- What a cyclic frame has behind its FrameID.
-use Rattle.std.proofs.Common.{◌≡◌, ◌⊎◌, inl, inr, ℕ, ◌+◌, ◌^◌, ◌<◌, ◌≤◌, List, [], ◌∷◌, ◌++◌, length, take, drop, Result, Ok, Err, refl, sym, ap, subst, ◌∙◌, arith}
+use Rattle.std.proofs.Common.{◌≡◌, inl, inr, ℕ, ◌+◌, ◌^◌, ◌<◌, ◌≤◌, List, [], ◌++◌, length, take, drop, Result, Ok, Err, refl, sym, ap, subst, ◌∙◌, arith}
 use Rattle.std.specs.Prelude.{MatchResult}
 use Rattle.std.proofs.lemmas.Bool.{cases_lt}
 use Rattle.std.proofs.lemmas.List.{length-append, length-take-le, length-drop, take-append-drop}
-use Rattle.wire.specs.Codec.{Codec, IsSound, Gives}
-use Rattle.wire.specs.Formats.{raw, number, big_number}
-use Rattle.wire.specs.Whole.{loose}
+use Rattle.wire.specs.Codec.{IsSound, Gives}
+use Rattle.wire.specs.Formats.{number, big_number}
 use Rattle.wire.proofs.Fields.{raw_sound, number_sound}
 use Rattle.wire.proofs.Joined.{then_by_sound, seen_sound}
 use Rattle.wire.proofs.Wholes.{loose_sound}

@@ -1,11 +1,10 @@
 -- The octets of a frame, as an image holds them.
-use Rattle.std.proofs.Common.{◌≡◌, ℕ, ◌+◌, ◌-◌, ◌<◌, ◌≤◌, List, [], ◌∷◌, length, take, drop, map, get_or, replicate, Option, Some, None, option_map, refl, sym, ap, subst, ◌∙◌, arith}
+use Rattle.std.proofs.Common.{◌≡◌, ℕ, ◌+◌, ◌-◌, ◌≤◌, List, [], ◌∷◌, length, take, drop, map, get_or, replicate, ap, subst, ◌∙◌, arith}
 use Rattle.std.specs.List.{AllByRecursion}
 use Rattle.std.proofs.lemmas.List.{length-take-le, length-replicate, get_or-take, take-take, drop-take}
-use Rattle.cyclic_data.specs.declared.place.PlaceKind.{PlaceKind}
 use Rattle.cyclic_data.specs.declared.place.Place.{Place}
 use Rattle.cyclic_data.specs.Layout.{Covers, IsSolid, IsInside, Table, IsTable}
-use Rattle.cyclic_data.specs.Image.{Cell, Shown, cell_of, zero_cell, cell_at, AreHeld, IsOff, IsFrame}
+use Rattle.cyclic_data.specs.Image.{Cell, Shown, cell_of, zero_cell, AreHeld, IsOff, IsFrame}
 use Rattle.cyclic_data.specs.Held.{IsImage}
 use Rattle.cyclic_data.proofs.Cells.{cell_is, zero_cells, zero_octets}
 

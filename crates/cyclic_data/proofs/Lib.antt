@@ -8,3 +8,4 @@ pub mod Cells
 pub mod Frames
 pub mod Taken
 pub mod Cyclic
+pub mod EachOctet

@@ -1,11 +1,11 @@
 -- Marks on octets, and places that are judged by them.
-use Rattle.std.proofs.Common.{◌≡◌, ◌≢◌, ◌⊎◌, inl, inr, ℕ, ◌+◌, ◌<◌, ◌≤◌, Bool, true, false, List, [], ◌∷◌, replicate, get_or, sym, ◌∙◌, arith}
+use Rattle.std.proofs.Common.{◌≡◌, ◌⊎◌, inl, inr, ℕ, ◌+◌, Bool, false, List, [], ◌∷◌, replicate, get_or, sym, ◌∙◌, arith}
 use Rattle.std.specs.List.{AllByRecursion}
-use Rattle.std.proofs.lemmas.Bool.{cases_lt, both_ways, true≢false}
+use Rattle.std.proofs.lemmas.Bool.{cases_lt, true≢false}
 use Rattle.std.proofs.lemmas.List.{get_or-replicate, get_or_past}
 use Rattle.std.proofs.Math.ListN.{length-replicate}
 use Rattle.cyclic_data.specs.declared.place.Place.{Place}
-use Rattle.cyclic_data.specs.Layout.{Covers, AreApart, Meet, IsInside, IsOutside, AreAllApart, AnyByRecursion, DoMeet}
+use Rattle.cyclic_data.specs.Layout.{AreApart, Meet, IsInside, IsOutside, AreAllApart, AnyByRecursion, DoMeet}
 use Rattle.cyclic_data.specs.Marked.{IsTaken, IsFree, IsMarkedWith}
 
 -- places that meet a mark or one another

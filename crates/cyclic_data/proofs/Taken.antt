@@ -1,12 +1,11 @@
 -- The octets of a frame that is taken, and what is read of them at a place.
-use Rattle.std.proofs.Common.{◌≡◌, ◌⊎◌, inl, inr, ℕ, ◌+◌, ◌-◌, ◌<◌, ◌≤◌, ◌==◌, ◌++◌, Bool, true, false, cond, List, [], ◌∷◌, length, take, drop, map, get_or, replicate, Option, Some, None, option_map, slice_range, Result, is_ok, refl, sym, ap, ◌∙◌, arith}
+use Rattle.std.proofs.Common.{◌≡◌, ℕ, ◌+◌, ◌-◌, ◌<◌, ◌≤◌, ◌++◌, true, List, [], ◌∷◌, length, take, drop, map, get_or, Option, Some, None, option_map, slice_range, Result, is_ok, refl, sym, ap, ◌∙◌, arith}
 use Rattle.std.specs.Prelude.{OnOk}
 use Rattle.std.specs.List.{AllByRecursion}
 use Rattle.std.proofs.lemmas.List.{ext_get_or, length-take, length-drop, length-take-le, get_or-take, get_or-drop}
 use Rattle.cyclic_data.specs.declared.place.PlaceKind.{PlaceKind}
-use Rattle.cyclic_data.specs.declared.place.PlaceKind.TheVariants.{Data}
 use Rattle.cyclic_data.specs.declared.place.Place.{Place}
-use Rattle.cyclic_data.specs.Layout.{Covers, IsInside, IsSolid, IsTable}
+use Rattle.cyclic_data.specs.Layout.{Covers, IsInside, IsSolid}
 use Rattle.cyclic_data.specs.Image.{Cell, Shown, value_in, status_in, cell_of, cell_at, place_at, with_frame}
 use Rattle.cyclic_data.specs.Held.{IsReceived, IsWritten}
 use Rattle.cyclic_data.proofs.Cells.{at_in, cell_is, cell_found}

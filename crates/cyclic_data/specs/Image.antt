@@ -1,8 +1,7 @@
 -- Images of cyclic data: what the frames of a layout hold, place by place.
-use Rattle.std.specs.Prelude.{◌≡◌, ◌+◌, ◌-◌, ◌<◌, ◌==◌, ℕ, Bool, true, false, List, [], ◌∷◌, length, map, take, drop, get_or, replicate, Option, Some, None, option_map, if◌then◌else◌}
-use Rattle.std.specs.List.{AllByRecursion}
+use Rattle.std.specs.Prelude.{◌≡◌, ◌+◌, ◌-◌, ◌<◌, ◌==◌, ◌&&◌, ◌++◌, ℕ, Bool, false, nat_le, nat_lt, List, [], ◌∷◌, length, map, take, drop, get_or, replicate, Option, Some, None, if◌then◌else◌}
+use Rattle.std.specs.List.{AllByRecursion, range_with_len}
 use Rattle.cyclic_data.specs.declared.place.PlaceKind.{PlaceKind}
-use Rattle.cyclic_data.specs.declared.place.PlaceKind.TheVariants.{Data}
 use Rattle.cyclic_data.specs.declared.place.Place.{Place}
 use Rattle.cyclic_data.specs.Layout.{Covers, is_of}
 
@@ -75,7 +74,21 @@ abbrev pub has_size : ℕ → Option Cell → Bool
 has_size size None = false
 has_size size (Some cell) = cell.place.size == size + 1
 
--- the octets of a frame: each cell is what they hold at its place
+-- whether a place covers an octet
+abbrev pub is_covered : Place → ℕ → Bool
+is_covered place k = nat_le place.offset k && nat_lt k (place.offset + place.size)
+
+-- an octet of a frame: that of the cell whose place covers it, and 0 at no place
+abbrev pub octet_at : List Cell → ℕ → ℕ
+octet_at [] k = 0
+octet_at (cell ∷ cells) k =
+    if is_covered cell.place k then get_or (cell.value ++ cell.status ∷ []) (k - cell.place.offset) 0 else octet_at cells k
+
+-- the octets of a frame, as many as DataLength counts
+unfoldable pub octets_of : Shown → List ℕ
+octets_of shown = map (octet_at shown.cells) (range_with_len 0 shown.data_length)
+
+-- the same as a relation: each cell is what they hold at its place
 abbrev pub AreHeld : List ℕ → List Cell → Type 0
 AreHeld octets cells = AllByRecursion (λ cell. cell_of octets cell.place ≡ cell) cells
 

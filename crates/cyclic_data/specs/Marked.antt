@@ -1,5 +1,5 @@
 -- Marks on the octets of a frame.
-use Rattle.std.specs.Prelude.{◌≡◌, ◌≤◌, ◌<◌, ◌+◌, ◌⊎◌, ℕ, Bool, true, false, List, get_or}
+use Rattle.std.specs.Prelude.{◌≡◌, ◌≤◌, ◌<◌, ◌+◌, ℕ, Bool, true, false, List, get_or}
 
 -- one of these octets is marked
 abbrev pub IsTaken : List Bool → ℕ → ℕ → Type 0

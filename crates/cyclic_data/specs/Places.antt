@@ -1,5 +1,5 @@
 -- What submodules have in cyclic frames (IEC 61158-6-10, 5.2.4.3): data and its provider status, or the status of the consumer.
-use Rattle.std.specs.Prelude.{ℕ, ◌+◌, ◌==◌, ◌&&◌, Bool, true, false, List, [], ◌∷◌, ◌++◌, map, Option, Some, None, option_map, option_and_then, unwrap_or, if◌then◌else◌}
+use Rattle.std.specs.Prelude.{ℕ, ◌+◌, ◌==◌, ◌&&◌, Bool, List, [], ◌∷◌, ◌++◌, map, Option, Some, None, option_map, option_and_then, unwrap_or, if◌then◌else◌}
 use Rattle.connect_blocks.specs.declared.iocr.IocrType.{IocrType}
 use Rattle.connect_blocks.specs.declared.iocr.IocrType.TheVariants.{Input, Output}
 use Rattle.connect_blocks.specs.declared.io_object.IoObject.{IoObject}

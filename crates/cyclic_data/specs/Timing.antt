@@ -1,5 +1,5 @@
 -- When frames are due, which are taken, and when none came for too long (IEC 61158-6-10, 4.7).
-use Rattle.std.specs.Prelude.{◌≡◌, ◌==◌, ◌+◌, ◌-◌, ◌*◌, ◌%◌, ◌&&◌, ℕ, Bool, true, min, nat_le, Option, Some, None, if◌then◌else◌}
+use Rattle.std.specs.Prelude.{◌≡◌, ◌==◌, ◌+◌, ◌-◌, ◌%◌, ◌&&◌, ℕ, Bool, true, min, nat_le, Option, Some, None, if◌then◌else◌}
 use Rattle.std.specs.Int.RustNames.{bit_and}
 
 -- one who sends: the units of its interval, and those since the last one was due

@@ -1,7 +1,7 @@
 //! Images of cyclic data that is sent.
 ghost use Rattle.std.specs.Prelude.{◌≡◌, ◌+◌, ◌≤◌, [], length, map, option_map, is_some, if◌then◌else◌};
 ghost use Rattle.cyclic_data.specs.declared.place.PlaceKind.TheVariants.{Data};
-ghost use Rattle.cyclic_data.specs.Image.{zero_cell, cell_at, changed, with_value, with_status, has_size, IsFrame};
+ghost use Rattle.cyclic_data.specs.Image.{zero_cell, cell_at, changed, with_value, with_status, has_size, octets_of, IsFrame};
 
 use crate::layout::Layout;
 use crate::octets::{blank, place_at, status_at, value_at, write_at};
@@ -98,6 +98,7 @@ impl Image {
 
     /// The octets that a frame holds, as many as DataLength counts.
     pub fn bytes(&self) -> &[u8]
+        ensures value { result.now ≡ octets_of self.now }
         ensures frame { IsFrame self.now result.now }
         ensures few { length result.now ≤ 1440 }
     {

@@ -1,5 +1,5 @@
 -- Zeros at the places of the layout.
-use Rattle.std.proofs.Common.{◌≡◌, List, sym, ap, subst, ◌∙◌, map}
+use Rattle.std.proofs.Common.{List, sym, ap, subst, ◌∙◌, map}
 use Rattle.cyclic_data.specs.declared.place.Place.{Place}
 use Rattle.cyclic_data.specs.Image.{Shown, cell_of}
 use Rattle.cyclic_data.specs.Held.{IsImage}

@@ -1,5 +1,5 @@
 -- The data of the cell.
-use Rattle.std.proofs.Common.{List, ℕ, Option, option_map, ap, subst, ◌∙◌}
+use Rattle.std.proofs.Common.{◌∙◌}
 use Rattle.cyclic_data.specs.declared.place.PlaceKind.TheVariants.{Data}
 use Rattle.cyclic_data.proofs.Taken.{value_seen}
 use Rattle.cyclic_data.proofs.received.ReceivedImage.get.Goals as goal
