@@ -1,0 +1,55 @@
+-- PrmEnd and Release: how a device judges them, and what it answers (IEC 61158-6-10, 5.2.4.5).
+use Rattle.std.specs.Prelude.{◌==◌, ℕ, not, List, [], ◌∷◌, Option, Some, None, Result, Ok}
+use Rattle.wire.specs.Codec.{◌>>=◌}
+use Rattle.wire.specs.Checks.{or_fault}
+use Rattle.block_codec.specs.declared.block.Block.{Block}
+use Rattle.block_codec.specs.declared.block.Block.TheVariants as is
+use Rattle.block_codec.specs.declared.block_type.BlockType.{BlockType}
+use Rattle.block_codec.specs.declared.block_type.BlockType.TheVariants as kind
+use Rattle.block_codec.specs.Block.{block_bytes}
+use Rattle.connect_blocks.specs.declared.control.ControlBlock.{ControlBlock}
+use Rattle.pnio_status.specs.declared.call_fault.CallFault.{CallFault}
+use Rattle.pnio_status.specs.declared.call_fault.CallFault.TheVariants as fault
+use Rattle.call_blocks.specs.Judged.{judged}
+use Rattle.call_blocks.specs.Single.{single_of}
+use Rattle.relations.specs.Link.{Link, is_named, is_session, is_started, phase_of}
+
+-- the block that a call of this type consists of
+abbrev pub in_control : Block → Option ControlBlock
+in_control (is.PrmEnd block) = Some block
+in_control (is.Release block) = Some block
+in_control _ = None
+
+abbrev pub control_block : BlockType → List ℕ → Result ControlBlock CallFault
+control_block type blocks = single_of type blocks >>= λ x. or_fault fault.BlockForm (in_control x.0)
+
+-- a block names the relation, its session, and then the command of its kind
+abbrev pub named_of : Option Link → ControlBlock → ℕ → Result (Unit {0}) CallFault
+named_of link block command = judged
+    ((not (is_named block.ar_uuid link), fault.UnknownRelation)
+    ∷ (not (is_session block.session_key link), fault.UnknownSession)
+    ∷ (not (block.control_command == command), fault.ControlCommand)
+    ∷ [])
+    (Ok tt)
+
+-- PrmEnd, command 1, of a relation that waits for it
+abbrev pub in_started : Option Link → Result (Unit {0}) CallFault
+in_started link = judged ((not (is_started (phase_of link)), fault.Phase) ∷ []) (Ok tt)
+
+unfoldable pub prm_end_of : Option Link → List ℕ → Result ControlBlock CallFault
+prm_end_of link blocks =
+    control_block kind.PrmEnd blocks >>= λ block. named_of link block 1 >>= λ _. in_started link >>= λ _. Ok block
+
+-- Release, command 4, in whatever phase
+unfoldable pub release_of : Option Link → List ℕ → Result ControlBlock CallFault
+release_of link blocks = control_block kind.Release blocks >>= λ block. named_of link block 4 >>= λ _. Ok block
+
+-- the answer repeats the block, with command 8, Done
+abbrev pub done_of : ControlBlock → ControlBlock
+done_of block = record block { control_command = 8 }
+
+abbrev pub prm_end_answer : Option Link → List ℕ → Result (List ℕ) CallFault
+prm_end_answer link blocks = prm_end_of link blocks >>= λ block. Ok (block_bytes (is.PrmEndRes (done_of block)))
+
+abbrev pub release_answer : Option Link → List ℕ → Result (List ℕ) CallFault
+release_answer link blocks = release_of link blocks >>= λ block. Ok (block_bytes (is.ReleaseRes (done_of block)))

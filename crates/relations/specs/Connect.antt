@@ -1,0 +1,64 @@
+-- Connect: which relation a device makes, and what it answers (IEC 61158-6-10, 5.2.4).
+use Rattle.std.specs.Prelude.{◌==◌, ◌++◌, ℕ, List, [], length, Option, Result, Ok, Err, if◌then◌else◌}
+use Rattle.pn_values.specs.declared.identity.Identity.{Identity}
+use Rattle.pn_values.specs.declared.real.Real.{Real}
+use Rattle.wire.specs.Codec.{◌>>=◌}
+use Rattle.module_lists.specs.Lists.{Listed}
+use Rattle.module_blocks.specs.declared.module_diff.DiffModule.{DiffModule}
+use Rattle.module_blocks.specs.declared.module_diff.DiffSubmodule.{DiffSubmodule}
+use Rattle.module_diff.specs.Diff.{diff_of}
+use Rattle.block_codec.specs.declared.block.Block.TheVariants as is
+use Rattle.block_codec.specs.Block.{block_bytes}
+use Rattle.pnio_status.specs.declared.call_fault.CallFault.{CallFault}
+use Rattle.connect_requests.specs.declared.parts.Iocr.{Iocr}
+use Rattle.connect_requests.specs.Request.{Request}
+use Rattle.connect_requests.specs.Judged.{request_of}
+use Rattle.relations.specs.declared.phase.Partner.{Partner}
+use Rattle.relations.specs.Link.{Link, uuid_of}
+use Rattle.relations.specs.Phases.{Judged, Made, Unmoved}
+
+-- the ModuleDiffBlock with these rows, which is there exactly when there is a row
+abbrev pub differing_octets : Listed DiffModule DiffSubmodule → List ℕ
+differing_octets rows = if length rows.modules == 0 then [] else block_bytes (is.ModuleDiffBlock (record { api = 0; modules = rows }))
+
+abbrev pub differing_of : Request → Real → List ℕ
+differing_of request real = differing_octets (diff_of request.expected real.modules.items)
+
+-- ---- the answer
+
+-- an IOCRBlockRes: IOCRType 1 for inputs, 2 for outputs, and the FrameID that is given
+abbrev pub iocr_answer : ℕ → Iocr → List ℕ
+iocr_answer type iocr = block_bytes (is.IocrBlockRes (record { iocr_type = type; iocr_reference = iocr.reference; frame_id = iocr.frame_id }))
+
+-- both, in the order in which they were asked for
+abbrev pub iocrs_answer : Request → List ℕ
+iocrs_answer request = if request.input_first
+    then iocr_answer 1 request.input ++ iocr_answer 2 request.output
+    else iocr_answer 2 request.output ++ iocr_answer 1 request.input
+
+-- ARBlockRes
+abbrev pub ar_answer : Identity → Request → List ℕ
+ar_answer identity request = block_bytes (is.ArBlockRes (record {
+  ar_uuid = request.ar.uuid;
+  session_key = request.ar.session_key;
+  cm_responder_mac_add = identity.mac;
+}))
+
+-- the blocks that answer it: ARBlockRes, an IOCRBlockRes for each, AlarmCRBlockRes, and the ModuleDiffBlock, if there is one
+unfoldable pub connect_blocks : Identity → Request → List ℕ → List ℕ
+connect_blocks identity request differing =
+    ar_answer identity request ++ iocrs_answer request ++ block_bytes (is.AlarmCrBlockRes (record {})) ++ differing
+
+-- ---- the call
+
+-- what is asked for, or why it is refused
+abbrev pub connect_of : Option Link → List ℕ → Result Request CallFault
+connect_of link blocks = request_of (uuid_of link) blocks
+
+abbrev pub connect_answer : Identity → Real → Option Link → List ℕ → Result (List ℕ) CallFault
+connect_answer identity real link blocks = connect_of link blocks >>= λ request. Ok (connect_blocks identity request (differing_of request real))
+
+-- what was judged of it
+abbrev pub making : Real → Partner → Result Request CallFault → Judged
+making real partner (Ok request) = Made request partner (differing_of request real)
+making real partner (Err fault) = Unmoved

@@ -1,0 +1,69 @@
+-- What is kept of an application relation.
+use Rattle.std.specs.Prelude.{◌==◌, ◌&&◌, ℕ, Bool, true, false, nat_eq, List, [], Option, Some, None, option_map}
+use Rattle.std.specs.Cmp.Lexicographic.{pointwise}
+use Rattle.pn_values.specs.declared.mac.Mac.{Mac}
+use Rattle.call_blocks.specs.Naming.{is_relation}
+use Rattle.connect_requests.specs.Request.{Request}
+use Rattle.record_writes.specs.declared.taken.Taken.{Taken}
+use Rattle.relations.specs.declared.phase.Phase.{Phase}
+use Rattle.relations.specs.declared.phase.Phase.TheVariants.{Started, Awaiting, Exchanging}
+use Rattle.relations.specs.declared.phase.Partner.{Partner}
+
+-- A relation: what it waits for, what its Connect asked for and who sent that, for how many units the activity timer runs, how
+-- many are over since ApplicationReady was sent, the parameter records that were taken, and the octets of its ModuleDiffBlock,
+-- none where no module differs.
+pub record Link : Type 0 where
+  pub phase : Phase
+  pub request : Request
+  pub partner : Partner
+  pub quiet : ℕ
+  pub waited : ℕ
+  pub taken : List Taken
+  pub differing : List ℕ
+
+-- a relation in a phase, if there is one
+abbrev pub link_in : Option Phase → (Phase → Link) → Option Link
+link_in None link = None
+link_in (Some phase) link = Some (link phase)
+
+abbrev pub phase_of : Option Link → Option Phase
+phase_of link = option_map (λ l. l.phase) link
+
+abbrev pub uuid_of : Option Link → Option (List ℕ)
+uuid_of link = option_map (λ l. l.request.ar.uuid) link
+
+-- the records that it took, and its ModuleDiffBlock
+abbrev pub taken_of : Option Link → List Taken
+taken_of None = []
+taken_of (Some link) = link.taken
+
+abbrev pub differing_in : Option Link → List ℕ
+differing_in None = []
+differing_in (Some link) = link.differing
+
+-- whether this is its ARUUID
+abbrev pub is_named : List ℕ → Option Link → Bool
+is_named uuid link = is_relation (uuid_of link) uuid
+
+-- whether this is its SessionKey
+abbrev pub is_session : ℕ → Option Link → Bool
+is_session key None = false
+is_session key (Some link) = link.request.ar.session_key == key
+
+-- whether it waits for PrmEnd, and whether for the answer to ApplicationReady
+abbrev pub is_started : Option Phase → Bool
+is_started (Some Started) = true
+is_started (Some Awaiting) = false
+is_started (Some Exchanging) = false
+is_started None = false
+
+abbrev pub is_awaiting : Phase → Bool
+is_awaiting Started = false
+is_awaiting Awaiting = true
+is_awaiting Exchanging = false
+
+-- whether an alarm frame from this station, to this endpoint and from this one, belongs to it
+abbrev pub is_alarm_of : Mac → ℕ → ℕ → Option Link → Bool
+is_alarm_of source destination endpoint None = false
+is_alarm_of source destination endpoint (Some link) =
+    pointwise nat_eq source.octets link.request.ar.initiator.octets && (destination == 1 && endpoint == link.request.alarm.reference)

@@ -1,0 +1,80 @@
+-- ApplicationReady, and the answers to it (IEC 61158-6-10, 5.2.4.5).
+use Rattle.std.specs.Prelude.{◌==◌, ◌&&◌, ℕ, Bool, nat_eq, List, Option, Some, None, Result, Ok, Err, if◌then◌else◌}
+use Rattle.std.specs.Cmp.Lexicographic.{pointwise}
+use Rattle.rpc_core.specs.declared.interface.Interface.TheVariants.{Controller}
+use Rattle.rpc_core.specs.declared.header.Header.{Header}
+use Rattle.rpc_core.specs.declared.response.Status.{Status}
+use Rattle.rpc_core.specs.Interface.{interface_uuid}
+use Rattle.rpc_core.specs.Response.{Answered}
+use Rattle.block_fields.specs.declared.fault.BlockFault.{BlockFault}
+use Rattle.block_codec.specs.declared.block.Block.{Block}
+use Rattle.block_codec.specs.Block.{block_of, in_application_ready_res}
+use Rattle.connect_blocks.specs.declared.control.ControlBlock.{ControlBlock}
+use Rattle.pn_alarms.specs.declared.abort.Abort.TheVariants.{Other}
+use Rattle.relations.specs.declared.hearing.Heard.{Heard}
+use Rattle.relations.specs.declared.hearing.Heard.TheVariants as heard
+use Rattle.relations.specs.declared.ready.Ready.{Ready}
+use Rattle.relations.specs.Link.{Link, is_awaiting}
+use Rattle.relations.specs.Farewells.{farewell_of}
+use Rattle.relations.specs.Phases.{Judged, Confirmed, Ended, Unmoved}
+
+-- the call: the ARUUID as activity, sequence 0, operation 4, Control; to the object and the station that asked for the relation
+abbrev pub ready_of : Link → Ready
+ready_of link = record {
+  partner = link.partner;
+  header = record {
+    object = link.request.ar.object;
+    interface = interface_uuid Controller;
+    activity = link.request.ar.uuid;
+    sequence = 0;
+    operation = 4;
+  };
+  block = record {
+    ar_uuid = link.request.ar.uuid;
+    session_key = link.request.ar.session_key;
+    control_command = 2;
+    control_block_properties = 0;
+  };
+}
+
+-- ---- the answer
+
+-- it answers that call
+abbrev pub is_answer_to : List ℕ → Header → Bool
+is_answer_to uuid header = pointwise nat_eq header.activity uuid && (header.sequence == 0 && header.operation == 4)
+
+-- it is wanted: the relation waits for it
+abbrev pub is_wanted : Answered → Link → Bool
+is_wanted response link = is_awaiting link.phase && is_answer_to link.request.ar.uuid response.header
+
+-- it is positive: PNIOStatus is four zeros
+abbrev pub is_done : Status → Bool
+is_done status = (status.code == 0) && ((status.decode == 0) && ((status.code1 == 0) && (status.code2 == 0)))
+
+-- its block: the first one, if it is the answer to ApplicationReady, whose ControlCommand is Done
+abbrev pub confirmed_block : Result (Block × List ℕ) BlockFault → Option ControlBlock
+confirmed_block (Ok x) = in_application_ready_res x.0
+confirmed_block (Err fault) = None
+
+-- a positive one confirms if its block names the relation
+abbrev pub confirmed_by : List ℕ → Option ControlBlock → Heard
+confirmed_by uuid None = heard.Garbled
+confirmed_by uuid (Some block) = if pointwise nat_eq block.ar_uuid uuid then heard.Confirmed else heard.NotWanted
+
+abbrev pub answer_in : Answered → Link → Heard
+answer_in response link =
+    if is_wanted response link
+    then (if is_done response.status then confirmed_by link.request.ar.uuid (confirmed_block (block_of response.blocks)) else heard.Refused (farewell_of Other link))
+    else heard.NotWanted
+
+-- what an answer is to a device
+unfoldable pub answer_of : Answered → Option Link → Heard
+answer_of response None = heard.NotWanted
+answer_of response (Some link) = answer_in response link
+
+-- what it does to the relation
+abbrev pub judged_by : Heard → Judged
+judged_by heard.NotWanted = Unmoved
+judged_by heard.Garbled = Unmoved
+judged_by heard.Confirmed = Confirmed
+judged_by (heard.Refused farewell) = Ended

@@ -1,0 +1,128 @@
+//! Connect (IEC 61158-6-10, 5.2.4.1 to 5.2.4.11).
+ghost use Rattle.std.specs.Prelude.{◌≡◌, ◌+◌, ◌≤◌, ◌++◌, [], length, IfErr, IfOk, Err, Ok};
+ghost use Rattle.arrayvec.specs.ArrayVec.{array_vec_len};
+ghost use Rattle.module_diff.specs.Diff.{diff_of};
+ghost use Rattle.relations.specs.Connect.{connect_answer, connect_blocks, connect_of, differing_octets, iocr_answer, iocrs_answer, making};
+ghost use Rattle.relations.specs.Phases.{moved};
+
+use crate::{Partner, Phase, Relation};
+use arrayvec::ArrayVec;
+use block_codec::{AlarmCrBlockRes, ArBlockRes, Block, IocrBlockRes, write_block};
+use connect_blocks::{alarm_cr_block_res_len, ar_block_res_len, iocr_block_res_len};
+use connect_requests::{ConnectRequest, Iocr, refuse};
+use module_blocks::module_diff_len;
+use module_diff::{Expected, diff};
+use pn_values::{Identity, Real};
+use pnio_status::CallFault;
+use wire::append;
+
+/// IOCRType of inputs.
+const INPUT: u16 = 1;
+/// IOCRType of outputs.
+const OUTPUT: u16 = 2;
+
+/// Puts the ModuleDiffBlock of what is expected in the place of what is there: nothing where no module differs.
+#[tactic(auto, unfolding(block_codec::specs::Block::block_size, block_codec::specs::Block::fields_of, block_fields::specs::Fields::body, block_fields::specs::Fields::version))]
+fn put_differing(octets: &mut ArrayVec<u8, 1166>, expected: &Expected, real: &Real)
+    ensures { octets.new.items ≡ differing_octets (diff_of expected.now real.now.modules.items) }
+{
+    octets.clear();
+    let rows = diff(expected, real);
+    if rows.is_empty() {
+        return;
+    }
+    let block = rows.to_block();
+    // what counts its octets says that there is room for them
+    let _size = module_diff_len(&block);
+    write_block(octets, &Block::ModuleDiffBlock(block));
+}
+
+/// Appends the IOCRBlockRes of a communication relation, 12 octets. There must be room.
+#[tactic(auto, unfolding(block_codec::specs::Block::block_size, block_codec::specs::Block::fields_of, block_fields::specs::Fields::body, block_fields::specs::Fields::version))]
+fn put_iocr<const N: usize>(answer: &mut ArrayVec<u8, N>, iocr_type: u16, iocr: &Iocr)
+    requires { array_vec_len answer.old + 12 ≤ N }
+    ensures items { answer.new.items ≡ answer.old.items ++ iocr_answer iocr_type iocr.now }
+    ensures len { array_vec_len answer.new ≡ array_vec_len answer.old + 12 }
+{
+    let block = IocrBlockRes {
+        iocr_type,
+        iocr_reference: iocr.reference,
+        frame_id: iocr.frame_id,
+    };
+    let _size = iocr_block_res_len(&block);
+    write_block(answer, &Block::IocrBlockRes(block));
+}
+
+/// Appends the IOCRBlockRes of both, in the order in which they were asked for. There must be room.
+fn put_iocrs<const N: usize>(answer: &mut ArrayVec<u8, N>, request: &ConnectRequest)
+    requires { array_vec_len answer.old + 24 ≤ N }
+    ensures items { answer.new.items ≡ answer.old.items ++ iocrs_answer request.now }
+    ensures len { array_vec_len answer.new ≡ array_vec_len answer.old + 24 }
+{
+    if request.input_first() {
+        put_iocr(answer, INPUT, request.input());
+        put_iocr(answer, OUTPUT, request.output());
+    } else {
+        put_iocr(answer, OUTPUT, request.output());
+        put_iocr(answer, INPUT, request.input());
+    }
+}
+
+/// Puts the blocks that answer a Connect into an empty list: ARBlockRes, both IOCRBlockRes, AlarmCRBlockRes and these octets.
+#[tactic(auto, unfolding(crate::specs::Connect::connect_blocks, block_codec::specs::Block::block_size, block_codec::specs::Block::fields_of, block_fields::specs::Fields::body, block_fields::specs::Fields::version))]
+fn put_answer<const N: usize>(
+    answer: &mut ArrayVec<u8, N>,
+    identity: &Identity,
+    request: &ConnectRequest,
+    differing: &[u8],
+)
+    requires empty { answer.old.items ≡ [] }
+    requires room { 70 + length differing.now ≤ N }
+    ensures { answer.new.items ≡ connect_blocks identity.now request.now differing.now }
+{
+    let ar = request.ar();
+    let relation = ArBlockRes {
+        ar_uuid: ar.uuid,
+        session_key: ar.session_key,
+        cm_responder_mac_add: identity.mac,
+    };
+    let _relation_size = ar_block_res_len(&relation);
+    write_block(answer, &Block::ArBlockRes(relation));
+    put_iocrs(answer, request);
+    let alarm = AlarmCrBlockRes {};
+    let _alarm_size = alarm_cr_block_res_len(&alarm);
+    write_block(answer, &Block::AlarmCrBlockRes(alarm));
+    append(answer, differing);
+}
+
+impl Relation {
+    /// Connect (operation 0): a relation is asked for by a station. Puts the blocks of the answer into an empty list, or says why the
+    /// call is refused; while a relation stands each one is.
+    pub fn connect<const N: usize>(
+        &mut self,
+        identity: &Identity,
+        real: &Real,
+        partner: Partner,
+        blocks: &[u8],
+        answer: &mut ArrayVec<u8, N>,
+    ) -> Result<(), CallFault>
+        requires empty { answer.old.items ≡ [] }
+        requires room { 1236 ≤ N }
+        ensures done { IfOk result (λ _. connect_answer identity.now real.now self.old blocks.now ≡ Ok answer.new.items) }
+        ensures refused { IfErr result (λ fault. (connect_answer identity.now real.now self.old blocks.now ≡ Err fault) × (answer.new.items ≡ [])) }
+        ensures state { self.new ≡ moved (making real.now partner (connect_of self.old blocks.now)) self.old }
+    {
+        if let Some(_) = self.phase {
+            return Err(refuse(&self.request.ar().uuid, blocks));
+        }
+        self.request.read(blocks)?;
+        put_differing(&mut self.differing, self.request.expected(), real);
+        self.taken.clear();
+        self.partner = partner;
+        self.quiet = 0;
+        self.waited = 0;
+        self.phase = Some(Phase::Started);
+        put_answer(answer, identity, &self.request, self.differing.as_slice());
+        Ok(())
+    }
+}

@@ -1,0 +1,60 @@
+//! How a relation ends.
+ghost use Rattle.std.specs.Prelude.{◌≡◌, length, true};
+ghost use Rattle.pn_alarms.specs.Format.{is_long, said};
+ghost use Rattle.relations.specs.Farewells.{farewell_by, said_by};
+
+use connect_requests::ConnectRequest;
+use pn_alarms::{Abort, Pdu};
+use pn_values::Mac;
+
+/// The endpoint of the device: the LocalAlarmReference that it answers in AlarmCRBlockRes.
+pub(crate) const OWN_REFERENCE: u16 = 1;
+
+/// The ERR by which a device ends a relation: a frame of low priority.
+#[derive(Clone, Copy, Debug, PartialEq, Eq)]
+pub struct Farewell {
+    /// To whom: CMInitiatorMacAdd.
+    pub initiator: Mac,
+    /// The tag of the frame: TagHeaderLow.
+    pub tag: u16,
+    /// The endpoint there: its LocalAlarmReference.
+    pub reference: u16,
+    /// SendSeqNum of the last alarm that was sent, 0xFFFF where none was.
+    pub send_number: u16,
+    /// SendSeqNum of the last data that was taken, 0xFFFE where none was.
+    pub ack_number: u16,
+    /// Why.
+    pub reason: Abort,
+}
+
+impl Farewell {
+    /// The ERR of a relation that was asked for so.
+    pub(crate) fn of(request: &ConnectRequest, reason: Abort) -> Farewell
+        ensures { result ≡ farewell_by reason request.now }
+    {
+        let alarm = request.alarm();
+        Farewell {
+            initiator: request.ar().initiator,
+            tag: alarm.tag_low,
+            reference: alarm.reference,
+            send_number: 0xFFFF,
+            ack_number: 0xFFFE,
+            reason,
+        }
+    }
+
+    /// Its PDU.
+    pub fn pdu(&self) -> Pdu<'static>
+        ensures exact { said result ≡ said_by self.now }
+        // It can be written.
+        ensures few { length result.body.now ≡ 4 }
+        ensures long { is_long result.header.kind (length result.body.now) ≡ true }
+    {
+        self.reason.pdu(
+            self.reference,
+            OWN_REFERENCE,
+            self.send_number,
+            self.ack_number,
+        )
+    }
+}

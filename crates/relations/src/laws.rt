@@ -1,0 +1,11 @@
+//! What holds of relations over many events.
+ghost use Rattle.relations.specs.Runs.{StandsUntil, EndsAt, IsDueEachSecond};
+
+/// The timers, over any number of units: a law of the definitions by which `Relation::tick` is stated, and no code.
+pub fn time_is_kept()
+    // A relation of which nothing is heard stands until the last unit of its activity timer, which ends it with ERR.
+    ensures stands { StandsUntil }
+    ensures ends { EndsAt }
+    // ApplicationReady is sent again with each 32,000th unit, and with no other.
+    ensures again { IsDueEachSecond }
+{}

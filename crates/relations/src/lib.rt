@@ -1,0 +1,25 @@
+//! The application relation of a device with its controller (IEC 61158-6-10, protocol machine CMDEV): how it is made, controlled
+//! and ended, and how long each of its phases waits.
+//!
+//! A relation says by value what is to be sent, `Ready` for the call ApplicationReady and `Farewell` for the ERR that ends it; who
+//! holds it makes frames of these. The blocks of answers and calls are made here.
+#![tactic(auto)]
+
+mod calls;
+mod connect;
+mod farewell;
+mod hearing;
+mod laws;
+mod phase;
+mod ready;
+mod relation;
+mod time;
+
+pub use farewell::Farewell;
+pub use hearing::Heard;
+pub use laws::time_is_kept;
+pub use phase::{Partner, Phase};
+pub use pn_alarms::Abort;
+pub use ready::Ready;
+pub use relation::Relation;
+pub use time::Due;

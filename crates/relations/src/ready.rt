@@ -1,0 +1,69 @@
+//! ApplicationReady, the call by which a device says that its parameters are taken (IEC 61158-6-10, 5.2.4.5).
+ghost use Rattle.std.specs.Prelude.{◌≡◌, ◌+◌, ◌≤◌, ◌++◌, option_map};
+ghost use Rattle.arrayvec.specs.ArrayVec.{array_vec_len};
+ghost use Rattle.block_codec.specs.Block.{block_bytes};
+ghost use Rattle.block_codec.specs.declared.block.Block.TheVariants.{ApplicationReady};
+ghost use Rattle.relations.specs.Ready.{ready_of};
+
+use crate::{Partner, Relation};
+use arrayvec::ArrayVec;
+use block_codec::{Block, ControlBlock, write_block};
+use connect_blocks::control_len;
+use rpc_core::{Header, Interface};
+
+/// ControlCommand of ApplicationReady.
+const APPLICATION_READY: u16 = 2;
+
+/// Operation of Control.
+pub(crate) const CONTROL: u16 = 4;
+
+/// ApplicationReady: a call to the controller, which is sent again as it is.
+#[derive(Clone, Copy)]
+pub struct Ready {
+    /// To whom: whence the Connect came.
+    pub partner: Partner,
+    /// The header of the call.
+    pub header: Header,
+    /// Its one block.
+    pub block: ControlBlock,
+}
+
+impl Ready {
+    /// Appends the block of the call, 32 octets. There must be room.
+    #[tactic(auto, unfolding(block_codec::specs::Block::block_size, block_codec::specs::Block::fields_of, block_fields::specs::Fields::body, block_fields::specs::Fields::version))]
+    pub fn put_blocks<const N: usize>(&self, blocks: &mut ArrayVec<u8, N>)
+        requires { array_vec_len blocks.old + 32 ≤ N }
+        ensures { blocks.new.items ≡ blocks.old.items ++ block_bytes (ApplicationReady self.now.block) }
+    {
+        let _size = control_len(&self.block);
+        write_block(blocks, &Block::ApplicationReady(self.block));
+    }
+}
+
+impl Relation {
+    /// The call ApplicationReady of the relation, if there is one: to the station of its Connect, with the ARUUID as activity.
+    pub fn ready(&self) -> Option<Ready>
+        ensures { result ≡ option_map ready_of self.now }
+    {
+        let Some(_) = self.phase else {
+            return None;
+        };
+        let ar = self.request.ar();
+        Some(Ready {
+            partner: self.partner,
+            header: Header {
+                object: ar.object,
+                interface: Interface::Controller.uuid(),
+                activity: ar.uuid,
+                sequence: 0,
+                operation: CONTROL,
+            },
+            block: ControlBlock {
+                ar_uuid: ar.uuid,
+                session_key: ar.session_key,
+                control_command: APPLICATION_READY,
+                control_block_properties: 0,
+            },
+        })
+    }
+}

@@ -1,0 +1,173 @@
+//! The relation.
+ghost use Rattle.std.specs.Prelude.{◌≡◌, Err, IfErr, IsOk, None, OnOk, option_map};
+ghost use Rattle.pn_alarms.specs.declared.abort.Abort.TheVariants.{Other};
+ghost use Rattle.relations.specs.Phases.{Ended, keeping, moved, naming, taking};
+ghost use Rattle.relations.specs.Farewells.{farewell_of};
+ghost use Rattle.relations.specs.Link.{differing_in, is_alarm_of, is_named, phase_of, taken_of, uuid_of};
+
+use crate::farewell::OWN_REFERENCE;
+use crate::{Farewell, Partner, Phase};
+use arrayvec::ArrayVec;
+use call_blocks::is_relation;
+use connect_requests::ConnectRequest;
+use pn_alarms::Abort;
+use pn_values::Mac;
+use pnio_status::CallFault;
+use record_writes::{Taken, TakenRecords};
+use std::marker::Model;
+use uuid::Uuid;
+
+/// The one application relation that a device may have. It is large, and stays in its place: what is left in it behind the end of
+/// a relation means nothing.
+#[derive(Drop)]
+pub struct Relation {
+    pub(crate) phase: Option<Phase>,
+    pub(crate) request: ConnectRequest,
+    pub(crate) partner: Partner,
+    /// Units since the activity timer was started.
+    pub(crate) quiet: u32,
+    /// Units since ApplicationReady was sent.
+    pub(crate) waited: u32,
+    pub(crate) taken: TakenRecords,
+    /// The ModuleDiffBlock, if there is one.
+    pub(crate) differing: ArrayVec<u8, 1166>,
+}
+
+// Clauses see what is kept of the relation, where there is one.
+impl Model for Relation {
+    ghost use Rattle.std.specs.Prelude.{Option};
+    ghost use Rattle.relations.specs.Link.{Link};
+
+    ghost Value = { Option Link };
+
+    ghost use Rattle.std.specs.Prelude.{◌≤◌, ◌<◌};
+    ghost use Rattle.relations.specs.Link.{link_in};
+
+    ghost view = { λ relation. link_in relation.phase (λ phase. record {
+      phase = phase;
+      request = relation.request;
+      partner = relation.partner;
+      quiet = relation.quiet;
+      waited = relation.waited;
+      taken = relation.taken;
+      differing = relation.differing.items;
+    }) };
+
+    ghost invariant = { λ relation. (relation.quiet ≤ 209712000) × (relation.waited < 32000) };
+}
+
+impl Relation {
+    /// None.
+    pub fn new() -> Relation
+        ensures { result ≡ None }
+    {
+        Relation {
+            phase: None,
+            request: ConnectRequest::new(),
+            partner: Partner {
+                mac: Mac { octets: [0; 6] },
+                address: [0; 4],
+            },
+            quiet: 0,
+            waited: 0,
+            taken: TakenRecords::new(),
+            differing: ArrayVec::new(),
+        }
+    }
+
+    /// What the relation waits for, if there is one.
+    pub fn phase(&self) -> Option<Phase>
+        ensures { result ≡ phase_of self.now }
+    {
+        self.phase
+    }
+
+    /// Its ARUUID, if there is one.
+    pub fn uuid(&self) -> Option<&Uuid>
+        ensures { option_map (λ uuid. uuid.now) result ≡ uuid_of self.now }
+    {
+        match self.phase {
+            Some(_) => Some(&self.request.ar().uuid),
+            None => None,
+        }
+    }
+
+    /// The parameter records that it took, in their order; none where there is no relation.
+    pub fn taken(&self) -> &[Taken]
+        ensures { result.now ≡ taken_of self.now }
+    {
+        match self.phase {
+            Some(_) => self.taken.as_slice(),
+            None => &[],
+        }
+    }
+
+    /// The octets of its ModuleDiffBlock, which are its record 0xE002; none where no module differs, or there is no relation.
+    pub fn differing(&self) -> &[u8]
+        ensures { result.now ≡ differing_in self.now }
+    {
+        match self.phase {
+            Some(_) => self.differing.as_slice(),
+            None => &[],
+        }
+    }
+
+    /// Takes a parameter record that was written, behind the others: TooManyRecords where there are 64.
+    pub fn keep(&mut self, parameter: Taken) -> Result<(), CallFault>
+        ensures kept { OnOk result (IsOk (keeping parameter self.old)) }
+        ensures refused { IfErr result (λ fault. keeping parameter self.old ≡ Err fault) }
+        ensures state { self.new ≡ moved (taking (keeping parameter self.old)) self.old }
+    {
+        if self.phase.is_none() {
+            return Err(CallFault::UnknownRelation);
+        }
+        self.taken.keep(parameter)
+    }
+
+    /// Whether this is the ARUUID of the relation.
+    pub(crate) fn is_named(&self, uuid: &Uuid) -> bool
+        ensures { result ≡ is_named uuid.now self.now }
+    {
+        is_relation(self.uuid(), uuid)
+    }
+
+    /// Whether an alarm frame from this station, between these endpoints, belongs to the relation: from CMInitiatorMacAdd, to
+    /// endpoint 1 of the device, and from the endpoint that is the LocalAlarmReference of the controller.
+    pub fn is_alarm(&self, source: Mac, destination: u16, endpoint: u16) -> bool
+        ensures { result ≡ is_alarm_of source destination endpoint self.now }
+    {
+        self.phase.is_some()
+            && source == self.request.ar().initiator
+            && destination == OWN_REFERENCE
+            && endpoint == self.request.alarm().reference
+    }
+
+    /// A new call that names this ARUUID was answered positively: the activity timer starts again, if it is that of the relation.
+    pub fn restart(&mut self, uuid: &Uuid)
+        ensures { self.new ≡ moved (naming uuid.now self.old) self.old }
+    {
+        if self.is_named(uuid) {
+            self.quiet = 0;
+        }
+    }
+
+    /// The device ends the relation, as at a reset. Answers the ERR that is sent, if there was one.
+    pub fn end(&mut self) -> Option<Farewell>
+        ensures farewell { result ≡ option_map (farewell_of Other) self.old }
+        ensures state { self.new ≡ moved Ended self.old }
+    {
+        let farewell = match self.phase {
+            Some(_) => Some(Farewell::of(&self.request, Abort::Other)),
+            None => None,
+        };
+        self.phase = None;
+        farewell
+    }
+
+    /// The ERR of the controller came: the relation ends, and nothing is sent.
+    pub fn hear_abort(&mut self)
+        ensures { self.new ≡ moved Ended self.old }
+    {
+        let _unsent = self.end();
+    }
+}
