@@ -1,7 +1,7 @@
 -- Places that were judged.
-use Rattle.std.proofs.Common.{◌≡◌, ◌⊎◌, inl, inr, ℕ, ◌+◌, ◌-◌, ◌<◌, ◌≤◌, ◌==◌, ◌&&◌, ◌||◌, Bool, true, false, cond, List, [], ◌∷◌, Option, Some, None, is_some, option_and_then, nat_lt, Result, Ok, Err, min, max, refl, sym, ap, subst, ◌∙◌, arith}
+use Rattle.std.proofs.Common.{◌≡◌, inl, inr, ℕ, ◌+◌, ◌-◌, ◌<◌, ◌≤◌, ◌==◌, ◌&&◌, ◌||◌, Bool, true, false, cond, List, [], ◌∷◌, Option, Some, None, is_some, option_and_then, Ok, Err, min, max, refl, arith}
 use Rattle.std.specs.List.{list_any, AllByRecursion}
-use Rattle.std.proofs.lemmas.Bool.{cases_Bool, true≢false, false≢true, and_parts, or_left, or_right, or_from, eqb-true, lt-ltb, le-ltb, ltb-true, false_from_ne_true}
+use Rattle.std.proofs.lemmas.Bool.{cases_Bool, false≢true, and_parts, or_left, or_right, or_from, eqb-true, lt-ltb, le-ltb, ltb-true, false_from_ne_true}
 use Rattle.std.proofs.Math.Nat.{le-max_left, le-max_right, max-le, min-le_left, min-le_right, le-min}
 use Rattle.connect_blocks.specs.declared.iocr.IocrType.{IocrType}
 use Rattle.module_blocks.specs.declared.submodule_data.SubmoduleData.{SubmoduleData}
@@ -11,9 +11,8 @@ use Rattle.cyclic_data.specs.declared.place.PlaceKind.{PlaceKind}
 use Rattle.cyclic_data.specs.declared.place.PlaceKind.TheVariants.{Data, Iocs}
 use Rattle.cyclic_data.specs.declared.place.Place.{Place}
 use Rattle.cyclic_data.specs.declared.place.ExpectedData.{ExpectedData}
-use Rattle.cyclic_data.specs.Places.{found_from, is_at, taken, taken_at}
+use Rattle.cyclic_data.specs.Places.{found_from, is_at, taken}
 use Rattle.cyclic_data.specs.Layout.{AnyByRecursion, AreAllApart, AreApart, AreKnown, DoMeet, HasMissing, HasUnknown, IsFirstFault, IsInside, IsLayout, IsOutside, Meet, is_of, is_same_kind, times_listed, times_required}
-use Rattle.pnio_status.specs.declared.call_fault.CallFault.{CallFault}
 use Rattle.connect_requests.specs.Layouts.{any_overlap, do_overlap, fault_of, is_outside, is_unknown, lacks, layout_at}
 
 -- ---- lists

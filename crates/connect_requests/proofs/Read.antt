@@ -1,7 +1,6 @@
 -- One block after another.
-use Rattle.std.proofs.Common.{◌≡◌, ◌==◌, ◌-◌, ◌+◌, ℕ, zero, suc, true, false, List, [], ◌∷◌, length, Option, Some, None, Result, Ok, Err, refl, sym, ap, subst, ◌∙◌, arith}
+use Rattle.std.proofs.Common.{◌≡◌, ◌==◌, ◌-◌, ℕ, zero, suc, true, false, List, [], ◌∷◌, length, Option, Some, None, Ok, Err, refl, ap, subst, ◌∙◌, arith}
 use Rattle.std.proofs.lemmas.Bool.{true≢false}
-use Rattle.wire.specs.Codec.{◌>>=◌}
 use Rattle.block_codec.specs.Block.{block_of}
 use Rattle.pnio_status.specs.declared.call_fault.CallFault.{CallFault}
 use Rattle.pnio_status.specs.declared.call_fault.CallFault.TheVariants as faults
@@ -10,8 +9,7 @@ use Rattle.module_diff.specs.declared.expected.Expected.{Expected}
 use Rattle.connect_requests.specs.declared.parts.Ar.{Ar}
 use Rattle.connect_requests.specs.declared.draft.Draft.{Draft}
 use Rattle.connect_requests.specs.Drafts.{sofar_of}
-use Rattle.connect_requests.specs.Request.{Request}
-use Rattle.connect_requests.specs.Judged.{Sofar, admitted, conflict, ar_in, nothing, request_behind, request_in, request_of, request_with, with_piece, with_pieces}
+use Rattle.connect_requests.specs.Judged.{Sofar, conflict, ar_in, nothing, request_behind, request_in, request_of, request_with, with_piece, with_pieces}
 
 pub none_left : (most : ℕ) (bytes : List ℕ) → (length bytes == 0) ≡ true → pieces_in most bytes ≡ []
 unfolding pieces_in

@@ -3,7 +3,7 @@ ghost use Rattle.std.specs.Prelude.{◌≡◌, IfOk};
 ghost use Rattle.wire.specs.Codec.{Gives};
 ghost use Rattle.block_codec.specs.Block.{block_of};
 ghost use Rattle.connect_requests.specs.Pieces.{behind, block_in, piece_at, pieces_in};
-ghost use Rattle.connect_requests.specs.Judged.{faulty, field_of, has_iocr, is_further, nothing, well_formed, with_block, with_iocr, with_piece, with_pieces};
+ghost use Rattle.connect_requests.specs.Judged.{faulty, field_of, has_iocr, is_further, nothing, well_formed, with_block, with_piece, with_pieces};
 ghost use Rattle.connect_requests.specs.Drafts.{AreShort, IsShort, sofar_of};
 
 use crate::expected::add_modules;

@@ -1,5 +1,5 @@
 //! What a Connect asks for, held in place.
-ghost use Rattle.std.specs.Prelude.{◌≡◌, ◌≤◌, None, Some, Err, IfOk, IfSome};
+ghost use Rattle.std.specs.Prelude.{◌≡◌, None, Some, Err, IfOk};
 ghost use Rattle.wire.specs.Codec.{Gives};
 ghost use Rattle.block_codec.specs.Block.{block_of};
 ghost use Rattle.connect_requests.specs.Pieces.{behind, piece_at, pieces_in};
