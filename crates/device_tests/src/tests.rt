@@ -4,5 +4,6 @@ mod calls;
 mod cycles;
 mod faults;
 mod frames;
+mod full;
 mod losses;
 mod stations;

@@ -1,0 +1,92 @@
+//! A station whose flash has no room for one more commit, and a flash that another layout was written to.
+use crate::tests::stations::{
+    IDENTIFY, PUMP_1, Station, frame, identity, is_padded, no_modules, set_pump, start,
+};
+use device_core::{Device, Note};
+use flash_model::{Flash, FlashFault, MemoryFlash, Sector};
+use frame_codec::Outbox;
+use settings_journal::BootFault;
+use std::test::Fail;
+
+// A reset of DCP without its block, and the answer without how the block came out.
+const RESET: [u8; 26] =
+    *b"\x02\x00\x00\x00\x00\x01\x02\x00\x00\x00\x00\x02\x88\x92\xfe\xfd\x04\x00\x00\x00\x00\x03\x00\x00\x00\x06";
+
+const ANSWERED: [u8; 26] =
+    *b"\x02\x00\x00\x00\x00\x02\x02\x00\x00\x00\x00\x01\x88\x92\xfe\xfd\x04\x01\x00\x00\x00\x03\x00\x00\x00\x08";
+
+// The answer "resource error" to a Set of a name.
+const FULL: [u8; 34] =
+    *b"\x02\x00\x00\x00\x00\x02\x02\x00\x00\x00\x00\x01\x88\x92\xfe\xfd\x04\x01\x00\x00\x00\x02\x00\x00\x00\x08\
+    \x05\x04\x00\x03\x02\x02\x04\x00";
+
+// The last generation in the first sector, in a version of the layout: a base with the name "pump-1", and its slot open with a
+// reset of the texts.
+fn write_last(flash: &mut MemoryFlash<768>, version: u8) -> Result<(), FlashFault> {
+    let mut base = [0; 437];
+    base[..13].copy_from_slice(b"PNJ\x02\x00\x00\x06pump-1");
+    base[3] = version;
+    flash.program(Sector::First, 0, &base)?;
+    flash.program(Sector::First, 511, &[0])?;
+    flash.program(Sector::First, 512, &[8, 0])?;
+    flash.program(Sector::First, 767, &[0])
+}
+
+// The request of a reset, and its answer with BlockError 4.
+fn reset(block: [u8; 6]) -> ([u8; 32], [u8; 34]) {
+    let (mut request, mut answer) = ([0; 32], [0; 34]);
+    request[..26].copy_from_slice(&RESET);
+    request[26..].copy_from_slice(&block);
+    answer[..26].copy_from_slice(&ANSWERED);
+    answer[26..30].copy_from_slice(&[5, 4, 0, 3]);
+    answer[30..32].copy_from_slice(&block[..2]);
+    answer[32] = 4;
+    (request, answer)
+}
+
+fn full(version: u8) -> Option<Station> {
+    let mut flash = MemoryFlash::blank();
+    write_last(&mut flash, version).ok()?;
+    start(flash)
+}
+
+// A name, and each reset: each answered with BlockError 4, and nothing changes.
+#[test]
+fn no_setting_and_no_reset_is_carried_out_without_room(rt: HostRuntime) -> Result<(), Fail> {
+    for version in [1, 2] {
+        let mut outbox = Outbox::new();
+        let mut device = full(version).ok_or("starts")?;
+        assert_eq!(rt; device.step(&set_pump(b'2'), &mut outbox), Note::Done);
+        assert!(rt; is_padded(&outbox, &FULL));
+        for block in [
+            *b"\x05\x06\x00\x02\x00\x02",
+            *b"\x05\x06\x00\x02\x00\x04",
+            *b"\x05\x05\x00\x02\x00\x00",
+        ] {
+            let (request, answer) = reset(block);
+            assert_eq!(rt; device.step(&frame(&request), &mut outbox), Note::Done);
+            assert!(rt; is_padded(&outbox, &answer));
+        }
+        assert_eq!(rt; device.step(&frame(&IDENTIFY), &mut outbox), Note::Done);
+        assert!(rt; is_padded(&outbox, &PUMP_1));
+        let flash = device.into_flash();
+        let mut untouched = MemoryFlash::blank();
+        write_last(&mut untouched, version)?;
+        for sector in [Sector::First, Sector::Second] {
+            assert!(rt; flash.sector(sector) == untouched.sector(sector));
+        }
+    }
+    Ok(())
+}
+
+#[test]
+fn another_layout_is_foreign(rt: HostRuntime) -> Result<(), Fail> {
+    let mut flash = MemoryFlash::<768>::blank();
+    flash.program(Sector::First, 0, b"PNS\x01\xff\xfe\x06pump-1")?;
+    flash.program(Sector::First, 511, &[0])?;
+    let refused = Device::boot(identity(), no_modules(), flash).err();
+    let (fault, flash) = refused.ok_or("foreign")?;
+    assert_eq!(rt; fault, BootFault::Foreign);
+    assert!(rt; flash.sector(Sector::First).starts_with(b"PNS\x01"));
+    Ok(())
+}
