@@ -1,7 +1,7 @@
 //! The relation.
-ghost use Rattle.std.specs.Prelude.{◌≡◌, Err, IfErr, IsOk, None, OnOk, option_map};
+ghost use Rattle.std.specs.Prelude.{◌≡◌, ◌≤◌, Err, IfErr, IsOk, None, OnOk, length, option_map};
 ghost use Rattle.pn_alarms.specs.declared.abort.Abort.TheVariants.{Other};
-ghost use Rattle.relations.specs.Phases.{Ended, keeping, moved, naming, taking};
+ghost use Rattle.relations.specs.Phases.{Ended, Named, keeping, moved, naming, taking};
 ghost use Rattle.relations.specs.Farewells.{farewell_of};
 ghost use Rattle.relations.specs.Link.{differing_in, is_alarm_of, is_named, phase_of, taken_of, uuid_of};
 
@@ -104,7 +104,8 @@ impl Relation {
 
     /// The octets of its ModuleDiffBlock, which are its record 0xE002; none where no module differs, or there is no relation.
     pub fn differing(&self) -> &[u8]
-        ensures { result.now ≡ differing_in self.now }
+        ensures value { result.now ≡ differing_in self.now }
+        ensures few { length result.now ≤ 1166 }
     {
         match self.phase {
             Some(_) => self.differing.as_slice(),
@@ -149,6 +150,13 @@ impl Relation {
         if self.is_named(uuid) {
             self.quiet = 0;
         }
+    }
+
+    /// A new call that names the relation was answered positively, as whoever served it has judged: the activity timer starts again.
+    pub fn heard(&mut self)
+        ensures { self.new ≡ moved Named self.old }
+    {
+        self.quiet = 0;
     }
 
     /// The device ends the relation, as at a reset. Answers the ERR that is sent, if there was one.
