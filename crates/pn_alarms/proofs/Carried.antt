@@ -1,56 +1,62 @@
 -- Data that is read carries the block that is wanted.
-use Rattle.std.proofs.Common.{◌≡◌, ℕ, List, [], ◌++◌, Option, Some, None, Result, Ok, Err, refl, sym, ap, ◌∙◌}
+use Rattle.std.proofs.Common.{◌≡◌, ℕ, List, [], ◌++◌, Option, Some, None, Result, Ok, Err, Bor, refl, sym, ap, subst, ◌∙◌}
 use Rattle.std.proofs.lemmas.List.{append-nil}
 use Rattle.std.specs.Prelude.{IfOk}
 use Rattle.wire.specs.Checks.{or_fault}
+use Rattle.wire.specs.Codec.{Gives}
 use Rattle.block_fields.specs.declared.fault.BlockFault.{BlockFault}
 use Rattle.record_blocks.specs.declared.alarm_ack.AlarmAck.{AlarmAck}
 use Rattle.record_blocks.specs.declared.alarm_notification.AlarmNotification.{AlarmNotification}
 use Rattle.block_codec.specs.declared.block.Block.{Block}
 use Rattle.block_codec.specs.declared.block.Block.TheVariants as is
 use Rattle.block_codec.specs.Block.{block_of, block_bytes, in_alarm_ack, in_alarm_notification}
-use Rattle.block_codec.proofs.Sound.{block_takes, block_again}
+use Rattle.pn_alarms.specs.declared.fault.AlarmFault.{AlarmFault}
 use Rattle.pn_alarms.specs.declared.fault.AlarmFault.TheVariants as fault
-use Rattle.pn_alarms.specs.Carried.{IsAck, ack_of, IsNotification, notification_of, wanted}
+use Rattle.pn_alarms.specs.Carried.{notification_of, wanted}
 
--- what is picked of a block that was read
-of_wanted : {A : Type 0} (pick : Block → Option A) (read : Result (Block × List ℕ) BlockFault) (value : A) → wanted pick read ≡ Ok value
-    → (x : Block × List ℕ) × (read ≡ Ok x) × (pick x.0 ≡ Some value)
-of_wanted pick (Ok x) value e = (x, refl, of_or_fault (pick x.0) value e)
-  where
-    of_or_fault : {A : Type 0} (o : Option A) (value : A) → or_fault fault.Block o ≡ Ok value → o ≡ Some value
-    of_or_fault (Some v) value e = cc
-    of_or_fault None value e = absurd cc
-of_wanted pick (Err reason) value e = absurd cc
+-- a block that was read, and where the octets behind it lie
+abbrev pub Read : Type 0
+Read = Result (Block × Bor (List ℕ)) BlockFault
 
-ack_in : (block : Block) (ack : AlarmAck) → in_alarm_ack block ≡ Some ack → block ≡ is.AlarmAck ack
-ack_in (is.AlarmAck value) ack e = cc
-ack_in _ ack e = absurd cc
+-- the same without where they lie
+abbrev pub lying : Block × Bor (List ℕ) → Block × List ℕ
+lying x = (x.0, x.1.now)
 
-notification_in : (block : Block) (alarm : AlarmNotification) → in_alarm_notification block ≡ Some alarm → block ≡ is.AlarmNotification alarm
-notification_in (is.AlarmNotification value) alarm e = cc
-notification_in _ alarm e = absurd cc
+-- what is wanted does not hang on that
+pub same_wanted : {A : Type 0} (pick : Block → Option A) (r : Read) (read : Result (Block × List ℕ) BlockFault) → Gives lying r read → wanted pick r ≡ wanted pick read
+same_wanted pick (Ok x) read e = ap (λ (y : Result (Block × List ℕ) BlockFault). wanted pick y) (sym e)
+same_wanted pick (Err reason) read e = ap (λ (y : Result (Block × List ℕ) BlockFault). wanted pick y) (sym e)
 
-pub ack_takes : (body : List ℕ) (ack : AlarmAck) → ack_of body ≡ Ok ack → IsAck body ack
-ack_takes body ack e =
-    let w = of_wanted in_alarm_ack (block_of body) ack e in
-    (w.0.1, block_takes body (is.AlarmAck ack) w.0.1 (w.1 ∙ ap (λ (b : Block). Ok (b, w.0.1)) (ack_in w.0.0 ack w.2)))
+of_or_fault : {A : Type 0} (o : Option A) (value : A) → or_fault fault.Block o ≡ Ok value → o ≡ Some value
+of_or_fault (Some v) value e = cc
+of_or_fault None value e = absurd cc
 
-pub ack_again : (body : List ℕ) (ack : AlarmAck) → IsAck body ack → ack_of body ≡ Ok ack
-ack_again body ack s = rw (block_again body (is.AlarmAck ack) s.0 s.1) refl
+-- what holds of the block that was read holds of the one that is wanted
+found_in : {A : Type 0} (pick : Block → Option A) (P : Block → List ℕ → Type 0) (r : Read) (value : A) (block : Block) → ((b : Block) → pick b ≡ Some value → b ≡ block)
+    → IfOk r (λ x. P x.0 x.1.now) → wanted pick r ≡ Ok value → (rest : List ℕ) × P block rest
+found_in pick P (Ok x) value block named holds e =
+    (x.1.now, subst (λ (b : Block). P b x.1.now) (named x.0 (of_or_fault (pick x.0) value e)) holds)
+found_in pick P (Err reason) value block named holds e = absurd cc
 
-pub notification_takes : (body : List ℕ) (alarm : AlarmNotification) → notification_of body ≡ Ok alarm → IsNotification body alarm
-notification_takes body alarm e =
-    let w = of_wanted in_alarm_notification (block_of body) alarm e in
-    (w.0.1, block_takes body (is.AlarmNotification alarm) w.0.1 (w.1 ∙ ap (λ (b : Block). Ok (b, w.0.1)) (notification_in w.0.0 alarm w.2)))
+ack_is : (block : Block) (ack : AlarmAck) → in_alarm_ack block ≡ Some ack → block ≡ is.AlarmAck ack
+ack_is (is.AlarmAck value) ack e = cc
+ack_is _ ack e = absurd cc
 
-pub notification_again : (body : List ℕ) (alarm : AlarmNotification) → IsNotification body alarm → notification_of body ≡ Ok alarm
-notification_again body alarm s = rw (block_again body (is.AlarmNotification alarm) s.0 s.1) refl
+notification_is : (block : Block) (alarm : AlarmNotification) → in_alarm_notification block ≡ Some alarm → block ≡ is.AlarmNotification alarm
+notification_is (is.AlarmNotification value) alarm e = cc
+notification_is _ alarm e = absurd cc
+
+pub ack_found : (P : Block → List ℕ → Type 0) (r : Read) (ack : AlarmAck) → IfOk r (λ x. P x.0 x.1.now) → wanted in_alarm_ack r ≡ Ok ack → (rest : List ℕ) × P (is.AlarmAck ack) rest
+ack_found P r ack holds e = found_in in_alarm_ack P r ack (is.AlarmAck ack) (λ b. ack_is b ack) holds e
+
+pub notification_found : (P : Block → List ℕ → Type 0) (r : Read) (alarm : AlarmNotification) → IfOk r (λ x. P x.0 x.1.now) → wanted in_alarm_notification r ≡ Ok alarm
+    → (rest : List ℕ) × P (is.AlarmNotification alarm) rest
+notification_found P r alarm holds e = found_in in_alarm_notification P r alarm (is.AlarmNotification alarm) (λ b. notification_is b alarm) holds e
 
 -- what holds of the value, if there is one
 pub of_ok : {A F : Type 0} (P : A → Type 0) (result : Result A F) → ((value : A) → result ≡ Ok value → P value) → IfOk result P
 of_ok P (Ok value) holds = holds value refl
-of_ok P (Err fault) holds = tt
+of_ok P (Err reason) holds = tt
 
 -- the block of an alarm is read as it
 pub carried : (alarm : AlarmNotification) (out : List ℕ) → out ≡ block_bytes (is.AlarmNotification alarm)

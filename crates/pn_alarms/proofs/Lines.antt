@@ -11,7 +11,7 @@ use Rattle.pn_alarms.specs.declared.repeats.Due.TheVariants as due_is
 use Rattle.pn_alarms.specs.Numbers.{next_number, send_number, is_last}
 use Rattle.pn_alarms.specs.Receiver.{last_behind}
 use Rattle.pn_alarms.specs.Line.{Line, empty, with_sent, with_again, more_taken, with_come}
-use Rattle.pn_alarms.specs.World.{line_after}
+use Rattle.pn_alarms.specs.World.{repeated, line_after}
 use Rattle.pn_alarms.proofs.Numbered.{number_of, last_of, next_is, same_number}
 
 -- ---- lists
@@ -109,23 +109,32 @@ module _ {A : Type 0} where
         begins = l.begins;
       }
 
+  repeated_holds : (last seen : Option ℕ) (line : Line A) (o : Option A) → IsLast line.sent o → IsLine last seen line → IsLine last seen (repeated line (send_number last) o)
+  repeated_holds last seen line None there l = l
+  repeated_holds last seen line (Some value) there l = line_repeats last seen line value there l
+
   pub line_ticks : (last seen : Option ℕ) (line : Line A) (o : Option A) (due : Due) → IsLast line.sent o → IsLine last seen line → IsLine last seen (line_after line (send_number last) o due)
-  line_ticks last seen line None due there l = l
-  line_ticks last seen line (Some value) due_is.Nothing there l = l
-  line_ticks last seen line (Some value) due_is.Again there l = line_repeats last seen line value there l
-  line_ticks last seen line (Some value) due_is.Spent there l = l
+  line_ticks last seen line o due_is.Nothing there l = l
+  line_ticks last seen line o due_is.Again there l = repeated_holds last seen line o there l
+  line_ticks last seen line o due_is.Spent there l = l
+
+  repeated_sent : (line : Line A) (number : ℕ) (o : Option A) → (repeated line number o).sent ≡ line.sent
+  repeated_sent line number None = refl
+  repeated_sent line number (Some value) = refl
+
+  repeated_taken : (line : Line A) (number : ℕ) (o : Option A) → (repeated line number o).taken ≡ line.taken
+  repeated_taken line number None = refl
+  repeated_taken line number (Some value) = refl
 
   pub same_sent : (line : Line A) (number : ℕ) (o : Option A) (due : Due) → (line_after line number o due).sent ≡ line.sent
-  same_sent line number None due = refl
-  same_sent line number (Some value) due_is.Nothing = refl
-  same_sent line number (Some value) due_is.Again = refl
-  same_sent line number (Some value) due_is.Spent = refl
+  same_sent line number o due_is.Nothing = refl
+  same_sent line number o due_is.Again = repeated_sent line number o
+  same_sent line number o due_is.Spent = refl
 
   pub same_taken : (line : Line A) (number : ℕ) (o : Option A) (due : Due) → (line_after line number o due).taken ≡ line.taken
-  same_taken line number None due = refl
-  same_taken line number (Some value) due_is.Nothing = refl
-  same_taken line number (Some value) due_is.Again = refl
-  same_taken line number (Some value) due_is.Spent = refl
+  same_taken line number o due_is.Nothing = refl
+  same_taken line number o due_is.Again = repeated_taken line number o
+  same_taken line number o due_is.Spent = refl
 
   not_taken : (taken : List A) (value : A) (b : Bool) → more_taken taken value (cond b Again Refused) ≡ taken
   not_taken taken value true = refl

@@ -1,5 +1,5 @@
 -- Over any list of moves, what is taken begins what was raised, and lacks at most its last.
-use Rattle.std.proofs.Common.{◌≡◌, ℕ, ◌≤◌, ◌<◌, ◌+◌, Bool, true, false, cond, ltb, List, [], ◌∷◌, ◌++◌, length, Option, Some, None, refl, sym, ap, subst, ◌∙◌, arith}
+use Rattle.std.proofs.Common.{◌≡◌, ℕ, ◌≤◌, ◌<◌, ◌+◌, Bool, true, false, cond, leb, ltb, List, [], ◌∷◌, ◌++◌, length, Option, Some, None, refl, sym, ap, subst, ◌∙◌, arith}
 use Rattle.std.specs.Prelude.{slice_get}
 use Rattle.std.proofs.lemmas.Bool.{ltb-true}
 use Rattle.std.proofs.lemmas.List.{length-append}
@@ -7,6 +7,8 @@ use Rattle.record_blocks.specs.declared.alarm_ack.AlarmAck.{AlarmAck}
 use Rattle.record_blocks.specs.declared.alarm_notification.AlarmNotification.{AlarmNotification}
 use Rattle.pn_alarms.specs.declared.receiver.Taken.{Taken}
 use Rattle.pn_alarms.specs.declared.receiver.Taken.TheVariants.{New, Again, Refused}
+use Rattle.pn_alarms.specs.declared.exchange.Move.{Move}
+use Rattle.pn_alarms.specs.declared.exchange.Move.TheVariants.{Raise, Confirm, DeviceTick, ControllerTick, AlarmComes, ConfirmComes, AckComesToDevice, AckComesToController}
 use Rattle.pn_alarms.specs.declared.sender.Alarm.{Alarm}
 use Rattle.pn_alarms.specs.declared.sender.Reply.TheVariants as reply
 use Rattle.pn_alarms.specs.Numbers.{next_number, send_number, is_last}
@@ -14,10 +16,10 @@ use Rattle.pn_alarms.specs.Sending.{Sending, sent, due, ticked, rested, acked}
 use Rattle.pn_alarms.specs.Alarming.{Alarming}
 use Rattle.pn_alarms.specs.Sender.{notified, raised, is_end, ended_by, answered, later}
 use Rattle.pn_alarms.specs.Receiver.{taken_as}
-use Rattle.pn_alarms.specs.Device.{sender_after}
+use Rattle.pn_alarms.specs.Device.{sender_after, end_raised}
 use Rattle.pn_alarms.specs.Controller.{confirmed}
 use Rattle.pn_alarms.specs.Line.{Line, with_sent, more_taken, with_come}
-use Rattle.pn_alarms.specs.World.{World, Move, start, after_raise, after_confirm, line_after, acks_after, after_alarm, after_confirms, after_ack_to_device, after_ack_to_controller, happens, behind_all, raise, confirm, device_tick, controller_tick, alarm_comes, confirm_comes, ack_comes_to_device, ack_comes_to_controller}
+use Rattle.pn_alarms.specs.World.{World, start, with_raised, after_raise, after_confirm, after_device_tick, after_controller_tick, after_alarm, after_confirms, after_ack_to_device, after_ack_to_controller, happens, behind_all, IsPrefixOf}
 use Rattle.pn_alarms.proofs.Lines.{IsLine, IsLast, line_starts, few_taken, line_sends, line_ticks, same_sent, same_taken, line_comes, more_is_more}
 
 -- how many stand
@@ -73,8 +75,9 @@ settled_by a ack Refused taken raised so_far = so_far
 
 -- ---- each move
 
-raise_step : (w : World) (alarm : Alarm) (o : Option AlarmNotification) → w.device.sender.standing ≡ o → Step w (after_raise w alarm o)
-raise_step w alarm None none =
+raised_step : (w : World) (alarm : Alarm) (b : Bool) → w.device.sender.standing ≡ None
+    → Step w (cond b (with_raised (record w { device = end_raised w.device alarm }) (end_raised w.device alarm).sender.standing) w)
+raised_step w alarm true none =
     let block = notified w.device.sender.specifier alarm in (
       omega (arith, length-append w.alarms.sent (block ∷ [])),
       λ few i. record {
@@ -86,6 +89,10 @@ raise_step w alarm None none =
         settled = omega (arith, i.settled, ap standing_count none, length-append w.alarms.sent (block ∷ []));
       },
     )
+raised_step w alarm false none = (omega arith, λ few i. i)
+
+raise_step : (w : World) (alarm : Alarm) (o : Option AlarmNotification) → w.device.sender.standing ≡ o → Step w (after_raise w alarm o)
+raise_step w alarm None none = raised_step w alarm (leb (length alarm.alarm_data.now) 32) none
 raise_step w alarm (Some standing) there = (omega arith, λ few i. i)
 
 confirm_as : (w : World) (ack : AlarmAck) (b : Bool) → ltb (length w.confirms.sent) (length w.alarms.taken) ≡ b
@@ -106,7 +113,7 @@ confirm_as w ack true more = (
 )
 confirm_as w ack false more = (omega arith, λ few i. i)
 
-device_tick_step : (w : World) → Step w (happens w device_tick)
+device_tick_step : (w : World) → Step w (after_device_tick w)
 device_tick_step w =
     let number = send_number w.device.sender.sending.last in
     let sent_is = same_sent w.alarms number w.device.sender.standing (due w.device.sender.sending) in
@@ -122,7 +129,7 @@ device_tick_step w =
       },
     )
 
-controller_tick_step : (w : World) → Step w (happens w controller_tick)
+controller_tick_step : (w : World) → Step w (after_controller_tick w)
 controller_tick_step w =
     let number = send_number w.controller.sending.last in
     let sent_is = same_sent w.confirms number w.controller.confirming (due w.controller.sending) in
@@ -197,21 +204,21 @@ ack_to_controller_step w (Some number) = (
 )
 
 step : (w : World) (move : Move) → Step w (happens w move)
-step w (raise alarm) = raise_step w alarm w.device.sender.standing refl
-step w (confirm ack) = confirm_as w ack (ltb (length w.confirms.sent) (length w.alarms.taken)) refl
-step w device_tick = device_tick_step w
-step w controller_tick = controller_tick_step w
-step w (alarm_comes k) = alarm_step w k (slice_get w.alarms.pdus k) refl
-step w (confirm_comes k) = confirms_step w k (slice_get w.confirms.pdus k) refl
-step w (ack_comes_to_device k) = ack_to_device_step w (slice_get w.acks_to_device k)
-step w (ack_comes_to_controller k) = ack_to_controller_step w (slice_get w.acks_to_controller k)
+step w (Raise alarm) = raise_step w alarm w.device.sender.standing refl
+step w (Confirm ack) = confirm_as w ack (ltb (length w.confirms.sent) (length w.alarms.taken)) refl
+step w DeviceTick = device_tick_step w
+step w ControllerTick = controller_tick_step w
+step w (AlarmComes k) = alarm_step w k (slice_get w.alarms.pdus k) refl
+step w (ConfirmComes k) = confirms_step w k (slice_get w.confirms.pdus k) refl
+step w (AckComesToDevice k) = ack_to_device_step w (slice_get w.acks_to_device k)
+step w (AckComesToController k) = ack_to_controller_step w (slice_get w.acks_to_controller k)
 
 -- ---- any list of them
 
-pub starts : (factor retries : ℕ) → IsWorld (start factor retries)
+starts : (factor retries : ℕ) → IsWorld (start factor retries)
 starts factor retries = record { alarms = line_starts; confirms = line_starts; standing = tt; confirming = tt; few = omega arith; settled = omega arith }
 
-pub runs : (moves : List Move) (w : World) → (length w.alarms.sent ≤ length (behind_all moves w).alarms.sent)
+runs : (moves : List Move) (w : World) → (length w.alarms.sent ≤ length (behind_all moves w).alarms.sent)
     × (length (behind_all moves w).alarms.sent ≤ 32768 → IsWorld w → IsWorld (behind_all moves w))
 runs [] w = (omega arith, λ few i. i)
 runs (move ∷ moves) w =
@@ -222,5 +229,15 @@ runs (move ∷ moves) w =
     )
 
 -- at most the last is lacking
-pub lacks_one : (w : World) → IsWorld w → length w.alarms.sent ≤ length w.alarms.taken + 1
+lacks_one : (w : World) → IsWorld w → length w.alarms.sent ≤ length w.alarms.taken + 1
 lacks_one w i = omega (arith, i.settled, i.few, few_taken _ _ _ i.confirms, one_stands w.device.sender.standing)
+
+-- of a world behind any moves
+pub ordered : (factor retries : ℕ) (moves : List Move) (w : World) → w ≡ behind_all moves (start factor retries) → length w.alarms.sent ≤ 32768 → IsPrefixOf w.alarms.taken w.alarms.sent
+ordered factor retries moves w e few =
+    let i = subst IsWorld (sym e) ((runs moves (start factor retries)).1 (subst (λ (v : World). length v.alarms.sent ≤ 32768) e few) (starts factor retries)) in
+    (i.alarms.rest, i.alarms.begins)
+
+pub lacking : (factor retries : ℕ) (moves : List Move) (w : World) → w ≡ behind_all moves (start factor retries) → length w.alarms.sent ≤ 32768 → length w.alarms.sent ≤ length w.alarms.taken + 1
+lacking factor retries moves w e few =
+    lacks_one w (subst IsWorld (sym e) ((runs moves (start factor retries)).1 (subst (λ (v : World). length v.alarms.sent ≤ 32768) e few) (starts factor retries)))

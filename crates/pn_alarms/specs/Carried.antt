@@ -20,7 +20,7 @@ abbrev pub IsNotification : List ℕ → AlarmNotification → Type 0
 IsNotification body alarm = (rest : List ℕ) × IsBlock body (is.AlarmNotification alarm) rest
 
 -- of a block that was read, the one that is wanted
-abbrev pub wanted : {A : Type 0} → (Block → Option A) → Result (Block × List ℕ) BlockFault → Result A AlarmFault
+abbrev pub wanted : {A X : Type 0} → (Block → Option A) → Result (Block × X) BlockFault → Result A AlarmFault
 wanted pick (Ok x) = or_fault fault.Block (pick x.0)
 wanted pick (Err reason) = Err fault.Block
 

@@ -13,3 +13,4 @@ pub mod Device
 pub mod Controller
 pub mod Line
 pub mod World
+pub mod Shown

@@ -1,7 +1,9 @@
 -- Both ends of a relation, and each PDU that either ever sent: what may happen between them, in any order and number.
-use Rattle.std.specs.Prelude.{◌≡◌, ◌+◌, ◌≤◌, ℕ, List, [], ◌∷◌, ◌++◌, length, nat_lt, slice_get, Option, Some, None, if◌then◌else◌}
+use Rattle.std.specs.Prelude.{◌≡◌, ◌+◌, ◌≤◌, ℕ, List, [], ◌∷◌, ◌++◌, length, nat_le, nat_lt, slice_get, Option, Some, None, if◌then◌else◌}
 use Rattle.record_blocks.specs.declared.alarm_ack.AlarmAck.{AlarmAck}
 use Rattle.record_blocks.specs.declared.alarm_notification.AlarmNotification.{AlarmNotification}
+use Rattle.pn_alarms.specs.declared.exchange.Move.{Move}
+use Rattle.pn_alarms.specs.declared.exchange.Move.TheVariants.{Raise, Confirm, DeviceTick, ControllerTick, AlarmComes, ConfirmComes, AckComesToDevice, AckComesToController}
 use Rattle.pn_alarms.specs.declared.message.Message.TheVariants as message
 use Rattle.pn_alarms.specs.declared.repeats.Due.{Due}
 use Rattle.pn_alarms.specs.declared.repeats.Due.TheVariants as due_is
@@ -10,7 +12,6 @@ use Rattle.pn_alarms.specs.declared.receiver.Taken.TheVariants.{New, Again, Refu
 use Rattle.pn_alarms.specs.declared.sender.Alarm.{Alarm}
 use Rattle.pn_alarms.specs.Numbers.{send_number}
 use Rattle.pn_alarms.specs.Sending.{due}
-use Rattle.pn_alarms.specs.Sender.{notified}
 use Rattle.pn_alarms.specs.Receiver.{taken_as}
 use Rattle.pn_alarms.specs.Ends.{DeviceEnd, ControllerEnd}
 use Rattle.pn_alarms.specs.Device.{idle, end_raised, end_later, end_behind}
@@ -27,18 +28,6 @@ pub record World : Type 0 where
   pub acks_to_device : List ℕ
   pub acks_to_controller : List ℕ
 
--- what may happen: an alarm is raised; an AlarmAck is sent; a unit passes at either end; a PDU that ever was sent to an end
--- comes there: the one at this place of its list
-pub data Move : Type 0 where
-  raise : Alarm → Move
-  confirm : AlarmAck → Move
-  device_tick : Move
-  controller_tick : Move
-  alarm_comes : ℕ → Move
-  confirm_comes : ℕ → Move
-  ack_comes_to_device : ℕ → Move
-  ack_comes_to_controller : ℕ → Move
-
 -- nothing happened yet, in a relation with this RTATimeoutFactor and these RTARetries
 abbrev pub start : ℕ → ℕ → World
 start factor retries = record {
@@ -50,12 +39,17 @@ start factor retries = record {
   acks_to_controller = [];
 }
 
--- an alarm is raised where none stands
+-- the alarm that was raised is sent
+abbrev pub with_raised : World → Option AlarmNotification → World
+with_raised w None = w
+with_raised w (Some alarm) = record w { alarms = with_sent w.alarms (send_number w.device.sender.sending.last) alarm }
+
+-- an alarm of at most 32 octets is raised where none stands
 abbrev pub after_raise : World → Alarm → Option AlarmNotification → World
-after_raise w alarm None = record w {
-  device = end_raised w.device alarm;
-  alarms = with_sent w.alarms (send_number (end_raised w.device alarm).sender.sending.last) (notified w.device.sender.specifier alarm);
-}
+after_raise w alarm None =
+    if nat_le (length alarm.alarm_data.now) 32
+    then with_raised (record w { device = end_raised w.device alarm }) (end_raised w.device alarm).sender.standing
+    else w
 after_raise w alarm (Some standing) = w
 
 -- an AlarmAck is sent: as many as alarms were taken, at most
@@ -68,12 +62,35 @@ after_confirm w ack =
     }
     else w
 
--- what is due is sent again
+-- what was sent last is sent again
+abbrev pub repeated : {A : Type 0} → Line A → ℕ → Option A → Line A
+repeated line number None = line
+repeated line number (Some value) = with_again line number value
+
+-- what is due
 abbrev pub line_after : {A : Type 0} → Line A → ℕ → Option A → Due → Line A
-line_after line number None due = line
-line_after line number (Some value) due_is.Nothing = line
-line_after line number (Some value) due_is.Again = with_again line number value
-line_after line number (Some value) due_is.Spent = line
+line_after line number value due_is.Nothing = line
+line_after line number value due_is.Again = repeated line number value
+line_after line number value due_is.Spent = line
+
+abbrev pub repeated_to_controller : World → Option AlarmNotification → World
+repeated_to_controller w alarm = record w { alarms = repeated w.alarms (send_number w.device.sender.sending.last) alarm }
+
+abbrev pub repeated_to_device : World → Option AlarmAck → World
+repeated_to_device w ack = record w { confirms = repeated w.confirms (send_number w.controller.sending.last) ack }
+
+-- a unit passes at the one end, and at the other
+abbrev pub after_device_tick : World → World
+after_device_tick w = record w {
+  device = end_later w.device;
+  alarms = line_after w.alarms (send_number w.device.sender.sending.last) w.device.sender.standing (due w.device.sender.sending);
+}
+
+abbrev pub after_controller_tick : World → World
+after_controller_tick w = record w {
+  controller = controller_later w.controller;
+  confirms = line_after w.confirms (send_number w.controller.sending.last) w.controller.confirming (due w.controller.sending);
+}
 
 -- an ACK goes back for data that is taken, or was
 abbrev pub acks_after : List ℕ → ℕ → Taken → List ℕ
@@ -107,20 +124,14 @@ after_ack_to_controller w (Some number) = record w { controller = with_ack w.con
 
 -- behind a move
 abbrev pub happens : World → Move → World
-happens w (raise alarm) = after_raise w alarm w.device.sender.standing
-happens w (confirm ack) = after_confirm w ack
-happens w device_tick = record w {
-  device = end_later w.device;
-  alarms = line_after w.alarms (send_number w.device.sender.sending.last) w.device.sender.standing (due w.device.sender.sending);
-}
-happens w controller_tick = record w {
-  controller = controller_later w.controller;
-  confirms = line_after w.confirms (send_number w.controller.sending.last) w.controller.confirming (due w.controller.sending);
-}
-happens w (alarm_comes k) = after_alarm w (slice_get w.alarms.pdus k)
-happens w (confirm_comes k) = after_confirms w (slice_get w.confirms.pdus k)
-happens w (ack_comes_to_device k) = after_ack_to_device w (slice_get w.acks_to_device k)
-happens w (ack_comes_to_controller k) = after_ack_to_controller w (slice_get w.acks_to_controller k)
+happens w (Raise alarm) = after_raise w alarm w.device.sender.standing
+happens w (Confirm ack) = after_confirm w ack
+happens w DeviceTick = after_device_tick w
+happens w ControllerTick = after_controller_tick w
+happens w (AlarmComes k) = after_alarm w (slice_get w.alarms.pdus k)
+happens w (ConfirmComes k) = after_confirms w (slice_get w.confirms.pdus k)
+happens w (AckComesToDevice k) = after_ack_to_device w (slice_get w.acks_to_device k)
+happens w (AckComesToController k) = after_ack_to_controller w (slice_get w.acks_to_controller k)
 
 -- behind a list of moves
 abbrev pub behind_all : List Move → World → World

@@ -1,13 +1,14 @@
 //! From octets to PDUs and to the blocks that they carry.
 ghost use Rattle.std.specs.Prelude.{◌≡◌, ◌++◌, List, ℕ, IfOk, Ok};
 ghost use Rattle.wire.specs.Codec.{Gives};
+ghost use Rattle.block_codec.specs.Block.{in_alarm_ack, in_alarm_notification};
 ghost use Rattle.record_blocks.specs.declared.alarm_ack.AlarmAck.{AlarmAck as Ack};
 ghost use Rattle.record_blocks.specs.declared.alarm_notification.AlarmNotification.{AlarmNotification as Notification};
 ghost use Rattle.pn_alarms.specs.Format.{Said, said, kind, header, pdu, IsPdu, pdu_of};
-ghost use Rattle.pn_alarms.specs.Carried.{IsAck, ack_of, IsNotification, notification_of};
+ghost use Rattle.pn_alarms.specs.Carried.{IsAck, ack_of, IsNotification, notification_of, wanted};
 
 use crate::{AlarmFault, Header, Pdu, PduType};
-use block_codec::{AlarmAck, AlarmNotification, Block, read_block};
+use block_codec::{AlarmAck, AlarmNotification, Block, BlockFault, read_block};
 use wire::{split, u8_at, u16_at};
 
 /// PDUType, and what is behind it.
@@ -73,10 +74,11 @@ pub fn read_pdu(bytes: &[u8]) -> Result<Pdu<'_>, AlarmFault>
     pdu_in(bytes)
 }
 
-fn ack_in(body: &[u8]) -> Result<AlarmAck, AlarmFault>
-    ensures { result ≡ ack_of body.now }
+/// What was read, if it is an AlarmAck.
+fn ack_in(read: Result<(Block<'_>, &[u8]), BlockFault>) -> Result<AlarmAck, AlarmFault>
+    ensures { result ≡ wanted in_alarm_ack read.entry }
 {
-    let Ok((block, _behind)) = read_block(body) else {
+    let Ok((block, _behind)) = read else {
         return Err(AlarmFault::Block);
     };
     match block {
@@ -85,10 +87,13 @@ fn ack_in(body: &[u8]) -> Result<AlarmAck, AlarmFault>
     }
 }
 
-fn notification_in(body: &[u8]) -> Result<AlarmNotification<'_>, AlarmFault>
-    ensures { result ≡ notification_of body.now }
+/// What was read, if it is an AlarmNotification.
+fn notification_in<'a>(
+    read: Result<(Block<'a>, &'a [u8]), BlockFault>,
+) -> Result<AlarmNotification<'a>, AlarmFault>
+    ensures { result ≡ wanted in_alarm_notification read.entry }
 {
-    let Ok((block, _behind)) = read_block(body) else {
+    let Ok((block, _behind)) = read else {
         return Err(AlarmFault::Block);
     };
     match block {
@@ -106,7 +111,7 @@ pub fn read_ack(body: &[u8]) -> Result<AlarmAck, AlarmFault>
     // Which it is.
     ensures exact { result ≡ ack_of body.now }
 {
-    ack_in(body)
+    ack_in(read_block(body))
 }
 
 /// Reads the AlarmNotification that data carries at a controller. What is behind the block is not looked at.
@@ -118,5 +123,5 @@ pub fn read_notification(body: &[u8]) -> Result<AlarmNotification<'_>, AlarmFaul
     // Which it is.
     ensures exact { result ≡ notification_of body.now }
 {
-    notification_in(body)
+    notification_in(read_block(body))
 }

@@ -1,0 +1,13 @@
+-- What an exchange holds, as a world.
+use Rattle.pn_alarms.specs.declared.exchange.Exchange.{Exchange}
+use Rattle.pn_alarms.specs.World.{World}
+
+abbrev pub world_of : Exchange → World
+world_of e = record {
+  device = e.device;
+  controller = e.controller;
+  alarms = record { sent = e.raised.items; pdus = e.alarms.items; taken = e.taken.items };
+  confirms = record { sent = e.confirmed.items; pdus = e.confirms.items; taken = e.heard.items };
+  acks_to_device = e.acks_to_device.items;
+  acks_to_controller = e.acks_to_controller.items;
+}
