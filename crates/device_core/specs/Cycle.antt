@@ -1,5 +1,5 @@
 -- A cycle of a device, from a start to the next one after a power failure.
-use Rattle.std.specs.Prelude.{◌≡◌, ◌⊎◌, ℕ, false, List, [], ◌∷◌, ◌++◌}
+use Rattle.std.specs.Prelude.{◌≡◌, ◌⊎◌, ℕ, false, None, List, [], ◌∷◌, ◌++◌}
 use Rattle.flash_model.specs.Calls.{Call}
 use Rattle.flash_model.specs.Image.{Image}
 use Rattle.pn_values.specs.declared.settings.Settings.{Settings}
@@ -15,12 +15,12 @@ use Rattle.device_core.specs.State.{Station, State, Live}
 use Rattle.device_core.specs.Machine.{Ran, run_of}
 use Rattle.device_core.specs.Steps.{EventByEvent, AnswersBy}
 
--- a device as it starts: what is stored runs, no commit failed, power is there, and of the rest nothing: the lamp is off, and no
--- answer is kept
+-- a device as it starts: what is stored runs, no commit failed, power is there, and of the rest nothing: the lamp is off, no
+-- answer is kept, and there is no relation
 abbrev pub started : Settings → ℕ → Live
 started settings room = record {
   values = record { running = settings; stored = settings; room = room; has_failed = false; is_lost = false };
-  rest = record { lamp = 0; calls = [] };
+  rest = record { lamp = 0; calls = []; link = None };
 }
 
 -- the events of a cycle that begins with the first settings, and with room for so many commits

@@ -33,9 +33,9 @@ pub record IsAsIn (step : Stepped) (sent : List (List ℕ)) (said : Note) (next 
 pub record StepGoesOn (station : Station) (live : Live) (heard : Heard) (sent : List (List ℕ)) (said : Note) (next : Live) : Type 0 where
   pub answers : List BlockError
   pub settings : GoesOn live.values (items_of station live heard) answers next.values
-  pub rest : next.rest ≡ (finished live.rest (judged station live heard) answers).rest
-  pub frames : sent ≡ map (bytes_of station.identity) (finished live.rest (judged station live heard) answers).sent
-  pub note : said ≡ (finished live.rest (judged station live heard) answers).note
+  pub rest : next.rest ≡ (finished station.identity live.rest (judged station live heard) answers).rest
+  pub frames : sent ≡ map (bytes_of station.identity) (finished station.identity live.rest (judged station live heard) answers).sent
+  pub note : said ≡ (finished station.identity live.rest (judged station live heard) answers).note
   pub as_ever : asks_nothing (items_of station live heard) ≡ true → (other : Live) → other.values.running ≡ live.values.running → other.rest ≡ live.rest
       → IsAsIn (heard_step [] station other heard) sent said next
 

@@ -1,5 +1,5 @@
 -- What an event is to a device.
-use Rattle.std.specs.Prelude.{◌==◌, ◌&&◌, ◌||◌, ℕ, Bool, nat_eq, List, [], ◌∷◌, if◌then◌else◌, Result, Ok, Err}
+use Rattle.std.specs.Prelude.{◌==◌, ◌&&◌, ◌||◌, ℕ, Bool, nat_eq, nat_le, List, [], ◌∷◌, if◌then◌else◌, Result, Ok, Err}
 use Rattle.std.specs.Cmp.Lexicographic.{pointwise}
 use Rattle.pn_values.specs.declared.mac.Mac.{Mac}
 use Rattle.pn_values.specs.declared.identity.Identity.{Identity}
@@ -14,6 +14,10 @@ use Rattle.rpc_core.specs.declared.fault.RpcFault.{RpcFault}
 use Rattle.rpc_core.specs.declared.interface.Interface.TheVariants.{Device}
 use Rattle.rpc_core.specs.Call.{Asked as Call, call_of}
 use Rattle.rpc_core.specs.Response.{Answered, response_of}
+use Rattle.pn_alarms.specs.declared.fault.AlarmFault.{AlarmFault}
+use Rattle.pn_alarms.specs.declared.message.Message.{Message}
+use Rattle.pn_alarms.specs.declared.pdu.Header.{Header}
+use Rattle.pn_alarms.specs.Message.{message_of}
 use Rattle.device_core.specs.declared.event.Event.{Event}
 use Rattle.device_core.specs.declared.event.Event.TheVariants.{Frame, Tick}
 use Rattle.device_core.specs.declared.hearing.Caller.{Caller}
@@ -25,7 +29,8 @@ pub data Said : Type 0 where
   Garbled : Said
 
 -- What an event is: a unit of time, a frame that cannot be read, one for somebody else, a request of DCP and who asks it, a
--- packet of ARP and who sends it, or a datagram: who sends it, to which address, and what it says.
+-- packet of ARP and who sends it, a datagram: who sends it, to which address, and what it says; a cyclic frame; or an alarm frame:
+-- who sends it, between which endpoints, and what it says.
 pub data Heard : Type 0 where
   Ticks : Heard
   Unreadable : Heard
@@ -33,6 +38,8 @@ pub data Heard : Type 0 where
   Asks : (source : Mac) → (request : Asked) → Heard
   Resolves : (asker : Mac) → (arp : Arp) → Heard
   Told : (caller : Caller) → (address : List ℕ) → (said : Said) → Heard
+  Cyclic : (source : Mac) → (frame_id : ℕ) → (body : List ℕ) → Heard
+  Alarms : (source : Mac) → (header : Header) → (message : Message) → Heard
 
 -- the address of all stations for Identify requests
 abbrev pub identify_multicast : List ℕ
@@ -52,6 +59,18 @@ abbrev pub is_taken : Identity → Mac → ℕ → Bool
 is_taken identity destination frame_id =
     (frame_id == 65277 && is_own identity destination)
     || (frame_id == 65278 && (is_own identity destination || pointwise nat_eq destination.octets identify_multicast))
+
+-- FrameIDs of cyclic frames, of class 2 and of class 1, and of alarms of high and of low priority (IEC 61158-6-10, 4.7)
+abbrev pub is_cyclic : ℕ → Bool
+is_cyclic frame_id = (nat_le 0x8000 frame_id && nat_le frame_id 0xBBFF) || (nat_le 0xC000 frame_id && nat_le frame_id 0xF7FF)
+
+abbrev pub is_alarm : ℕ → Bool
+is_alarm frame_id = frame_id == 0xFC01 || frame_id == 0xFE01
+
+-- data that carries no whole AlarmAck cannot be read either, whoever sends it
+abbrev pub heard_alarm : Mac → Result (Header × Message) AlarmFault → Heard
+heard_alarm source (Ok x) = Alarms source x.0 x.1
+heard_alarm source (Err fault) = Unreadable
 
 abbrev pub heard_request : Mac → Result Asked DcpFault → Heard
 heard_request source (Ok request) = Asks source request
@@ -73,7 +92,10 @@ said_by body = said_first (call_of Device body) (response_of body)
 -- a packet of ARP is taken that goes to this device or to all stations, and a datagram to port 34964 of this device
 abbrev pub heard_content : Identity → Mac → Mac → Content → Heard
 heard_content identity destination source (RealTime frame_id body) =
-    if is_taken identity destination frame_id then heard_request source (request_of frame_id body) else Elsewhere
+    if is_taken identity destination frame_id then heard_request source (request_of frame_id body)
+    else if is_own identity destination && is_alarm frame_id then heard_alarm source (message_of body)
+    else if is_own identity destination && is_cyclic frame_id then Cyclic source frame_id body
+    else Elsewhere
 heard_content identity destination source (ArpPacket arp) =
     if is_own identity destination || pointwise nat_eq destination.octets broadcast then Resolves source arp else Elsewhere
 heard_content identity destination source (UdpDatagram from to body) =

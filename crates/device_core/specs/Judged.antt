@@ -1,9 +1,10 @@
 -- What an event comes to, judged on the state before it.
-use Rattle.std.specs.Prelude.{◌-◌, ◌&&◌, ℕ, Bool, true, false, not, nat_eq, List, [], ◌∷◌, if◌then◌else◌, Option, Some, None, Result, Ok, Err}
+use Rattle.std.specs.Prelude.{◌-◌, ◌&&◌, ℕ, Bool, true, false, not, nat_eq, List, [], ◌∷◌, ◌++◌, if◌then◌else◌, Option, Some, None, is_some, Result, Ok, Err}
 use Rattle.std.specs.Cmp.Lexicographic.{pointwise}
 use Rattle.pn_values.specs.declared.mac.Mac.{Mac}
 use Rattle.pn_values.specs.declared.identity.Identity.{Identity}
 use Rattle.pn_values.specs.declared.settings.Settings.{Settings}
+use Rattle.pn_values.specs.declared.im_value.ImValue.{ImValue}
 use Rattle.pn_values.specs.IpSuite.{is_zero}
 use Rattle.frame_codec.specs.declared.arp.Arp.{Arp}
 use Rattle.frame_codec.specs.declared.arp.ArpOperation.{ArpOperation}
@@ -22,19 +23,43 @@ use Rattle.pnio_status.specs.declared.call_fault.CallFault.{CallFault}
 use Rattle.pnio_status.specs.declared.call_fault.CallFault.TheVariants.{Arguments}
 use Rattle.pnio_status.specs.Operation.{operation_of}
 use Rattle.pnio_status.specs.Status.{done, status_of}
+use Rattle.connect_blocks.specs.declared.control.ControlBlock.{ControlBlock}
+use Rattle.record_blocks.specs.declared.write_record.IodWriteReq.{IodWriteReq}
 use Rattle.record_reads.specs.Implicit.{implicit_read}
+use Rattle.record_reads.specs.Within.{relation_read, names_relation}
+use Rattle.record_writes.specs.declared.taken.Taken.{Taken}
+use Rattle.record_writes.specs.declared.write.Effect.{Effect}
+use Rattle.record_writes.specs.declared.write.Effect.TheVariants.{Stores, Keeps}
+use Rattle.record_writes.specs.declared.write.Write.{Write as Asking}
+use Rattle.record_writes.specs.Answer.{answer_of}
+use Rattle.record_writes.specs.Judged.{write_of}
+use Rattle.pn_alarms.specs.declared.message.Message.{Message}
+use Rattle.pn_alarms.specs.declared.message.Message.TheVariants as says
+use Rattle.pn_alarms.specs.declared.pdu.Header.{Header}
+use Rattle.relations.specs.declared.farewell.Farewell.{Farewell}
+use Rattle.relations.specs.declared.hearing.Heard.{Heard as Answer}
+use Rattle.relations.specs.declared.hearing.Heard.TheVariants as to_ready
+use Rattle.relations.specs.declared.phase.Partner.{Partner}
+use Rattle.relations.specs.Link.{Link, uuid_of, differing_in, is_alarm_of}
+use Rattle.relations.specs.Calls.{prm_end_of, release_of, prm_end_answer, release_answer}
+use Rattle.relations.specs.Connect.{connect_of, connect_answer, making}
+use Rattle.relations.specs.Ready.{ready_of, answer_of as ready_answer, judged_by}
+use Rattle.relations.specs.Timers.{due_of}
+use Rattle.relations.specs.Phases.{Judged as Moving, Parameterized, Named, Ended, Unmoved, answered, keeping, moved, passing, taking}
 use Rattle.device_core.specs.declared.event.Note.{Note}
 use Rattle.device_core.specs.declared.event.Note.TheVariants as note
 use Rattle.device_core.specs.declared.hearing.Caller.{Caller}
 use Rattle.device_core.specs.State.{Station, Rest, Live}
-use Rattle.device_core.specs.Sent.{Sent, IdentifyAnswer, GetAnswer, ArpReply, CallAnswer, Again, bytes_of}
-use Rattle.device_core.specs.Heard.{Heard, Ticks, Unreadable, Elsewhere, Asks, Resolves, Told, Said, Calls, Responds, Garbled}
+use Rattle.device_core.specs.Sent.{Sent, IdentifyAnswer, GetAnswer, ArpReply, CallAnswer, Again, ReadyCall, Ends, bytes_of}
+use Rattle.device_core.specs.Heard.{Heard, Ticks, Unreadable, Elsewhere, Asks, Resolves, Told, Cyclic, Alarms, Said, Calls, Responds, Garbled}
 
--- What an event comes to: refused, with the note that says why; a Set, whose blocks are asked of the settings; or a move, after
--- which the rest is this and these messages are sent.
+-- What an event comes to: refused, with the note that says why; a Set, whose blocks are asked of the settings; a Write of an I&M
+-- text, which is asked of them, by whom and to which address it was called, the call, its header and the text; or a move, after
+-- which the rest is another and these messages are sent.
 pub data Judged : Type 0 where
   Refuses : (note : Note) → Judged
   Sets : (asker : Mac) → (request : Asked) → (in_operation : Bool) → Judged
+  Writes : (caller : Caller) → (address : List ℕ) → (call : Call) → (header : IodWriteReq) → (value : ImValue) → Judged
   Moves : (rest : Rest) → (sent : List Sent) → Judged
 
 -- ---- DCP
@@ -46,11 +71,11 @@ identified station live asker request =
     then Moves live.rest (IdentifyAnswer asker live.values.running request.xid ∷ [])
     else Refuses note.Filter
 
--- a request, by its service; no application relation exists
+-- a request, by its service; whether a relation exists is judged as the frame arrives, for all blocks of a Set
 abbrev pub judged_request : Station → Live → Mac → Service → Asked → Judged
 judged_request station live asker service.Identify request = identified station live asker request
 judged_request station live asker service.Get request = Moves live.rest (GetAnswer asker live.values.running request ∷ [])
-judged_request station live asker service.Set request = Sets asker request false
+judged_request station live asker service.Set request = Sets asker request (is_some live.rest.link)
 
 -- ---- ARP (RFC 826)
 
@@ -71,56 +96,118 @@ judged_arp live asker packet =
 
 -- ---- calls (IEC 61158-6-10, 4.10)
 
--- the operations that are served: Read Implicit, by which anybody reads a record
-abbrev pub is_served : Option Operation → Bool
-is_served None = false
-is_served (Some Connect) = false
-is_served (Some Release) = false
-is_served (Some Read) = false
-is_served (Some Write) = false
-is_served (Some Control) = false
-is_served (Some ReadImplicit) = true
+-- how a call comes out: the status and the blocks of its answer, of which a negative one has none
+abbrev pub outcome_of : Operation → Result (List ℕ) CallFault → Status × List ℕ
+outcome_of operation (Ok blocks) = (done, blocks)
+outcome_of operation (Err fault) = (status_of operation fault, [])
 
--- how a Read Implicit comes out: the status and the blocks of its answer, of which a negative one has none
-abbrev pub outcome_of : Result (List ℕ) CallFault → Status × List ℕ
-outcome_of (Ok blocks) = (done, blocks)
-outcome_of (Err fault) = (status_of ReadImplicit fault, [])
+-- the answer to a call that came out so, from this address
+abbrev pub answer_from : List ℕ → Caller → Call → Operation → Result (List ℕ) CallFault → Sent
+answer_from address caller call operation outcome =
+    let came = outcome_of operation outcome in
+    CallAnswer caller address (answer_to call came.0 came.1)
 
--- the answer to a call that came out so, from the running address
-abbrev pub answer_from : Live → Caller → Call → Status × List ℕ → Sent
-answer_from live caller call outcome = CallAnswer caller live.values.running.suite.address (answer_to call outcome.0 outcome.1)
+-- a call that came out so, with these blocks where it is done
+abbrev pub came_with : Result (Unit {0}) CallFault → List ℕ → Result (List ℕ) CallFault
+came_with (Ok it) blocks = Ok blocks
+came_with (Err fault) blocks = Err fault
 
 -- what is kept of an answer to a call: its frame
 abbrev pub kept_for : Identity → Call → Sent → Kept
 kept_for identity call answer = record { activity = call.header.activity; sequence = call.header.sequence; frame = bytes_of identity answer }
 
--- a call that is new is answered, and of the last four activities the last answer is kept
-abbrev pub judged_new : Station → Live → Caller → Call → List ℕ → Judged
-judged_new station live caller call blocks =
-    let answer = answer_from live caller call (outcome_of (implicit_read station.identity station.real live.values.running blocks)) in
-    Moves (record live.rest { calls = kept_more 4 (kept_for station.identity call answer) live.rest.calls }) (answer ∷ [])
+-- a call that was answered so, behind which this is the relation: of the last four activities the last answer is kept
+abbrev pub kept_behind : Identity → Rest → Call → Sent → Option Link → Rest
+kept_behind identity rest call answer link =
+    record rest { calls = kept_more 4 (kept_for identity call answer) rest.calls; link = link }
+
+-- a call that comes out so, behind which this is the relation: it is answered, and then this is sent
+abbrev pub served : Station → Live → Caller → Call → Operation → Result (List ℕ) CallFault → Option Link → List Sent → Judged
+served station live caller call operation outcome link behind =
+    let answer = answer_from live.values.running.suite.address caller call operation outcome in
+    Moves (kept_behind station.identity live.rest call answer link) (answer ∷ behind)
+
+-- ApplicationReady of a relation, if there is one, from this address
+abbrev pub ready_calls : List ℕ → Option Link → List Sent
+ready_calls address None = []
+ready_calls address (Some link) = ReadyCall address (ready_of link) ∷ []
+
+-- what follows PrmEnd that is accepted
+abbrev pub ready_behind : List ℕ → Option Link → Result ControlBlock CallFault → List Sent
+ready_behind address link (Ok block) = ready_calls address link
+ready_behind address link (Err fault) = []
+
+abbrev pub partner_of : Caller → Partner
+partner_of caller = record { mac = caller.mac; address = caller.endpoint.address }
+
+-- what becomes of a Read Implicit: it names the relation or not
+abbrev pub implicitly : Option Link → List ℕ → Moving
+implicitly link blocks = if names_relation (uuid_of link) blocks then Named else Unmoved
+
+-- a Write of a parameter record: it is kept, where there is room, and shows that the controller is there
+abbrev pub kept_answer : IodWriteReq → Result (List Taken) CallFault → Result (List ℕ) CallFault
+kept_answer header (Ok taken) = Ok (answer_of header)
+kept_answer header (Err fault) = Err fault
+
+abbrev pub judged_effect : Station → Live → Caller → Call → IodWriteReq → Effect → Judged
+judged_effect station live caller call header (Stores value) = Writes caller live.values.running.suite.address call header value
+judged_effect station live caller call header (Keeps parameter) =
+    let kept = keeping parameter live.rest.link in
+    served station live caller call Write (kept_answer header kept) (moved (answered Named kept) (moved (taking kept) live.rest.link)) []
+
+abbrev pub judged_write : Station → Live → Caller → Call → Result Asking CallFault → Judged
+judged_write station live caller call (Ok write) = judged_effect station live caller call write.request write.effect
+judged_write station live caller call (Err fault) = served station live caller call Write (Err fault) live.rest.link []
+
+-- a call that is new, by its operation
+abbrev pub judged_new : Station → Live → Caller → Call → List ℕ → Operation → Judged
+judged_new station live caller call blocks Connect =
+    served station live caller call Connect (connect_answer station.identity station.real live.rest.link blocks)
+    (moved (making station.real (partner_of caller) (connect_of live.rest.link blocks)) live.rest.link) []
+judged_new station live caller call blocks Release =
+    served station live caller call Release (release_answer live.rest.link blocks) (moved (answered Ended (release_of live.rest.link blocks)) live.rest.link) []
+judged_new station live caller call blocks Read =
+    let read = relation_read (uuid_of live.rest.link) (differing_in live.rest.link) station.identity station.real live.values.running blocks in
+    served station live caller call Read read (moved (answered Named read) live.rest.link) []
+judged_new station live caller call blocks Write = judged_write station live caller call (write_of (uuid_of live.rest.link) station.real blocks)
+judged_new station live caller call blocks Control =
+    let ended = prm_end_of live.rest.link blocks in
+    let link = moved (answered Parameterized ended) live.rest.link in
+    served station live caller call Control (prm_end_answer live.rest.link blocks) link (ready_behind live.values.running.suite.address link ended)
+judged_new station live caller call blocks ReadImplicit =
+    let read = implicit_read station.identity station.real live.values.running blocks in
+    served station live caller call ReadImplicit read (moved (answered (implicitly live.rest.link blocks) read) live.rest.link) []
 
 -- A call by what the cache tells of it: it is answered anew, or again by the same frame, or it is older than one of its activity
 -- that was answered.
-abbrev pub judged_looked : Station → Live → Caller → Call → List ℕ → Looked → Judged
-judged_looked station live caller call blocks new = judged_new station live caller call blocks
-judged_looked station live caller call blocks (again frame) = Moves live.rest (Again frame ∷ [])
-judged_looked station live caller call blocks old = Refuses note.OldCall
+abbrev pub judged_looked : Station → Live → Caller → Call → List ℕ → Operation → Looked → Judged
+judged_looked station live caller call blocks operation new = judged_new station live caller call blocks operation
+judged_looked station live caller call blocks operation (again frame) = Moves live.rest (Again frame ∷ [])
+judged_looked station live caller call blocks operation old = Refuses note.OldCall
 
 -- where the blocks are not counted well that is answered whatever the cache tells, and not kept
-abbrev pub judged_blocks : Station → Live → Caller → Call → Option (List ℕ) → Judged
-judged_blocks station live caller call None = Moves live.rest (answer_from live caller call (outcome_of (Err Arguments)) ∷ [])
-judged_blocks station live caller call (Some blocks) =
-    judged_looked station live caller call blocks (looked call.header.activity call.header.sequence live.rest.calls)
+abbrev pub judged_blocks : Station → Live → Caller → Call → Operation → Option (List ℕ) → Judged
+judged_blocks station live caller call operation None =
+    Moves live.rest (answer_from live.values.running.suite.address caller call operation (Err Arguments) ∷ [])
+judged_blocks station live caller call operation (Some blocks) =
+    judged_looked station live caller call blocks operation (looked call.header.activity call.header.sequence live.rest.calls)
 
-abbrev pub judged_call : Station → Live → Caller → Call → Judged
-judged_call station live caller call =
-    if is_served (operation_of call.header.operation) then judged_blocks station live caller call call.blocks else Refuses note.Fault
+-- an operation that is none is dropped
+abbrev pub judged_call : Station → Live → Caller → Call → Option Operation → Judged
+judged_call station live caller call None = Refuses note.Fault
+judged_call station live caller call (Some operation) = judged_blocks station live caller call operation call.blocks
 
--- no response is waited for: no relation stands
+-- the answer to ApplicationReady, by what it is to the relation
+abbrev pub judged_answer : Live → Answer → Judged
+judged_answer live to_ready.NotWanted = Refuses note.NoRelation
+judged_answer live to_ready.Garbled = Refuses note.Fault
+judged_answer live to_ready.Confirmed = Moves (record live.rest { link = moved (judged_by to_ready.Confirmed) live.rest.link }) []
+judged_answer live (to_ready.Refused farewell) =
+    Moves (record live.rest { link = moved (judged_by (to_ready.Refused farewell)) live.rest.link }) (Ends farewell ∷ [])
+
 abbrev pub judged_said : Station → Live → Caller → Said → Judged
-judged_said station live caller (Calls call) = judged_call station live caller call
-judged_said station live caller (Responds response) = Refuses note.NoRelation
+judged_said station live caller (Calls call) = judged_call station live caller call (operation_of call.header.operation)
+judged_said station live caller (Responds response) = judged_answer live (ready_answer response live.rest.link)
 judged_said station live caller Garbled = Refuses note.Fault
 
 -- the address is looked at first
@@ -128,16 +215,37 @@ abbrev pub judged_datagram : Station → Live → Caller → List ℕ → Said �
 judged_datagram station live caller address said =
     if is_running live.values.running address then judged_said station live caller said else Refuses note.NotMine
 
+-- ---- alarm frames: the ERR of the controller ends the relation, and nothing is sent; alarms themselves are not served yet
+
+abbrev pub judged_message : Live → Message → Judged
+judged_message live says.Abort = Moves (record live.rest { link = moved Ended live.rest.link }) []
+judged_message live (says.Data number ack) = Refuses note.Filter
+judged_message live (says.Ack number) = Refuses note.Filter
+judged_message live says.Nack = Refuses note.Filter
+
+abbrev pub judged_alarm : Live → Mac → Header → Message → Judged
+judged_alarm live source header message =
+    if is_alarm_of source header.destination header.source live.rest.link then judged_message live message else Refuses note.NoRelation
+
 -- ---- events
 
--- a unit of time later
-abbrev pub ticked : Rest → Rest
-ticked rest = record rest { lamp = rest.lamp - 1 }
+abbrev pub farewells_in : Option Farewell → List Sent
+farewells_in None = []
+farewells_in (Some farewell) = Ends farewell ∷ []
+
+-- a unit of time later: timers advance, a timeout ends the relation and nothing more is sent, and else ApplicationReady may be due
+abbrev pub ticked : Live → Judged
+ticked live =
+    let due = due_of live.rest.link in
+    let link = moved (passing live.rest.link) live.rest.link in
+    Moves (record live.rest { lamp = live.rest.lamp - 1; link = link }) (farewells_in due.farewell ++ (if due.is_ready then ready_calls live.values.running.suite.address link else []))
 
 abbrev pub judged : Station → Live → Heard → Judged
 judged station live (Asks asker request) = judged_request station live asker request.service request
 judged station live (Resolves asker packet) = judged_arp live asker packet
 judged station live (Told caller address said) = judged_datagram station live caller address said
-judged station live Ticks = Moves (ticked live.rest) []
+judged station live (Alarms source header message) = judged_alarm live source header message
+judged station live (Cyclic source frame_id body) = Refuses note.NoRelation
+judged station live Ticks = ticked live
 judged station live Unreadable = Refuses note.Fault
 judged station live Elsewhere = Refuses note.NotMine

@@ -1,23 +1,36 @@
 -- One step of a device, and a run of steps, given what becomes of each call that stores a command.
-use Rattle.std.specs.Prelude.{ℕ, Bool, true, false, List, [], ◌∷◌, ◌++◌, map, if◌then◌else◌}
+use Rattle.std.specs.Prelude.{ℕ, Bool, true, false, List, [], ◌∷◌, ◌++◌, ◌&&◌, ◌||◌, map, Option, Some, None, Result, Ok, Err, if◌then◌else◌}
 use Rattle.std.specs.List.{list_any}
 use Rattle.pn_values.specs.declared.set_item.SetItem.{SetItem}
 use Rattle.pn_values.specs.declared.set_item.SetItem.TheVariants.{Ask, Signal, Answer}
 use Rattle.pn_values.specs.declared.set_item.BlockError.{BlockError}
+use Rattle.pn_values.specs.declared.set_item.BlockError.TheVariants as error
+use Rattle.pn_values.specs.declared.command.Command.TheVariants.{SetName, SetIp, SetIm, ResetApplication, ResetCommunication, ResetAll}
+use Rattle.record_blocks.specs.declared.write_record.IodWriteReq.{IodWriteReq}
+use Rattle.pnio_status.specs.declared.operation.Operation.TheVariants.{Write}
+use Rattle.pnio_status.specs.declared.call_fault.CallFault.{CallFault}
+use Rattle.pnio_status.specs.declared.call_fault.CallFault.TheVariants as fault
+use Rattle.record_writes.specs.Answer.{answer_of}
+use Rattle.pn_alarms.specs.declared.abort.Abort.TheVariants.{Other}
+use Rattle.relations.specs.Link.{Link}
+use Rattle.relations.specs.Farewells.{farewell_of}
+use Rattle.relations.specs.Phases.{Ended, Named, answered, moved}
+use Rattle.pn_values.specs.declared.identity.Identity.{Identity}
 use Rattle.settings_store.specs.Machine.{Outcome, Accepted, carried}
 use Rattle.dcp_core.specs.Set.{plan_of}
 use Rattle.device_core.specs.declared.event.Event.{Event}
 use Rattle.device_core.specs.declared.event.Note.{Note}
 use Rattle.device_core.specs.declared.event.Note.TheVariants as note
 use Rattle.device_core.specs.State.{Station, Rest, Live}
-use Rattle.device_core.specs.Sent.{Sent, SetAnswer, bytes_of}
+use Rattle.device_core.specs.Sent.{Sent, SetAnswer, Ends, bytes_of}
 use Rattle.device_core.specs.Heard.{Heard, heard_of}
-use Rattle.device_core.specs.Judged.{Judged, Refuses, Sets, Moves, judged}
+use Rattle.device_core.specs.Judged.{Judged, Refuses, Sets, Writes, Moves, answer_from, kept_behind, judged}
 
--- what the settings are asked for: the blocks of a Set, in order
+-- what the settings are asked for: the blocks of a Set, in order, or the one I&M text of a Write
 abbrev pub items_in : Judged → List SetItem
 items_in (Refuses note) = []
 items_in (Sets asker request in_operation) = plan_of in_operation request
+items_in (Writes caller address call header value) = Ask (SetIm value) ∷ []
 items_in (Moves rest sent) = []
 
 abbrev pub items_of : Station → Live → Heard → List SetItem
@@ -33,22 +46,87 @@ is_signal (Answer answer) = false
 abbrev pub lamp_after : ℕ → List SetItem → ℕ
 lamp_after lamp items = if list_any is_signal items then 96000 else lamp
 
+-- ---- an ending reset
+
+abbrev pub is_reset : SetItem → Bool
+is_reset (Ask ResetApplication) = true
+is_reset (Ask ResetCommunication) = true
+is_reset (Ask ResetAll) = true
+is_reset (Ask (SetName permanent name)) = false
+is_reset (Ask (SetIp permanent suite)) = false
+is_reset (Ask (SetIm value)) = false
+is_reset Signal = false
+is_reset (Answer answer) = false
+
+abbrev pub is_done : BlockError → Bool
+is_done error.Done = true
+is_done error.Option = false
+is_done error.Suboption = false
+is_done error.Value = false
+is_done error.Exhausted = false
+is_done error.Local = false
+is_done error.InOperation = false
+
+-- whether a reset among these items was answered 'done', each item with its own answer
+abbrev pub resets : List SetItem → List BlockError → Bool
+resets [] answers = false
+resets (item ∷ items) [] = false
+resets (item ∷ items) (answer ∷ answers) = (is_reset item && is_done answer) || resets items answers
+
+-- the relation ends with a reset that is done, and ERR says so, in front of the answer to the Set
+abbrev pub link_after : Bool → Option Link → Option Link
+link_after true link = moved Ended link
+link_after false link = link
+
+abbrev pub farewells_at : Bool → Option Link → List Sent
+farewells_at true (Some link) = Ends (farewell_of Other link) ∷ []
+farewells_at true None = []
+farewells_at false link = []
+
+-- ---- an I&M text that is written
+
+-- how a Write comes out whose command is answered so: it has no room, the flash failed, or it is done
+abbrev pub written_as : IodWriteReq → BlockError → Result (List ℕ) CallFault
+written_as header error.Done = Ok (answer_of header)
+written_as header error.Exhausted = Err fault.JournalExhausted
+written_as header error.Local = Err fault.FlashFault
+written_as header error.Option = Err fault.FlashFault
+written_as header error.Suboption = Err fault.FlashFault
+written_as header error.Value = Err fault.FlashFault
+written_as header error.InOperation = Err fault.FlashFault
+
+-- the answer to the one item
+abbrev pub first_answer : List BlockError → BlockError
+first_answer [] = error.Local
+first_answer (answer ∷ answers) = answer
+
 -- what comes of an event beside the settings: the rest, the messages that are sent, and what is said of the event
 pub record Finished : Type 0 where
   pub rest : Rest
   pub sent : List Sent
   pub note : Note
 
--- what comes of what was judged, given the answers to its items
-abbrev pub finished : Rest → Judged → List BlockError → Finished
-finished rest (Refuses note) answers = record { rest = rest; sent = []; note = note }
-finished rest (Sets asker request in_operation) answers =
-    record { rest = record rest { lamp = lamp_after rest.lamp (plan_of in_operation request) }; sent = SetAnswer asker request answers ∷ []; note = note.Done }
-finished rest (Moves moved sent) answers = record { rest = moved; sent = sent; note = note.Done }
+-- What comes of what was judged, given the answers to its items. A Set has the lamp flash, and its resets that are done end the
+-- relation; a Write is answered by what became of its command, and the answer is kept; one that is done shows that the controller is there.
+abbrev pub finished : Identity → Rest → Judged → List BlockError → Finished
+finished identity rest (Refuses note) answers = record { rest = rest; sent = []; note = note }
+finished identity rest (Sets asker request in_operation) answers =
+    let items = plan_of in_operation request in
+    let ends = resets items answers in
+    record {
+      rest = record rest { lamp = lamp_after rest.lamp items; link = link_after ends rest.link };
+      sent = farewells_at ends rest.link ++ SetAnswer asker request answers ∷ [];
+      note = note.Done;
+    }
+finished identity rest (Writes caller address call header value) answers =
+    let outcome = written_as header (first_answer answers) in
+    let answer = answer_from address caller call Write outcome in
+    record { rest = kept_behind identity rest call answer (moved (answered Named outcome) rest.link); sent = answer ∷ []; note = note.Done }
+finished identity rest (Moves later sent) answers = record { rest = later; sent = sent; note = note.Done }
 
 -- the same where nothing is asked of the settings
-abbrev pub end_of : Live → Judged → Finished
-end_of live what = finished live.rest what []
+abbrev pub end_of : Station → Live → Judged → Finished
+end_of station live what = finished station.identity live.rest what []
 
 -- A step: what changes, the messages that are sent and their frames, what is said of the event, and the commands that
 -- were accepted.
@@ -63,7 +141,7 @@ pub record Stepped : Type 0 where
 unfoldable pub judged_step : List Outcome → Station → Live → Judged → Stepped
 judged_step outcomes station live what =
     let settled = carried outcomes live.values (items_in what) in
-    let end = finished live.rest what settled.answers in
+    let end = finished station.identity live.rest what settled.answers in
     record {
       live = record { values = settled.values; rest = end.rest };
       sent = end.sent;

@@ -1,5 +1,5 @@
 -- What a device sends: messages by their meaning, and the one way from them to octets.
-use Rattle.std.specs.Prelude.{ℕ, List, None}
+use Rattle.std.specs.Prelude.{ℕ, List, Some, None}
 use Rattle.pn_values.specs.declared.mac.Mac.{Mac}
 use Rattle.pn_values.specs.declared.identity.Identity.{Identity}
 use Rattle.pn_values.specs.declared.settings.Settings.{Settings}
@@ -12,11 +12,21 @@ use Rattle.dcp_core.specs.Request.{Asked}
 use Rattle.dcp_core.specs.Identify.{identify_bytes}
 use Rattle.dcp_core.specs.Get.{get_bytes}
 use Rattle.dcp_core.specs.Set.{set_bytes}
+use Rattle.rpc_core.specs.declared.interface.Interface.TheVariants.{Controller}
+use Rattle.rpc_core.specs.Call.{call_bytes}
 use Rattle.rpc_core.specs.Response.{Answered, response_bytes}
+use Rattle.block_codec.specs.declared.block.Block.TheVariants as is
+use Rattle.block_codec.specs.Block.{block_bytes}
+use Rattle.pn_alarms.specs.declared.pdu.PduType.TheVariants.{Error}
+use Rattle.pn_alarms.specs.Format.{frame_id_of, pdu_bytes}
+use Rattle.relations.specs.declared.farewell.Farewell.{Farewell}
+use Rattle.relations.specs.declared.ready.Ready.{Ready}
+use Rattle.relations.specs.Farewells.{said_by}
 use Rattle.device_core.specs.declared.hearing.Caller.{Caller}
 
 -- A message, and to whom: the answer to an Identify request, to a Get, or to a Set and how each of its blocks came out; who
--- holds an address, told to whom asked for it; the answer to a call, from this address; or the frame of such an answer again.
+-- holds an address, told to whom asked for it; the answer to a call, from this address; the frame of such an answer again; the
+-- call ApplicationReady, from this address; or the ERR by which this device ends its relation.
 pub data Sent : Type 0 where
   IdentifyAnswer : (asker : Mac) → (running : Settings) → (xid : ℕ) → Sent
   GetAnswer : (asker : Mac) → (running : Settings) → (request : Asked) → Sent
@@ -24,10 +34,16 @@ pub data Sent : Type 0 where
   ArpReply : (asker : Mac) → (address : List ℕ) → (target : Holder) → Sent
   CallAnswer : (caller : Caller) → (address : List ℕ) → (answer : Answered) → Sent
   Again : (frame : List ℕ) → Sent
+  ReadyCall : (address : List ℕ) → (ready : Ready) → Sent
+  Ends : (farewell : Farewell) → Sent
 
 -- a frame of this device, which has no tag
 abbrev pub own_frame : Identity → Mac → Content → List ℕ
 own_frame identity destination content = frame_bytes (record { destination = destination; source = identity.mac; tag = None; content = content })
+
+-- one with a tag: of alarms
+abbrev pub tagged_frame : Identity → Mac → ℕ → Content → List ℕ
+tagged_frame identity destination tag content = frame_bytes (record { destination = destination; source = identity.mac; tag = Some tag; content = content })
 
 -- a DCP answer to whom asked: FrameID, and what follows it
 abbrev pub answer_frame : Identity → Mac → ℕ → List ℕ → List ℕ
@@ -43,6 +59,16 @@ abbrev pub response_frame : Identity → Caller → List ℕ → Answered → Li
 response_frame identity caller address answer =
     own_frame identity caller.mac (UdpDatagram (record { address = address; port = 34964 }) caller.endpoint (response_bytes answer))
 
+-- ApplicationReady, to the station that asked for the relation: its response may have 1,372 octets of blocks
+abbrev pub ready_frame : Identity → List ℕ → Ready → List ℕ
+ready_frame identity address ready =
+    own_frame identity ready.partner.mac (UdpDatagram (record { address = address; port = 34964 }) (record { address = ready.partner.address; port = 34964 })
+    (call_bytes Controller (record { header = ready.header; args_maximum = 1372; blocks = Some (block_bytes (is.ApplicationReady ready.block)) })))
+
+-- an ERR, to CMInitiatorMacAdd
+abbrev pub farewell_frame : Identity → Farewell → List ℕ
+farewell_frame identity farewell = tagged_frame identity farewell.initiator farewell.tag (RealTime (frame_id_of Error) (pdu_bytes (said_by farewell)))
+
 -- the octets of a message
 abbrev pub bytes_of : Identity → Sent → List ℕ
 bytes_of identity (IdentifyAnswer asker running xid) = answer_frame identity asker 65279 (identify_bytes identity running xid)
@@ -51,3 +77,5 @@ bytes_of identity (SetAnswer asker request answers) = answer_frame identity aske
 bytes_of identity (ArpReply asker address target) = reply_frame identity asker address target
 bytes_of identity (CallAnswer caller address answer) = response_frame identity caller address answer
 bytes_of identity (Again frame) = frame
+bytes_of identity (ReadyCall address ready) = ready_frame identity address ready
+bytes_of identity (Ends farewell) = farewell_frame identity farewell

@@ -1,21 +1,23 @@
 -- What a contract sees of a device.
-use Rattle.std.specs.Prelude.{ℕ, List}
+use Rattle.std.specs.Prelude.{ℕ, List, Option}
 use Rattle.pn_values.specs.declared.identity.Identity.{Identity}
 use Rattle.pn_values.specs.declared.real.Real.{Real}
 use Rattle.settings_store.specs.State as store
 use Rattle.settings_store.specs.State.{Values}
 use Rattle.rpc_core.specs.Cache.{Kept}
+use Rattle.relations.specs.Link.{Link}
 
 -- what a device is: its identity, and what is plugged in
 pub record Station : Type 0 where
   pub identity : Identity
   pub real : Real
 
--- what a device keeps beside its settings, and loses with its power: for how many units the lamp still flashes, and the answers
--- to the last calls, the newest first
+-- what a device keeps beside its settings, and loses with its power: for how many units the lamp still flashes, the answers to
+-- the last calls, the newest first, and its application relation, if there is one
 pub record Rest : Type 0 where
   pub lamp : ℕ
   pub calls : List Kept
+  pub link : Option Link
 
 -- what changes from event to event: the settings, and the rest
 pub record Live : Type 0 where

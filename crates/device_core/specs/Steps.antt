@@ -11,6 +11,7 @@ use Rattle.dcp_core.specs.declared.request.Service.TheVariants.{Identify}
 use Rattle.dcp_core.specs.Request.{Asked}
 use Rattle.rpc_core.specs.Call.{Asked as Called}
 use Rattle.rpc_core.specs.Cache.{Kept, behind_calls}
+use Rattle.pnio_status.specs.declared.operation.Operation.{Operation}
 use Rattle.pnio_status.specs.Operation.{operation_of}
 use Rattle.dcp_core.specs.Identify.{matches, identify_bytes}
 use Rattle.device_core.specs.declared.event.Event.{Event}
@@ -20,7 +21,7 @@ use Rattle.device_core.specs.declared.hearing.Caller.{Caller}
 use Rattle.device_core.specs.State.{Station, State, Live, store_of}
 use Rattle.device_core.specs.Sent.{answer_frame}
 use Rattle.device_core.specs.Heard.{Heard, Asks, Told, Calls, heard_of}
-use Rattle.device_core.specs.Judged.{is_running, is_served}
+use Rattle.device_core.specs.Judged.{is_running}
 use Rattle.device_core.specs.Machine.{Stepped, items_of, heard_step, step_of, first_step, later_steps, run_of}
 use Rattle.device_core.specs.Faults.{StepGoesOn}
 
@@ -62,14 +63,15 @@ AnswersBy station settings live = (outcomes : List Outcome) (event : Event) (ask
     → heard_of station.identity event ≡ Asks asker request → request.service ≡ Identify
     → IsIdentified station.identity settings live asker request (step_of outcomes station live event)
 
--- A call that is served was heard: to the running address, of an operation that is served, its blocks counted well.
+-- A call that is served was heard: to the running address, of an operation of a device, its blocks counted well.
 pub record IsServed (live : Live) (heard : Heard) (call : Called) : Type 0 where
   pub caller : Caller
   pub address : List ℕ
   pub blocks : List ℕ
   pub is : heard ≡ Told caller address (Calls call)
   pub runs : is_running live.values.running address ≡ true
-  pub served : is_served (operation_of call.header.operation) ≡ true
+  pub operation : Operation
+  pub served : operation_of call.header.operation ≡ Some operation
   pub counted : call.blocks ≡ Some blocks
 
 -- The frame that is kept of a call is sent, and nothing changes.

@@ -15,8 +15,8 @@ impl<F: Flash<S>, const S: usize> Device<F, S> {
     pub(crate) fn resolve(&self, asker: Mac, packet: &Arp, outbox: &mut Outbox) -> Note
         requires empty { outbox.old.items ≡ [] }
         ensures frames { map (λ frame. frame.items) outbox.new.items
-            ≡ map (bytes_of self.now.station.identity) (end_of self.now.live (judged_arp self.now.live asker packet.now)).sent }
-        ensures note { result ≡ (end_of self.now.live (judged_arp self.now.live asker packet.now)).note }
+            ≡ map (bytes_of self.now.station.identity) (end_of self.now.station self.now.live (judged_arp self.now.live asker packet.now)).sent }
+        ensures note { result ≡ (end_of self.now.station self.now.live (judged_arp self.now.live asker packet.now)).note }
     {
         let running = self.store.running();
         if !is_request(packet.operation) || !is_running(running, packet.target.address) {

@@ -1,44 +1,44 @@
 // Calls, and the answers that are kept of them (IEC 61158-6-10, 4.10; C706, 9.5).
 ghost use Rattle.std.specs.Prelude.{◌≡◌, ◌<◌, ◌≤◌, [], ◌∷◌, ◌++◌, length, map, Err};
 ghost use Rattle.arrayvec.specs.ArrayVec.{array_vec_len};
+ghost use Rattle.settings_store.specs.Carries.{Holds};
 ghost use Rattle.rpc_core.specs.Call.{asked};
+ghost use Rattle.rpc_core.specs.Cache.{kept_more};
 ghost use Rattle.rpc_core.specs.Response.{answered};
-ghost use Rattle.pnio_status.specs.Operation.{operation_of};
 ghost use Rattle.pnio_status.specs.declared.call_fault.CallFault.TheVariants.{Arguments};
-ghost use Rattle.record_reads.specs.Implicit.{implicit_read};
+ghost use Rattle.pnio_status.specs.declared.operation.Operation.TheVariants as operation;
+ghost use Rattle.relations.specs.Ready.{answer_of as ready_answer};
 ghost use Rattle.device_core.specs.State.{with_rest};
-ghost use Rattle.device_core.specs.Heard.{said_by};
+ghost use Rattle.device_core.specs.Heard.{Told, Calls, said_by};
 ghost use Rattle.device_core.specs.Sent.{bytes_of, response_frame};
-ghost use Rattle.device_core.specs.Judged.{is_served as serves, outcome_of, answer_from, judged_new, judged_call, judged_datagram};
+ghost use Rattle.device_core.specs.Judged.{answer_from, came_with, kept_for, judged_new, judged_answer};
 ghost use Rattle.device_core.specs.Machine.{end_of};
+ghost use Rattle.device_core.specs.Steps.{Steps};
 
 use crate::arp::is_running;
 use crate::hearing::Caller;
+use crate::relation::{hear_controller, send_farewell, send_ready};
 use crate::{Device, Note};
 use flash_model::Flash;
 use frame_codec::{Endpoint, Layered, Outbox, Payload, RPC_PORT, Udp};
-use pn_values::{Identity, Real, Settings};
+use pn_values::{BlockError, Command, Identity, ImValue, SetItem};
 use pnio_status::{CallFault, Operation, Status, done};
-use record_reads::{Blocks, read_implicit};
+use record_reads::{names_relation, read_implicit, read_within};
+use record_writes::{Effect, Taken, Write, judge_write, put_write_answer};
+use block_codec::IodWriteReq;
+use relations::{Heard, Partner};
 use rpc_core::{
-    Call, Datagram, Interface, Looked, Response, read_call, read_response, write_response,
+    Call, CallCache, Datagram, Interface, Looked, Response, read_call, read_response, write_response,
 };
 
 impl<F: Flash<S>, const S: usize> Device<F, S> {
     // A datagram to the device's MAC address and the port of calls. Its IP address is looked at before it is read.
     #[tactic(auto, unfolding(crate::specs::Heard::said_by))]
-    pub(crate) fn hear_datagram(
-        &mut self,
-        caller: &Caller,
-        address: [u8; 4],
-        body: &[u8],
-        outbox: &mut Outbox,
-    ) -> Note
+    pub(crate) fn hear_datagram(&mut self, caller: &Caller, address: [u8; 4], body: &[u8], outbox: &mut Outbox) -> Note
+        requires stored { Holds (F.image self.old.flash) self.old.live.values }
         requires empty { outbox.old.items ≡ [] }
-        ensures state { self.new ≡ with_rest self.old (end_of self.old.live (judged_datagram self.old.station self.old.live caller.now address (said_by body.now))).rest }
-        ensures frames { map (λ frame. frame.items) outbox.new.items
-            ≡ map (bytes_of self.old.station.identity) (end_of self.old.live (judged_datagram self.old.station self.old.live caller.now address (said_by body.now))).sent }
-        ensures note { result ≡ (end_of self.old.live (judged_datagram self.old.station self.old.live caller.now address (said_by body.now))).note }
+        ensures steps { Steps F.image F.failures F.asked self.old (Told caller.now address (said_by body.now)) (map (λ frame. frame.items) outbox.new.items) result self.new }
+        ensures reliable { F.is_reliable self.old.flash → F.is_reliable self.new.flash × (self.new.live.values.has_failed ≡ self.old.live.values.has_failed) }
     {
         if !is_running(self.store.running(), address) {
             return Note::NotMine;
@@ -46,28 +46,41 @@ impl<F: Flash<S>, const S: usize> Device<F, S> {
         match read_call(Interface::Device, body) {
             Ok(call) => self.serve_call(caller, &call, outbox),
             Err(_) => match read_response(body) {
-                Ok(_) => Note::NoRelation,
+                Ok(response) => self.hear_response(&response, outbox),
                 Err(_) => Note::Fault,
             },
         }
     }
 
-    // A call to the device.
-    fn serve_call(&mut self, caller: &Caller, call: &Call<'_>, outbox: &mut Outbox) -> Note
+    // A response of the controller: one to ApplicationReady may be waited for.
+    fn hear_response(&mut self, response: &Response<'_>, outbox: &mut Outbox) -> Note
         requires empty { outbox.old.items ≡ [] }
-        ensures state { self.new ≡ with_rest self.old (end_of self.old.live (judged_call self.old.station self.old.live caller.now (asked call.now))).rest }
+        ensures state { self.new ≡ with_rest self.old (end_of self.old.station self.old.live (judged_answer self.old.live (ready_answer (answered response.now) self.old.live.rest.link))).rest }
         ensures frames { map (λ frame. frame.items) outbox.new.items
-            ≡ map (bytes_of self.old.station.identity) (end_of self.old.live (judged_call self.old.station self.old.live caller.now (asked call.now))).sent }
-        ensures note { result ≡ (end_of self.old.live (judged_call self.old.station self.old.live caller.now (asked call.now))).note }
+            ≡ map (bytes_of self.old.station.identity) (end_of self.old.station self.old.live (judged_answer self.old.live (ready_answer (answered response.now) self.old.live.rest.link))).sent }
+        ensures note { result ≡ (end_of self.old.station self.old.live (judged_answer self.old.live (ready_answer (answered response.now) self.old.live.rest.link))).note }
     {
-        if !is_served(call.header.operation) {
-            return Note::Fault;
+        match self.relation.hear_ready(response) {
+            Heard::NotWanted => Note::NoRelation,
+            Heard::Garbled => Note::Fault,
+            Heard::Confirmed => Note::Done,
+            Heard::Refused(farewell) => {
+                send_farewell(&self.identity, &farewell, outbox);
+                Note::Done
+            }
         }
+    }
+
+    // A call to the device.
+    fn serve_call(&mut self, caller: &Caller, call: &Call<'_>, outbox: &mut Outbox) -> Note {
+        let Some(operation) = Operation::of(call.header.operation) else {
+            return Note::Fault;
+        };
         let Some(blocks) = call.blocks else {
-            return self.refuse_arguments(caller, call, outbox);
+            return self.refuse_arguments(operation, caller, call, outbox);
         };
         match self.cache.look(&call.header.activity, call.header.sequence) {
-            Looked::New => self.answer(caller, call, blocks, outbox),
+            Looked::New => self.serve_new(operation, caller, call, blocks, outbox),
             Looked::Again(frame) => {
                 outbox.put_copy(frame);
                 Note::Done
@@ -77,13 +90,13 @@ impl<F: Flash<S>, const S: usize> Device<F, S> {
     }
 
     // A call whose blocks are not counted well.
-    fn refuse_arguments(&self, caller: &Caller, call: &Call<'_>, outbox: &mut Outbox) -> Note
+    fn refuse_arguments(&self, operation: Operation, caller: &Caller, call: &Call<'_>, outbox: &mut Outbox) -> Note
         requires empty { outbox.old.items ≡ [] }
         ensures frames { map (λ frame. frame.items) outbox.new.items
-            ≡ bytes_of self.now.station.identity (answer_from self.now.live caller.now (asked call.now) (outcome_of (Err Arguments))) ∷ [] }
+            ≡ bytes_of self.now.station.identity (answer_from self.now.live.values.running.suite.address caller.now (asked call.now) operation (Err Arguments)) ∷ [] }
         ensures note { result ≡ Note.Done }
     {
-        let status = CallFault::Arguments.number(Operation::ReadImplicit);
+        let status = CallFault::Arguments.number(operation);
         send(
             &self.identity,
             self.store.running().suite.address(),
@@ -95,65 +108,137 @@ impl<F: Flash<S>, const S: usize> Device<F, S> {
     }
 
     // A call that is new: its answer is sent, and kept.
-    fn answer(
-        &mut self,
-        caller: &Caller,
-        call: &Call<'_>,
-        blocks: &[u8],
-        outbox: &mut Outbox,
-    ) -> Note
+    fn serve_new(&mut self, operation: Operation, caller: &Caller, call: &Call<'_>, blocks: &[u8], outbox: &mut Outbox) -> Note {
+        match operation {
+            Operation::Connect => self.connect(caller, call, blocks, outbox),
+            Operation::Release => self.release(caller, call, blocks, outbox),
+            Operation::Read => self.read(caller, call, blocks, outbox),
+            Operation::Write => self.write(caller, call, blocks, outbox),
+            Operation::Control => self.control(caller, call, blocks, outbox),
+            Operation::ReadImplicit => self.read_implicit(caller, call, blocks, outbox),
+        }
+    }
+
+    // Each operation: state, frames and note are those of `judged_new .. OPERATION`.
+    fn connect(&mut self, caller: &Caller, call: &Call<'_>, blocks: &[u8], outbox: &mut Outbox) -> Note
         requires empty { outbox.old.items ≡ [] }
-        ensures state { self.new ≡ with_rest self.old (end_of self.old.live (judged_new self.old.station self.old.live caller.now (asked call.now) blocks.now)).rest }
+        ensures state { self.new ≡ with_rest self.old (end_of self.old.station self.old.live (judged_new self.old.station self.old.live caller.now (asked call.now) blocks.now operation.Connect)).rest }
         ensures frames { map (λ frame. frame.items) outbox.new.items
-            ≡ map (bytes_of self.old.station.identity) (end_of self.old.live (judged_new self.old.station self.old.live caller.now (asked call.now) blocks.now)).sent }
+            ≡ map (bytes_of self.old.station.identity) (end_of self.old.station self.old.live (judged_new self.old.station self.old.live caller.now (asked call.now) blocks.now operation.Connect)).sent }
         ensures note { result ≡ Note.Done }
     {
+        let partner = Partner {
+            mac: caller.mac,
+            address: caller.endpoint.address,
+        };
+        self.blocks.clear();
+        let came = self.relation.connect(&self.identity, &self.real, partner, blocks, &mut self.blocks);
+        answer(&self.identity, self.store.running().suite.address(), &mut self.cache, caller, call, Operation::Connect, came, self.blocks.as_slice(), outbox);
+        Note::Done
+    }
+
+    fn release(&mut self, caller: &Caller, call: &Call<'_>, blocks: &[u8], outbox: &mut Outbox) -> Note {
+        self.blocks.clear();
+        let came = self.relation.release(blocks, &mut self.blocks);
+        answer(&self.identity, self.store.running().suite.address(), &mut self.cache, caller, call, Operation::Release, came, self.blocks.as_slice(), outbox);
+        Note::Done
+    }
+
+    fn control(&mut self, caller: &Caller, call: &Call<'_>, blocks: &[u8], outbox: &mut Outbox) -> Note {
+        let address = self.store.running().suite.address();
+        self.blocks.clear();
+        let came = self.relation.control(blocks, &mut self.blocks);
+        answer(&self.identity, address, &mut self.cache, caller, call, Operation::Control, came, self.blocks.as_slice(), outbox);
+        if came.is_ok() {
+            send_ready(&self.identity, address, &self.relation, outbox);
+        }
+        Note::Done
+    }
+
+    fn read(&mut self, caller: &Caller, call: &Call<'_>, blocks: &[u8], outbox: &mut Outbox) -> Note {
         let running = self.store.running();
-        let status = read(
-            &self.identity,
-            &self.real,
-            running,
-            blocks,
-            &mut self.blocks,
-        );
-        send(
-            &self.identity,
-            running.suite.address(),
-            caller,
-            &call.response(status, self.blocks.as_slice()),
-            outbox,
-        );
-        let frame = &outbox.as_slice()[0];
-        self.cache
-            .keep(&call.header.activity, call.header.sequence, frame);
+        self.blocks.clear();
+        let came = read_within(self.relation.uuid(), self.relation.differing(), &self.identity, &self.real, running, blocks, &mut self.blocks);
+        if came.is_ok() {
+            hear_controller(&mut self.relation);
+        }
+        answer(&self.identity, running.suite.address(), &mut self.cache, caller, call, Operation::Read, came, self.blocks.as_slice(), outbox);
+        Note::Done
+    }
+
+    fn read_implicit(&mut self, caller: &Caller, call: &Call<'_>, blocks: &[u8], outbox: &mut Outbox) -> Note {
+        let running = self.store.running();
+        self.blocks.clear();
+        let came = read_implicit(&self.identity, &self.real, running, blocks, &mut self.blocks);
+        if came.is_ok() && names_relation(self.relation.uuid(), blocks) {
+            hear_controller(&mut self.relation);
+        }
+        answer(&self.identity, running.suite.address(), &mut self.cache, caller, call, Operation::ReadImplicit, came, self.blocks.as_slice(), outbox);
+        Note::Done
+    }
+
+    // A Write: an I&M text is stored, a parameter record is kept.
+    fn write(&mut self, caller: &Caller, call: &Call<'_>, blocks: &[u8], outbox: &mut Outbox) -> Note {
+        match judge_write(blocks, self.relation.uuid(), &self.real) {
+            Ok(Write { request, effect }) => match effect {
+                Effect::Stores(value) => self.store_text(caller, call, &request, value, outbox),
+                Effect::Keeps(parameter) => self.keep_parameter(caller, call, &request, parameter, outbox),
+            },
+            Err(fault) => {
+                answer(&self.identity, self.store.running().suite.address(), &mut self.cache, caller, call, Operation::Write, Err(fault), &[], outbox);
+                Note::Done
+            }
+        }
+    }
+
+    // An I&M text: its answer is made from what became of its command, and kept behind the commit.
+    fn store_text(&mut self, caller: &Caller, call: &Call<'_>, header: &IodWriteReq, value: ImValue, outbox: &mut Outbox) -> Note {
+        let came = written_as(self.store.carry(&SetItem::Ask(Command::SetIm(value))));
+        self.blocks.clear();
+        if came.is_ok() {
+            put_write_answer(&mut self.blocks, header);
+            hear_controller(&mut self.relation);
+        }
+        answer(&self.identity, self.store.running().suite.address(), &mut self.cache, caller, call, Operation::Write, came, self.blocks.as_slice(), outbox);
+        Note::Done
+    }
+
+    // A parameter record.
+    fn keep_parameter(&mut self, caller: &Caller, call: &Call<'_>, header: &IodWriteReq, parameter: Taken, outbox: &mut Outbox) -> Note {
+        let came = self.relation.keep(parameter);
+        self.blocks.clear();
+        if came.is_ok() {
+            put_write_answer(&mut self.blocks, header);
+            hear_controller(&mut self.relation);
+        }
+        answer(&self.identity, self.store.running().suite.address(), &mut self.cache, caller, call, Operation::Write, came, self.blocks.as_slice(), outbox);
         Note::Done
     }
 }
 
-// Whether calls of this operation are served.
-fn is_served(operation: u16) -> bool
-    ensures { result ≡ serves (operation_of operation) }
+// Puts the answer to a new call into the empty box, and keeps it. A negative one has no blocks.
+fn answer(identity: &Identity, address: [u8; 4], cache: &mut CallCache<4>, caller: &Caller, call: &Call<'_>, operation: Operation, came: Result<(), CallFault>, blocks: &[u8], outbox: &mut Outbox)
+    requires empty { outbox.old.items ≡ [] }
+    requires few { length blocks.now ≤ 1372 }
+    ensures frames { map (λ frame. frame.items) outbox.new.items ≡ bytes_of identity.now (answer_from address caller.now (asked call.now) operation (came_with came blocks.now)) ∷ [] }
+    ensures kept { cache.new ≡ kept_more 4 (kept_for identity.now (asked call.now) (answer_from address caller.now (asked call.now) operation (came_with came blocks.now))) cache.old }
 {
-    matches!(Operation::of(operation), Some(Operation::ReadImplicit))
+    let response = match came {
+        Ok(()) => call.response(done(), blocks),
+        Err(fault) => call.response(fault.number(operation), &[]),
+    };
+    send(identity, address, caller, &response, outbox);
+    cache.keep(&call.header.activity, call.header.sequence, &outbox.as_slice()[0]);
 }
 
-// Puts the blocks that answer a Read Implicit in the place of those that are there, and says how it comes out.
-fn read(
-    identity: &Identity,
-    real: &Real,
-    running: &Settings,
-    asked: &[u8],
-    blocks: &mut Blocks,
-) -> Status
-    ensures { outcome_of (implicit_read identity.now real.now running.now asked.now) ≡ (result, blocks.new.items) }
-{
-    blocks.clear();
-    match read_implicit(identity, real, running, asked, blocks) {
-        Ok(()) => done(),
-        Err(fault) => fault.number(Operation::ReadImplicit),
+// How a Write comes out whose command is answered so.
+fn written_as(answer: BlockError) -> Result<(), CallFault> {
+    match answer {
+        BlockError::Done => Ok(()),
+        BlockError::Exhausted => Err(CallFault::JournalExhausted),
+        _ => Err(CallFault::FlashFault),
     }
 }
-
 // Puts the response to a call into the box, behind what is in it.
 fn send(
     identity: &Identity,

@@ -1,5 +1,5 @@
 // The requests of DCP: Identify, Get and Set (IEC 61158-6-10, 4.3).
-ghost use Rattle.std.specs.Prelude.{◌≡◌, ◌<◌, [], ◌∷◌, ◌++◌, map};
+ghost use Rattle.std.specs.Prelude.{◌≡◌, ◌<◌, ◌≤◌, ◌+◌, true, [], ◌∷◌, ◌++◌, map};
 ghost use Rattle.std.specs.List.{list_any};
 ghost use Rattle.arrayvec.specs.ArrayVec.{array_vec_len};
 ghost use Rattle.settings_store.specs.Carries.{Holds};
@@ -8,7 +8,7 @@ ghost use Rattle.dcp_core.specs.Request.{asked};
 ghost use Rattle.device_core.specs.Heard.{Asks, heard_request};
 ghost use Rattle.device_core.specs.Sent.{GetAnswer, answer_frame, bytes_of};
 ghost use Rattle.device_core.specs.Judged.{identified};
-ghost use Rattle.device_core.specs.Machine.{finished, is_signal, lamp_after as lamp_of};
+ghost use Rattle.device_core.specs.Machine.{farewells_at, finished, is_reset as is_reset_by, is_signal, lamp_after as lamp_of, link_after, resets};
 ghost use Rattle.device_core.specs.Steps.{Steps};
 
 use crate::{Device, Note};
@@ -18,7 +18,9 @@ use dcp_core::{
 };
 use flash_model::Flash;
 use frame_codec::{DCP_GET_SET, DCP_IDENTIFY_RESPONSE, Layered, Outbox, Payload};
-use pn_values::{Identity, Mac, SetItem};
+use crate::relation::send_farewell;
+use pn_values::{BlockError, Command, Identity, Mac, SetItem};
+use relations::Relation;
 
 /// For how many units of 31.25 microseconds the lamp flashes after a Signal: 3 seconds.
 const LAMP_UNITS: u32 = 96_000;
@@ -60,9 +62,9 @@ impl<F: Flash<S>, const S: usize> Device<F, S> {
     // An Identify request (IEC 61158-6-10, 4.3.2.3).
     fn identify(&self, asker: Mac, request: &Request<'_>, outbox: &mut Outbox) -> Note
         requires { outbox.old.items ≡ [] }
-        ensures frames { let end = finished self.now.live.rest (identified self.now.station self.now.live asker (asked request.now)) [] in
+        ensures frames { let end = finished self.now.station.identity self.now.live.rest (identified self.now.station self.now.live asker (asked request.now)) [] in
             map (λ frame. frame.items) outbox.new.items ≡ map (bytes_of self.now.station.identity) end.sent }
-        ensures note { result ≡ (finished self.now.live.rest (identified self.now.station self.now.live asker (asked request.now)) []).note }
+        ensures note { result ≡ (finished self.now.station.identity self.now.live.rest (identified self.now.station self.now.live asker (asked request.now)) []).note }
     {
         let running = self.store.running();
         if !identify_matches(&self.identity, running, request) {
@@ -91,19 +93,56 @@ impl<F: Flash<S>, const S: usize> Device<F, S> {
         Note::Done
     }
 
-    // A Set (4.3.2.5): its blocks in order, each by itself. No application relation exists.
+    // A Set (4.3.2.5): its blocks in order, each by itself. Whether a relation exists is judged as it arrives; a reset that is done
+    // ends it, and its ERR goes out before the answer.
     fn set(&mut self, asker: Mac, request: &Request<'_>, outbox: &mut Outbox) -> Note
         requires service { request.now.service ≡ Service.Set }
         requires empty { outbox.old.items ≡ [] }
         ensures steps { Steps F.image F.failures F.asked self.old (Asks asker (asked request.now)) (map (λ frame. frame.items) outbox.new.items) result self.new }
         ensures reliable { F.is_reliable self.old.flash → F.is_reliable self.new.flash × (self.new.live.values.has_failed ≡ self.old.live.values.has_failed) }
     {
-        fill_plan(request, false, &mut self.plan);
+        fill_plan(request, self.relation.phase().is_some(), &mut self.plan);
         let answers = self.store.carry_out(self.plan.as_slice());
         self.lamp = lamp_after(self.lamp, self.plan.as_slice());
+        if is_ended(self.plan.as_slice(), answers.as_slice()) {
+            end(&self.identity, &mut self.relation, outbox);
+        }
         let answer = set_answer(request, &answers);
         send(&self.identity, asker, DCP_GET_SET, &answer, outbox);
         Note::Done
+    }
+}
+
+// Whether a reset among these items was answered 'done', each item with its own answer.
+fn is_ended(items: &[SetItem], answers: &[BlockError]) -> bool
+    ensures { result ≡ resets items.now answers.now }
+{
+    items
+        .iter()
+        .zip(answers)
+        .any(|(item, answer)| is_reset(item) && *answer == BlockError::Done)
+}
+
+// Whether an item asks for a reset.
+fn is_reset(item: &SetItem) -> bool
+    ensures { result ≡ is_reset_by item.now }
+{
+    matches!(
+        item,
+        SetItem::Ask(Command::ResetApplication | Command::ResetCommunication | Command::ResetAll)
+    )
+}
+
+// Ends the relation, if there is one, and puts its ERR into the box.
+fn end(identity: &Identity, relation: &mut Relation, outbox: &mut Outbox)
+    requires { array_vec_len outbox.old < 4 }
+    ensures link { relation.new ≡ link_after true relation.old }
+    ensures frames { map (λ frame. frame.items) outbox.new.items
+        ≡ map (λ frame. frame.items) outbox.old.items ++ map (bytes_of identity.now) (farewells_at true relation.old) }
+    ensures few { array_vec_len outbox.new ≤ array_vec_len outbox.old + 1 }
+{
+    if let Some(farewell) = relation.end() {
+        send_farewell(identity, &farewell, outbox);
     }
 }
 

@@ -6,12 +6,15 @@ ghost use Rattle.pn_values.specs.Settings.{factory_settings};
 ghost use Rattle.pn_values.specs.declared.settings.Settings.{Settings};
 ghost use Rattle.settings_journal.specs.Commit.{HasBootCause};
 ghost use Rattle.settings_journal.specs.Image.{StartsWith, IsAmple, capacity, IsForeign, LeftByDevice};
+ghost use Rattle.relations.specs.Link.{phase_of, taken_of};
 ghost use Rattle.device_core.specs.Cycle.{started};
 
 use arrayvec::ArrayVec;
 use flash_model::{Flash, Order};
 use pn_values::{Identity, Real, SetItem, Settings};
 use record_reads::Blocks;
+use record_writes::Taken;
+use relations::{Phase, Relation};
 use rpc_core::CallCache;
 use settings_journal::BootFault;
 use settings_store::Store;
@@ -25,6 +28,8 @@ pub struct Device<F: Flash<S>, const S: usize> {
     pub(crate) store: Store<F, S>,
     pub(crate) lamp: u32,
     pub(crate) cache: CallCache<4>,
+    // The application relation, if there is one.
+    pub(crate) relation: Relation,
     // Room for the plan of a Set, in which the last one lies.
     pub(crate) plan: ArrayVec<SetItem, 16>,
     // Room for the blocks of an answer to a call.
@@ -40,7 +45,7 @@ impl<F: Flash<S>, const S: usize> Model for Device<F, S> {
     ghost view = { λ device. record {
       flash = device.store.flash;
       station = record { identity = device.identity; real = device.real };
-      live = record { values = device.store.values; rest = record { lamp = device.lamp; calls = device.cache } };
+      live = record { values = device.store.values; rest = record { lamp = device.lamp; calls = device.cache; link = device.relation } };
     } };
 
     ghost invariant = { λ device. Holds (F.image device.store.flash) device.store.values };
@@ -80,6 +85,7 @@ impl<F: Flash<S>, const S: usize> Device<F, S> {
             store: Store::boot(flash)?,
             lamp: 0,
             cache: CallCache::new(),
+            relation: Relation::new(),
             plan: ArrayVec::new(),
             blocks: Blocks::new(),
         })
@@ -106,6 +112,20 @@ impl<F: Flash<S>, const S: usize> Device<F, S> {
         ensures { result ≡ self.now.live.rest.lamp }
     {
         self.lamp
+    }
+
+    /// What the application relation waits for, if there is one.
+    pub fn phase(&self) -> Option<Phase>
+        ensures { result ≡ phase_of self.now.live.rest.link }
+    {
+        self.relation.phase()
+    }
+
+    /// The parameter records that the relation took, in their order.
+    pub fn taken(&self) -> &[Taken]
+        ensures { result.now ≡ taken_of self.now.live.rest.link }
+    {
+        self.relation.taken()
     }
 
     /// What is plugged in.
@@ -157,6 +177,7 @@ impl<F: Flash<S>, const S: usize> Device<F, S> {
             store,
             lamp: _,
             cache: _,
+            relation: _,
             plan: _,
             blocks: _,
         } = self;

@@ -2,12 +2,13 @@
 ghost use Rattle.std.specs.Prelude.{◌≡◌, ◌==◌, ◌&&◌};
 ghost use Rattle.device_core.specs.Heard.{is_own as is_own_by, is_taken as is_taken_by, heard_of, heard_content};
 ghost use Rattle.device_core.specs.Hearing.{meaning_of};
-ghost use Rattle.frame_codec.specs.Meaning.{content_of};
+ghost use Rattle.frame_codec.specs.Meaning.{RealTime, content_of};
 
 use crate::Event;
 use frame_codec::{
     Arp, DCP_GET_SET, DCP_IDENTIFY_REQUEST, Endpoint, Layered, Payload, RPC_PORT, read,
 };
+use pn_alarms::{Header, Message, read_message};
 use pn_values::{Identity, Mac};
 
 /// The address of all stations for Identify requests (IEC 61158-6-10, 4.3.1.3.1).
@@ -17,6 +18,10 @@ const IDENTIFY_MULTICAST: Mac = Mac {
 
 /// The address of all stations (IEEE 802, 8.2.2).
 const BROADCAST: Mac = Mac { octets: [0xFF; 6] };
+
+/// FrameID of alarms of high priority, and of low (IEC 61158-6-10, 4.7).
+const ALARM_HIGH: u16 = 0xFC01;
+const ALARM_LOW: u16 = 0xFE01;
 
 /// Who sent a datagram.
 #[derive(Clone, Copy)]
@@ -41,6 +46,18 @@ pub(crate) enum Heard<'a> {
         source: Mac,
         frame_id: u16,
         body: &'a [u8],
+    },
+    /// A cyclic frame to this station.
+    Cyclic {
+        source: Mac,
+        frame_id: u16,
+        body: &'a [u8],
+    },
+    /// An alarm frame to this station: its header, and what it says.
+    Alarm {
+        source: Mac,
+        header: Header,
+        message: Message,
     },
     /// A packet of ARP to this station or to all.
     Arp {
@@ -76,14 +93,7 @@ fn hear_frame<'a>(identity: &Identity, layered: Layered<'a>) -> Heard<'a>
     let (destination, source) = (layered.destination, layered.source);
     match layered.payload {
         Payload::RealTime { frame_id, body } => {
-            if !is_taken(identity, destination, frame_id) {
-                return Heard::Elsewhere;
-            }
-            Heard::Asked {
-                source,
-                frame_id,
-                body,
-            }
+            hear_real_time(identity, destination, source, frame_id, body)
         }
         Payload::Arp(packet) => {
             if !is_own(identity, destination) && destination != BROADCAST {
@@ -107,6 +117,44 @@ fn hear_frame<'a>(identity: &Identity, layered: Layered<'a>) -> Heard<'a>
                 body: datagram.body,
             }
         }
+    }
+}
+
+// A frame of EtherType 0x8892, by its FrameID.
+fn hear_real_time<'a>(
+    identity: &Identity,
+    destination: Mac,
+    source: Mac,
+    frame_id: u16,
+    body: &'a [u8],
+) -> Heard<'a>
+    ensures { heard_content identity.now destination source (RealTime frame_id body.now) ≡ meaning_of result }
+{
+    if is_taken(identity, destination, frame_id) {
+        return Heard::Asked {
+            source,
+            frame_id,
+            body,
+        };
+    }
+    if !is_own(identity, destination) {
+        return Heard::Elsewhere;
+    }
+    match frame_id {
+        ALARM_HIGH | ALARM_LOW => match read_message(body) {
+            Ok((header, message)) => Heard::Alarm {
+                source,
+                header,
+                message,
+            },
+            Err(_) => Heard::Unreadable,
+        },
+        0x8000..=0xBBFF | 0xC000..=0xF7FF => Heard::Cyclic {
+            source,
+            frame_id,
+            body,
+        },
+        _ => Heard::Elsewhere,
     }
 }
 

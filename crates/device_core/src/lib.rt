@@ -8,6 +8,7 @@ mod device;
 mod event;
 mod headline;
 mod hearing;
+mod relation;
 mod run;
 mod sink;
 mod step;

@@ -5,7 +5,10 @@ ghost use Rattle.settings_store.specs.Carries.{Holds};
 ghost use Rattle.dcp_core.specs.Request.{Asked};
 ghost use Rattle.device_core.specs.Heard.{Asks, heard_of};
 ghost use Rattle.device_core.specs.Hearing.{meaning_of};
-ghost use Rattle.device_core.specs.Judged.{ticked};
+ghost use Rattle.device_core.specs.State.{with_rest};
+ghost use Rattle.device_core.specs.Sent.{bytes_of};
+ghost use Rattle.device_core.specs.Judged.{judged_alarm, ticked};
+ghost use Rattle.device_core.specs.Machine.{end_of};
 ghost use Rattle.rpc_core.specs.Call.{Asked as Called};
 ghost use Rattle.rpc_core.specs.Cache.{looked, again};
 ghost use Rattle.device_core.specs.Faults.{StepGoesOn};
@@ -15,7 +18,9 @@ use crate::hearing::{Heard, hear};
 use crate::{Device, Event, Note};
 use dcp_core::Service;
 use flash_model::Flash;
+use crate::relation::{send_farewell, send_ready};
 use frame_codec::Outbox;
+use pn_alarms::{Header, Message};
 
 impl<F: Flash<S>, const S: usize> Device<F, S> {
     /// Takes an event, and puts the frames to be sent into the box, which holds nothing else then.
@@ -55,7 +60,7 @@ impl<F: Flash<S>, const S: usize> Device<F, S> {
         ensures reliable { F.is_reliable self.old.flash → F.is_reliable self.new.flash × (self.new.live.values.has_failed ≡ self.old.live.values.has_failed) }
     {
         match heard {
-            Heard::Tick => self.tick(),
+            Heard::Tick => self.tick(outbox),
             Heard::Unreadable => Note::Fault,
             Heard::Elsewhere => Note::NotMine,
             Heard::Asked {
@@ -63,6 +68,13 @@ impl<F: Flash<S>, const S: usize> Device<F, S> {
                 frame_id,
                 body,
             } => self.read_and_serve(source, frame_id, body, outbox),
+            // No cyclic data is exchanged yet.
+            Heard::Cyclic { .. } => Note::NoRelation,
+            Heard::Alarm {
+                source,
+                header,
+                message,
+            } => self.hear_alarm(source, &header, &message),
             Heard::Arp { asker, packet } => self.resolve(asker, &packet, outbox),
             Heard::Datagram {
                 caller,
@@ -72,12 +84,47 @@ impl<F: Flash<S>, const S: usize> Device<F, S> {
         }
     }
 
-    // A unit of time is over.
-    fn tick(&mut self) -> Note
-        ensures rest { self.new ≡ record self.old { live = record { values = self.old.live.values; rest = ticked self.old.live.rest } } }
+    // A unit of time is over: timers advance. A timeout ends the relation, and nothing more is done.
+    fn tick(&mut self, outbox: &mut Outbox) -> Note
+        requires empty { outbox.old.items ≡ [] }
+        ensures state { self.new ≡ with_rest self.old (end_of self.old.station self.old.live (ticked self.old.live)).rest }
+        ensures frames { map (λ frame. frame.items) outbox.new.items
+            ≡ map (bytes_of self.old.station.identity) (end_of self.old.station self.old.live (ticked self.old.live)).sent }
         ensures note { result ≡ Note.Done }
     {
         self.lamp = self.lamp.saturating_sub(1);
+        let due = self.relation.tick();
+        if let Some(farewell) = due.farewell {
+            send_farewell(&self.identity, &farewell, outbox);
+        }
+        if due.is_ready {
+            send_ready(
+                &self.identity,
+                self.store.running().suite.address(),
+                &self.relation,
+                outbox,
+            );
+        }
         Note::Done
+    }
+
+    // An alarm frame: it belongs to the relation, or not. The ERR of the controller ends the relation.
+    fn hear_alarm(&mut self, source: pn_values::Mac, header: &Header, message: &Message) -> Note
+        ensures state { self.new ≡ with_rest self.old (end_of self.old.station self.old.live (judged_alarm self.old.live source header.now message.now)).rest }
+        ensures note { result ≡ (end_of self.old.station self.old.live (judged_alarm self.old.live source header.now message.now)).note }
+    {
+        if !self
+            .relation
+            .is_alarm(source, header.destination, header.source)
+        {
+            return Note::NoRelation;
+        }
+        match message {
+            Message::Abort => {
+                self.relation.hear_abort();
+                Note::Done
+            }
+            Message::Data(..) | Message::Ack(_) | Message::Nack => Note::Filter,
+        }
     }
 }
