@@ -9,32 +9,43 @@ ghost use Rattle.pnio_status.specs.declared.call_fault.CallFault.TheVariants.{Ar
 ghost use Rattle.pnio_status.specs.declared.operation.Operation.TheVariants as operation;
 ghost use Rattle.relations.specs.Ready.{answer_of as ready_answer};
 ghost use Rattle.device_core.specs.State.{with_rest};
-ghost use Rattle.device_core.specs.Heard.{Told, Calls, said_by};
+ghost use Rattle.record_blocks.specs.declared.write_record.IodWriteReq.{IodWriteReq as Header};
+ghost use Rattle.record_writes.specs.Answer.{answer_of};
+ghost use Rattle.record_writes.specs.declared.write.Effect.TheVariants.{Keeps};
+ghost use Rattle.pnio_status.specs.Operation.{operation_of};
+ghost use Rattle.device_core.specs.Heard.{Heard as Hears, Told, Calls, said_by};
 ghost use Rattle.device_core.specs.Sent.{bytes_of, response_frame};
-ghost use Rattle.device_core.specs.Judged.{answer_from, came_with, kept_for, judged_new, judged_answer};
-ghost use Rattle.device_core.specs.Machine.{end_of};
+ghost use Rattle.device_core.specs.Judged.{Writes, answer_from, came_with, kept_for, judged, judged_new, judged_answer, judged_call, judged_effect};
+ghost use Rattle.device_core.specs.Machine.{end_of, written_as as comes_out};
 ghost use Rattle.device_core.specs.Steps.{Steps};
 
 use crate::arp::is_running;
 use crate::hearing::Caller;
 use crate::relation::{hear_controller, send_farewell, send_ready};
 use crate::{Device, Note};
+use block_codec::IodWriteReq;
 use flash_model::Flash;
 use frame_codec::{Endpoint, Layered, Outbox, Payload, RPC_PORT, Udp};
 use pn_values::{BlockError, Command, Identity, ImValue, SetItem};
 use pnio_status::{CallFault, Operation, Status, done};
-use record_reads::{names_relation, read_implicit, read_within};
+use record_reads::{Blocks, names_relation, read_implicit, read_within};
 use record_writes::{Effect, Taken, Write, judge_write, put_write_answer};
-use block_codec::IodWriteReq;
 use relations::{Heard, Partner};
 use rpc_core::{
-    Call, CallCache, Datagram, Interface, Looked, Response, read_call, read_response, write_response,
+    Call, CallCache, Datagram, Interface, Looked, Response, read_call, read_response,
+    write_response,
 };
 
 impl<F: Flash<S>, const S: usize> Device<F, S> {
     // A datagram to the device's MAC address and the port of calls. Its IP address is looked at before it is read.
     #[tactic(auto, unfolding(crate::specs::Heard::said_by))]
-    pub(crate) fn hear_datagram(&mut self, caller: &Caller, address: [u8; 4], body: &[u8], outbox: &mut Outbox) -> Note
+    pub(crate) fn hear_datagram(
+        &mut self,
+        caller: &Caller,
+        address: [u8; 4],
+        body: &[u8],
+        outbox: &mut Outbox,
+    ) -> Note
         requires stored { Holds (F.image self.old.flash) self.old.live.values }
         requires empty { outbox.old.items ≡ [] }
         ensures steps { Steps F.image F.failures F.asked self.old (Told caller.now address (said_by body.now)) (map (λ frame. frame.items) outbox.new.items) result self.new }
@@ -72,7 +83,13 @@ impl<F: Flash<S>, const S: usize> Device<F, S> {
     }
 
     // A call to the device.
-    fn serve_call(&mut self, caller: &Caller, call: &Call<'_>, outbox: &mut Outbox) -> Note {
+    fn serve_call(&mut self, caller: &Caller, call: &Call<'_>, outbox: &mut Outbox) -> Note
+        requires stored { Holds (F.image self.old.flash) self.old.live.values }
+        requires empty { outbox.old.items ≡ [] }
+        ensures steps { (heard : Hears) → judged self.old.station self.old.live heard ≡ judged_call self.old.station self.old.live caller.now (asked call.now) (operation_of call.now.header.operation) →
+            Steps F.image F.failures F.asked self.old heard (map (λ frame. frame.items) outbox.new.items) result self.new }
+        ensures reliable { F.is_reliable self.old.flash → F.is_reliable self.new.flash × (self.new.live.values.has_failed ≡ self.old.live.values.has_failed) }
+    {
         let Some(operation) = Operation::of(call.header.operation) else {
             return Note::Fault;
         };
@@ -90,7 +107,13 @@ impl<F: Flash<S>, const S: usize> Device<F, S> {
     }
 
     // A call whose blocks are not counted well.
-    fn refuse_arguments(&self, operation: Operation, caller: &Caller, call: &Call<'_>, outbox: &mut Outbox) -> Note
+    fn refuse_arguments(
+        &self,
+        operation: Operation,
+        caller: &Caller,
+        call: &Call<'_>,
+        outbox: &mut Outbox,
+    ) -> Note
         requires empty { outbox.old.items ≡ [] }
         ensures frames { map (λ frame. frame.items) outbox.new.items
             ≡ bytes_of self.now.station.identity (answer_from self.now.live.values.running.suite.address caller.now (asked call.now) operation (Err Arguments)) ∷ [] }
@@ -108,7 +131,20 @@ impl<F: Flash<S>, const S: usize> Device<F, S> {
     }
 
     // A call that is new: its answer is sent, and kept.
-    fn serve_new(&mut self, operation: Operation, caller: &Caller, call: &Call<'_>, blocks: &[u8], outbox: &mut Outbox) -> Note {
+    fn serve_new(
+        &mut self,
+        operation: Operation,
+        caller: &Caller,
+        call: &Call<'_>,
+        blocks: &[u8],
+        outbox: &mut Outbox,
+    ) -> Note
+        requires stored { Holds (F.image self.old.flash) self.old.live.values }
+        requires empty { outbox.old.items ≡ [] }
+        ensures steps { (heard : Hears) → judged self.old.station self.old.live heard ≡ judged_new self.old.station self.old.live caller.now (asked call.now) blocks.now operation →
+            Steps F.image F.failures F.asked self.old heard (map (λ frame. frame.items) outbox.new.items) result self.new }
+        ensures reliable { F.is_reliable self.old.flash → F.is_reliable self.new.flash × (self.new.live.values.has_failed ≡ self.old.live.values.has_failed) }
+    {
         match operation {
             Operation::Connect => self.connect(caller, call, blocks, outbox),
             Operation::Release => self.release(caller, call, blocks, outbox),
@@ -119,8 +155,14 @@ impl<F: Flash<S>, const S: usize> Device<F, S> {
         }
     }
 
-    // Each operation: state, frames and note are those of `judged_new .. OPERATION`.
-    fn connect(&mut self, caller: &Caller, call: &Call<'_>, blocks: &[u8], outbox: &mut Outbox) -> Note
+    // Each operation but a Write: state, frames and note are those of `judged_new .. OPERATION`.
+    fn connect(
+        &mut self,
+        caller: &Caller,
+        call: &Call<'_>,
+        blocks: &[u8],
+        outbox: &mut Outbox,
+    ) -> Note
         requires empty { outbox.old.items ≡ [] }
         ensures state { self.new ≡ with_rest self.old (end_of self.old.station self.old.live (judged_new self.old.station self.old.live caller.now (asked call.now) blocks.now operation.Connect)).rest }
         ensures frames { map (λ frame. frame.items) outbox.new.items
@@ -132,92 +174,277 @@ impl<F: Flash<S>, const S: usize> Device<F, S> {
             address: caller.endpoint.address,
         };
         self.blocks.clear();
-        let came = self.relation.connect(&self.identity, &self.real, partner, blocks, &mut self.blocks);
-        answer(&self.identity, self.store.running().suite.address(), &mut self.cache, caller, call, Operation::Connect, came, self.blocks.as_slice(), outbox);
+        let came = self.relation.connect(
+            &self.identity,
+            &self.real,
+            partner,
+            blocks,
+            &mut self.blocks,
+        );
+        answer(
+            &self.identity,
+            self.store.running().suite.address(),
+            &mut self.cache,
+            caller,
+            call,
+            Operation::Connect,
+            came,
+            self.blocks.as_slice(),
+            outbox,
+        );
         Note::Done
     }
 
-    fn release(&mut self, caller: &Caller, call: &Call<'_>, blocks: &[u8], outbox: &mut Outbox) -> Note {
+    fn release(
+        &mut self,
+        caller: &Caller,
+        call: &Call<'_>,
+        blocks: &[u8],
+        outbox: &mut Outbox,
+    ) -> Note
+        requires empty { outbox.old.items ≡ [] }
+        ensures state { self.new ≡ with_rest self.old (end_of self.old.station self.old.live (judged_new self.old.station self.old.live caller.now (asked call.now) blocks.now operation.Release)).rest }
+        ensures frames { map (λ frame. frame.items) outbox.new.items
+            ≡ map (bytes_of self.old.station.identity) (end_of self.old.station self.old.live (judged_new self.old.station self.old.live caller.now (asked call.now) blocks.now operation.Release)).sent }
+        ensures note { result ≡ Note.Done }
+    {
         self.blocks.clear();
         let came = self.relation.release(blocks, &mut self.blocks);
-        answer(&self.identity, self.store.running().suite.address(), &mut self.cache, caller, call, Operation::Release, came, self.blocks.as_slice(), outbox);
+        answer(
+            &self.identity,
+            self.store.running().suite.address(),
+            &mut self.cache,
+            caller,
+            call,
+            Operation::Release,
+            came,
+            self.blocks.as_slice(),
+            outbox,
+        );
         Note::Done
     }
 
-    fn control(&mut self, caller: &Caller, call: &Call<'_>, blocks: &[u8], outbox: &mut Outbox) -> Note {
+    // A PrmEnd that is accepted is answered, and then ApplicationReady is sent.
+    fn control(
+        &mut self,
+        caller: &Caller,
+        call: &Call<'_>,
+        blocks: &[u8],
+        outbox: &mut Outbox,
+    ) -> Note
+        requires empty { outbox.old.items ≡ [] }
+        ensures state { self.new ≡ with_rest self.old (end_of self.old.station self.old.live (judged_new self.old.station self.old.live caller.now (asked call.now) blocks.now operation.Control)).rest }
+        ensures frames { map (λ frame. frame.items) outbox.new.items
+            ≡ map (bytes_of self.old.station.identity) (end_of self.old.station self.old.live (judged_new self.old.station self.old.live caller.now (asked call.now) blocks.now operation.Control)).sent }
+        ensures note { result ≡ Note.Done }
+    {
         let address = self.store.running().suite.address();
         self.blocks.clear();
         let came = self.relation.control(blocks, &mut self.blocks);
-        answer(&self.identity, address, &mut self.cache, caller, call, Operation::Control, came, self.blocks.as_slice(), outbox);
+        answer(
+            &self.identity,
+            address,
+            &mut self.cache,
+            caller,
+            call,
+            Operation::Control,
+            came,
+            self.blocks.as_slice(),
+            outbox,
+        );
         if came.is_ok() {
             send_ready(&self.identity, address, &self.relation, outbox);
         }
         Note::Done
     }
 
-    fn read(&mut self, caller: &Caller, call: &Call<'_>, blocks: &[u8], outbox: &mut Outbox) -> Note {
+    fn read(&mut self, caller: &Caller, call: &Call<'_>, blocks: &[u8], outbox: &mut Outbox) -> Note
+        requires empty { outbox.old.items ≡ [] }
+        ensures state { self.new ≡ with_rest self.old (end_of self.old.station self.old.live (judged_new self.old.station self.old.live caller.now (asked call.now) blocks.now operation.Read)).rest }
+        ensures frames { map (λ frame. frame.items) outbox.new.items
+            ≡ map (bytes_of self.old.station.identity) (end_of self.old.station self.old.live (judged_new self.old.station self.old.live caller.now (asked call.now) blocks.now operation.Read)).sent }
+        ensures note { result ≡ Note.Done }
+    {
         let running = self.store.running();
         self.blocks.clear();
-        let came = read_within(self.relation.uuid(), self.relation.differing(), &self.identity, &self.real, running, blocks, &mut self.blocks);
-        if came.is_ok() {
-            hear_controller(&mut self.relation);
-        }
-        answer(&self.identity, running.suite.address(), &mut self.cache, caller, call, Operation::Read, came, self.blocks.as_slice(), outbox);
+        let came = read_within(
+            self.relation.uuid(),
+            self.relation.differing(),
+            &self.identity,
+            &self.real,
+            running,
+            blocks,
+            &mut self.blocks,
+        );
+        hear_controller(&mut self.relation, true, came);
+        answer(
+            &self.identity,
+            running.suite.address(),
+            &mut self.cache,
+            caller,
+            call,
+            Operation::Read,
+            came,
+            self.blocks.as_slice(),
+            outbox,
+        );
         Note::Done
     }
 
-    fn read_implicit(&mut self, caller: &Caller, call: &Call<'_>, blocks: &[u8], outbox: &mut Outbox) -> Note {
+    // Anybody reads so. Where the call names the relation it shows that the controller is there.
+    fn read_implicit(
+        &mut self,
+        caller: &Caller,
+        call: &Call<'_>,
+        blocks: &[u8],
+        outbox: &mut Outbox,
+    ) -> Note
+        requires empty { outbox.old.items ≡ [] }
+        ensures state { self.new ≡ with_rest self.old (end_of self.old.station self.old.live (judged_new self.old.station self.old.live caller.now (asked call.now) blocks.now operation.ReadImplicit)).rest }
+        ensures frames { map (λ frame. frame.items) outbox.new.items
+            ≡ map (bytes_of self.old.station.identity) (end_of self.old.station self.old.live (judged_new self.old.station self.old.live caller.now (asked call.now) blocks.now operation.ReadImplicit)).sent }
+        ensures note { result ≡ Note.Done }
+    {
         let running = self.store.running();
         self.blocks.clear();
-        let came = read_implicit(&self.identity, &self.real, running, blocks, &mut self.blocks);
-        if came.is_ok() && names_relation(self.relation.uuid(), blocks) {
-            hear_controller(&mut self.relation);
-        }
-        answer(&self.identity, running.suite.address(), &mut self.cache, caller, call, Operation::ReadImplicit, came, self.blocks.as_slice(), outbox);
+        let came = read_implicit(
+            &self.identity,
+            &self.real,
+            running,
+            blocks,
+            &mut self.blocks,
+        );
+        let is_named = names_relation(self.relation.uuid(), blocks);
+        hear_controller(&mut self.relation, is_named, came);
+        answer(
+            &self.identity,
+            running.suite.address(),
+            &mut self.cache,
+            caller,
+            call,
+            Operation::ReadImplicit,
+            came,
+            self.blocks.as_slice(),
+            outbox,
+        );
         Note::Done
     }
 
     // A Write: an I&M text is stored, a parameter record is kept.
-    fn write(&mut self, caller: &Caller, call: &Call<'_>, blocks: &[u8], outbox: &mut Outbox) -> Note {
+    fn write(
+        &mut self,
+        caller: &Caller,
+        call: &Call<'_>,
+        blocks: &[u8],
+        outbox: &mut Outbox,
+    ) -> Note
+        requires stored { Holds (F.image self.old.flash) self.old.live.values }
+        requires empty { outbox.old.items ≡ [] }
+        ensures steps { (heard : Hears) → judged self.old.station self.old.live heard ≡ judged_new self.old.station self.old.live caller.now (asked call.now) blocks.now operation.Write →
+            Steps F.image F.failures F.asked self.old heard (map (λ frame. frame.items) outbox.new.items) result self.new }
+        ensures reliable { F.is_reliable self.old.flash → F.is_reliable self.new.flash × (self.new.live.values.has_failed ≡ self.old.live.values.has_failed) }
+    {
         match judge_write(blocks, self.relation.uuid(), &self.real) {
             Ok(Write { request, effect }) => match effect {
                 Effect::Stores(value) => self.store_text(caller, call, &request, value, outbox),
-                Effect::Keeps(parameter) => self.keep_parameter(caller, call, &request, parameter, outbox),
+                Effect::Keeps(parameter) => self.keep_parameter(
+                    caller, call, &request, parameter, outbox,
+                ),
             },
             Err(fault) => {
-                answer(&self.identity, self.store.running().suite.address(), &mut self.cache, caller, call, Operation::Write, Err(fault), &[], outbox);
+                answer(
+                    &self.identity,
+                    self.store.running().suite.address(),
+                    &mut self.cache,
+                    caller,
+                    call,
+                    Operation::Write,
+                    Err(fault),
+                    &[],
+                    outbox,
+                );
                 Note::Done
             }
         }
     }
 
     // An I&M text: its answer is made from what became of its command, and kept behind the commit.
-    fn store_text(&mut self, caller: &Caller, call: &Call<'_>, header: &IodWriteReq, value: ImValue, outbox: &mut Outbox) -> Note {
+    fn store_text(
+        &mut self,
+        caller: &Caller,
+        call: &Call<'_>,
+        header: &IodWriteReq,
+        value: ImValue,
+        outbox: &mut Outbox,
+    ) -> Note
+        requires empty { outbox.old.items ≡ [] }
+        ensures steps { (heard : Hears) → judged self.old.station self.old.live heard ≡ Writes caller.now self.old.live.values.running.suite.address (asked call.now) header.now value →
+            Steps F.image F.failures F.asked self.old heard (map (λ frame. frame.items) outbox.new.items) result self.new }
+        ensures reliable { F.is_reliable self.old.flash → F.is_reliable self.new.flash × (self.new.live.values.has_failed ≡ self.old.live.values.has_failed) }
+    {
+        let address = self.store.running().suite.address();
         let came = written_as(self.store.carry(&SetItem::Ask(Command::SetIm(value))));
-        self.blocks.clear();
-        if came.is_ok() {
-            put_write_answer(&mut self.blocks, header);
-            hear_controller(&mut self.relation);
-        }
-        answer(&self.identity, self.store.running().suite.address(), &mut self.cache, caller, call, Operation::Write, came, self.blocks.as_slice(), outbox);
+        put_written(&mut self.blocks, header, came);
+        hear_controller(&mut self.relation, true, came);
+        answer(
+            &self.identity,
+            address,
+            &mut self.cache,
+            caller,
+            call,
+            Operation::Write,
+            came,
+            self.blocks.as_slice(),
+            outbox,
+        );
         Note::Done
     }
 
     // A parameter record.
-    fn keep_parameter(&mut self, caller: &Caller, call: &Call<'_>, header: &IodWriteReq, parameter: Taken, outbox: &mut Outbox) -> Note {
+    fn keep_parameter(
+        &mut self,
+        caller: &Caller,
+        call: &Call<'_>,
+        header: &IodWriteReq,
+        parameter: Taken,
+        outbox: &mut Outbox,
+    ) -> Note
+        requires empty { outbox.old.items ≡ [] }
+        ensures state { self.new ≡ with_rest self.old (end_of self.old.station self.old.live (judged_effect self.old.station self.old.live caller.now (asked call.now) header.now (Keeps parameter))).rest }
+        ensures frames { map (λ frame. frame.items) outbox.new.items
+            ≡ map (bytes_of self.old.station.identity) (end_of self.old.station self.old.live (judged_effect self.old.station self.old.live caller.now (asked call.now) header.now (Keeps parameter))).sent }
+        ensures note { result ≡ Note.Done }
+    {
         let came = self.relation.keep(parameter);
-        self.blocks.clear();
-        if came.is_ok() {
-            put_write_answer(&mut self.blocks, header);
-            hear_controller(&mut self.relation);
-        }
-        answer(&self.identity, self.store.running().suite.address(), &mut self.cache, caller, call, Operation::Write, came, self.blocks.as_slice(), outbox);
+        put_written(&mut self.blocks, header, came);
+        hear_controller(&mut self.relation, true, came);
+        answer(
+            &self.identity,
+            self.store.running().suite.address(),
+            &mut self.cache,
+            caller,
+            call,
+            Operation::Write,
+            came,
+            self.blocks.as_slice(),
+            outbox,
+        );
         Note::Done
     }
 }
 
 // Puts the answer to a new call into the empty box, and keeps it. A negative one has no blocks.
-fn answer(identity: &Identity, address: [u8; 4], cache: &mut CallCache<4>, caller: &Caller, call: &Call<'_>, operation: Operation, came: Result<(), CallFault>, blocks: &[u8], outbox: &mut Outbox)
+fn answer(
+    identity: &Identity,
+    address: [u8; 4],
+    cache: &mut CallCache<4>,
+    caller: &Caller,
+    call: &Call<'_>,
+    operation: Operation,
+    came: Result<(), CallFault>,
+    blocks: &[u8],
+    outbox: &mut Outbox,
+)
     requires empty { outbox.old.items ≡ [] }
     requires few { length blocks.now ≤ 1372 }
     ensures frames { map (λ frame. frame.items) outbox.new.items ≡ bytes_of identity.now (answer_from address caller.now (asked call.now) operation (came_with came blocks.now)) ∷ [] }
@@ -228,17 +455,34 @@ fn answer(identity: &Identity, address: [u8; 4], cache: &mut CallCache<4>, calle
         Err(fault) => call.response(fault.number(operation), &[]),
     };
     send(identity, address, caller, &response, outbox);
-    cache.keep(&call.header.activity, call.header.sequence, &outbox.as_slice()[0]);
+    cache.keep(
+        &call.header.activity,
+        call.header.sequence,
+        &outbox.as_slice()[0],
+    );
 }
 
 // How a Write comes out whose command is answered so.
-fn written_as(answer: BlockError) -> Result<(), CallFault> {
+fn written_as(answer: BlockError) -> Result<(), CallFault>
+    ensures { (header : Header) → came_with result (answer_of header) ≡ comes_out header answer }
+{
     match answer {
         BlockError::Done => Ok(()),
         BlockError::Exhausted => Err(CallFault::JournalExhausted),
         _ => Err(CallFault::FlashFault),
     }
 }
+
+// Puts the block that answers a Write in the place of those that are there, where the Write is done.
+fn put_written(blocks: &mut Blocks, header: &IodWriteReq, came: Result<(), CallFault>)
+    ensures { came_with came blocks.new.items ≡ came_with came (answer_of header.now) }
+{
+    blocks.clear();
+    if came.is_ok() {
+        put_write_answer(blocks, header);
+    }
+}
+
 // Puts the response to a call into the box, behind what is in it.
 fn send(
     identity: &Identity,

@@ -11,6 +11,7 @@ ghost use Rattle.device_core.specs.Judged.{identified};
 ghost use Rattle.device_core.specs.Machine.{farewells_at, finished, is_reset as is_reset_by, is_signal, lamp_after as lamp_of, link_after, resets};
 ghost use Rattle.device_core.specs.Steps.{Steps};
 
+use crate::relation::send_farewell;
 use crate::{Device, Note};
 use dcp_core::{
     Answer, Request, Service, fill_plan, get_answer, identify_answer, identify_matches,
@@ -18,7 +19,6 @@ use dcp_core::{
 };
 use flash_model::Flash;
 use frame_codec::{DCP_GET_SET, DCP_IDENTIFY_RESPONSE, Layered, Outbox, Payload};
-use crate::relation::send_farewell;
 use pn_values::{BlockError, Command, Identity, Mac, SetItem};
 use relations::Relation;
 
@@ -117,10 +117,7 @@ impl<F: Flash<S>, const S: usize> Device<F, S> {
 fn is_ended(items: &[SetItem], answers: &[BlockError]) -> bool
     ensures { result ≡ resets items.now answers.now }
 {
-    items
-        .iter()
-        .zip(answers)
-        .any(|(item, answer)| is_reset(item) && *answer == BlockError::Done)
+    items.iter().zip(answers).any(|(item, answer)| is_reset(item) && *answer == BlockError::Done)
 }
 
 // Whether an item asks for a reset.

@@ -21,6 +21,7 @@ const BROADCAST: Mac = Mac { octets: [0xFF; 6] };
 
 /// FrameID of alarms of high priority, and of low (IEC 61158-6-10, 4.7).
 const ALARM_HIGH: u16 = 0xFC01;
+
 const ALARM_LOW: u16 = 0xFE01;
 
 /// Who sent a datagram.

@@ -1,14 +1,15 @@
 // What a device sends of its relation: ApplicationReady, and the ERR that ends it (IEC 61158-6-10, 5.2.4.5 and 5.2.6).
-ghost use Rattle.std.specs.Prelude.{◌≡◌, ◌<◌, ◌++◌, map};
+ghost use Rattle.std.specs.Prelude.{◌≡◌, ◌<◌, ◌++◌, ◌∷◌, [], if◌then◌else◌, map};
 ghost use Rattle.arrayvec.specs.ArrayVec.{array_vec_len};
 ghost use Rattle.device_core.specs.Sent.{bytes_of, farewell_frame};
-ghost use Rattle.relations.specs.Phases.{Named, moved};
+ghost use Rattle.relations.specs.Phases.{Named, Unmoved, answered, moved};
 ghost use Rattle.device_core.specs.Judged.{ready_calls};
 
 use arrayvec::ArrayVec;
 use frame_codec::{Endpoint, Layered, Outbox, Payload, RPC_PORT, Udp};
 use pn_alarms::write_pdu;
 use pn_values::Identity;
+use pnio_status::CallFault;
 use relations::{Farewell, Relation};
 use rpc_core::{Call, Datagram, write_request};
 
@@ -77,13 +78,12 @@ pub(crate) fn send_ready(
     });
 }
 
-/// A call that names the relation was answered positively: the controller is there.
-pub(crate) fn hear_controller(relation: &mut Relation)
-    ensures { relation.new ≡ moved Named relation.old }
+/// A call was answered. Where it names the relation, and the answer is positive, the controller is there: the activity timer starts
+/// again.
+pub(crate) fn hear_controller(relation: &mut Relation, is_named: bool, came: Result<(), CallFault>)
+    ensures { relation.new ≡ moved (answered (if is_named then Named else Unmoved) came) relation.old }
 {
-    let Some(uuid) = relation.uuid() else {
-        return;
-    };
-    let uuid = *uuid;
-    relation.restart(&uuid);
+    if is_named && came.is_ok() {
+        relation.heard();
+    }
 }

@@ -15,10 +15,10 @@ ghost use Rattle.device_core.specs.Faults.{StepGoesOn};
 ghost use Rattle.device_core.specs.Steps.{Steps, Identifies, IsServed, IsAgain, IsExactStep};
 
 use crate::hearing::{Heard, hear};
+use crate::relation::{send_farewell, send_ready};
 use crate::{Device, Event, Note};
 use dcp_core::Service;
 use flash_model::Flash;
-use crate::relation::{send_farewell, send_ready};
 use frame_codec::Outbox;
 use pn_alarms::{Header, Message};
 
