@@ -1,6 +1,6 @@
 -- What becomes of the answers that are kept.
 use Rattle.std.proofs.lemmas.Bool.{cond_both}
-use Rattle.std.proofs.Common.{◌≡◌, ◌&&◌, ℕ, List, [], ◌∷◌, ◌++◌, Option, Some, None, refl, sym, ap, ◌∙◌}
+use Rattle.std.proofs.Common.{◌≡◌, ◌&&◌, ℕ, List, [], ◌∷◌, ◌++◌, Option, Some, None, Result, Ok, Err, refl, sym, ap, ◌∙◌}
 use Rattle.pn_values.specs.declared.mac.Mac.{Mac}
 use Rattle.pn_values.specs.declared.set_item.BlockError.{BlockError}
 use Rattle.settings_store.specs.Machine.{Outcome, carried}
@@ -10,14 +10,29 @@ use Rattle.dcp_core.specs.Request.{Asked}
 use Rattle.dcp_core.specs.Identify.{matches}
 use Rattle.rpc_core.specs.Call.{Asked as Called}
 use Rattle.rpc_core.specs.Cache.{Kept, Told as Looked, new, again, old, looked, behind_told, behind_calls}
+use Rattle.pnio_status.specs.declared.operation.Operation.{Operation}
+use Rattle.pnio_status.specs.declared.operation.Operation.TheVariants.{Connect, Release, Read, Write, Control, ReadImplicit}
+use Rattle.pnio_status.specs.declared.call_fault.CallFault.{CallFault}
 use Rattle.pnio_status.specs.Operation.{operation_of}
-use Rattle.record_reads.specs.Implicit.{implicit_read}
+use Rattle.record_blocks.specs.declared.write_record.IodWriteReq.{IodWriteReq}
+use Rattle.record_writes.specs.declared.write.Effect.{Effect}
+use Rattle.record_writes.specs.declared.write.Effect.TheVariants.{Stores, Keeps}
+use Rattle.record_writes.specs.declared.write.Write.{Write as Asking}
+use Rattle.record_writes.specs.Judged.{write_of}
+use Rattle.pn_alarms.specs.declared.message.Message.{Message}
+use Rattle.pn_alarms.specs.declared.message.Message.TheVariants as says
+use Rattle.relations.specs.declared.hearing.Heard.{Heard as Answer}
+use Rattle.relations.specs.declared.hearing.Heard.TheVariants as to_ready
+use Rattle.relations.specs.Link.{Link, uuid_of, is_alarm_of}
+use Rattle.relations.specs.Phases.{Named, answered, keeping, moved, taking}
+use Rattle.relations.specs.Ready.{answer_of as ready_answer}
 use Rattle.device_core.specs.declared.event.Event.{Event}
 use Rattle.device_core.specs.declared.hearing.Caller.{Caller}
 use Rattle.device_core.specs.State.{Station, Live}
-use Rattle.device_core.specs.Heard.{Heard, Ticks, Unreadable, Elsewhere, Asks, Resolves, Told, Said, Calls, Responds, Garbled, heard_of}
-use Rattle.device_core.specs.Judged.{Judged, is_running, is_request, is_served, outcome_of, answer_from, kept_for, judged_request, judged_looked, judged_blocks, judged_said, judged}
-use Rattle.device_core.specs.Machine.{items_in, finished, heard_step, judged_step, step_of, first_step, later_steps, run_of}
+use Rattle.device_core.specs.Sent.{Sent}
+use Rattle.device_core.specs.Heard.{Heard, Ticks, Unreadable, Elsewhere, Asks, Resolves, Told, Cyclic, Alarms, Said, Calls, Responds, Garbled, heard_of}
+use Rattle.device_core.specs.Judged.{Judged, is_running, is_request, answer_from, kept_for, kept_answer, served, judged_request, judged_effect, judged_write, judged_new, judged_looked, judged_blocks, judged_call, judged_answer, judged_said, judged_message, judged}
+use Rattle.device_core.specs.Machine.{items_in, first_answer, written_as, finished, heard_step, judged_step, step_of, first_step, later_steps, run_of}
 use Rattle.device_core.specs.Steps.{IsBehindCalls}
 
 calls_then : (first later : List Kept) (cache : List Kept) → behind_calls 4 (first ++ later) cache ≡ behind_calls 4 later (behind_calls 4 first cache)
@@ -29,40 +44,90 @@ called_then before between now first later =
     (first.0 ++ later.0, later.1 ∙ ap (behind_calls 4 later.0) first.1 ∙ sym (calls_then first.0 later.0 before))
 
 -- what is kept behind what was judged
-abbrev Keeps : Live → List BlockError → Judged → Type 0
-Keeps live answers what = IsBehindCalls live.rest.calls (finished live.rest what answers).rest.calls
+abbrev IsKept : Station → Live → List BlockError → Judged → Type 0
+IsKept station live answers what = IsBehindCalls live.rest.calls (finished station.identity live.rest what answers).rest.calls
 
-request_called : (station : Station) (live : Live) (answers : List BlockError) (asker : Mac) (asked : Service) (request : Asked) → Keeps live answers (judged_request station live asker asked request)
+request_called : (station : Station) (live : Live) (answers : List BlockError) (asker : Mac) (asked : Service) (request : Asked) → IsKept station live answers (judged_request station live asker asked request)
 request_called station live answers asker service.Identify request =
-    cond_both (matches station.identity live.values.running request) _ _ (Keeps live answers) (λ _. ([], refl)) (λ _. ([], refl))
+    cond_both (matches station.identity live.values.running request) _ _ (IsKept station live answers) (λ _. ([], refl)) (λ _. ([], refl))
 request_called station live answers asker service.Get request = ([], refl)
 request_called station live answers asker service.Set request = ([], refl)
 
-looked_called : (station : Station) (live : Live) (answers : List BlockError) (caller : Caller) (call : Called) (blocks : List ℕ) (told : Looked)
-    → looked call.header.activity call.header.sequence live.rest.calls ≡ told → Keeps live answers (judged_looked station live caller call blocks told)
-looked_called station live answers caller call blocks new told =
-    let answer = answer_from live caller call (outcome_of (implicit_read station.identity station.real live.values.running blocks)) in
-    let kept = kept_for station.identity call answer in
-    (kept ∷ [], sym (ap (behind_told 4 kept live.rest.calls) told))
-looked_called station live answers caller call blocks (again frame) told = ([], refl)
-looked_called station live answers caller call blocks old told = ([], refl)
+-- a call that is new, and answered so, keeps its answer
+kept_called : (station : Station) (live : Live) (call : Called) (answer : Sent) → looked call.header.activity call.header.sequence live.rest.calls ≡ new
+    → IsBehindCalls live.rest.calls (behind_told 4 (kept_for station.identity call answer) live.rest.calls new)
+kept_called station live call answer is_new =
+    let kept = kept_for station.identity call answer in (kept ∷ [], sym (ap (behind_told 4 kept live.rest.calls) is_new))
 
-blocks_called : (station : Station) (live : Live) (answers : List BlockError) (caller : Caller) (call : Called) (blocks : Option (List ℕ)) → Keeps live answers (judged_blocks station live caller call blocks)
-blocks_called station live answers caller call None = ([], refl)
-blocks_called station live answers caller call (Some blocks) = looked_called station live answers caller call blocks _ refl
+served_called : (station : Station) (live : Live) (answers : List BlockError) (caller : Caller) (call : Called) (operation : Operation) (outcome : Result (List ℕ) CallFault) (link : Option Link) (behind : List Sent)
+    → looked call.header.activity call.header.sequence live.rest.calls ≡ new → IsKept station live answers (served station live caller call operation outcome link behind)
+served_called station live answers caller call operation outcome link behind is_new =
+    kept_called station live call (answer_from live.values.running.suite.address caller call operation outcome) is_new
 
-said_called : (station : Station) (live : Live) (answers : List BlockError) (caller : Caller) (said : Said) → Keeps live answers (judged_said station live caller said)
-said_called station live answers caller (Calls call) =
-    cond_both (is_served (operation_of call.header.operation)) _ _ (Keeps live answers) (λ _. blocks_called station live answers caller call call.blocks) (λ _. ([], refl))
-said_called station live answers caller (Responds response) = ([], refl)
+effect_called : (station : Station) (live : Live) (answers : List BlockError) (caller : Caller) (call : Called) (header : IodWriteReq) (effect : Effect)
+    → looked call.header.activity call.header.sequence live.rest.calls ≡ new → IsKept station live answers (judged_effect station live caller call header effect)
+effect_called station live answers caller call header (Stores value) is_new =
+    kept_called station live call (answer_from live.values.running.suite.address caller call Write (written_as header (first_answer answers))) is_new
+effect_called station live answers caller call header (Keeps parameter) is_new =
+    let kept = keeping parameter live.rest.link in
+    served_called station live answers caller call Write (kept_answer header kept) (moved (answered Named kept) (moved (taking kept) live.rest.link)) [] is_new
+
+write_called : (station : Station) (live : Live) (answers : List BlockError) (caller : Caller) (call : Called) (write : Result Asking CallFault)
+    → looked call.header.activity call.header.sequence live.rest.calls ≡ new → IsKept station live answers (judged_write station live caller call write)
+write_called station live answers caller call (Ok write) is_new = effect_called station live answers caller call write.request write.effect is_new
+write_called station live answers caller call (Err fault) is_new = served_called station live answers caller call Write (Err fault) live.rest.link [] is_new
+
+new_called : (station : Station) (live : Live) (answers : List BlockError) (caller : Caller) (call : Called) (blocks : List ℕ) (operation : Operation)
+    → looked call.header.activity call.header.sequence live.rest.calls ≡ new → IsKept station live answers (judged_new station live caller call blocks operation)
+new_called station live answers caller call blocks Connect is_new = served_called station live answers caller call Connect _ _ _ is_new
+new_called station live answers caller call blocks Release is_new = served_called station live answers caller call Release _ _ _ is_new
+new_called station live answers caller call blocks Read is_new = served_called station live answers caller call Read _ _ _ is_new
+new_called station live answers caller call blocks Write is_new =
+    write_called station live answers caller call (write_of (uuid_of live.rest.link) station.real blocks) is_new
+new_called station live answers caller call blocks Control is_new = served_called station live answers caller call Control _ _ _ is_new
+new_called station live answers caller call blocks ReadImplicit is_new = served_called station live answers caller call ReadImplicit _ _ _ is_new
+
+looked_called : (station : Station) (live : Live) (answers : List BlockError) (caller : Caller) (call : Called) (blocks : List ℕ) (operation : Operation) (told : Looked)
+    → looked call.header.activity call.header.sequence live.rest.calls ≡ told → IsKept station live answers (judged_looked station live caller call blocks operation told)
+looked_called station live answers caller call blocks operation new told = new_called station live answers caller call blocks operation told
+looked_called station live answers caller call blocks operation (again frame) told = ([], refl)
+looked_called station live answers caller call blocks operation old told = ([], refl)
+
+blocks_called : (station : Station) (live : Live) (answers : List BlockError) (caller : Caller) (call : Called) (operation : Operation) (blocks : Option (List ℕ))
+    → IsKept station live answers (judged_blocks station live caller call operation blocks)
+blocks_called station live answers caller call operation None = ([], refl)
+blocks_called station live answers caller call operation (Some blocks) = looked_called station live answers caller call blocks operation _ refl
+
+call_called : (station : Station) (live : Live) (answers : List BlockError) (caller : Caller) (call : Called) (operation : Option Operation) → IsKept station live answers (judged_call station live caller call operation)
+call_called station live answers caller call None = ([], refl)
+call_called station live answers caller call (Some operation) = blocks_called station live answers caller call operation call.blocks
+
+answer_called : (station : Station) (live : Live) (answers : List BlockError) (answer : Answer) → IsKept station live answers (judged_answer live answer)
+answer_called station live answers to_ready.NotWanted = ([], refl)
+answer_called station live answers to_ready.Garbled = ([], refl)
+answer_called station live answers to_ready.Confirmed = ([], refl)
+answer_called station live answers (to_ready.Refused farewell) = ([], refl)
+
+said_called : (station : Station) (live : Live) (answers : List BlockError) (caller : Caller) (said : Said) → IsKept station live answers (judged_said station live caller said)
+said_called station live answers caller (Calls call) = call_called station live answers caller call (operation_of call.header.operation)
+said_called station live answers caller (Responds response) = answer_called station live answers (ready_answer response live.rest.link)
 said_called station live answers caller Garbled = ([], refl)
 
-judged_called : (station : Station) (live : Live) (answers : List BlockError) (heard : Heard) → Keeps live answers (judged station live heard)
+message_called : (station : Station) (live : Live) (answers : List BlockError) (message : Message) → IsKept station live answers (judged_message live message)
+message_called station live answers says.Abort = ([], refl)
+message_called station live answers (says.Data number ack) = ([], refl)
+message_called station live answers (says.Ack number) = ([], refl)
+message_called station live answers says.Nack = ([], refl)
+
+judged_called : (station : Station) (live : Live) (answers : List BlockError) (heard : Heard) → IsKept station live answers (judged station live heard)
 judged_called station live answers (Asks asker request) = request_called station live answers asker request.service request
 judged_called station live answers (Resolves asker packet) =
-    cond_both (is_request packet.operation && is_running live.values.running packet.target.address) _ _ (Keeps live answers) (λ _. ([], refl)) (λ _. ([], refl))
+    cond_both (is_request packet.operation && is_running live.values.running packet.target.address) _ _ (IsKept station live answers) (λ _. ([], refl)) (λ _. ([], refl))
 judged_called station live answers (Told caller address said) =
-    cond_both (is_running live.values.running address) _ _ (Keeps live answers) (λ _. said_called station live answers caller said) (λ _. ([], refl))
+    cond_both (is_running live.values.running address) _ _ (IsKept station live answers) (λ _. said_called station live answers caller said) (λ _. ([], refl))
+judged_called station live answers (Alarms source header message) =
+    cond_both (is_alarm_of source header.destination header.source live.rest.link) _ _ (IsKept station live answers) (λ _. message_called station live answers message) (λ _. ([], refl))
+judged_called station live answers (Cyclic source frame_id body) = ([], refl)
 judged_called station live answers Ticks = ([], refl)
 judged_called station live answers Unreadable = ([], refl)
 judged_called station live answers Elsewhere = ([], refl)

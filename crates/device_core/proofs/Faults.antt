@@ -46,8 +46,8 @@ judged_alike outcomes station one other what nothing same =
     let items = items_in what in
     let answers : (carried outcomes one.values items).answers ≡ (carried [] other.values items).answers =
     plain_answers outcomes one.values items nothing ∙ sym (plain_answers [] other.values items nothing) in
-    let end : finished one.rest what (carried outcomes one.values items).answers ≡ finished other.rest what (carried [] other.values items).answers =
-    ap (finished one.rest what) answers ∙ ap (λ r. finished r what (carried [] other.values items).answers) (sym same) in
+    let end : finished station.identity one.rest what (carried outcomes one.values items).answers ≡ finished station.identity other.rest what (carried [] other.values items).answers =
+    ap (finished station.identity one.rest what) answers ∙ ap (λ r. finished station.identity r what (carried [] other.values items).answers) (sym same) in
     record {
       rest = ap (λ e. e.rest) end;
       frames = ap (λ e. map (bytes_of station.identity) e.sent) end;
@@ -70,7 +70,7 @@ pub step_goes_on : (outcomes : List Outcome) (station : Station) (live next : Li
 unfolding heard_step judged_step
 step_goes_on outcomes station live next heard sent said answers live_is frames_are note_is answers_are settings =
     let what = judged station live heard in
-    let end : finished live.rest what (carried outcomes live.values (items_in what)).answers ≡ finished live.rest what answers = ap (finished live.rest what) (sym answers_are) in
+    let end : finished station.identity live.rest what (carried outcomes live.values (items_in what)).answers ≡ finished station.identity live.rest what answers = ap (finished station.identity live.rest what) (sym answers_are) in
     record {
       answers = answers;
       settings = settings;

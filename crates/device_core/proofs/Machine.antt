@@ -6,38 +6,41 @@ use Rattle.device_core.specs.declared.event.Event.{Event}
 use Rattle.device_core.specs.State.{Station, Live}
 use Rattle.device_core.specs.Heard.{Heard}
 use Rattle.device_core.specs.Sent.{bytes_of}
-use Rattle.device_core.specs.Judged.{Judged, Refuses, Sets, Moves, judged}
+use Rattle.device_core.specs.Judged.{Judged, Refuses, Sets, Writes, Moves, judged}
 use Rattle.device_core.specs.Machine.{Stepped, Ran, items_in, items_of, finished, judged_step, heard_step, step_of, handed, first_step, later_steps, then_run, run_of}
 
--- whether a Set was judged, which alone asks the settings for something
-abbrev pub is_set : Judged → Bool
-is_set (Refuses why) = false
-is_set (Sets asker request in_operation) = true
-is_set (Moves rest sent) = false
+-- whether a Set or a Write of an I&M text was judged, which alone ask the settings for something
+abbrev pub is_asking : Judged → Bool
+is_asking (Refuses why) = false
+is_asking (Sets asker request in_operation) = true
+is_asking (Writes caller address call header value) = true
+is_asking (Moves rest sent) = false
 
 -- what comes of all else: nothing is asked of the settings
 unfoldable pub quiet_step : Station → Live → Judged → Stepped
 quiet_step station live what =
-    let end = finished live.rest what [] in
+    let end = finished station.identity live.rest what [] in
     record { live = record { values = live.values; rest = end.rest }; sent = end.sent; frames = map (bytes_of station.identity) end.sent; note = end.note; accepted = [] }
 
-judged_quiet : (outcomes : List Outcome) (station : Station) (live : Live) (what : Judged) → is_set what ≡ false → judged_step outcomes station live what ≡ quiet_step station live what
+judged_quiet : (outcomes : List Outcome) (station : Station) (live : Live) (what : Judged) → is_asking what ≡ false → judged_step outcomes station live what ≡ quiet_step station live what
 unfolding judged_step quiet_step
 judged_quiet outcomes station live (Refuses why) none = refl
 judged_quiet outcomes station live (Sets asker request in_operation) none = cc
+judged_quiet outcomes station live (Writes caller address call header value) none = cc
 judged_quiet outcomes station live (Moves rest sent) none = refl
 
-pub is_quiet : (outcomes : List Outcome) (station : Station) (live : Live) (heard : Heard) → is_set (judged station live heard) ≡ false
+pub is_quiet : (outcomes : List Outcome) (station : Station) (live : Live) (heard : Heard) → is_asking (judged station live heard) ≡ false
     → heard_step outcomes station live heard ≡ quiet_step station live (judged station live heard)
 unfolding heard_step
 is_quiet outcomes station live heard none = judged_quiet outcomes station live (judged station live heard) none
 
-no_items : (what : Judged) → is_set what ≡ false → items_in what ≡ []
+no_items : (what : Judged) → is_asking what ≡ false → items_in what ≡ []
 no_items (Refuses why) none = refl
 no_items (Sets asker request in_operation) none = cc
+no_items (Writes caller address call header value) none = cc
 no_items (Moves rest sent) none = refl
 
-pub nothing_asked : (station : Station) (live : Live) (heard : Heard) → is_set (judged station live heard) ≡ false → items_of station live heard ≡ []
+pub nothing_asked : (station : Station) (live : Live) (heard : Heard) → is_asking (judged station live heard) ≡ false → items_of station live heard ≡ []
 nothing_asked station live heard none = no_items (judged station live heard) none
 
 -- a step by what was judged

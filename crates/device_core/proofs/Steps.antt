@@ -1,7 +1,7 @@
 -- What a step does, from what its parts do.
 use Rattle.std.proofs.lemmas.Bool.{cond_both, cond-true}
-use Rattle.std.proofs.Common.{◌≡◌, ◌≢◌, ℕ, false, List, [], ◌∷◌, ◌++◌, map, refl, sym, ap, subst, ◌∙◌, inl, arith}
-use Rattle.std.proofs.lemmas.List.{append-nil}
+use Rattle.std.proofs.Common.{◌≡◌, ◌≢◌, ℕ, false, List, [], ◌∷◌, ◌++◌, map, Option, None, is_some, refl, sym, ap, subst, ◌∙◌, inl, arith}
+use Rattle.std.proofs.lemmas.List.{append-nil, map-append}
 use Rattle.flash_model.specs.Calls.{Call}
 use Rattle.flash_model.specs.Image.{Image}
 use Rattle.pn_values.specs.declared.mac.Mac.{Mac}
@@ -13,6 +13,7 @@ use Rattle.settings_store.specs.Carries.{Carries, OneByOne, Holds, Stretch, Cont
 use Rattle.settings_store.specs.Faults.{GoesOn}
 use Rattle.rpc_core.specs.Call.{Asked as Called}
 use Rattle.rpc_core.specs.Cache.{Kept, looked, again}
+use Rattle.relations.specs.Link.{Link}
 use Rattle.dcp_core.specs.declared.request.Service.TheVariants as service
 use Rattle.dcp_core.specs.Request.{Asked}
 use Rattle.dcp_core.specs.Identify.{matches}
@@ -23,10 +24,10 @@ use Rattle.device_core.specs.Cycle.{started}
 use Rattle.device_core.specs.State.{Station, State, Rest, Live, store_of, with_rest}
 use Rattle.device_core.specs.Heard.{Heard, Asks}
 use Rattle.device_core.specs.Sent.{Sent, GetAnswer, SetAnswer, Again, bytes_of}
-use Rattle.device_core.specs.Judged.{Judged, Refuses, Sets, Moves, identified, judged_request, judged_looked, judged_blocks, judged}
-use Rattle.device_core.specs.Machine.{Stepped, items_in, items_of, finished, end_of, judged_step, heard_step}
+use Rattle.device_core.specs.Judged.{Judged, Refuses, Sets, Writes, Moves, identified, judged_request, judged_looked, judged_blocks, judged_call, judged}
+use Rattle.device_core.specs.Machine.{Stepped, items_in, items_of, farewells_at, resets, finished, end_of, judged_step, heard_step}
 use Rattle.device_core.specs.Steps.{Steps, Identifies, IsIdentified, IsServed, IsAgain}
-use Rattle.device_core.proofs.Machine.{is_set, nothing_asked, quiet_step, is_quiet, judged_as}
+use Rattle.device_core.proofs.Machine.{is_asking, nothing_asked, quiet_step, is_quiet, judged_as}
 use Rattle.device_core.proofs.Faults.{step_goes_on}
 
 -- a state by its parts
@@ -46,15 +47,15 @@ same_values a b running stored room failed lost =
     ∙ ap (λ x. record b { room = x; has_failed = a.has_failed; is_lost = a.is_lost }) room
     ∙ ap (λ x. record b { has_failed = x; is_lost = a.is_lost }) failed ∙ ap (λ x. record b { is_lost = x }) lost
 
--- What was heard is no Set, and the parts of what it came to are those of what was judged: for a service whose parts see one
+-- What was heard asks nothing of the settings, and the parts of what it came to are those of what was judged: for a service whose parts see one
 -- field of the device only.
 pub record IsQuiet {F : Type 0} (old new : State F) (heard : Heard) (frames : List (List ℕ)) (said : Note) : Type 0 where
-  pub not_set : is_set (judged old.station old.live heard) ≡ false
+  pub asks_nothing : is_asking (judged old.station old.live heard) ≡ false
   pub flash : new.flash ≡ old.flash
   pub same : new.station ≡ old.station
-  pub live : new.live ≡ record { values = old.live.values; rest = (finished old.live.rest (judged old.station old.live heard) []).rest }
-  pub frames_are : frames ≡ map (bytes_of old.station.identity) (finished old.live.rest (judged old.station old.live heard) []).sent
-  pub note_is : said ≡ (finished old.live.rest (judged old.station old.live heard) []).note
+  pub live : new.live ≡ record { values = old.live.values; rest = (finished old.station.identity old.live.rest (judged old.station old.live heard) []).rest }
+  pub frames_are : frames ≡ map (bytes_of old.station.identity) (finished old.station.identity old.live.rest (judged old.station old.live heard) []).sent
+  pub note_is : said ≡ (finished old.station.identity old.live.rest (judged old.station old.live heard) []).note
 
 -- where nothing is asked for, nothing happens to the settings
 pub no_stretch : {F : Type 0} (image : F → Image) (failures : F → ℕ) (state : store.State F) → Holds (image state.flash) state.values → Stretch image failures state [] state
@@ -74,9 +75,9 @@ pub is_quiet_steps : {F : Type 0} (image : F → Image) (failures : F → ℕ) (
 unfolding quiet_step
 is_quiet_steps image failures asked old new heard frames said holds parts =
     let step = heard_step [] old.station old.live heard in
-    let quiet = is_quiet [] old.station old.live heard parts.not_set in
+    let quiet = is_quiet [] old.station old.live heard parts.asks_nothing in
     let none : step.accepted ≡ [] = ap (λ s. s.accepted) quiet in
-    let nothing = nothing_asked old.station old.live heard parts.not_set in
+    let nothing = nothing_asked old.station old.live heard parts.asks_nothing in
     let live_is : new.live ≡ step.live = rw quiet parts.live in
     let frames_are : frames ≡ step.frames = rw quiet parts.frames_are in
     let note_is : said ≡ step.note = rw quiet parts.note_is in
@@ -108,13 +109,13 @@ is_quiet_steps image failures asked old new heard frames said holds parts =
 
 -- what was judged and asks nothing of the settings
 pub quiet_steps : {F : Type 0} (image : F → Image) (failures : F → ℕ) (asked : F → List Call → F → Type 0) (old new : State F) (heard : Heard) (what : Judged) (frames : List (List ℕ)) (said : Note)
-    → Holds (image old.flash) old.live.values → judged old.station old.live heard ≡ what → is_set what ≡ false
-    → new ≡ with_rest old (end_of old.live what).rest → frames ≡ map (bytes_of old.station.identity) (end_of old.live what).sent → said ≡ (end_of old.live what).note
+    → Holds (image old.flash) old.live.values → judged old.station old.live heard ≡ what → is_asking what ≡ false
+    → new ≡ with_rest old (end_of old.station old.live what).rest → frames ≡ map (bytes_of old.station.identity) (end_of old.station old.live what).sent → said ≡ (end_of old.station old.live what).note
     → Steps image failures asked old heard frames said new
-quiet_steps image failures asked old new heard what frames said holds judged_so not_set is frames_are note_is =
-    let end = ap (end_of old.live) judged_so in
+quiet_steps image failures asked old new heard what frames said holds judged_so none is frames_are note_is =
+    let end = ap (end_of old.station old.live) judged_so in
     is_quiet_steps image failures asked old new heard frames said holds (record {
-      not_set = ap is_set judged_so ∙ not_set;
+      asks_nothing = ap is_asking judged_so ∙ none;
       flash = ap (λ s. s.flash) is;
       same = ap (λ s. s.station) is;
       live = ap (λ s. s.live) is ∙ ap (λ r. record { values = old.live.values; rest = r }) (sym (ap (λ e. e.rest) end));
@@ -139,25 +140,25 @@ refuses_steps image failures asked state heard why frames said holds refuses non
 
 -- an Identify request
 identify_leaves : (station : Station) (live : Live) (asker : Mac) (request : Asked)
-    → (is_set (identified station live asker request) ≡ false) × ((finished live.rest (identified station live asker request) []).rest ≡ live.rest)
+    → (is_asking (identified station live asker request) ≡ false) × ((finished station.identity live.rest (identified station live asker request) []).rest ≡ live.rest)
 identify_leaves station live asker request = cond_both (matches station.identity live.values.running request) _ _
-    (λ what. (is_set what ≡ false) × ((finished live.rest what []).rest ≡ live.rest)) (λ _. (refl, refl)) (λ _. (refl, refl))
+    (λ what. (is_asking what ≡ false) × ((finished station.identity live.rest what []).rest ≡ live.rest)) (λ _. (refl, refl)) (λ _. (refl, refl))
 
 pub identify_steps : {F : Type 0} (image : F → Image) (failures : F → ℕ) (asked : F → List Call → F → Type 0) (state : State F) (asker : Mac) (request : Asked) (frames : List (List ℕ)) (said : Note)
     → Holds (image state.flash) state.live.values → request.service ≡ service.Identify
-    → frames ≡ map (bytes_of state.station.identity) (finished state.live.rest (identified state.station state.live asker request) []).sent
-    → said ≡ (finished state.live.rest (identified state.station state.live asker request) []).note
+    → frames ≡ map (bytes_of state.station.identity) (finished state.station.identity state.live.rest (identified state.station state.live asker request) []).sent
+    → said ≡ (finished state.station.identity state.live.rest (identified state.station state.live asker request) []).note
     → Steps image failures asked state (Asks asker request) frames said state
 identify_steps image failures asked state asker request frames said holds identify frames_are note_is =
     let is = ap (λ s. judged_request state.station state.live asker s request) identify in
     let leaves = identify_leaves state.station state.live asker request in
     is_quiet_steps image failures asked state state (Asks asker request) frames said holds (record {
-      not_set = ap is_set is ∙ leaves.0;
+      asks_nothing = ap is_asking is ∙ leaves.0;
       flash = refl;
       same = refl;
-      live = ap (λ r. record { values = state.live.values; rest = r }) (sym (ap (λ what. (finished state.live.rest what []).rest) is ∙ leaves.1));
-      frames_are = frames_are ∙ sym (ap (λ what. map (bytes_of state.station.identity) (finished state.live.rest what []).sent) is);
-      note_is = note_is ∙ sym (ap (λ what. (finished state.live.rest what []).note) is);
+      live = ap (λ r. record { values = state.live.values; rest = r }) (sym (ap (λ what. (finished state.station.identity state.live.rest what []).rest) is ∙ leaves.1));
+      frames_are = frames_are ∙ sym (ap (λ what. map (bytes_of state.station.identity) (finished state.station.identity state.live.rest what []).sent) is);
+      note_is = note_is ∙ sym (ap (λ what. (finished state.station.identity state.live.rest what []).note) is);
     })
 
 -- a Get
@@ -173,16 +174,16 @@ get_steps image failures asked state asker request frames said holds get frames_
 pub settled_steps : {F : Type 0} (image : F → Image) (failures : F → ℕ) (asked : F → List Call → F → Type 0) (old new : State F) (heard : Heard) (what : Judged) (answers : List BlockError)
     (frames : List (List ℕ)) (said : Note) → judged old.station old.live heard ≡ what
     → Carries image failures asked (store_of old) (items_in what) answers (store_of new)
-    → new.station ≡ old.station → new.live.rest ≡ (finished old.live.rest what answers).rest
-    → frames ≡ map (bytes_of old.station.identity) (finished old.live.rest what answers).sent → said ≡ (finished old.live.rest what answers).note
+    → new.station ≡ old.station → new.live.rest ≡ (finished old.station.identity old.live.rest what answers).rest
+    → frames ≡ map (bytes_of old.station.identity) (finished old.station.identity old.live.rest what answers).sent → said ≡ (finished old.station.identity old.live.rest what answers).note
     → Steps image failures asked old heard frames said new
 unfolding judged_step
 settled_steps image failures asked old new heard what answers frames said is_what carries same rest frames_are note_is =
     let step = heard_step carries.outcomes old.station old.live heard in
     let is = judged_as carries.outcomes old.station old.live heard what is_what in
     let items : items_of old.station old.live heard ≡ items_in what = ap items_in is_what in
-    let end : finished old.live.rest what answers ≡ finished old.live.rest what (carried carries.outcomes old.live.values (items_in what)).answers =
-    ap (finished old.live.rest what) carries.answers_are in
+    let end : finished old.station.identity old.live.rest what answers ≡ finished old.station.identity old.live.rest what (carried carries.outcomes old.live.values (items_in what)).answers =
+    ap (finished old.station.identity old.live.rest what) carries.answers_are in
     let accepted : (carried carries.outcomes old.live.values (items_in what)).accepted ≡ step.accepted = sym (ap (λ s. s.accepted) is) in
     let live_now : new.live ≡ step.live = rw is (same_live _ _ carries.values (rest ∙ ap (λ e. e.rest) end)) in
     let frames_now : frames ≡ step.frames = rw is (frames_are ∙ ap (λ e. map (bytes_of old.station.identity) e.sent) end) in
@@ -202,14 +203,16 @@ settled_steps image failures asked old new heard what answers frames said is_wha
           (subst (λ i. GoesOn old.live.values i answers new.live.values) (sym items) carries.goes_on);
     }
 
--- a Set of a station
+-- a Set of a station: ERR, where a reset ends the relation, and the answer behind it
 pub asked_set_steps : {F : Type 0} (image : F → Image) (failures : F → ℕ) (asked : F → List Call → F → Type 0) (old new : State F) (asker : Mac) (request : Asked) (answers : List BlockError) (frames : List (List ℕ)) (said : Note)
-    → request.service ≡ service.Set → Carries image failures asked (store_of old) (plan_of false request) answers (store_of new) → new.station ≡ old.station
-    → new.live.rest ≡ (finished old.live.rest (Sets asker request false) answers).rest → frames ≡ bytes_of old.station.identity (SetAnswer asker request answers) ∷ [] → said ≡ note.Done
-    → Steps image failures asked old (Asks asker request) frames said new
+    → request.service ≡ service.Set → Carries image failures asked (store_of old) (plan_of (is_some old.live.rest.link) request) answers (store_of new) → new.station ≡ old.station
+    → new.live.rest ≡ (finished old.station.identity old.live.rest (Sets asker request (is_some old.live.rest.link)) answers).rest
+    → frames ≡ map (bytes_of old.station.identity) (farewells_at (resets (plan_of (is_some old.live.rest.link) request) answers) old.live.rest.link) ++ bytes_of old.station.identity (SetAnswer asker request answers) ∷ []
+    → said ≡ note.Done → Steps image failures asked old (Asks asker request) frames said new
 asked_set_steps image failures asked old new asker request answers frames said set carries same rest frames_are done =
-    settled_steps image failures asked old new (Asks asker request) (Sets asker request false) answers frames said
-    (ap (λ s. judged_request old.station old.live asker s request) set) carries same rest frames_are done
+    settled_steps image failures asked old new (Asks asker request) (Sets asker request (is_some old.live.rest.link)) answers frames said
+    (ap (λ s. judged_request old.station old.live asker s request) set) carries same rest
+    (frames_are ∙ sym (map-append (bytes_of old.station.identity) (farewells_at (resets (plan_of (is_some old.live.rest.link) request) answers) old.live.rest.link) (SetAnswer asker request answers ∷ []))) done
 
 -- what is not done changes nothing and sends nothing
 pub record IsNothing (live : Live) (step : Stepped) : Type 0 where
@@ -221,6 +224,7 @@ refused_judged : (outcomes : List Outcome) (station : Station) (live : Live) (wh
 unfolding judged_step
 refused_judged outcomes station live (Refuses why) refused = record { live_is = refl; none_sent = refl; none_accepted = refl }
 refused_judged outcomes station live (Sets asker request in_operation) refused = absurd (refused refl)
+refused_judged outcomes station live (Writes caller address call header value) refused = absurd (refused refl)
 refused_judged outcomes station live (Moves rest sent) refused = absurd (refused refl)
 
 refused_heard : (outcomes : List Outcome) (station : Station) (live : Live) (heard : Heard) → (heard_step outcomes station live heard).note ≢ note.Done → IsNothing live (heard_step outcomes station live heard)
@@ -266,8 +270,8 @@ identify_step image failures asked old new heard frames said steps asker request
 again_judged : (station : Station) (live : Live) (heard : Heard) (call : Called) (frame : List ℕ) → IsServed live heard call → looked call.header.activity call.header.sequence live.rest.calls ≡ again frame
     → judged station live heard ≡ Moves live.rest (Again frame ∷ [])
 again_judged station live heard call frame it told =
-    ap (judged station live) it.is ∙ cond-true _ _ _ it.runs ∙ cond-true _ _ _ it.served
-    ∙ ap (judged_blocks station live it.caller call) it.counted ∙ ap (judged_looked station live it.caller call it.blocks) told
+    ap (judged station live) it.is ∙ cond-true _ _ _ it.runs ∙ ap (judged_call station live it.caller call) it.served
+    ∙ ap (judged_blocks station live it.caller call it.operation) it.counted ∙ ap (judged_looked station live it.caller call it.blocks it.operation) told
 
 -- its step
 record IsSame (live : Live) (frame : List ℕ) (step : Stepped) : Type 0 where
@@ -292,8 +296,9 @@ again_step image failures asked old new heard frames said steps call frame serve
       done = steps.note ∙ one.done;
     }
 
--- the values of a store that has just started, and an empty cache
-pub as_started : (values : store.Values) (calls : List Kept) (settings : Settings) (room : ℕ) → values.running ≡ values.stored → values.has_failed ≡ false → values.is_lost ≡ false
-    → calls ≡ [] → values.stored ≡ settings → values.room ≡ room → record { values = values; rest = record { lamp = 0; calls = calls } } ≡ started settings room
-as_started values calls settings room running failed lost empty stored left =
-    same_live _ _ (same_values values (started settings room).values (running ∙ stored) stored left failed lost) (ap (λ c. record { lamp = 0; calls = c }) empty)
+-- the values of a store that has just started, an empty cache, and no relation
+pub as_started : (values : store.Values) (calls : List Kept) (link : Option Link) (settings : Settings) (room : ℕ) → values.running ≡ values.stored → values.has_failed ≡ false → values.is_lost ≡ false
+    → calls ≡ [] → link ≡ None → values.stored ≡ settings → values.room ≡ room → record { values = values; rest = record { lamp = 0; calls = calls; link = link } } ≡ started settings room
+as_started values calls link settings room running failed lost empty none stored left =
+    same_live _ _ (same_values values (started settings room).values (running ∙ stored) stored left failed lost)
+    (ap (λ c. record { lamp = 0; calls = c; link = link }) empty ∙ ap (λ l. record { lamp = 0; calls = []; link = l }) none)

@@ -1,6 +1,6 @@
 -- One step of a device, and a run of steps, given what becomes of each call that stores a command.
 use Rattle.std.specs.Prelude.{ℕ, Bool, true, false, List, [], ◌∷◌, ◌++◌, ◌&&◌, ◌||◌, map, Option, Some, None, Result, Ok, Err, if◌then◌else◌}
-use Rattle.std.specs.List.{list_any}
+use Rattle.std.specs.List.{list_any, zip}
 use Rattle.pn_values.specs.declared.set_item.SetItem.{SetItem}
 use Rattle.pn_values.specs.declared.set_item.SetItem.TheVariants.{Ask, Signal, Answer}
 use Rattle.pn_values.specs.declared.set_item.BlockError.{BlockError}
@@ -68,10 +68,11 @@ is_done error.Local = false
 is_done error.InOperation = false
 
 -- whether a reset among these items was answered 'done', each item with its own answer
+abbrev pub is_reset_done : SetItem × BlockError → Bool
+is_reset_done pair = is_reset pair.0 && is_done pair.1
+
 abbrev pub resets : List SetItem → List BlockError → Bool
-resets [] answers = false
-resets (item ∷ items) [] = false
-resets (item ∷ items) (answer ∷ answers) = (is_reset item && is_done answer) || resets items answers
+resets items answers = list_any is_reset_done (zip items answers)
 
 -- the relation ends with a reset that is done, and ERR says so, in front of the answer to the Set
 abbrev pub link_after : Bool → Option Link → Option Link

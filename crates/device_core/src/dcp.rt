@@ -1,5 +1,5 @@
 // The requests of DCP: Identify, Get and Set (IEC 61158-6-10, 4.3).
-ghost use Rattle.std.specs.Prelude.{◌≡◌, ◌<◌, ◌≤◌, ◌+◌, true, [], ◌∷◌, ◌++◌, map};
+ghost use Rattle.std.specs.Prelude.{◌≡◌, ◌<◌, ◌≤◌, ◌+◌, true, [], ◌∷◌, ◌++◌, is_some, map};
 ghost use Rattle.std.specs.List.{list_any};
 ghost use Rattle.arrayvec.specs.ArrayVec.{array_vec_len};
 ghost use Rattle.settings_store.specs.Carries.{Holds};
@@ -8,7 +8,7 @@ ghost use Rattle.dcp_core.specs.Request.{asked};
 ghost use Rattle.device_core.specs.Heard.{Asks, heard_request};
 ghost use Rattle.device_core.specs.Sent.{GetAnswer, answer_frame, bytes_of};
 ghost use Rattle.device_core.specs.Judged.{identified};
-ghost use Rattle.device_core.specs.Machine.{farewells_at, finished, is_reset as is_reset_by, is_signal, lamp_after as lamp_of, link_after, resets};
+ghost use Rattle.device_core.specs.Machine.{farewells_at, finished, is_done as is_done_by, is_reset as is_reset_by, is_signal, lamp_after as lamp_of, link_after, resets};
 ghost use Rattle.device_core.specs.Steps.{Steps};
 
 use crate::relation::send_farewell;
@@ -101,12 +101,11 @@ impl<F: Flash<S>, const S: usize> Device<F, S> {
         ensures steps { Steps F.image F.failures F.asked self.old (Asks asker (asked request.now)) (map (λ frame. frame.items) outbox.new.items) result self.new }
         ensures reliable { F.is_reliable self.old.flash → F.is_reliable self.new.flash × (self.new.live.values.has_failed ≡ self.old.live.values.has_failed) }
     {
-        fill_plan(request, self.relation.phase().is_some(), &mut self.plan);
+        fill_plan(request, is_in_operation(&self.relation), &mut self.plan);
         let answers = self.store.carry_out(self.plan.as_slice());
         self.lamp = lamp_after(self.lamp, self.plan.as_slice());
-        if is_ended(self.plan.as_slice(), answers.as_slice()) {
-            end(&self.identity, &mut self.relation, outbox);
-        }
+        let is_ended = is_ended(self.plan.as_slice(), answers.as_slice());
+        end_if(is_ended, &self.identity, &mut self.relation, outbox);
         let answer = set_answer(request, &answers);
         send(&self.identity, asker, DCP_GET_SET, &answer, outbox);
         Note::Done
@@ -117,7 +116,17 @@ impl<F: Flash<S>, const S: usize> Device<F, S> {
 fn is_ended(items: &[SetItem], answers: &[BlockError]) -> bool
     ensures { result ≡ resets items.now answers.now }
 {
-    items.iter().zip(answers).any(|(item, answer)| is_reset(item) && *answer == BlockError::Done)
+    items
+        .iter()
+        .zip(answers.iter())
+        .any(|(item, answer)| is_reset(item) && is_done(*answer))
+}
+
+// Whether an item was answered 'done'.
+fn is_done(answer: BlockError) -> bool
+    ensures { result ≡ is_done_by answer }
+{
+    matches!(answer, BlockError::Done)
 }
 
 // Whether an item asks for a reset.
@@ -130,14 +139,24 @@ fn is_reset(item: &SetItem) -> bool
     )
 }
 
-// Ends the relation, if there is one, and puts its ERR into the box.
-fn end(identity: &Identity, relation: &mut Relation, outbox: &mut Outbox)
-    requires { array_vec_len outbox.old < 4 }
-    ensures link { relation.new ≡ link_after true relation.old }
+// Whether an application relation exists.
+fn is_in_operation(relation: &Relation) -> bool
+    ensures { result ≡ is_some relation.now }
+{
+    relation.phase().is_some()
+}
+
+// Where a reset is done: ends the relation, if there is one, and puts its ERR into the box.
+fn end_if(is_ended: bool, identity: &Identity, relation: &mut Relation, outbox: &mut Outbox)
+    requires room { array_vec_len outbox.old < 4 }
+    ensures link { relation.new ≡ link_after is_ended relation.old }
     ensures frames { map (λ frame. frame.items) outbox.new.items
-        ≡ map (λ frame. frame.items) outbox.old.items ++ map (bytes_of identity.now) (farewells_at true relation.old) }
+        ≡ map (λ frame. frame.items) outbox.old.items ++ map (bytes_of identity.now) (farewells_at is_ended relation.old) }
     ensures few { array_vec_len outbox.new ≤ array_vec_len outbox.old + 1 }
 {
+    if !is_ended {
+        return;
+    }
     if let Some(farewell) = relation.end() {
         send_farewell(identity, &farewell, outbox);
     }

@@ -1,13 +1,12 @@
 // One step: what an event is, and what comes of it.
-ghost use Rattle.std.specs.Prelude.{◌≡◌, ◌≢◌, ◌<◌, ◌-◌, ◌^◌, [], true, false, List, ℕ, map};
-ghost use Rattle.pn_values.specs.declared.mac.Mac.{Mac};
+ghost use Rattle.std.specs.Prelude.{◌≡◌, ◌≢◌, ◌<◌, ◌-◌, ◌^◌, ◌++◌, if◌then◌else◌, [], true, false, List, ℕ, map};
 ghost use Rattle.settings_store.specs.Carries.{Holds};
 ghost use Rattle.dcp_core.specs.Request.{Asked};
 ghost use Rattle.device_core.specs.Heard.{Asks, heard_of};
 ghost use Rattle.device_core.specs.Hearing.{meaning_of};
 ghost use Rattle.device_core.specs.State.{with_rest};
 ghost use Rattle.device_core.specs.Sent.{bytes_of};
-ghost use Rattle.device_core.specs.Judged.{judged_alarm, ticked};
+ghost use Rattle.device_core.specs.Judged.{farewells_in, judged_alarm, ready_calls, ticked};
 ghost use Rattle.device_core.specs.Machine.{end_of};
 ghost use Rattle.rpc_core.specs.Call.{Asked as Called};
 ghost use Rattle.rpc_core.specs.Cache.{looked, again};
@@ -21,6 +20,8 @@ use dcp_core::Service;
 use flash_model::Flash;
 use frame_codec::Outbox;
 use pn_alarms::{Header, Message};
+use pn_values::{Identity, Mac};
+use relations::{Due, Relation};
 
 impl<F: Flash<S>, const S: usize> Device<F, S> {
     /// Takes an event, and puts the frames to be sent into the box, which holds nothing else then.
@@ -94,22 +95,13 @@ impl<F: Flash<S>, const S: usize> Device<F, S> {
     {
         self.lamp = self.lamp.saturating_sub(1);
         let due = self.relation.tick();
-        if let Some(farewell) = due.farewell {
-            send_farewell(&self.identity, &farewell, outbox);
-        }
-        if due.is_ready {
-            send_ready(
-                &self.identity,
-                self.store.running().suite.address(),
-                &self.relation,
-                outbox,
-            );
-        }
+        let address = self.store.running().suite.address();
+        send_due(&self.identity, address, &due, &self.relation, outbox);
         Note::Done
     }
 
     // An alarm frame: it belongs to the relation, or not. The ERR of the controller ends the relation.
-    fn hear_alarm(&mut self, source: pn_values::Mac, header: &Header, message: &Message) -> Note
+    fn hear_alarm(&mut self, source: Mac, header: &Header, message: &Message) -> Note
         ensures state { self.new ≡ with_rest self.old (end_of self.old.station self.old.live (judged_alarm self.old.live source header.now message.now)).rest }
         ensures note { result ≡ (end_of self.old.station self.old.live (judged_alarm self.old.live source header.now message.now)).note }
     {
@@ -126,5 +118,25 @@ impl<F: Flash<S>, const S: usize> Device<F, S> {
             }
             Message::Data(..) | Message::Ack(_) | Message::Nack => Note::Filter,
         }
+    }
+}
+
+// Puts what is due into the empty box: the ERR of a relation that a timeout ended, or ApplicationReady again.
+fn send_due(
+    identity: &Identity,
+    address: [u8; 4],
+    due: &Due,
+    relation: &Relation,
+    outbox: &mut Outbox,
+)
+    requires { outbox.old.items ≡ [] }
+    ensures { map (λ frame. frame.items) outbox.new.items ≡ map (bytes_of identity.now)
+        (farewells_in due.now.farewell ++ (if due.now.is_ready then ready_calls address relation.now else [])) }
+{
+    if let Some(farewell) = due.farewell {
+        send_farewell(identity, &farewell, outbox);
+    }
+    if due.is_ready {
+        send_ready(identity, address, relation, outbox);
     }
 }

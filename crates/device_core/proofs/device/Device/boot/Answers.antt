@@ -10,7 +10,7 @@ returns-in_err-boot-clause-known g c = λ settings room starts.
 pub returns-clause-known : goal.returns-clause-known
 returns-clause-known g c = λ settings room starts.
     let known = c.in_ok-boot.ensures.known settings room starts in
-    as_started c.in_ok-boot.field-0.values _ settings room c.in_ok-boot.ensures.running c.in_ok-boot.ensures.fresh.0 c.in_ok-boot.ensures.fresh.1 c.new.ensures known.0 known.1
+    as_started c.in_ok-boot.field-0.values _ _ settings room c.in_ok-boot.ensures.running c.in_ok-boot.ensures.fresh.0 c.in_ok-boot.ensures.fresh.1 c.new.ensures c.new-2.ensures known.0 known.1
 
 pub returns-clause-reliable : goal.returns-clause-reliable
 returns-clause-reliable g c = λ reliable. c.in_ok-boot.ensures.reliable reliable

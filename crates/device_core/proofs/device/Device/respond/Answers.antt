@@ -1,16 +1,17 @@
 -- A unit of time is a move, and what is for nobody here is refused.
-use Rattle.std.proofs.Common.{ap, map, refl, sym}
-use Rattle.device_core.specs.declared.event.Note.TheVariants.{Fault, NotMine}
+use Rattle.std.proofs.Common.{ap, map, refl, sym, ◌∙◌}
+use Rattle.device_core.specs.declared.event.Note.TheVariants.{Fault, NotMine, NoRelation}
 use Rattle.device_core.specs.State.{with_rest}
-use Rattle.device_core.specs.Heard.{Ticks, Unreadable, Elsewhere, Resolves, Told, said_by}
-use Rattle.device_core.specs.Judged.{judged_arp, judged_datagram}
-use Rattle.device_core.proofs.Judged.{arp_asks_nothing, arp_leaves, datagram_asks_nothing}
+use Rattle.device_core.specs.Sent.{bytes_of}
+use Rattle.device_core.specs.Heard.{Ticks, Unreadable, Elsewhere, Resolves, Cyclic, Alarms}
+use Rattle.device_core.specs.Judged.{judged_arp, judged_alarm}
+use Rattle.device_core.proofs.Judged.{arp_asks_nothing, arp_leaves, alarm_asks_nothing, alarm_sends_nothing}
 use Rattle.device_core.proofs.Steps.{quiet_steps, moves_steps, refuses_steps}
 use Rattle.device_core.proofs.device.Device.respond.Goals as goal
 
 pub returns-in-Tick-clause-steps : goal.returns-in-Tick-clause-steps
 returns-in-Tick-clause-steps g c = rw c.in-Tick.is
-    (moves_steps g.F.Flash.image g.F.Flash.failures g.F.Flash.asked c.args.self.now _ Ticks _ _ _ _ c.requires.stored refl c.tick.ensures.rest (ap (map (λ frame. frame.items)) c.requires.empty) c.tick.ensures.note)
+    (moves_steps g.F.Flash.image g.F.Flash.failures g.F.Flash.asked c.args.self.now _ Ticks _ _ _ _ c.requires.stored refl c.tick.ensures.state c.tick.ensures.frames c.tick.ensures.note)
 
 pub returns-in-Unreadable-clause-steps : goal.returns-in-Unreadable-clause-steps
 returns-in-Unreadable-clause-steps g c = rw c.in-Unreadable.is
@@ -20,19 +21,26 @@ pub returns-in-Elsewhere-clause-steps : goal.returns-in-Elsewhere-clause-steps
 returns-in-Elsewhere-clause-steps g c = rw c.in-Elsewhere.is
     (refuses_steps g.F.Flash.image g.F.Flash.failures g.F.Flash.asked c.args.self.now Elsewhere NotMine _ _ c.requires.stored refl (ap (map (λ frame. frame.items)) c.requires.empty) refl)
 
+pub returns-in-Cyclic-clause-steps : goal.returns-in-Cyclic-clause-steps
+returns-in-Cyclic-clause-steps g c = rw c.in-Cyclic.is
+    (refuses_steps g.F.Flash.image g.F.Flash.failures g.F.Flash.asked c.args.self.now _ NoRelation _ _ c.requires.stored refl (ap (map (λ frame. frame.items)) c.requires.empty) refl)
+
+pub returns-in-Alarm-clause-steps : goal.returns-in-Alarm-clause-steps
+returns-in-Alarm-clause-steps g c =
+    let old = c.args.self.now in
+    let source = c.in-Alarm.source in
+    let header = c.in-Alarm.header in
+    let message = c.in-Alarm.message in
+    rw c.in-Alarm.is
+    (quiet_steps g.F.Flash.image g.F.Flash.failures g.F.Flash.asked old _ (Alarms source header message) (judged_alarm old.live source header message) _ _ c.requires.stored refl
+    (alarm_asks_nothing old.live source header message) c.hear_alarm.ensures.state
+    (ap (map (λ frame. frame.items)) c.requires.empty ∙ sym (ap (map (bytes_of old.station.identity)) (alarm_sends_nothing old.station old.live source header message)))
+    c.hear_alarm.ensures.note)
+
 pub returns-in-Arp-clause-steps : goal.returns-in-Arp-clause-steps
 returns-in-Arp-clause-steps g c =
     let asker = c.in-Arp.asker in
     let packet = c.in-Arp.packet in
     rw c.in-Arp.is
     (quiet_steps g.F.Flash.image g.F.Flash.failures g.F.Flash.asked c.args.self.now _ (Resolves asker packet) (judged_arp c.args.self.now.live asker packet) _ _ c.requires.stored refl
-    (arp_asks_nothing c.args.self.now.live asker packet) (ap (with_rest c.args.self.now) (sym (arp_leaves c.args.self.now.live asker packet))) c.resolve.ensures.frames c.resolve.ensures.note)
-
-pub returns-in-Datagram-clause-steps : goal.returns-in-Datagram-clause-steps
-returns-in-Datagram-clause-steps g c =
-    let caller = c.in-Datagram.caller in
-    let said = said_by c.in-Datagram.body.now in
-    rw c.in-Datagram.is
-    (quiet_steps g.F.Flash.image g.F.Flash.failures g.F.Flash.asked c.args.self.now _ (Told caller c.in-Datagram.address said)
-    (judged_datagram c.args.self.now.station c.args.self.now.live caller c.in-Datagram.address said) _ _ c.requires.stored refl
-    (datagram_asks_nothing c.args.self.now.station c.args.self.now.live caller c.in-Datagram.address said) c.hear_datagram.ensures.state c.hear_datagram.ensures.frames c.hear_datagram.ensures.note)
+    (arp_asks_nothing c.args.self.now.live asker packet) (ap (with_rest c.args.self.now) (sym (arp_leaves c.args.self.now.station c.args.self.now.live asker packet))) c.resolve.ensures.frames c.resolve.ensures.note)
