@@ -122,19 +122,19 @@ def recomputed(answer):
 def read_response(frame, came, status):
     """The layers of a response to a call, and its blocks."""
     answer, asked = Ether(came), frame[DceRpc4]
-    fields(answer, Ether, {"dst": TOOL, "src": DEVICE, "type": 0x0800})
+    fields(answer, Ether, {"dst": frame[Ether].src, "src": DEVICE, "type": 0x0800})
     fields(answer, IP, {"version": 4, "ihl": 5, "tos": 0, "len": len(came) - 14, "id": 0, "flags": "DF", "frag": 0, "ttl": 64,
-                        "proto": 17, "src": DEVICE_IP, "dst": TOOL_IP})
+                        "proto": 17, "src": frame[IP].dst, "dst": frame[IP].src})
     fields(answer, UDP, {"sport": PORT, "dport": frame[UDP].sport, "len": len(came) - 34})
     same("lengths and checksums as Scapy computes them", came, recomputed(answer))
     fields(answer, DceRpc4, {
         "rpc_vers": 4, "ptype": 2, "flags1": 0x0A, "flags2": 0, "endian": BIG, "encoding": 0, "float": 0, "serial_hi": 0,
-        "object": OBJECT, "if_id": DEVICE_INTERFACE, "act_id": asked.act_id, "server_boot": 0, "if_vers": 1,
-        "seqnum": asked.seqnum, "opnum": 5, "ihint": 0xFFFF, "ahint": 0xFFFF, "len": len(came) - 122, "fragnum": 0,
+        "object": asked.object, "if_id": DEVICE_INTERFACE, "act_id": asked.act_id, "server_boot": 0, "if_vers": 1,
+        "seqnum": asked.seqnum, "opnum": asked.opnum, "ihint": 0xFFFF, "ahint": 0xFFFF, "len": len(came) - 122, "fragnum": 0,
         "auth_proto": 0, "serial_lo": 0})
     carried = len(came) - 142
-    fields(answer, PNIOServiceResPDU, {"status": status, "args_length": carried, "max_count": MOST, "offset": 0,
-                                       "actual_count": carried})
+    fields(answer, PNIOServiceResPDU, {"status": status, "args_length": carried, "offset": 0, "actual_count": carried,
+                                       "max_count": frame[PNIOServiceReqPDU].args_max})
     return answer[PNIOServiceResPDU].blocks
 
 

@@ -5,6 +5,7 @@ use Rattle.std.specs.Str.Lines.{lines}
 use Rattle.pn_values.specs.Settings.{factory_settings}
 use Rattle.pn_values.specs.declared.settings.Settings.{Settings}
 use Rattle.settings_journal.specs.Image.{capacity}
+use Rattle.relations.specs.Link.{phase_of}
 use Rattle.device_core.specs.declared.event.Event.TheVariants as event
 use Rattle.device_core.specs.declared.event.Note.TheVariants.{Done}
 use Rattle.device_core.specs.State.{Station as Device, Live}
@@ -55,7 +56,7 @@ unfoldable pub said : Station → Command → Answer
 said station (Frame bytes) = step_answer station (step_of [] station.device station.live (event.Frame (record { items = take 1519 bytes })))
 said station Restart = record { station = demo_started station.live.values.stored station.live.values.room; text = boot_line None }
 said station (Tick units) = tick_answer (ticked units station)
-said station Show = record { station = station; text = shown station.live.values.running station.live.values.stored station.live.rest.lamp }
+said station Show = record { station = station; text = shown station.live.values.running station.live.values.stored (phase_of station.live.rest.link) station.live.rest.lamp }
 said station (Arm order) = record { station = station; text = [] }
 
 -- what a line does; None where it is refused

@@ -1,8 +1,10 @@
 -- The lines that show the settings and the lamp.
-use Rattle.std.specs.Prelude.{ℕ, List, [], ◌∷◌, ◌++◌, length, ◌==◌, slice_index, codes, decimal, if◌then◌else◌}
+use Rattle.std.specs.Prelude.{ℕ, List, [], ◌∷◌, ◌++◌, length, ◌==◌, slice_index, codes, decimal, if◌then◌else◌, Option, Some, None}
 use Rattle.hex.specs.Hex.{encode_lower}
 use Rattle.pn_values.specs.IpSuite.{Suite}
 use Rattle.pn_values.specs.declared.settings.Settings.{Settings}
+use Rattle.relations.specs.declared.phase.Phase.{Phase}
+use Rattle.relations.specs.declared.phase.Phase.TheVariants.{Started, Awaiting, Exchanging}
 use Rattle.script_runner.specs.Text.{printed}
 
 -- a name, or '-' where there is none
@@ -22,13 +24,23 @@ suite_line label suite = printed (label ++ dotted suite.address ++ codes " " ++ 
 unfoldable pub text_line : List ℕ → List ℕ → List ℕ
 text_line label bytes = printed (label ++ encode_lower bytes)
 
+-- what the application relation waits for, if there is one
+abbrev pub phase_word : Option Phase → List ℕ
+phase_word None = codes "none"
+phase_word (Some Started) = codes "started"
+phase_word (Some Awaiting) = codes "awaiting"
+phase_word (Some Exchanging) = codes "exchanging"
+
+unfoldable pub phase_line : Option Phase → List ℕ
+phase_line phase = printed (codes "phase " ++ phase_word phase)
+
 -- for how many units of time the lamp still flashes
 unfoldable pub lamp_line : ℕ → List ℕ
 lamp_line units = printed (codes "lamp " ++ decimal units)
 
--- what runs, beside the name and the suite that are stored, and the lamp
-abbrev pub shown : Settings → Settings → ℕ → List ℕ
-shown running stored lamp =
+-- what runs, beside the name and the suite that are stored, the relation and the lamp
+abbrev pub shown : Settings → Settings → Option Phase → ℕ → List ℕ
+shown running stored phase lamp =
     name_line (codes "name ") running.name
     ++ suite_line (codes "ip ") running.suite
     ++ name_line (codes "stored-name ") stored.name
@@ -37,4 +49,5 @@ shown running stored lamp =
     ++ text_line (codes "im2 ") running.im2
     ++ text_line (codes "im3 ") running.im3
     ++ text_line (codes "im4 ") running.im4
+    ++ phase_line phase
     ++ lamp_line lamp

@@ -28,7 +28,7 @@ pub(crate) enum Command<'a> {
     Restart,
     /// Let so many units of time go by.
     Tick(u32),
-    /// Show the settings and the lamp.
+    /// Show the settings, the relation and the lamp.
     Show,
     /// Tell the flash what to do to a later call.
     Arm(Order),

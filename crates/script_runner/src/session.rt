@@ -245,7 +245,7 @@ impl<'a> Session<'a> {
         }
     }
 
-    /// Shows the settings and the lamp.
+    /// Shows the settings, the relation and the lamp.
     #[tactic(auto, unfolding(crate::specs::Script::said))]
     fn show(&mut self) -> Result<(), AllocError>
         ensures obeys { (station : Station) → IsRunning station self.old.power →
@@ -254,8 +254,14 @@ impl<'a> Session<'a> {
     {
         match &self.power {
             Power::On(device) => {
-                let lamp = device.lamp();
-                show::all(device.running(), device.stored(), lamp, &mut self.text)
+                let (phase, lamp) = (device.phase(), device.lamp());
+                show::all(
+                    device.running(),
+                    device.stored(),
+                    phase,
+                    lamp,
+                    &mut self.text,
+                )
             }
             Power::Off(_, _) | Power::Away => self.text.extend_from_slice(b"off\n"),
         }

@@ -1,20 +1,23 @@
-// The lines that show the settings and the lamp. Each function appends one of them to a text.
+// The lines that show the settings, the relation and the lamp. Each function appends one of them to a text.
 ghost use Rattle.std.specs.Prelude.{◌≡◌, ◌++◌, ◌≤◌, length, OnOk, decimal};
-ghost use Rattle.script_runner.specs.Show.{name_line, suite_line, dotted, text_line, lamp_line, shown};
+ghost use Rattle.script_runner.specs.Show.{name_line, suite_line, dotted, text_line, phase_line, phase_word, lamp_line, shown};
 
 use crate::render::hex_digits;
 use itoa::Buffer;
 use pn_values::{IpSuite, Settings, StationName};
+use relations::Phase;
 use std::alloc::AllocError;
 
-/// All of the lines: what runs, beside the name and the suite that are stored, and for how long the lamp still flashes.
+/// All of the lines: what runs, beside the name and the suite that are stored, what the application relation waits for, and
+/// for how long the lamp still flashes.
 pub(crate) fn all(
     running: &Settings,
     stored: &Settings,
+    phase: Option<Phase>,
     lamp: u32,
     text: &mut Vec<u8>,
 ) -> Result<(), AllocError>
-    ensures { OnOk result (text.new.items ≡ text.old.items ++ shown running.now stored.now lamp) }
+    ensures { OnOk result (text.new.items ≡ text.old.items ++ shown running.now stored.now phase lamp) }
 {
     name(b"name ", &running.name, text)?;
     suite(b"ip ", &running.suite, text)?;
@@ -24,6 +27,7 @@ pub(crate) fn all(
     im_text(b"im2 ", running.im2.as_bytes(), text)?;
     im_text(b"im3 ", running.im3.as_bytes(), text)?;
     im_text(b"im4 ", running.im4.as_bytes(), text)?;
+    waiting(phase, text)?;
     lamp_units(lamp, text)
 }
 
@@ -82,6 +86,27 @@ fn im_text(label: &[u8], bytes: &[u8], text: &mut Vec<u8>) -> Result<(), AllocEr
     text.extend_from_slice(label)?;
     hex_digits(bytes, text)?;
     text.extend_from_slice(b"\n")
+}
+
+/// What the application relation waits for, if there is one.
+#[tactic(auto, unfolding(crate::specs::Show::phase_line))]
+fn waiting(phase: Option<Phase>, text: &mut Vec<u8>) -> Result<(), AllocError>
+    ensures { OnOk result (text.new.items ≡ text.old.items ++ phase_line phase) }
+{
+    text.extend_from_slice(b"phase ")?;
+    text.extend_from_slice(phase_word(phase))?;
+    text.extend_from_slice(b"\n")
+}
+
+fn phase_word(phase: Option<Phase>) -> &'static [u8]
+    ensures { result.now ≡ phase_word phase }
+{
+    match phase {
+        None => b"none",
+        Some(Phase::Started) => b"started",
+        Some(Phase::Awaiting) => b"awaiting",
+        Some(Phase::Exchanging) => b"exchanging",
+    }
 }
 
 /// For how many units of time the lamp still flashes.
