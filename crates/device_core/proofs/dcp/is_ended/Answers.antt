@@ -7,4 +7,4 @@ use Rattle.device_core.specs.Machine.{is_reset_done}
 use Rattle.device_core.proofs.dcp.is_ended.Goals as goal
 
 pub returns : goal.returns
-returns c = any_from_yields_List is_reset_done _ _ _ c.any.ensures.ran (YieldsList-from_zip (YieldsList-at c.zip.ensures.first (YieldsList-from_slice c.args.items.now c.iter.ensures.rest)) (YieldsList-at c.zip.ensures.second (YieldsList-from_slice c.args.answers.now c.iter-2.ensures.rest))) (λ x b q k. search (rules, tests))
+returns c = any_from_yields_List is_reset_done c.any.new.self _ _ c.any.ensures.ran (YieldsList-from_zip (YieldsList-at c.zip.ensures.first (YieldsList-from_slice c.args.items.now c.iter.ensures.rest)) (YieldsList-at c.zip.ensures.second (YieldsList-from_slice c.args.answers.now c.iter-2.ensures.rest))) (λ x b q k. search (rules, tests))

@@ -1,0 +1,26 @@
+-- What the store carried out is what the blocks ask for, and its answers say whether the relation ends.
+use Rattle.std.proofs.Common.{◌≡◌, is_some, refl, ap, ◌∙◌}
+use Rattle.dcp_core.specs.Request.{asked}
+use Rattle.dcp_core.specs.Set.{plan_of}
+use Rattle.device_core.specs.Machine.{lamp_after, link_after, resets}
+use Rattle.device_core.proofs.Steps.{asked_set_steps}
+use Rattle.device_core.proofs.device.Device.set.Goals as goal
+
+pub returns-clause-steps : goal.returns-clause-steps
+returns-clause-steps g c =
+    let request = asked c.args.request.now in
+    let link = c.self.inside.relation in
+    let answers = c.carry_out-answers.result.items in
+    let plan : c.fill_plan.new.plan.items ≡ plan_of (is_some link) request = c.fill_plan.ensures.items ∙ ap (λ b. plan_of b request) c.is_in_operation.ensures in
+    let ended : c.is_ended-is_ended.result ≡ resets (plan_of (is_some link) request) answers =
+    c.is_ended-is_ended.ensures ∙ ap (λ i. resets i c.as_slice-4.result.now) (c.as_slice-3.ensures.value ∙ plan) ∙ ap (resets (plan_of (is_some link) request)) c.as_slice-4.ensures.value in
+    let lamp = c.lamp_after-self-inside.ensures ∙ ap (lamp_after c.self.inside.lamp) (c.as_slice-2.ensures.value ∙ plan) in
+    let left = c.end_if.ensures.link ∙ ap (λ e. link_after e link) ended in
+    rw (← c.self.view_is) (asked_set_steps g.F.Flash.image g.F.Flash.failures g.F.Flash.asked _ _ c.args.asker request answers _ _
+    c.requires.service (rw (c.as_slice.ensures.value ∙ plan) at c.carry_out-answers.ensures.carries) refl
+    (ap (λ l. record { lamp = l; calls = c.self.inside.cache; link = c.end_if.new.relation }) lamp
+    ∙ ap (λ r. record { lamp = lamp_after c.self.inside.lamp (plan_of (is_some link) request); calls = c.self.inside.cache; link = r }) left)
+    (rw (c.send.ensures, c.end_if.ensures.frames, c.requires.empty, ended, c.set_answer-answer.ensures.items) refl) refl)
+
+pub returns-clause-reliable : goal.returns-clause-reliable
+returns-clause-reliable g c = rw (← c.self.view_is) c.carry_out-answers.ensures.reliable
