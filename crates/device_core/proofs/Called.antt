@@ -9,11 +9,13 @@ use Rattle.dcp_core.specs.declared.request.Service.TheVariants as service
 use Rattle.dcp_core.specs.Request.{Asked}
 use Rattle.dcp_core.specs.Identify.{matches}
 use Rattle.rpc_core.specs.Call.{Asked as Called}
-use Rattle.rpc_core.specs.Cache.{Kept, Told as Looked, new, again, old, looked, behind_told, behind_calls}
+use Rattle.rpc_core.specs.Cache.{Kept, Told as Looked, new, again, old, looked, kept_more, behind_told, behind_calls}
 use Rattle.pnio_status.specs.declared.operation.Operation.{Operation}
 use Rattle.pnio_status.specs.declared.operation.Operation.TheVariants.{Connect, Release, Read, Write, Control, ReadImplicit}
 use Rattle.pnio_status.specs.declared.call_fault.CallFault.{CallFault}
 use Rattle.pnio_status.specs.Operation.{operation_of}
+use Rattle.record_reads.specs.Implicit.{implicit_read}
+use Rattle.record_reads.specs.Within.{relation_read}
 use Rattle.record_blocks.specs.declared.write_record.IodWriteReq.{IodWriteReq}
 use Rattle.record_writes.specs.declared.write.Effect.{Effect}
 use Rattle.record_writes.specs.declared.write.Effect.TheVariants.{Stores, Keeps}
@@ -23,8 +25,10 @@ use Rattle.pn_alarms.specs.declared.message.Message.{Message}
 use Rattle.pn_alarms.specs.declared.message.Message.TheVariants as says
 use Rattle.relations.specs.declared.hearing.Heard.{Heard as Answer}
 use Rattle.relations.specs.declared.hearing.Heard.TheVariants as to_ready
-use Rattle.relations.specs.Link.{Link, uuid_of, is_alarm_of}
-use Rattle.relations.specs.Phases.{Named, answered, keeping, moved, taking}
+use Rattle.relations.specs.Link.{uuid_of, differing_in, is_alarm_of}
+use Rattle.relations.specs.Phases.{keeping}
+use Rattle.relations.specs.Calls.{prm_end_answer, release_answer}
+use Rattle.relations.specs.Connect.{connect_answer}
 use Rattle.relations.specs.Ready.{answer_of as ready_answer}
 use Rattle.device_core.specs.declared.event.Event.{Event}
 use Rattle.device_core.specs.declared.hearing.Caller.{Caller}
@@ -59,33 +63,35 @@ kept_called : (station : Station) (live : Live) (call : Called) (answer : Sent) 
 kept_called station live call answer is_new =
     let kept = kept_for station.identity call answer in (kept ∷ [], sym (ap (behind_told 4 kept live.rest.calls) is_new))
 
-served_called : (station : Station) (live : Live) (answers : List BlockError) (caller : Caller) (call : Called) (operation : Operation) (outcome : Result (List ℕ) CallFault) (link : Option Link) (behind : List Sent)
-    → looked call.header.activity call.header.sequence live.rest.calls ≡ new → IsKept station live answers (served station live caller call operation outcome link behind)
-served_called station live answers caller call operation outcome link behind is_new =
-    kept_called station live call (answer_from live.values.running.suite.address caller call operation outcome) is_new
+served_called : (station : Station) (live : Live) (caller : Caller) (call : Called) (operation : Operation) (outcome : Result (List ℕ) CallFault) → looked call.header.activity call.header.sequence live.rest.calls ≡ new
+    → IsBehindCalls live.rest.calls (kept_more 4 (kept_for station.identity call (answer_from live.values.running.suite.address caller call operation outcome)) live.rest.calls)
+served_called station live caller call operation outcome is_new = kept_called station live call (answer_from live.values.running.suite.address caller call operation outcome) is_new
 
 effect_called : (station : Station) (live : Live) (answers : List BlockError) (caller : Caller) (call : Called) (header : IodWriteReq) (effect : Effect)
     → looked call.header.activity call.header.sequence live.rest.calls ≡ new → IsKept station live answers (judged_effect station live caller call header effect)
 effect_called station live answers caller call header (Stores value) is_new =
     kept_called station live call (answer_from live.values.running.suite.address caller call Write (written_as header (first_answer answers))) is_new
-effect_called station live answers caller call header (Keeps parameter) is_new =
-    let kept = keeping parameter live.rest.link in
-    served_called station live answers caller call Write (kept_answer header kept) (moved (answered Named kept) (moved (taking kept) live.rest.link)) [] is_new
+effect_called station live answers caller call header (Keeps parameter) is_new = served_called station live caller call Write (kept_answer header (keeping parameter live.rest.link)) is_new
 
 write_called : (station : Station) (live : Live) (answers : List BlockError) (caller : Caller) (call : Called) (write : Result Asking CallFault)
     → looked call.header.activity call.header.sequence live.rest.calls ≡ new → IsKept station live answers (judged_write station live caller call write)
 write_called station live answers caller call (Ok write) is_new = effect_called station live answers caller call write.request write.effect is_new
-write_called station live answers caller call (Err fault) is_new = served_called station live answers caller call Write (Err fault) live.rest.link [] is_new
+write_called station live answers caller call (Err fault) is_new = served_called station live caller call Write (Err fault) is_new
 
 new_called : (station : Station) (live : Live) (answers : List BlockError) (caller : Caller) (call : Called) (blocks : List ℕ) (operation : Operation)
     → looked call.header.activity call.header.sequence live.rest.calls ≡ new → IsKept station live answers (judged_new station live caller call blocks operation)
-new_called station live answers caller call blocks Connect is_new = served_called station live answers caller call Connect _ _ _ is_new
-new_called station live answers caller call blocks Release is_new = served_called station live answers caller call Release _ _ _ is_new
-new_called station live answers caller call blocks Read is_new = served_called station live answers caller call Read _ _ _ is_new
+new_called station live answers caller call blocks Connect is_new =
+    served_called station live caller call Connect (connect_answer station.identity station.real live.rest.link blocks) is_new
+new_called station live answers caller call blocks Release is_new =
+    served_called station live caller call Release (release_answer live.rest.link blocks) is_new
+new_called station live answers caller call blocks Read is_new =
+    served_called station live caller call Read (relation_read (uuid_of live.rest.link) (differing_in live.rest.link) station.identity station.real live.values.running blocks) is_new
 new_called station live answers caller call blocks Write is_new =
     write_called station live answers caller call (write_of (uuid_of live.rest.link) station.real blocks) is_new
-new_called station live answers caller call blocks Control is_new = served_called station live answers caller call Control _ _ _ is_new
-new_called station live answers caller call blocks ReadImplicit is_new = served_called station live answers caller call ReadImplicit _ _ _ is_new
+new_called station live answers caller call blocks Control is_new =
+    served_called station live caller call Control (prm_end_answer live.rest.link blocks) is_new
+new_called station live answers caller call blocks ReadImplicit is_new =
+    served_called station live caller call ReadImplicit (implicit_read station.identity station.real live.values.running blocks) is_new
 
 looked_called : (station : Station) (live : Live) (answers : List BlockError) (caller : Caller) (call : Called) (blocks : List ℕ) (operation : Operation) (told : Looked)
     → looked call.header.activity call.header.sequence live.rest.calls ≡ told → IsKept station live answers (judged_looked station live caller call blocks operation told)
