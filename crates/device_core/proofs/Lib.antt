@@ -2,6 +2,7 @@ pub mod Machine
 pub mod Faults
 pub mod Judged
 pub mod Kept
+pub mod Served
 pub mod Placed
 pub mod Steps
 pub mod Called

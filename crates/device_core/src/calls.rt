@@ -1,5 +1,5 @@
 // Calls, and the answers that are kept of them (IEC 61158-6-10, 4.10; C706, 9.5).
-ghost use Rattle.std.specs.Prelude.{◌≡◌, ◌<◌, ◌≤◌, [], ◌∷◌, ◌++◌, length, map, Err};
+ghost use Rattle.std.specs.Prelude.{◌≡◌, ◌<◌, ◌≤◌, ◌+◌, [], ◌∷◌, ◌++◌, length, map, Err};
 ghost use Rattle.arrayvec.specs.ArrayVec.{array_vec_len};
 ghost use Rattle.settings_store.specs.Carries.{Holds};
 ghost use Rattle.rpc_core.specs.Call.{asked};
@@ -448,6 +448,7 @@ fn answer(
     requires empty { outbox.old.items ≡ [] }
     requires few { length blocks.now ≤ 1372 }
     ensures frames { map (λ frame. frame.items) outbox.new.items ≡ bytes_of identity.now (answer_from address caller.now (asked call.now) operation (came_with came blocks.now)) ∷ [] }
+    ensures one { array_vec_len outbox.new ≡ 1 }
     ensures kept { cache.new ≡ kept_more 4 (kept_for identity.now (asked call.now) (answer_from address caller.now (asked call.now) operation (came_with came blocks.now))) cache.old }
 {
     let response = match came {
@@ -493,7 +494,8 @@ fn send(
 )
     requires room { array_vec_len outbox.old < 4 }
     requires blocks { length response.now.blocks.now ≤ 1372 }
-    ensures { map (λ frame. frame.items) outbox.new.items
+    ensures one { array_vec_len outbox.new ≡ array_vec_len outbox.old + 1 }
+    ensures frames { map (λ frame. frame.items) outbox.new.items
         ≡ map (λ frame. frame.items) outbox.old.items ++ response_frame identity.now caller.now address (answered response.now) ∷ [] }
 {
     let mut datagram = Datagram::new();

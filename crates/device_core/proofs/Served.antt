@@ -1,0 +1,28 @@
+-- How a call comes out, from what serves it.
+use Rattle.std.proofs.Common.{◌≡◌, ℕ, List, Result, Ok, Err, IfErr, OnOk, IsOk, refl}
+use Rattle.pnio_status.specs.declared.call_fault.CallFault.{CallFault}
+use Rattle.record_blocks.specs.declared.write_record.IodWriteReq.{IodWriteReq}
+use Rattle.record_writes.specs.declared.taken.Taken.{Taken}
+use Rattle.record_writes.specs.Answer.{answer_of}
+use Rattle.relations.specs.Phases.{Judged as Moving, answered}
+use Rattle.device_core.specs.Judged.{came_with, kept_answer}
+
+-- a parameter record that is kept, or not: how it is answered, and what it does to the relation
+pub kept_as : (came : Result (Unit {0}) CallFault) (kept : Result (List Taken) CallFault) (header : IodWriteReq)
+    → OnOk came (IsOk kept) → IfErr came (λ fault. kept ≡ Err fault) → came_with came (answer_of header) ≡ kept_answer header kept
+kept_as (Ok it) (Ok taken) header is refused = refl
+kept_as (Ok it) (Err fault) header is refused = absurd is
+kept_as (Err fault) (Ok taken) header is refused = cc
+kept_as (Err fault) (Err other) header is refused = cc
+
+pub kept_moving : (moving : Moving) (came : Result (Unit {0}) CallFault) (kept : Result (List Taken) CallFault)
+    → OnOk came (IsOk kept) → IfErr came (λ fault. kept ≡ Err fault) → answered moving came ≡ answered moving kept
+kept_moving moving (Ok it) (Ok taken) is refused = refl
+kept_moving moving (Ok it) (Err fault) is refused = absurd is
+kept_moving moving (Err fault) (Ok taken) is refused = refl
+kept_moving moving (Err fault) (Err other) is refused = refl
+
+-- the same of a Write by how it came out
+pub same_moving : (moving : Moving) (came : Result (Unit {0}) CallFault) (blocks : List ℕ) → answered moving (came_with came blocks) ≡ answered moving came
+same_moving moving (Ok it) blocks = refl
+same_moving moving (Err fault) blocks = refl

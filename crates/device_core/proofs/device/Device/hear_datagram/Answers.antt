@@ -1,0 +1,2 @@
+use Rattle.device_core.proofs.device.Device.hear_datagram.Goals as goal
+

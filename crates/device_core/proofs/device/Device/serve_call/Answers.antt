@@ -1,0 +1,2 @@
+use Rattle.device_core.proofs.device.Device.serve_call.Goals as goal
+

@@ -1,0 +1,2 @@
+use Rattle.device_core.proofs.device.Device.store_text.Goals as goal
+
