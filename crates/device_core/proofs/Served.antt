@@ -11,15 +11,15 @@ use Rattle.device_core.specs.Judged.{came_with, kept_answer}
 pub kept_as : (came : Result (Unit {0}) CallFault) (kept : Result (List Taken) CallFault) (header : IodWriteReq)
     → OnOk came (IsOk kept) → IfErr came (λ fault. kept ≡ Err fault) → came_with came (answer_of header) ≡ kept_answer header kept
 kept_as (Ok it) (Ok taken) header is refused = refl
-kept_as (Ok it) (Err fault) header is refused = absurd is
+kept_as (Ok it) (Err fault) header is refused = cc
 kept_as (Err fault) (Ok taken) header is refused = cc
 kept_as (Err fault) (Err other) header is refused = cc
 
 pub kept_moving : (moving : Moving) (came : Result (Unit {0}) CallFault) (kept : Result (List Taken) CallFault)
     → OnOk came (IsOk kept) → IfErr came (λ fault. kept ≡ Err fault) → answered moving came ≡ answered moving kept
 kept_moving moving (Ok it) (Ok taken) is refused = refl
-kept_moving moving (Ok it) (Err fault) is refused = absurd is
-kept_moving moving (Err fault) (Ok taken) is refused = refl
+kept_moving moving (Ok it) (Err fault) is refused = cc
+kept_moving moving (Err fault) (Ok taken) is refused = cc
 kept_moving moving (Err fault) (Err other) is refused = refl
 
 -- the same of a Write by how it came out
