@@ -1,11 +1,16 @@
 -- How a call comes out, from what serves it.
-use Rattle.std.proofs.Common.{◌≡◌, ℕ, List, Result, Ok, Err, IfErr, OnOk, IsOk, refl}
+use Rattle.std.proofs.Common.{◌≡◌, ℕ, List, Result, Ok, Err, IfErr, OnOk, IsOk, refl, ap, ◌∙◌}
 use Rattle.pnio_status.specs.declared.call_fault.CallFault.{CallFault}
 use Rattle.record_blocks.specs.declared.write_record.IodWriteReq.{IodWriteReq}
 use Rattle.record_writes.specs.declared.taken.Taken.{Taken}
 use Rattle.record_writes.specs.Answer.{answer_of}
+use Rattle.record_writes.specs.declared.write.Effect.{Effect}
+use Rattle.record_writes.specs.declared.write.Write.{Write}
+use Rattle.rpc_core.specs.Call.{Asked as Call}
 use Rattle.relations.specs.Phases.{Judged as Moving, answered}
-use Rattle.device_core.specs.Judged.{came_with, kept_answer}
+use Rattle.device_core.specs.declared.hearing.Caller.{Caller}
+use Rattle.device_core.specs.State.{Station, Live}
+use Rattle.device_core.specs.Judged.{came_with, judged_effect, judged_write, kept_answer}
 
 -- a parameter record that is kept, or not: how it is answered, and what it does to the relation
 pub kept_as : (came : Result (Unit {0}) CallFault) (kept : Result (List Taken) CallFault) (header : IodWriteReq)
@@ -26,3 +31,8 @@ kept_moving moving (Err fault) (Err other) is refused = refl
 pub same_moving : (moving : Moving) (came : Result (Unit {0}) CallFault) (blocks : List ℕ) → answered moving (came_with came blocks) ≡ answered moving came
 same_moving moving (Ok it) blocks = refl
 same_moving moving (Err fault) blocks = refl
+
+-- a Write that is carried out, by what it asks for
+pub effect_as : (station : Station) (live : Live) (caller : Caller) (call : Call) (made : Result Write CallFault) (write : Write) (effect : Effect)
+    → made ≡ Ok write → write.effect ≡ effect → judged_write station live caller call made ≡ judged_effect station live caller call write.request effect
+effect_as station live caller call made write effect is asks = ap (judged_write station live caller call) is ∙ ap (judged_effect station live caller call write.request) asks

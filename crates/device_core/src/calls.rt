@@ -15,7 +15,7 @@ ghost use Rattle.record_writes.specs.declared.write.Effect.TheVariants.{Keeps};
 ghost use Rattle.pnio_status.specs.Operation.{operation_of};
 ghost use Rattle.device_core.specs.Heard.{Heard as Hears, Told, Calls, said_by};
 ghost use Rattle.device_core.specs.Sent.{bytes_of, response_frame};
-ghost use Rattle.device_core.specs.Judged.{Writes, answer_from, came_with, kept_for, judged, judged_new, judged_answer, judged_call, judged_effect};
+ghost use Rattle.device_core.specs.Judged.{Writes, answer_from, came_with, kept_for, judged, judged_new, judged_answer, judged_call, judged_effect, judged_write};
 ghost use Rattle.device_core.specs.Machine.{end_of, written_as as comes_out};
 ghost use Rattle.device_core.specs.Steps.{Steps};
 
@@ -351,21 +351,36 @@ impl<F: Flash<S>, const S: usize> Device<F, S> {
                     caller, call, &request, parameter, outbox,
                 ),
             },
-            Err(fault) => {
-                answer(
-                    &self.identity,
-                    self.store.running().suite.address(),
-                    &mut self.cache,
-                    caller,
-                    call,
-                    Operation::Write,
-                    Err(fault),
-                    &[],
-                    outbox,
-                );
-                Note::Done
-            }
+            Err(fault) => self.refuse_write(caller, call, fault, outbox),
         }
+    }
+
+    // A Write that is refused.
+    fn refuse_write(
+        &mut self,
+        caller: &Caller,
+        call: &Call<'_>,
+        fault: CallFault,
+        outbox: &mut Outbox,
+    ) -> Note
+        requires empty { outbox.old.items ≡ [] }
+        ensures state { self.new ≡ with_rest self.old (end_of self.old.station self.old.live (judged_write self.old.station self.old.live caller.now (asked call.now) (Err fault))).rest }
+        ensures frames { map (λ frame. frame.items) outbox.new.items
+            ≡ map (bytes_of self.old.station.identity) (end_of self.old.station self.old.live (judged_write self.old.station self.old.live caller.now (asked call.now) (Err fault))).sent }
+        ensures note { result ≡ Note.Done }
+    {
+        answer(
+            &self.identity,
+            self.store.running().suite.address(),
+            &mut self.cache,
+            caller,
+            call,
+            Operation::Write,
+            Err(fault),
+            &[],
+            outbox,
+        );
+        Note::Done
     }
 
     // An I&M text: its answer is made from what became of its command, and kept behind the commit.

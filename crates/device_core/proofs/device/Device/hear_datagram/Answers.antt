@@ -1,14 +1,53 @@
 -- A datagram by its address, and then by what it says.
+use Rattle.std.proofs.Common.{◌≡◌, true, false, map, refl, sym, ap, ◌∙◌}
+use Rattle.std.proofs.lemmas.Bool.{cond-true, cond-false}
+use Rattle.rpc_core.specs.Call.{asked}
+use Rattle.rpc_core.specs.Response.{answered}
+use Rattle.relations.specs.Ready.{answer_of}
+use Rattle.device_core.specs.declared.event.Note.TheVariants.{Fault, NotMine}
+use Rattle.device_core.specs.Heard.{Told, Calls, Responds, Garbled, said_by}
+use Rattle.device_core.specs.Judged.{is_running, judged_answer, judged_said}
+use Rattle.device_core.proofs.Judged.{answer_asks_nothing}
+use Rattle.device_core.proofs.Steps.{quiet_steps, refuses_steps}
 use Rattle.device_core.proofs.device.Device.hear_datagram.Goals as goal
 
 pub returns-then-not-is_running-clause-steps : goal.returns-then-not-is_running-clause-steps
-returns-then-not-is_running-clause-steps g c = ?
+returns-then-not-is_running-clause-steps g c =
+    let here = c.args.self.now in
+    let elsewhere : is_running here.live.values.running c.args.address ≡ false =
+    rw (← c.self.view_is) (rw c.running.ensures at (sym c.is_running.ensures ∙ c.if-not-is_running.true)) in
+    refuses_steps g.F.Flash.image g.F.Flash.failures g.F.Flash.asked here (Told c.args.caller.now c.args.address (said_by c.args.body.now)) NotMine _ _ c.requires.stored
+    (cond-false _ _ _ elsewhere) (ap (map (λ frame. frame.items)) c.requires.empty) refl
 
 pub returns-in-Ok-clause-steps : goal.returns-in-Ok-clause-steps
-returns-in-Ok-clause-steps g c = ?
+unfolding said_by
+returns-in-Ok-clause-steps g c =
+    let here = c.args.self.now in
+    let runs : is_running here.live.values.running c.args.address ≡ true =
+    rw (← c.self.view_is) (rw c.running.ensures at (sym c.is_running.ensures ∙ c.if-not-is_running.false)) in
+    let said : said_by c.args.body.now ≡ Calls (asked c.in-Ok.call) = rw c.in-Ok.ensures.exact refl in
+    c.serve_call.ensures.steps (Told c.args.caller.now c.args.address (said_by c.args.body.now))
+    (cond-true _ _ _ runs ∙ ap (judged_said here.station here.live c.args.caller.now) said)
 
 pub returns-in-Ok-read_response-clause-steps : goal.returns-in-Ok-read_response-clause-steps
-returns-in-Ok-read_response-clause-steps g c = ?
+unfolding said_by
+returns-in-Ok-read_response-clause-steps g c =
+    let here = c.args.self.now in
+    let runs : is_running here.live.values.running c.args.address ≡ true =
+    rw (← c.self.view_is) (rw c.running.ensures at (sym c.is_running.ensures ∙ c.if-not-is_running.false)) in
+    let said : said_by c.args.body.now ≡ Responds (answered c.in-Ok-read_response.response) = rw (c.in-Err.ensures.exact, c.in-Ok-read_response.ensures.exact) refl in
+    let answer = answer_of (answered c.in-Ok-read_response.response) here.live.rest.link in
+    quiet_steps g.F.Flash.image g.F.Flash.failures g.F.Flash.asked here _ (Told c.args.caller.now c.args.address (said_by c.args.body.now)) (judged_answer here.live answer) _ _ c.requires.stored
+    (cond-true _ _ _ runs ∙ ap (judged_said here.station here.live c.args.caller.now) said)
+    (answer_asks_nothing here.live answer) c.hear_response.ensures.state c.hear_response.ensures.frames c.hear_response.ensures.note
 
 pub returns-in-Err-read_response-clause-steps : goal.returns-in-Err-read_response-clause-steps
-returns-in-Err-read_response-clause-steps g c = ?
+unfolding said_by
+returns-in-Err-read_response-clause-steps g c =
+    let here = c.args.self.now in
+    let runs : is_running here.live.values.running c.args.address ≡ true =
+    rw (← c.self.view_is) (rw c.running.ensures at (sym c.is_running.ensures ∙ c.if-not-is_running.false)) in
+    let said : said_by c.args.body.now ≡ Garbled = rw (c.in-Err.ensures.exact, c.in-Err-read_response.ensures.exact) refl in
+    refuses_steps g.F.Flash.image g.F.Flash.failures g.F.Flash.asked here (Told c.args.caller.now c.args.address (said_by c.args.body.now)) Fault _ _ c.requires.stored
+    (cond-true _ _ _ runs ∙ ap (judged_said here.station here.live c.args.caller.now) said)
+    (ap (map (λ frame. frame.items)) c.requires.empty) refl

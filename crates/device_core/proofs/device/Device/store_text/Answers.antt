@@ -1,8 +1,27 @@
 -- The answer is made from what became of the command.
+use Rattle.std.proofs.Common.{◌≡◌, [], ◌∷◌, refl, sym, ap, ◌∙◌}
+use Rattle.rpc_core.specs.Call.{asked}
+use Rattle.record_writes.specs.Answer.{answer_of}
+use Rattle.relations.specs.Phases.{Named, answered}
+use Rattle.device_core.specs.Judged.{Writes}
+use Rattle.device_core.specs.Machine.{written_as}
+use Rattle.device_core.proofs.Served.{same_moving}
+use Rattle.device_core.proofs.Steps.{settled_steps}
 use Rattle.device_core.proofs.device.Device.store_text.Goals as goal
 
 pub returns-clause-steps : goal.returns-clause-steps
-returns-clause-steps g c = ?
+returns-clause-steps g c =
+    let header = c.args.header.now in
+    let out = c.written_as-came.ensures header in
+    let named : answered Named c.written_as-came.result ≡ answered Named (written_as header c.carry.result) =
+    sym (same_moving Named c.written_as-came.result (answer_of header)) ∙ ap (answered Named) out in
+    let calls = rw (c.address-address.ensures.value, c.running.ensures, c.as_slice.ensures.value, c.put_written.ensures, out) at c.answer.ensures.kept in
+    let frames = rw (c.address-address.ensures.value, c.running.ensures, c.as_slice.ensures.value, c.put_written.ensures, out) at c.answer.ensures.frames in
+    let link = rw named at c.hear_controller.ensures in
+    rw (← c.self.view_is) (λ heard is.
+    settled_steps g.F.Flash.image g.F.Flash.failures g.F.Flash.asked _ _ heard
+    (Writes c.args.caller.now c.self.inside.store.values.running.suite.address (asked c.args.call.now) header c.args.value) (c.carry.result ∷ []) _ _ is c.carry.ensures.listed refl
+    (rw (calls, link) refl) frames refl)
 
 pub returns-clause-reliable : goal.returns-clause-reliable
-returns-clause-reliable g c = ?
+returns-clause-reliable g c = rw (← c.self.view_is) c.carry.ensures.reliable
