@@ -1,9 +1,13 @@
 //! What no contract says: octets that other programs know.
 mod arp;
 mod calls;
+mod connects;
 mod cycles;
 mod faults;
 mod frames;
 mod full;
 mod losses;
+mod records;
+mod relations;
+mod requests;
 mod stations;

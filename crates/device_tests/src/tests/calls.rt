@@ -230,9 +230,26 @@ fn calls_that_can_not_be_read(rt: HostRuntime) -> Result<(), Fail> {
 #[test]
 fn operations_that_are_not_served(rt: HostRuntime) -> Result<(), Fail> {
     let mut device = addressed().ok_or("starts")?;
-    for operation in [0, 1, 2, 3, 4, 6u8] {
+    for operation in [6, 7, 255u8] {
         let call = changed(&[(OPERATION, operation), (OFFSET, 1)]);
         assert_eq!(rt; heard(&mut device, &call), (Note::Fault, 0));
+    }
+    Ok(())
+}
+
+// A block of another call, or of a relation that there is not.
+#[test]
+fn operations_of_a_relation_that_there_is_not(rt: HostRuntime) -> Result<(), Fail> {
+    for (operation, status) in [
+        (0, [0xDB, 0x81, 0x40, 1]),
+        (1, [0xDC, 0x81, 0x40, 1]),
+        (2, [0xDE, 0x81, 0x40, 5]),
+        (3, [0xDF, 0x81, 0x40, 1]),
+        (4u8, [0xDD, 0x81, 0x40, 1]),
+    ] {
+        let mut device = addressed().ok_or("starts")?;
+        let call = changed(&[(OPERATION, operation)]);
+        assert_eq!(rt; answer_of(&mut device, &call), (142, status));
     }
     Ok(())
 }

@@ -20,12 +20,17 @@ const FULL: [u8; 34] =
     *b"\x02\x00\x00\x00\x00\x02\x02\x00\x00\x00\x00\x01\x88\x92\xfe\xfd\x04\x01\x00\x00\x00\x02\x00\x00\x00\x08\
     \x05\x04\x00\x03\x02\x02\x04\x00";
 
-// The last generation in the first sector, in a version of the layout: a base with the name "pump-1", and its slot open with a
-// reset of the texts.
-fn write_last(flash: &mut MemoryFlash<768>, version: u8) -> Result<(), FlashFault> {
+// The last generation in the first sector, in a version of the layout: a base with the name "pump-1" and an IP suite, and its
+// slot open with a reset of the texts.
+pub(crate) fn write_last(
+    flash: &mut MemoryFlash<768>,
+    version: u8,
+    suite: [u8; 12],
+) -> Result<(), FlashFault> {
     let mut base = [0; 437];
     base[..13].copy_from_slice(b"PNJ\x02\x00\x00\x06pump-1");
     base[3] = version;
+    base[247..259].copy_from_slice(&suite);
     flash.program(Sector::First, 0, &base)?;
     flash.program(Sector::First, 511, &[0])?;
     flash.program(Sector::First, 512, &[8, 0])?;
@@ -46,7 +51,7 @@ fn reset(block: [u8; 6]) -> ([u8; 32], [u8; 34]) {
 
 fn full(version: u8) -> Option<Station> {
     let mut flash = MemoryFlash::blank();
-    write_last(&mut flash, version).ok()?;
+    write_last(&mut flash, version, [0; 12]).ok()?;
     start(flash)
 }
 
@@ -71,7 +76,7 @@ fn no_setting_and_no_reset_is_carried_out_without_room(rt: HostRuntime) -> Resul
         assert!(rt; is_padded(&outbox, &PUMP_1));
         let flash = device.into_flash();
         let mut untouched = MemoryFlash::blank();
-        write_last(&mut untouched, version)?;
+        write_last(&mut untouched, version, [0; 12])?;
         for sector in [Sector::First, Sector::Second] {
             assert!(rt; flash.sector(sector) == untouched.sector(sector));
         }

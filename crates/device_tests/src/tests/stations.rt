@@ -2,7 +2,7 @@
 use arrayvec::ArrayVec;
 use device_core::{Device, Event};
 use flash_model::MemoryFlash;
-use frame_codec::{Bytes, Outbox};
+use frame_codec::{Bytes, Frame, Outbox};
 use pn_values::{Identity, Mac, Real, RealModule, RealSubmodule};
 
 pub(crate) type Station = Device<MemoryFlash<768>, 768>;
@@ -79,8 +79,12 @@ pub(crate) fn addressed() -> Option<Station> {
     });
     let _ = real.modules.try_push(module);
     let mut device = Device::boot(identity(), real, MemoryFlash::blank()).ok()?;
-    let _ = device.step(&frame(&SET_ADDRESS), &mut Outbox::new());
+    let _ = device.step(&set_address(), &mut Outbox::new());
     Some(device)
+}
+
+pub(crate) fn set_address() -> Event {
+    frame(&SET_ADDRESS)
 }
 
 pub(crate) fn restart(device: Station) -> Option<Station> {
@@ -102,14 +106,17 @@ pub(crate) fn set_pump(digit: u8) -> Event {
     frame(&bytes)
 }
 
-// The one frame in a box is these bytes, filled up with zeros to at least 60.
+// A frame is these bytes, filled up with zeros to at least 60.
+pub(crate) fn is_filled(sent: &Frame, bytes: &[u8]) -> bool {
+    sent.as_slice().starts_with(bytes)
+        && sent.len() == bytes.len().max(60)
+        && sent.as_slice().iter().skip(bytes.len()).all(|x| *x == 0)
+}
+
+// The one frame in a box is these bytes, filled up so.
 pub(crate) fn is_padded(outbox: &Outbox, bytes: &[u8]) -> bool {
     match outbox.as_slice() {
-        [sent] => {
-            sent.as_slice().starts_with(bytes)
-                && sent.len() == bytes.len().max(60)
-                && sent.as_slice().iter().skip(bytes.len()).all(|x| *x == 0)
-        }
+        [sent] => is_filled(sent, bytes),
         _ => false,
     }
 }
