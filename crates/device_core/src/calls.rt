@@ -185,9 +185,11 @@ impl<F: Flash<S>, const S: usize> Device<F, S> {
             &self.identity,
             self.store.running().suite.address(),
             &mut self.cache,
-            caller,
-            call,
-            Operation::Connect,
+            &Serving {
+                caller,
+                call,
+                operation: Operation::Connect,
+            },
             came,
             self.blocks.as_slice(),
             outbox,
@@ -214,9 +216,11 @@ impl<F: Flash<S>, const S: usize> Device<F, S> {
             &self.identity,
             self.store.running().suite.address(),
             &mut self.cache,
-            caller,
-            call,
-            Operation::Release,
+            &Serving {
+                caller,
+                call,
+                operation: Operation::Release,
+            },
             came,
             self.blocks.as_slice(),
             outbox,
@@ -245,9 +249,11 @@ impl<F: Flash<S>, const S: usize> Device<F, S> {
             &self.identity,
             address,
             &mut self.cache,
-            caller,
-            call,
-            Operation::Control,
+            &Serving {
+                caller,
+                call,
+                operation: Operation::Control,
+            },
             came,
             self.blocks.as_slice(),
             outbox,
@@ -281,9 +287,11 @@ impl<F: Flash<S>, const S: usize> Device<F, S> {
             &self.identity,
             running.suite.address(),
             &mut self.cache,
-            caller,
-            call,
-            Operation::Read,
+            &Serving {
+                caller,
+                call,
+                operation: Operation::Read,
+            },
             came,
             self.blocks.as_slice(),
             outbox,
@@ -320,9 +328,11 @@ impl<F: Flash<S>, const S: usize> Device<F, S> {
             &self.identity,
             running.suite.address(),
             &mut self.cache,
-            caller,
-            call,
-            Operation::ReadImplicit,
+            &Serving {
+                caller,
+                call,
+                operation: Operation::ReadImplicit,
+            },
             came,
             self.blocks.as_slice(),
             outbox,
@@ -373,9 +383,11 @@ impl<F: Flash<S>, const S: usize> Device<F, S> {
             &self.identity,
             self.store.running().suite.address(),
             &mut self.cache,
-            caller,
-            call,
-            Operation::Write,
+            &Serving {
+                caller,
+                call,
+                operation: Operation::Write,
+            },
             Err(fault),
             &[],
             outbox,
@@ -405,9 +417,11 @@ impl<F: Flash<S>, const S: usize> Device<F, S> {
             &self.identity,
             address,
             &mut self.cache,
-            caller,
-            call,
-            Operation::Write,
+            &Serving {
+                caller,
+                call,
+                operation: Operation::Write,
+            },
             came,
             self.blocks.as_slice(),
             outbox,
@@ -437,9 +451,11 @@ impl<F: Flash<S>, const S: usize> Device<F, S> {
             &self.identity,
             self.store.running().suite.address(),
             &mut self.cache,
-            caller,
-            call,
-            Operation::Write,
+            &Serving {
+                caller,
+                call,
+                operation: Operation::Write,
+            },
             came,
             self.blocks.as_slice(),
             outbox,
@@ -448,29 +464,36 @@ impl<F: Flash<S>, const S: usize> Device<F, S> {
     }
 }
 
+// A call that is served, and who calls.
+#[derive(Clone, Copy)]
+struct Serving<'a> {
+    caller: &'a Caller,
+    call: &'a Call<'a>,
+    operation: Operation,
+}
+
 // Puts the answer to a new call into the empty box, and keeps it. A negative one has no blocks.
 fn answer(
     identity: &Identity,
     address: [u8; 4],
     cache: &mut CallCache<4>,
-    caller: &Caller,
-    call: &Call<'_>,
-    operation: Operation,
+    serving: &Serving<'_>,
     came: Result<(), CallFault>,
     blocks: &[u8],
     outbox: &mut Outbox,
 )
     requires empty { outbox.old.items ≡ [] }
     requires few { length blocks.now ≤ 1372 }
-    ensures frames { map (λ frame. frame.items) outbox.new.items ≡ bytes_of identity.now (answer_from address caller.now (asked call.now) operation (came_with came blocks.now)) ∷ [] }
+    ensures frames { map (λ frame. frame.items) outbox.new.items ≡ bytes_of identity.now (answer_from address serving.now.caller.now (asked serving.now.call.now) serving.now.operation (came_with came blocks.now)) ∷ [] }
     ensures one { array_vec_len outbox.new ≡ 1 }
-    ensures kept { cache.new ≡ kept_more 4 (kept_for identity.now (asked call.now) (answer_from address caller.now (asked call.now) operation (came_with came blocks.now))) cache.old }
+    ensures kept { cache.new ≡ kept_more 4 (kept_for identity.now (asked serving.now.call.now) (answer_from address serving.now.caller.now (asked serving.now.call.now) serving.now.operation (came_with came blocks.now))) cache.old }
 {
+    let call = serving.call;
     let response = match came {
         Ok(()) => call.response(done(), blocks),
-        Err(fault) => call.response(fault.number(operation), &[]),
+        Err(fault) => call.response(fault.number(serving.operation), &[]),
     };
-    send(identity, address, caller, &response, outbox);
+    send(identity, address, serving.caller, &response, outbox);
     cache.keep(
         &call.header.activity,
         call.header.sequence,
