@@ -21,11 +21,9 @@ const OWN: [u8; 6] = [2, 0, 0, 0, 0, 1];
 
 const ADDRESS: [u8; 4] = [192, 168, 0, 2];
 
-/// PNIOStatus (IEC 61158-6-10, 5.2.6) of a Read that fails: a block or the counts of blocks are wrong, there is no block of a
-/// Read, another API than 0, no such slot or subslot, no such Index there.
-const WRONG_BLOCK: u32 = 0xDE81_4000;
-
-const OTHER_BLOCK: u32 = 0xDE81_4001;
+/// PNIOStatus (IEC 61158-6-10, 5.2.6) of a Read that fails: there is no such relation, another API than 0, no such slot or
+/// subslot, no such Index there.
+const NO_RELATION: u32 = 0xDE81_4005;
 
 const OTHER_API: u32 = 0xDE80_B400;
 
@@ -147,7 +145,20 @@ fn blocks_of(order: Order, body: &[u8]) -> Option<&[u8]> {
     body.get(20..)?.get(..length as usize)
 }
 
-/// A call, which has to be to the interface of devices. The device takes Read Implicit (5) alone.
+/// PNIOStatus where a block of this operation or the counts of blocks are wrong; with 1 behind it, where there is none of its
+/// blocks. None where there is no such operation.
+fn wrong_block(operation: u16) -> Option<u32> {
+    match operation {
+        0 => Some(0xDB81_4000),
+        1 => Some(0xDC81_4000),
+        2 | 5 => Some(0xDE81_4000),
+        3 => Some(0xDF81_4000),
+        4 => Some(0xDD81_4000),
+        _ => None,
+    }
+}
+
+/// A call, which has to be to the interface of devices.
 fn fate_of_call(order: Order, header: &[u8], blocks: Option<&[u8]>) -> Option<Fate> {
     let first: [u8; 8] = match order {
         Order::Big => [0xDE, 0xA0, 0x00, 0x01, 0x6C, 0x97, 0x11, 0xD1],
@@ -156,11 +167,13 @@ fn fate_of_call(order: Order, header: &[u8], blocks: Option<&[u8]>) -> Option<Fa
     let rest = [0x82, 0x71, 0x00, 0xA0, 0x24, 0x42, 0xDF, 0x7D];
     let is_device = header.get(24..32)? == first.as_slice()
         && header.get(32..40)? == rest.as_slice();
-    if !is_device || u16_at(order, header, 68)? != 5 {
+    if !is_device {
         return None;
     }
+    let operation = u16_at(order, header, 68)?;
+    let wrong = wrong_block(operation)?;
     let Some(blocks) = blocks else {
-        return Some(negative(WRONG_BLOCK));
+        return Some(negative(wrong));
     };
     let sequence = u32_at(order, header, 64)?;
     let is_known = header.get(40..56)? == [2; 16].as_slice();
@@ -168,19 +181,35 @@ fn fate_of_call(order: Order, header: &[u8], blocks: Option<&[u8]>) -> Option<Fa
         0..5 if is_known => Fate::OldCall,
         // The kept answer: a whole I&M0 behind the block of the answer.
         5 if is_known => positive(60),
-        _ => fate_of_read(blocks).unwrap_or(negative(WRONG_BLOCK)),
+        _ if operation == 5 => fate_of_read(wrong, blocks).unwrap_or(negative(wrong)),
+        _ => negative(status_without_relation(operation == 2, wrong, blocks)),
     })
 }
 
-/// IEC 61158-6-10, 5.2.3.4: one block IODReadReqHeader. None where it is not a whole one.
-fn fate_of_read(blocks: &[u8]) -> Option<Fate> {
+/// The blocks are one whole IODReadReqHeader.
+fn is_read(blocks: &[u8]) -> bool {
+    blocks.len() >= 64 && blocks.starts_with(&[0, 9, 0, 60, 1, 0])
+}
+
+/// The status of a call that needs a relation, whose blocks are no others than those of a Read: there is no relation.
+fn status_without_relation(reads: bool, wrong: u32, blocks: &[u8]) -> u32 {
     match blocks {
-        [] => return Some(negative(OTHER_BLOCK)),
+        [_] | [_, _] | [_, _, _] => wrong,
+        _ if reads && is_read(blocks) => NO_RELATION,
+        [0, 9, ..] if reads => wrong,
+        _ => wrong | 1,
+    }
+}
+
+/// IEC 61158-6-10, 5.2.3.4: one block IODReadReqHeader. None where it is not a whole one.
+fn fate_of_read(wrong: u32, blocks: &[u8]) -> Option<Fate> {
+    match blocks {
+        [] => return Some(negative(wrong | 1)),
         [0, 9, _, _, ..] => {}
-        [_, _, _, _, ..] => return Some(negative(OTHER_BLOCK)),
+        [_, _, _, _, ..] => return Some(negative(wrong | 1)),
         _ => return None,
     }
-    if blocks.len() < 64 || !blocks.starts_with(&[0, 9, 0, 60, 1, 0]) {
+    if !is_read(blocks) {
         return None;
     }
     let slot = u16_at(Order::Big, blocks, 28)?;
