@@ -35,7 +35,7 @@ use Rattle.device_core.specs.declared.hearing.Caller.{Caller}
 use Rattle.device_core.specs.State.{Station, Live}
 use Rattle.device_core.specs.Sent.{Sent}
 use Rattle.device_core.specs.Heard.{Heard, Ticks, Unreadable, Elsewhere, Asks, Resolves, Told, Cyclic, Alarms, Said, Calls, Responds, Garbled, heard_of}
-use Rattle.device_core.specs.Judged.{Judged, is_running, is_request, answer_from, kept_for, kept_answer, served, judged_request, judged_effect, judged_write, judged_new, judged_looked, judged_blocks, judged_call, judged_answer, judged_said, judged_message, judged}
+use Rattle.device_core.specs.Judged.{Judged, is_running, is_request, answer_from, kept_for, kept_answer, judged_request, judged_effect, judged_write, judged_new, judged_looked, judged_blocks, judged_call, judged_answer, judged_said, judged_message, judged}
 use Rattle.device_core.specs.Machine.{items_in, first_answer, written_as, finished, heard_step, judged_step, step_of, first_step, later_steps, run_of}
 use Rattle.device_core.specs.Steps.{IsBehindCalls}
 

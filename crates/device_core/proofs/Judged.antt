@@ -1,6 +1,6 @@
 -- What is judged of an event and asks nothing of the settings.
 use Rattle.std.proofs.lemmas.Bool.{cond_both}
-use Rattle.std.proofs.Common.{◌≡◌, ◌&&◌, ℕ, false, [], refl}
+use Rattle.std.proofs.Common.{◌≡◌, ◌&&◌, false, [], refl}
 use Rattle.pn_values.specs.declared.mac.Mac.{Mac}
 use Rattle.frame_codec.specs.declared.arp.Arp.{Arp}
 use Rattle.pn_alarms.specs.declared.pdu.Header.{Header}

@@ -3,7 +3,7 @@ use Rattle.std.proofs.Common.{ap, map, refl, sym, ◌∙◌}
 use Rattle.device_core.specs.declared.event.Note.TheVariants.{Fault, NotMine, NoRelation}
 use Rattle.device_core.specs.State.{with_rest}
 use Rattle.device_core.specs.Sent.{bytes_of}
-use Rattle.device_core.specs.Heard.{Ticks, Unreadable, Elsewhere, Resolves, Cyclic, Alarms}
+use Rattle.device_core.specs.Heard.{Ticks, Unreadable, Elsewhere, Resolves, Alarms}
 use Rattle.device_core.specs.Judged.{judged_arp, judged_alarm}
 use Rattle.device_core.proofs.Judged.{arp_asks_nothing, arp_leaves, alarm_asks_nothing, alarm_sends_nothing}
 use Rattle.device_core.proofs.Steps.{quiet_steps, moves_steps, refuses_steps}
