@@ -96,17 +96,17 @@ def prm_end():
     return block(0x0110, struct.pack(">H16sHHHH", 0, AR_UUID, 1, 0, 1, 0))
 
 
-def instructions(octets, reads, writes):
-    """The instructions of a run that reads these blocks and writes them so many times."""
+def instructions(program, first, second, octets=b""):
+    """The instructions of a run of a program that does two things so many times each, over these octets."""
     ran = subprocess.run(
-        ["valgrind", "--tool=callgrind", "--callgrind-out-file=/dev/null", PROGRAM, str(reads), str(writes)],
+        ["valgrind", "--tool=callgrind", "--callgrind-out-file=/dev/null", program, str(first), str(second)],
         input=octets, capture_output=True, check=True)
     return int(re.search(rb"Collected : (\d+)", ran.stderr)[1])
 
 
 def each(octets, reads, writes):
     """The instructions of one turn: what twice as many take beyond what half of them take."""
-    once, twice = (instructions(octets, 1 + reads * n * TURNS, 1 + writes * n * TURNS) for n in (1, 2))
+    once, twice = (instructions(PROGRAM, 1 + reads * n * TURNS, 1 + writes * n * TURNS, octets) for n in (1, 2))
     return (twice - once) / TURNS
 
 

@@ -48,15 +48,12 @@ STEPS = (
     ("a datagram of 172 octets for another port", calls.SET_SUITE, lambda number: calls.read_implicit(number, 161), 1, 3500),
 )
 
-# Instructions of a commit into a slot beside the flash's own bytes, and of a start over a sector with fourteen open slots.
+# Instructions of a commit into a slot beside the flash's own bytes, and of a start over a sector with fourteen open slots;
+# and how many starts are counted.
 MOST_TO_COMMIT = 3000
 MOST_TO_START = 60000
 SLOTS = 14
-
-# In a listing of callgrind: a commit of the journal, its start, and what the flash does with the bytes of a call.
-COMMIT = r"settings_journal::\S*\bcommit"
-START = r"settings_journal::\S*\bboot"
-FLASH = r"flash_model::\S*\bprogram"
+STARTS = 10
 
 # Octets of a device in memory without the two sectors of its flash, and of the largest frame on the stack of a step.
 MOST_IN_MEMORY = 16 * 1024
@@ -188,34 +185,16 @@ def print_step(program, file, name, front, line, steps, bound):
     return keeps(name, step, bound)
 
 
-def set_name(number):
-    """The line of a Set of a name of two bytes, permanent."""
-    block = "02020004" + "0001" + f"n{number:x}".encode().hex()
-    return "frame 0200000000010200000000028892fefd04000000000200000008" + block + "\n"
-
-
-def grows(program, file, name, less, more):
-    """By how many instructions the function of this name grows from the one script to the other, with all that it calls.
-    None where the compiler left no such function."""
-    a, b = (inclusive(listed(program, script, file), name) for script in (less, more))
-    return None if a is None or b is None else b - a
-
-
-def print_journal(program, file):
-    """The instructions of a commit into a slot and of a start over a full sector. Says whether they keep their bounds.
-    Where the compiler made one function of a commit and its callers, the figure is that of the whole line."""
-    base = set_name(0)
-    full = base + "".join(set_name(number) for number in range(1, SLOTS + 1))
-    commits, flash = (grows(program, file, name, base, full) for name in (COMMIT, FLASH))
-    commit = grows(program, file, "PROGRAM TOTALS", base, full) if commits is None else commits - (flash or 0)
-    what = "a commit into a slot" if commits is not None else "a Set of a name with all of its line"
-    print(f"{what}: {commit / SLOTS:.0f} instructions beside the flash's own (at most {MOST_TO_COMMIT})")
-    once, often = full + "restart\n", full + "restart\n" * 11
-    starts = grows(program, file, START, once, often)
-    start = grows(program, file, "PROGRAM TOTALS", once, often) if starts is None else starts
-    print(f"a start over {SLOTS} open slots: {start / 10:.0f} instructions (at most {MOST_TO_START})")
-    is_quick = keeps("a commit into a slot", commit / SLOTS, MOST_TO_COMMIT)
-    return keeps("a start over open slots", start / 10, MOST_TO_START) and is_quick
+def print_journal(bench):
+    """The instructions of a commit into a slot, the flash's own counted too, and of a start over a full sector. Says whether
+    they keep their bounds. The first commit over a blank flash writes a base, and the others go into its slots."""
+    based, full, once, often = (blocks.instructions(bench, *turns) for turns in (
+        (1, 0), (1 + SLOTS, 0), (1 + SLOTS, 1), (1 + SLOTS, 1 + STARTS)))
+    commit, start = (full - based) / SLOTS, (often - once) / STARTS
+    print(f"a commit into a slot: {commit:.0f} instructions with the flash's own (at most {MOST_TO_COMMIT} beside them)")
+    print(f"a start over {SLOTS} open slots: {start:.0f} instructions (at most {MOST_TO_START})")
+    is_quick = keeps("a commit into a slot", commit, MOST_TO_COMMIT)
+    return keeps("a start over open slots", start, MOST_TO_START) and is_quick
 
 
 def print_room(program, bench):
@@ -233,7 +212,7 @@ def print_room(program, bench):
 
 
 def main():
-    program, echo, helper, bench, build = sys.argv[1:]
+    program, echo, helper, device, journal, build = sys.argv[1:]
     scripts = {"200,000 Identify frames": IDENTIFY * 200_000, "16 MiB of empty lines": "\n" * 16_777_216}
     kept = []
     for number, (name, text) in enumerate(scripts.items()):
@@ -244,8 +223,8 @@ def main():
     file = os.path.join(build, "callgrind.out")
     kept.append(print_hex(program, file))
     kept += [print_step(program, file, *step) for step in STEPS]
-    kept.append(print_journal(program, file))
-    kept.append(print_room(program, bench))
+    kept.append(print_journal(journal))
+    kept.append(print_room(program, device))
     return 0 if all(kept) else 1
 
 

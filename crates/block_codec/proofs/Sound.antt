@@ -1,8 +1,8 @@
 -- The formats of blocks are sound.
-use Rattle.std.proofs.Common.{◌≡◌, ℕ, List, ◌++◌, Option, Some, None, Ok, ◌<◌, ◌^◌, lit<, refl, ap, subst}
+use Rattle.std.proofs.Common.{◌≡◌, ℕ, Bool, true, false, cond, List, ◌++◌, length, drop, nat_lt, Option, Some, None, Ok, Err, ◌<◌, ◌^◌, lit<, refl, sym, ap, subst}
 use Rattle.std.proofs.lemmas.List.{append-nil}
 use Rattle.wire.specs.Codec.{IsSound, IsSoundWhole, IsOnward}
-use Rattle.wire.specs.Formats.{big_bytes}
+use Rattle.wire.specs.Formats.{big_bytes, big_number, number}
 use Rattle.wire.proofs.Fields.{number_sound, number_onward}
 use Rattle.wire.proofs.Joined.{then_by_sound, then_by_onward, seen_sound, seen_onward, framed_sound, framed_onward}
 use Rattle.wire.proofs.Wholes.{refused_sound}
@@ -184,7 +184,7 @@ fields_sound kind.ImFilterDataDevice = variant_sound is.ImFilterDataDevice in_im
 fields_sound kind.AlarmNotification = variant_sound is.AlarmNotification in_alarm_notification _ is_alarm_notification (open_body_sound _ alarm_notification_sound)
 fields_sound kind.AlarmAck = variant_sound is.AlarmAck in_alarm_ack _ is_alarm_ack (body_sound _ alarm_ack_sound)
 
-body_of_sound : (k : Option BlockType) → IsSoundWhole (body_of k)
+pub body_of_sound : (k : Option BlockType) → IsSoundWhole (body_of k)
 unfolding body_of
 body_of_sound (Some k) = fields_sound k
 body_of_sound None = refused_sound Kind
@@ -298,3 +298,11 @@ pub block_parts : (value : Block) → block_bytes value ≡ big_bytes 2 (number_
 unfolding block_bytes block body_of
 block_parts value =
     rw (type_of_number (kind_of value)) (ap (λ (xs : List ℕ). big_bytes 2 (number_of (kind_of value)) ++ (big_bytes 2 ((fields_of (kind_of value)).size value) ++ xs)) (append-nil ((fields_of (kind_of value)).write value)))
+
+-- the number that is read at the front is the number at the front
+pub front_number : (bytes : List ℕ) (value : ℕ) (rest : List ℕ) → (number Truncated 2).read bytes ≡ Ok (value, rest) → value ≡ big_number 2 bytes
+front_number bytes value rest e = let same = front_is (nat_lt (length bytes) 2) (big_number 2 bytes, drop 2 bytes) (value, rest) e in sym (ap (λ (x : ℕ × List ℕ). x.0) same)
+  where
+    front_is : (short : Bool) (one other : ℕ × List ℕ) → cond short (Err Truncated) (Ok one) ≡ Ok other → one ≡ other
+    front_is true one other h = absurd cc
+    front_is false one other h = cc

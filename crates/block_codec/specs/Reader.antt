@@ -2,7 +2,7 @@
 use Rattle.std.specs.Prelude.{◌≡◌, ℕ, Bool, true, false, List, [], ◌∷◌, Option, Some, None, Result, Ok, Err}
 use Rattle.block_fields.specs.declared.fault.BlockFault.{BlockFault}
 use Rattle.block_codec.specs.declared.block.Block.{Block}
-use Rattle.block_codec.specs.Block.{IsBlock, block_of, front}
+use Rattle.block_codec.specs.Block.{IsAccepted, IsBlock, block_of, front}
 
 -- a reader: the octets behind the blocks that it gave, and whether it gave a fault
 pub record Reader : Type 0 where
@@ -20,6 +20,12 @@ abbrev pub Gave : Reader → Option (Result Block BlockFault) → Reader → Typ
 Gave old None new = new ≡ old
 Gave old (Some (Ok value)) new = (block_of old.rest ≡ front value new.rest) × (new.has_failed ≡ false)
 Gave old (Some (Err fault)) new = (block_of old.rest ≡ Err fault) × (new.rest ≡ old.rest) × (new.has_failed ≡ true)
+
+-- each field of a block that is given has an accepted value
+abbrev pub GaveAccepted : Option (Result Block BlockFault) → Type 0
+GaveAccepted None = Unit {0}
+GaveAccepted (Some (Ok value)) = IsAccepted value
+GaveAccepted (Some (Err fault)) = Unit {0}
 
 -- the next of these blocks, and then those that are left
 abbrev pub GivesNext : List Block → Option (Result Block BlockFault) → Reader → Type 0

@@ -1,6 +1,6 @@
 //! Blocks, one behind the other.
 ghost use Rattle.std.specs.Prelude.{◌≡◌, ◌↔◌, ◌⊎◌, ℕ, List, true, false, [], IsNone};
-ghost use Rattle.block_codec.specs.Reader.{AreBlocks, Gave, GivesNext};
+ghost use Rattle.block_codec.specs.Reader.{AreBlocks, Gave, GaveAccepted, GivesNext};
 
 use crate::{Block, BlockFault, read_block};
 use std::marker::Model;
@@ -37,6 +37,8 @@ impl<'a> BlockReader<'a> {
         ensures ends { IsNone result ↔ ((self.old.rest ≡ []) ⊎ (self.old.has_failed ≡ true)) }
         // A block is what the octets at the front are; at a fault it stays.
         ensures gave { Gave self.old result self.new }
+        // Each field of a block that is given has an accepted value.
+        ensures accepted { GaveAccepted result }
         // Octets that are blocks one behind the other are given so.
         ensures in_order { (blocks : List Block) → self.old.has_failed ≡ false → AreBlocks self.old.rest blocks → GivesNext blocks result self.new }
     {

@@ -34,7 +34,7 @@ pub use module_blocks::{
     DiffModule, DiffModules, DiffSubmodule, ExpectedModule, ExpectedModules, ExpectedSubmodule,
     ExpectedSubmoduleBlockReq, ModuleDiffBlock, SubmoduleData,
 };
-pub use reading::read_block;
+pub use reading::{read_block, read_expected};
 pub use record_blocks::{
     AlarmAck, AlarmData, AlarmNotification, FilterModule, FilterModules, FilterSubmodule, Im0, Im1,
     Im2, Im3, Im4, ImFilterData, IodReadReq, IodReadRes, IodWriteReq, IodWriteRes,

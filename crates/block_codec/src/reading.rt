@@ -1,14 +1,20 @@
 //! From octets to a block.
 ghost use Rattle.std.specs.Prelude.{◌≡◌, ◌≤◌, ◌++◌, ℕ, List, [], length, IfOk};
 ghost use Rattle.wire.specs.Codec.{Gives};
-ghost use Rattle.block_codec.specs.Block.{IsBlock, block, block_of, body_of, fields_of, front};
+ghost use Rattle.wire.specs.Formats.{big_number};
+ghost use Rattle.block_codec.specs.declared.block_type.BlockType.TheVariants.{ExpectedSubmoduleBlockReq as expected_req};
+ghost use Rattle.block_codec.specs.Kinds.{number_of, type_of};
+ghost use Rattle.block_codec.specs.Block.{IsAccepted, IsBlock, block, block_of, body_of, fields_of, front};
 
-use crate::{Block, BlockFault, BlockType};
+use crate::{
+    Block, BlockFault, BlockType, ExpectedModule, ExpectedSubmodule, ExpectedSubmoduleBlockReq,
+};
+use arrayvec::ArrayVec;
 use connect_blocks::{
     alarm_cr_block_req_at, alarm_cr_block_res_at, ar_block_req_at, ar_block_res_at, control_at,
     iocr_block_req_at, iocr_block_res_at,
 };
-use module_blocks::{expected_at, module_diff_at};
+use module_blocks::{expected_at, expected_in, module_diff_at};
 use record_blocks::{
     alarm_ack_at, alarm_notification_at, filter_data_at, im0_at, im1_at, im2_at, im3_at, im4_at,
     iod_read_req_at, iod_read_res_at, iod_write_req_at, iod_write_res_at,
@@ -20,6 +26,8 @@ use wire::{split, u16_at};
 pub fn read_block(bytes: &[u8]) -> Result<(Block<'_>, &[u8]), BlockFault>
     // What is read is spelled so.
     ensures found { IfOk result (λ x. IsBlock bytes.now x.0 x.1.now) }
+    // Each field of what is read has an accepted value.
+    ensures accepted { IfOk result (λ x. IsAccepted x.0) }
     // What is spelled so is read, and as nothing else.
     ensures only { (value : Block) (rest : List ℕ) → IsBlock bytes.now value rest → Gives (λ x. (x.0, x.1.now)) result (front value rest) }
     // No block begins another one: with anything behind it, it is read as itself.
@@ -28,6 +36,43 @@ pub fn read_block(bytes: &[u8]) -> Result<(Block<'_>, &[u8]), BlockFault>
     ensures exact { Gives (λ x. (x.0, x.1.now)) result (block_of bytes.now) }
 {
     block_at(bytes)
+}
+
+/// Reads the ExpectedSubmoduleBlockReq at the front, as `read_block` does. Its modules and submodules are judged in these lists:
+/// who reads several of them lends the room, which is large, and is made once.
+#[tactic(auto, using(crate::proofs::Sound::front_number), unfolding(crate::specs::Block::block_of, crate::specs::Block::block))]
+pub fn read_expected<'a>(
+    bytes: &'a [u8],
+    modules: &mut ArrayVec<ExpectedModule, 256>,
+    submodules: &mut ArrayVec<ExpectedSubmodule, 256>,
+) -> Result<(ExpectedSubmoduleBlockReq<'a>, &'a [u8]), BlockFault>
+    // It is of this type.
+    requires { big_number 2 bytes.now ≡ number_of expected_req }
+    // It is what the octets at the front are, or their fault.
+    ensures exact { Gives (λ x. (Block.ExpectedSubmoduleBlockReq x.0, x.1.now)) result (block_of bytes.now) }
+    // Each field of what is read has an accepted value.
+    ensures accepted { IfOk result (λ x. IsAccepted (Block.ExpectedSubmoduleBlockReq x.0)) }
+{
+    let (number, rest) = u16_at(bytes, BlockFault::Truncated)?;
+    let (size, rest) = u16_at(rest, BlockFault::Truncated)?;
+    let (inside, others) = split(rest, size as usize, BlockFault::Truncated)?;
+    let block = expected_body(number, inside, modules, submodules)?;
+    Ok((block, others))
+}
+
+/// What BlockLength counts of an ExpectedSubmoduleBlockReq, judged in these lists.
+#[tactic(auto, unfolding(crate::specs::Block::body_of, crate::specs::Block::fields_of, crate::specs::Kinds::type_of, crate::specs::Kinds::number_of))]
+fn expected_body<'a>(
+    number: u16,
+    body: &'a [u8],
+    modules: &mut ArrayVec<ExpectedModule, 256>,
+    submodules: &mut ArrayVec<ExpectedSubmodule, 256>,
+) -> Result<ExpectedSubmoduleBlockReq<'a>, BlockFault>
+    requires { number ≡ number_of expected_req }
+    ensures { Gives (λ x. Block.ExpectedSubmoduleBlockReq x) result ((body_of (type_of number)).read body.now) }
+{
+    let _number = number;
+    expected_in(body, modules, submodules)
 }
 
 /// A block, and what is behind it.

@@ -1,5 +1,5 @@
 -- AlarmCRBlockReq and AlarmCRBlockRes (IEC 61158-6-10, 5.2.4.7 and 5.2.4.8).
-use Rattle.std.specs.Prelude.{◌≡◌, ◌≤◌, ℕ}
+use Rattle.std.specs.Prelude.{◌≤◌}
 use Rattle.wire.specs.Codec.{Codec}
 use Rattle.wire.specs.Formats.{◌⨾◌, seen}
 use Rattle.block_fields.specs.declared.fault.BlockFault.{BlockFault}

@@ -1,5 +1,5 @@
 -- ARBlockReq and ARBlockRes (IEC 61158-6-10, 5.2.4.1 and 5.2.4.2).
-use Rattle.std.specs.Prelude.{◌≡◌, ◌%◌, ◌==◌, ◌≤◌, ◌<◌, ◌&&◌, ℕ, Bool, true, not, nat_eq, List, length, replicate, slice_index}
+use Rattle.std.specs.Prelude.{◌≡◌, ◌%◌, ◌==◌, ◌≤◌, ℕ, Bool, true, not, nat_eq, List, length, replicate, slice_index}
 use Rattle.std.specs.Cmp.Lexicographic.{pointwise}
 use Rattle.arrayvec.specs.ArrayVec.{ArrayVec}
 use Rattle.pn_values.specs.declared.mac.Mac.{Mac}

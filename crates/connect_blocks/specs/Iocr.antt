@@ -1,6 +1,5 @@
 -- IOCRBlockReq and IOCRBlockRes (IEC 61158-6-10, 5.2.4.3 and 5.2.4.4).
 use Rattle.std.specs.Prelude.{◌≡◌, ◌%◌, ◌==◌, ◌≤◌, ◌&&◌, ◌||◌, ℕ, Bool, true, nat_le, Option, Some, None, if◌then◌else◌}
-use Rattle.pn_values.specs.declared.mac.Mac.{Mac}
 use Rattle.wire.specs.Codec.{Codec}
 use Rattle.wire.specs.Formats.{◌⨾◌, then_by, seen}
 use Rattle.wire.specs.Checks.{checked, named}

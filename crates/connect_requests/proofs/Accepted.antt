@@ -1,37 +1,57 @@
--- What is read of an IOCRBlockReq is accepted.
-use Rattle.std.proofs.Common.{◌≡◌, ◌≤◌, ℕ, true, List, nat_le, Option, Some, None, sym, ap, subst, ◌∙◌, arith}
-use Rattle.std.proofs.lemmas.Bool.{and_parts, leb-true}
-use Rattle.block_fields.specs.Fields.{body}
+-- What is taken of a block that is accepted is in its ranges.
+use Rattle.std.proofs.Common.{◌≡◌, ◌==◌, ◌||◌, ◌&&◌, ◌*◌, ◌≤◌, ℕ, Bool, true, false, inl, inr, refl, sym, ◌∙◌}
+use Rattle.std.specs.Prelude.{nat_le}
+use Rattle.std.proofs.lemmas.Bool.{cases_Bool, true≢false}
+use Rattle.std.proofs.lemmas.Nat.{mul-le}
+use Rattle.connect_blocks.specs.declared.ar_block.ArBlockReq.{ArBlockReq}
+use Rattle.connect_blocks.specs.declared.alarm_cr.AlarmCrBlockReq.{AlarmCrBlockReq}
+use Rattle.connect_blocks.specs.declared.iocr.IocrType.{IocrType}
+use Rattle.connect_blocks.specs.declared.iocr.IocrType.TheVariants.{Input, Output}
+use Rattle.connect_blocks.specs.declared.iocr.RtClass.{RtClass}
+use Rattle.connect_blocks.specs.declared.iocr.RtClass.TheVariants.{Class1, Class2}
 use Rattle.connect_blocks.specs.declared.iocr.IocrBlockReq.{IocrBlockReq}
-use Rattle.connect_blocks.specs.Iocr.{iocr_block_req, iocr_head}
-use Rattle.block_codec.specs.declared.block.Block.{Block}
-use Rattle.block_codec.specs.declared.block_type.BlockType.{BlockType}
-use Rattle.block_codec.specs.declared.block_type.BlockType.TheVariants as kind
-use Rattle.block_codec.specs.Kinds.{type_of}
-use Rattle.block_codec.specs.Block.{IsBlock, block, body_of, fields_of}
-use Rattle.connect_requests.specs.Drafts.{IsShort}
+use Rattle.connect_blocks.specs.ArBlock.{IsArBlockReq}
+use Rattle.connect_blocks.specs.AlarmCr.{IsAlarmCrBlockReq}
+use Rattle.connect_blocks.specs.Iocr.{is_frame_id, IsIocrBlockReq}
+use Rattle.cyclic_data.specs.Layout.{Table}
+use Rattle.connect_requests.specs.Request.{ar_of, alarm_of, chosen_id, given_id, iocr_of, IsAr, IsAlarmCr, IsIocr}
 
-iocr_short : (inside : List ℕ) (value : IocrBlockReq) → (body iocr_block_req).Spells inside value → value.data_length ≤ 1440
-unfolding body iocr_block_req iocr_head
-iocr_short inside value s =
-    let fields = s.2.2 in
-    let head = fields.2.1 in
-    let ranged = head.2.2.2.2.2.1 in
-    let two = and_parts (nat_le 40 head.0.1.1.1.1.0) (nat_le head.0.1.1.1.1.0 1440) ranged.0 in
-    let same : value.data_length ≡ head.0.1.1.1.1.0 =
-    sym (ap (λ (x : IocrBlockReq). x.data_length) s.1) ∙ (sym (ap (λ (x : IocrBlockReq). x.data_length) fields.1) ∙ sym (ap (λ x. x.data_length) head.1)) in
-    omega (arith, leb-true head.0.1.1.1.1.0 1440 two.1, same)
+pub ar_in_range : (block : ArBlockReq) → IsArBlockReq block → IsAr (ar_of block)
+ar_in_range block is = record { timeout_least = is.least; timeout_greatest = is.greatest }
 
-fields_short : (k : BlockType) (inside : List ℕ) (value : Block) → (fields_of k).Spells inside value → IsShort value
-unfolding fields_of
-fields_short kind.IocrBlockReq inside value s = subst (λ (x : Block). IsShort x) s.1 (iocr_short inside s.0 s.2)
-fields_short _ inside value s = subst (λ (x : Block). IsShort x) s.1 tt
+pub alarm_in_range : (block : AlarmCrBlockReq) → IsAlarmCrBlockReq block → IsAlarmCr (alarm_of block)
+alarm_in_range block is = record { timeout = is.timeout; retries_least = is.retries_least; retries_greatest = is.retries_greatest }
 
-body_short : (k : Option BlockType) (inside : List ℕ) (value : Block) → (body_of k).Spells inside value → IsShort value
-unfolding body_of
-body_short (Some k) inside value s = fields_short k inside value s
-body_short None inside value s = absurd s
+-- one of three that is not the last is one of the other two
+one_of_two : (a b c : Bool) → (a || b || c) ≡ true → c ≡ false → (a || b) ≡ true
+one_of_two true b c some none = refl
+one_of_two false true c some none = refl
+one_of_two false false c some none = absurd (true≢false (sym some ∙ none))
 
-pub spelled_short : (bytes rest : List ℕ) (value : Block) → IsBlock bytes value rest → IsShort value
-unfolding IsBlock block
-spelled_short bytes rest value s = subst (λ (x : Block). IsShort x) s.1 (body_short (type_of s.0.0) s.2.2.0 s.0.1 s.2.2.4)
+chosen_cyclic : (class : RtClass) → is_frame_id Input (chosen_id class) ≡ true
+chosen_cyclic Class1 = refl
+chosen_cyclic Class2 = refl
+
+-- a FrameID that is given is one of cyclic frames
+given_cyclic : (kind : IocrType) (class : RtClass) (id : ℕ) → is_frame_id kind id ≡ true → is_frame_id Input (given_id kind class id) ≡ true
+given_cyclic Input class id is = is
+given_cyclic Output class id is =
+    elim (cases_Bool (id == 0xFFFF)) [
+      | inl t ↦ rw t (chosen_cyclic class)
+      | inr f ↦ rw f (one_of_two (nat_le 0x8000 id && nat_le id 0xBBFF) (nat_le 0xC000 id && nat_le id 0xF7FF) (id == 0xFFFF) is f)
+    ]
+
+pub iocr_in_range : (block : IocrBlockReq) (layout : Table) → IsIocrBlockReq block → IsIocr (iocr_of block layout)
+iocr_in_range block layout is = record {
+  id = given_cyclic block.iocr_type block.iocr_properties block.frame_id is.id;
+  clock_least = is.clock_least;
+  clock_greatest = is.clock_greatest;
+  ratio_least = is.ratio_least;
+  ratio_greatest = is.ratio_greatest;
+  hold_least = is.hold_least;
+  hold_greatest = is.hold_greatest;
+}
+
+-- the interval, in units of 31.25 microseconds
+pub interval_few : (clock ratio : ℕ) → clock ≤ 128 → ratio ≤ 512 → clock * ratio ≤ 65536
+interval_few clock ratio short few = mul-le clock ratio 128 512 short few

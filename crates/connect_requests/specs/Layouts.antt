@@ -1,5 +1,5 @@
 -- How the places of the two communication relations are judged (IEC 61158-6-10, 5.2.4.3).
-use Rattle.std.specs.Prelude.{◌+◌, ◌&&◌, ◌||◌, ℕ, Bool, true, false, List, [], ◌∷◌, ◌++◌, map, take, drop, min, max, nat_lt, Result, Ok, Err}
+use Rattle.std.specs.Prelude.{◌+◌, ◌||◌, ℕ, Bool, true, false, List, [], ◌∷◌, ◌++◌, map, take, drop, min, max, nat_lt, Result, Ok}
 use Rattle.std.specs.List.{list_any}
 use Rattle.connect_blocks.specs.declared.iocr.IocrType.{IocrType}
 use Rattle.connect_blocks.specs.declared.iocr.IocrBlockReq.{IocrBlockReq}

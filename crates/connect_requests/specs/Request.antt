@@ -1,5 +1,5 @@
 -- What a Connect asks for (IEC 61158-6-10, 5.2.4.1 to 5.2.4.7).
-use Rattle.std.specs.Prelude.{◌==◌, ℕ, Bool, if◌then◌else◌}
+use Rattle.std.specs.Prelude.{◌≡◌, ◌==◌, ◌≤◌, ℕ, Bool, true, if◌then◌else◌}
 use Rattle.connect_blocks.specs.declared.ar_block.ArBlockReq.{ArBlockReq}
 use Rattle.connect_blocks.specs.declared.alarm_cr.AlarmCrBlockReq.{AlarmCrBlockReq}
 use Rattle.connect_blocks.specs.declared.iocr.IocrType.{IocrType}
@@ -7,6 +7,7 @@ use Rattle.connect_blocks.specs.declared.iocr.IocrType.TheVariants.{Input, Outpu
 use Rattle.connect_blocks.specs.declared.iocr.RtClass.{RtClass}
 use Rattle.connect_blocks.specs.declared.iocr.RtClass.TheVariants.{Class1, Class2}
 use Rattle.connect_blocks.specs.declared.iocr.IocrBlockReq.{IocrBlockReq}
+use Rattle.connect_blocks.specs.Iocr.{is_frame_id}
 use Rattle.module_diff.specs.declared.expected.Expected.{Expected}
 use Rattle.cyclic_data.specs.Layout.{Table}
 use Rattle.connect_requests.specs.declared.parts.Ar.{Ar}
@@ -63,3 +64,30 @@ iocr_of block layout = record {
   tag = block.iocr_tag_header;
   layout = layout;
 }
+
+-- ---- the ranges that each of them is in (IEC 61158-6-10, 5.2.4)
+
+pub record IsAr (ar : Ar) : Type 0 where
+  pub timeout_least : 1 ≤ ar.timeout_factor
+  pub timeout_greatest : ar.timeout_factor ≤ 1000
+
+pub record IsIocr (iocr : Iocr) : Type 0 where
+  pub id : is_frame_id Input iocr.frame_id ≡ true
+  pub clock_least : 1 ≤ iocr.send_clock_factor
+  pub clock_greatest : iocr.send_clock_factor ≤ 128
+  pub ratio_least : 1 ≤ iocr.reduction_ratio
+  pub ratio_greatest : iocr.reduction_ratio ≤ 512
+  pub hold_least : 1 ≤ iocr.data_hold_factor
+  pub hold_greatest : iocr.data_hold_factor ≤ 7680
+
+pub record IsAlarmCr (alarm : AlarmCr) : Type 0 where
+  pub timeout : 1 ≤ alarm.timeout_factor
+  pub retries_least : 1 ≤ alarm.retries
+  pub retries_greatest : alarm.retries ≤ 15
+
+-- all of a request
+pub record IsRequest (request : Request) : Type 0 where
+  pub ar : IsAr request.ar
+  pub input : IsIocr request.input
+  pub output : IsIocr request.output
+  pub alarm : IsAlarmCr request.alarm

@@ -1,14 +1,17 @@
 //! The blocks behind the ARBlockReq, one behind the other.
 ghost use Rattle.std.specs.Prelude.{◌≡◌, IfOk};
 ghost use Rattle.wire.specs.Codec.{Gives};
-ghost use Rattle.block_codec.specs.Block.{block_of};
+ghost use Rattle.wire.specs.Formats.{big_number};
+ghost use Rattle.block_codec.specs.Block.{block_of, IsAccepted};
 ghost use Rattle.connect_requests.specs.Pieces.{behind, block_in, piece_at, pieces_in};
 ghost use Rattle.connect_requests.specs.Judged.{faulty, field_of, has_iocr, is_further, nothing, well_formed, with_block, with_piece, with_pieces};
-ghost use Rattle.connect_requests.specs.Drafts.{AreShort, IsShort, sofar_of};
+ghost use Rattle.connect_requests.specs.Drafts.{AreAccepted, sofar_of};
 
-use crate::expected::add_modules;
+use crate::expected::{Room, add_modules};
 use crate::parts::{AlarmCr, alarm_of};
-use block_codec::{Block, BlockFault, BlockType, IocrBlockReq, IocrType, read_block};
+use block_codec::{
+    Block, BlockFault, BlockType, IocrBlockReq, IocrType, read_block, read_expected,
+};
 use module_diff::Expected;
 use pnio_status::CallFault;
 use wire::u16_at;
@@ -50,14 +53,33 @@ pub(crate) fn faulty(number: u16, fault: BlockFault) -> CallFault
 }
 
 /// The block at the front, whose BlockType is this, and what is behind it.
-#[tactic(auto, using(crate::proofs::Accepted::spelled_short))]
 pub(crate) fn block_at(number: u16, bytes: &[u8]) -> Result<(Block<'_>, &[u8]), CallFault>
     ensures block { Gives (λ x. x.0) result (well_formed number (block_in (block_of bytes.now))) }
     ensures behind { IfOk result (λ x. x.1.now ≡ behind (block_of bytes.now)) }
-    ensures short { IfOk result (λ x. IsShort x.0) }
+    ensures accepted { IfOk result (λ x. IsAccepted x.0) }
 {
     match read_block(bytes) {
         Ok(front) => Ok(front),
+        Err(fault) => Err(faulty(number, fault)),
+    }
+}
+
+/// The same with room for an ExpectedSubmoduleBlockReq.
+fn block_within<'a>(
+    number: u16,
+    bytes: &'a [u8],
+    room: &mut Room,
+) -> Result<(Block<'a>, &'a [u8]), CallFault>
+    requires { big_number 2 bytes.now ≡ number }
+    ensures block { Gives (λ x. x.0) result (well_formed number (block_in (block_of bytes.now))) }
+    ensures behind { IfOk result (λ x. x.1.now ≡ behind (block_of bytes.now)) }
+    ensures accepted { IfOk result (λ x. IsAccepted x.0) }
+{
+    if number != BlockType::ExpectedSubmoduleBlockReq.number() {
+        return block_at(number, bytes);
+    }
+    match read_expected(bytes, &mut room.modules, &mut room.submodules) {
+        Ok((block, rest)) => Ok((Block::ExpectedSubmoduleBlockReq(block), rest)),
         Err(fault) => Err(faulty(number, fault)),
     }
 }
@@ -75,7 +97,7 @@ impl<'a> Draft<'a> {
     /// Nothing.
     pub(crate) fn new() -> Draft<'a>
         ensures nothing { (expected : Expected) → sofar_of result expected ≡ record nothing { expected = expected } }
-        ensures short { AreShort result }
+        ensures accepted { AreAccepted result }
     {
         Draft {
             input: None,
@@ -99,7 +121,7 @@ impl<'a> Draft<'a> {
     /// One more IOCRBlockReq: each type stands once.
     fn add_iocr(&mut self, block: IocrBlockReq<'a>) -> Result<(), CallFault>
         ensures added { (expected : Expected) → Gives (λ _. sofar_of self.new expected) result (with_block (sofar_of self.old expected) (Block.IocrBlockReq block.entry)) }
-        ensures short { AreShort self.old → IsShort (Block.IocrBlockReq block.entry) → AreShort self.new }
+        ensures accepted { AreAccepted self.old → IsAccepted (Block.IocrBlockReq block.entry) → AreAccepted self.new }
     {
         if self.has_iocr(block.iocr_type) {
             return Err(CallFault::IocrField(4));
@@ -115,9 +137,15 @@ impl<'a> Draft<'a> {
     }
 
     /// One more block that reads.
-    fn add_block(&mut self, block: Block<'a>, expected: &mut Expected) -> Result<(), CallFault>
+    #[tactic(auto, using(crate::proofs::Accepted::alarm_in_range))]
+    fn add_block(
+        &mut self,
+        block: Block<'a>,
+        room: &mut Room,
+        expected: &mut Expected,
+    ) -> Result<(), CallFault>
         ensures added { Gives (λ _. sofar_of self.new expected.new) result (with_block (sofar_of self.old expected.old) block.entry) }
-        ensures short { AreShort self.old → IsShort block.entry → AreShort self.new }
+        ensures accepted { AreAccepted self.old → IsAccepted block.entry → AreAccepted self.new }
     {
         match block {
             Block::IocrBlockReq(block) => self.add_iocr(block),
@@ -127,7 +155,7 @@ impl<'a> Draft<'a> {
             }
             Block::ExpectedSubmoduleBlockReq(block) => {
                 self.has_expected = true;
-                add_modules(&block, expected)
+                add_modules(&block, room, expected)
             }
             _ => Err(CallFault::BlockType),
         }
@@ -135,10 +163,15 @@ impl<'a> Draft<'a> {
 
     /// Takes the block at the front of octets, and gives what is behind it.
     #[tactic(auto, unfolding(crate::specs::Judged::with_piece))]
-    fn add_piece(&mut self, bytes: &'a [u8], expected: &mut Expected) -> Result<&'a [u8], CallFault>
+    fn add_piece(
+        &mut self,
+        bytes: &'a [u8],
+        room: &mut Room,
+        expected: &mut Expected,
+    ) -> Result<&'a [u8], CallFault>
         ensures piece { Gives (λ _. sofar_of self.new expected.new) result (with_piece (sofar_of self.old expected.old) (piece_at bytes.now)) }
         ensures behind { IfOk result (λ rest. rest.now ≡ behind (block_of bytes.now)) }
-        ensures short { AreShort self.old → AreShort self.new }
+        ensures accepted { AreAccepted self.old → AreAccepted self.new }
     {
         if bytes.len() < 4 {
             return Err(CallFault::BlockHeader);
@@ -150,8 +183,8 @@ impl<'a> Draft<'a> {
         if number == BlockType::AlarmCrBlockReq.number() && self.alarm.is_some() {
             return Err(CallFault::AlarmCrRepeated);
         }
-        let (block, rest) = block_at(number, bytes)?;
-        self.add_block(block, expected)?;
+        let (block, rest) = block_within(number, bytes, room)?;
+        self.add_block(block, room, expected)?;
         Ok(rest)
     }
 
@@ -160,17 +193,18 @@ impl<'a> Draft<'a> {
         &mut self,
         bytes: &'a [u8],
         most: usize,
+        room: &mut Room,
         expected: &mut Expected,
     ) -> Result<(), CallFault>
         ensures pieces { Gives (λ _. sofar_of self.new expected.new) result (with_pieces (sofar_of self.old expected.old) (pieces_in most bytes.now)) }
-        ensures short { AreShort self.old → AreShort self.new }
+        ensures accepted { AreAccepted self.old → AreAccepted self.new }
     {
         let mut rest = bytes;
         for _index in 0..most {
             if rest.is_empty() {
                 return Ok(());
             }
-            rest = self.add_piece(rest, expected)?;
+            rest = self.add_piece(rest, room, expected)?;
         }
         Ok(())
     }

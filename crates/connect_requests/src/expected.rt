@@ -12,6 +12,23 @@ use cyclic_data::ExpectedData;
 use module_diff::Expected;
 use pnio_status::CallFault;
 
+/// Room for the modules and submodules of one ExpectedSubmoduleBlockReq. It is large, and made once for all blocks of a Connect.
+#[derive(Drop)]
+pub(crate) struct Room {
+    pub(crate) modules: ArrayVec<ExpectedModule, 256>,
+    pub(crate) submodules: ArrayVec<ExpectedSubmodule, 256>,
+}
+
+impl Room {
+    /// Room, in which nothing is.
+    pub(crate) fn new() -> Room {
+        Room {
+            modules: ArrayVec::new(),
+            submodules: ArrayVec::new(),
+        }
+    }
+}
+
 /// Nothing is expected any more.
 pub(crate) fn clear(expected: &mut Expected)
     ensures { expected.new ≡ nothing.expected }
@@ -40,14 +57,19 @@ fn repeats_slot(before: &[ExpectedModule], modules: &[ExpectedModule]) -> bool
 /// submodules in all.
 pub(crate) fn add_modules(
     block: &ExpectedSubmoduleBlockReq,
+    room: &mut Room,
     expected: &mut Expected,
 ) -> Result<(), CallFault>
     ensures { Gives (λ _. expected.new) result (expected_with expected.old block.now.modules) }
 {
-    let mut modules = ArrayVec::new();
-    let mut submodules = ArrayVec::new();
-    block.modules.copy_to(&mut modules, &mut submodules);
-    append_modules(modules.as_slice(), submodules.as_slice(), expected)
+    block
+        .modules
+        .copy_to(&mut room.modules, &mut room.submodules);
+    append_modules(
+        room.modules.as_slice(),
+        room.submodules.as_slice(),
+        expected,
+    )
 }
 
 /// Appends modules and their submodules, if each slot stands once, and there are at most 64 modules and 64 submodules in all.

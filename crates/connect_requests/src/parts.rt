@@ -1,6 +1,6 @@
 //! What is wanted of each block.
-ghost use Rattle.std.specs.Prelude.{◌≡◌};
-ghost use Rattle.connect_requests.specs.Request.{alarm_of, ar_of, given_id, iocr_of};
+ghost use Rattle.std.specs.Prelude.{◌≡◌, ◌≤◌, ◌*◌};
+ghost use Rattle.connect_requests.specs.Request.{alarm_of, ar_of, given_id, iocr_of, IsAlarmCr, IsAr, IsIocr};
 
 use block_codec::{AlarmCrBlockReq, ArBlockReq, IocrBlockReq, IocrType, RtClass};
 use block_fields::Uuid;
@@ -27,7 +27,7 @@ pub struct Ar {
 pub struct Iocr {
     /// IOCRReference.
     pub reference: u16,
-    /// The FrameID that is given: where an output leaves the choice to the device, one of its class.
+    /// The FrameID that is given, one of cyclic frames: where an output leaves the choice to the device, one of its class.
     pub frame_id: u16,
     /// SendClockFactor, 1 to 128, in units of 31.25 microseconds.
     pub send_clock_factor: u16,
@@ -58,7 +58,9 @@ pub struct AlarmCr {
 
 impl Ar {
     /// None.
-    pub(crate) fn blank() -> Ar {
+    pub(crate) fn blank() -> Ar
+        ensures { IsAr result }
+    {
         Ar {
             uuid: Uuid::from_bytes([0; 16]),
             session_key: 0,
@@ -71,7 +73,9 @@ impl Ar {
 
 impl AlarmCr {
     /// None.
-    pub(crate) fn blank() -> AlarmCr {
+    pub(crate) fn blank() -> AlarmCr
+        ensures { IsAlarmCr result }
+    {
         AlarmCr {
             timeout_factor: 1,
             retries: 1,
@@ -121,10 +125,12 @@ fn given_id(iocr_type: IocrType, class: RtClass, id: u16) -> u16
 
 impl Iocr {
     /// None.
-    pub(crate) fn blank() -> Iocr {
+    pub(crate) fn blank() -> Iocr
+        ensures { IsIocr result }
+    {
         Iocr {
             reference: 0,
-            frame_id: 0,
+            frame_id: 0x8000,
             send_clock_factor: 1,
             reduction_ratio: 1,
             data_hold_factor: 1,
@@ -143,5 +149,16 @@ impl Iocr {
         self.reduction_ratio = block.reduction_ratio;
         self.data_hold_factor = block.data_hold_factor;
         self.tag = block.iocr_tag_header;
+    }
+
+    /// How long it is from one frame to the next, SendClockFactor times ReductionRatio, in units of 31.25 microseconds: at most
+    /// 65,536.
+    #[tactic(auto, using(crate::proofs::Accepted::interval_few))]
+    pub fn interval(&self) -> u32
+        requires { IsIocr self.now }
+        ensures value { result ≡ self.now.send_clock_factor * self.now.reduction_ratio }
+        ensures few { result ≤ 65536 }
+    {
+        u32::from(self.send_clock_factor) * u32::from(self.reduction_ratio)
     }
 }

@@ -4,10 +4,11 @@ ghost use Rattle.wire.specs.Codec.{Gives};
 ghost use Rattle.block_codec.specs.Block.{block_of};
 ghost use Rattle.connect_requests.specs.Pieces.{behind, piece_at, pieces_in};
 ghost use Rattle.connect_requests.specs.Judged.{conflict, ar_in, request_behind, request_of, request_with};
-ghost use Rattle.connect_requests.specs.Drafts.{AreShort, sofar_of};
+ghost use Rattle.connect_requests.specs.Drafts.{AreAccepted, sofar_of};
+ghost use Rattle.connect_requests.specs.Request.{IsAlarmCr, IsAr, IsIocr};
 
 use crate::draft::{Draft, block_at};
-use crate::expected::{clear, fill_data};
+use crate::expected::{Room, clear, fill_data};
 use crate::layouts::fill_layouts;
 use crate::parts::{AlarmCr, Ar, Iocr, ar_of};
 use arrayvec::ArrayVec;
@@ -18,7 +19,7 @@ use pnio_status::CallFault;
 use std::marker::Model;
 use wire::u16_at;
 
-/// What a Connect asks for. It is large, and filled where it lies.
+/// What a Connect asks for, each number in the range that its field may have. It is large, and filled where it lies.
 #[derive(Drop)]
 pub struct ConnectRequest {
     ar: Ar,
@@ -42,12 +43,24 @@ impl Model for ConnectRequest {
       alarm = inside.alarm;
       expected = inside.expected;
     } };
+
+    ghost use Rattle.connect_requests.specs.Request.{IsRequest};
+
+    ghost invariant = { λ inside. IsRequest (record {
+      ar = inside.ar;
+      input_first = inside.input_first;
+      input = inside.input;
+      output = inside.output;
+      alarm = inside.alarm;
+      expected = inside.expected;
+    }) };
 }
 
 /// The ARBlockReq, which is the first block, and what is behind it.
-#[tactic(auto, unfolding(crate::specs::Judged::ar_in))]
+#[tactic(auto, using(crate::proofs::Accepted::ar_in_range), unfolding(crate::specs::Judged::ar_in))]
 fn first_block(bytes: &[u8]) -> Result<(Ar, &[u8]), CallFault>
     ensures ar { Gives (λ x. x.0) result (ar_in (piece_at bytes.now)) }
+    ensures accepted { IfOk result (λ x. IsAr x.0) }
     ensures behind { IfOk result (λ x. x.1.now ≡ behind (block_of bytes.now)) }
 {
     if bytes.len() < 4 {
@@ -120,18 +133,21 @@ impl ConnectRequest {
 
     /// Reads the blocks behind the ARBlockReq, at most so many.
     fn read_others(&mut self, ar: Ar, others: &[u8], most: usize) -> Result<(), CallFault>
+        requires { IsAr ar }
         ensures { Gives (λ _. self.new) result (request_behind ar (pieces_in most others.now)) }
     {
         let mut draft = Draft::new();
+        let mut room = Room::new();
         clear(&mut self.expected);
-        draft.add_pieces(others, most, &mut self.expected)?;
+        draft.add_pieces(others, most, &mut room, &mut self.expected)?;
         self.finish(ar, &draft)
     }
 
     /// Takes what was read, if no block is missing and the layouts are such.
-    #[tactic(auto, unfolding(crate::specs::Judged::request_with))]
+    #[tactic(auto, using(crate::proofs::Accepted::iocr_in_range), unfolding(crate::specs::Judged::request_with))]
     fn finish(&mut self, ar: Ar, draft: &Draft) -> Result<(), CallFault>
-        requires short { AreShort draft.now }
+        requires ar { IsAr ar }
+        requires draft { AreAccepted draft.now }
         ensures { Gives (λ _. self.new) result (request_with ar (sofar_of draft.now self.old.expected)) }
     {
         if !draft.has_expected {
@@ -166,7 +182,8 @@ impl ConnectRequest {
 
     /// The application relation.
     pub fn ar(&self) -> &Ar
-        ensures { result.now ≡ self.now.ar }
+        ensures value { result.now ≡ self.now.ar }
+        ensures accepted { IsAr result.now }
     {
         &self.ar
     }
@@ -180,21 +197,24 @@ impl ConnectRequest {
 
     /// The communication relation of inputs, from the device to the controller.
     pub fn input(&self) -> &Iocr
-        ensures { result.now ≡ self.now.input }
+        ensures value { result.now ≡ self.now.input }
+        ensures accepted { IsIocr result.now }
     {
         &self.input
     }
 
     /// The communication relation of outputs, from the controller to the device.
     pub fn output(&self) -> &Iocr
-        ensures { result.now ≡ self.now.output }
+        ensures value { result.now ≡ self.now.output }
+        ensures accepted { IsIocr result.now }
     {
         &self.output
     }
 
     /// The communication relation of alarms.
     pub fn alarm(&self) -> &AlarmCr
-        ensures { result.now ≡ self.now.alarm }
+        ensures value { result.now ≡ self.now.alarm }
+        ensures accepted { IsAlarmCr result.now }
     {
         &self.alarm
     }

@@ -61,6 +61,10 @@ abbrev pub where_holds : Bool → List ℕ → Option (List ℕ)
 where_holds true octets = Some octets
 where_holds false octets = None
 
+-- the index of I&M0FilterData
+abbrev pub filter_data_index : ℕ
+filter_data_index = 0xF840
+
 -- the record of this index at this submodule, if there is one: I&M0 at each real submodule, I&M1 to I&M4 at that of the
 -- device, and I&M0FilterData everywhere
 abbrev pub record_of : ℕ → ℕ → ℕ → Identity → Real → Settings → Option (List ℕ)
@@ -70,5 +74,5 @@ record_of index slot subslot identity real settings =
     else if index == 0xAFF2 then where_holds (is_device slot subslot) (im2_record settings.im2)
     else if index == 0xAFF3 then where_holds (is_device slot subslot) (im3_record settings.im3)
     else if index == 0xAFF4 then where_holds (is_device slot subslot) (im4_record settings.im4)
-    else if index == 0xF840 then Some (filter_record real)
+    else if index == filter_data_index then Some (filter_record real)
     else None

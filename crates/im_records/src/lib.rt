@@ -8,5 +8,5 @@ mod reading;
 mod writing;
 
 pub use fault::RecordFault;
-pub use reading::{is_real, is_writable, read_record};
+pub use reading::{FILTER_DATA, is_real, is_writable, read_record};
 pub use writing::read_write;

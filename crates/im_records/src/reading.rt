@@ -11,6 +11,9 @@ use block_codec::{Block, Im0, Im1, Im2, Im3, Im4, write_block};
 use pn_values::{Identity, Padded, Real, RealModule, Settings};
 use record_blocks::im0_len;
 
+/// The index of I&M0FilterData.
+pub const FILTER_DATA: u16 = 0xF840;
+
 /// The record of this index at this slot and subslot of a device, if there is one to be read: I&M0 (0xAFF0) at each
 /// submodule that is plugged in, I&M1 to I&M4 (0xAFF1 to 0xAFF4) at slot 0, subslot 1, and I&M0FilterData (0xF840) at any.
 pub fn read_record(
@@ -29,7 +32,7 @@ pub fn read_record(
         0xAFF2 if is_device(slot, subslot) => Some(im2_of(&settings.im2)),
         0xAFF3 if is_device(slot, subslot) => Some(im3_of(&settings.im3)),
         0xAFF4 if is_device(slot, subslot) => Some(im4_of(&settings.im4)),
-        0xF840 => Some(filter_of(real)),
+        FILTER_DATA => Some(filter_of(real)),
         _ => None,
     }
 }

@@ -1,15 +1,17 @@
 -- The modules of a ModuleDiffBlock, one after another.
-use Rattle.std.proofs.Common.{◌+◌, ◌*◌, ◌≤◌, length, refl, arith}
+use Rattle.std.proofs.Common.{ℕ, ◌+◌, ◌*◌, ◌≤◌, List, length, refl, subst, arith}
 use Rattle.wire.specs.Codec.{IsSound}
 use Rattle.wire.specs.Nested.{FitsNested}
 use Rattle.wire.proofs.Joined.{then_by_sound, seen_sound}
+use Rattle.block_fields.specs.Fields.{body}
 use Rattle.block_fields.proofs.Sound.{numeral_sound, fixed_sound}
-use Rattle.module_lists.proofs.Taken.{listed_sound}
+use Rattle.module_lists.proofs.Taken.{listed_sound, listed_counted}
 use Rattle.module_lists.proofs.Written.{modules_few as few, modules_fit as fit}
 use Rattle.module_lists.specs.Lists.{Listed}
 use Rattle.module_blocks.specs.declared.module_diff.DiffModule.{DiffModule}
 use Rattle.module_blocks.specs.declared.module_diff.DiffSubmodule.{DiffSubmodule}
-use Rattle.module_blocks.specs.ModuleDiff.{diff_module, diff_submodule, own_of, diff_modules, module_diff, IsCounted}
+use Rattle.module_blocks.specs.declared.module_diff.ModuleDiffBlock.{ModuleDiffBlock}
+use Rattle.module_blocks.specs.ModuleDiff.{diff_module, diff_submodule, own_of, diff_modules, module_diff, IsCounted, IsModuleDiff}
 
 -- ---- the law
 
@@ -28,6 +30,19 @@ diff_modules_sound = listed_sound (λ _. diff_module) own_of (λ _. diff_submodu
 pub module_diff_sound : IsSound module_diff
 unfolding module_diff
 module_diff_sound = seen_sound _ _ _ (λ _. refl) (then_by_sound _ _ (fixed_sound 4 1) (λ _. then_by_sound _ _ (numeral_sound 4) (λ _. diff_modules_sound)))
+
+-- ---- what is read
+
+modules_counted : (bytes : List ℕ) (value : Listed DiffModule DiffSubmodule) (rest : List ℕ) → diff_modules.Spells bytes value rest → IsCounted value
+unfolding diff_modules
+modules_counted bytes value rest s = listed_counted (λ _. diff_module) own_of (λ _. diff_submodule) bytes value rest s
+
+pub module_diff_accepted : (inside : List ℕ) (value : ModuleDiffBlock) → (body module_diff).Spells inside value → IsModuleDiff value
+unfolding body module_diff
+module_diff_accepted inside value s =
+    let fields = s.2.2 in
+    let all : IsModuleDiff s.0.1 = subst (λ (block : ModuleDiffBlock). IsModuleDiff block) fields.1 (modules_counted _ fields.0.1.1 _ fields.2.2.2) in
+    subst (λ (block : ModuleDiffBlock). IsModuleDiff block) s.1 all
 
 -- ---- what is written
 

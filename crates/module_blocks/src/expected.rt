@@ -10,7 +10,7 @@ use crate::submodule_data::{
     SubmoduleData, put_submodule_data, submodule_data_at, submodule_data_len,
 };
 use arrayvec::ArrayVec;
-use block_fields::{BlockFault, len_fields, put_fields, read_body, read_fields, u16_at};
+use block_fields::{BlockFault, ended, len_fields, put_fields, read_fields, u16_at, version_at};
 use module_lists::{Entry, Module, Modules, Put, modules_len, put_modules};
 
 /// A module that is expected in a slot, with its API, 0.
@@ -67,14 +67,6 @@ pub type ExpectedModules<'a> = Modules<'a, ExpectedModule, ExpectedSubmodule>;
 pub struct ExpectedSubmoduleBlockReq<'a> {
     /// The modules, each with its submodules.
     pub modules: ExpectedModules<'a>,
-}
-
-macro_rules! expected_fields {
-    ($with:ident $args:tt) => {
-        $with! { $args ExpectedSubmoduleBlockReq {
-            modules: (expected_modules_at, put_expected_modules, expected_modules_len),
-        } }
-    };
 }
 
 /// A SlotNumber, field 6, that none of these has, and what is behind it.
@@ -177,22 +169,28 @@ impl<const N: usize> Put<N> for ExpectedSubmodule {
     }
 }
 
-/// NumberOfAPIs and the entries of modules and submodules, and what is behind them.
-#[tactic(auto, unfolding(crate::specs::Expected::expected_modules))]
-fn expected_modules_at(bytes: &[u8]) -> Result<(ExpectedModules<'_>, &[u8]), BlockFault>
-    ensures { Gives (λ x. (x.0, x.1.now)) result (expected_modules.read bytes.now) }
+/// What BlockLength counts of an ExpectedSubmoduleBlockReq, to the last octet. It is judged in these lists.
+#[tactic(auto, unfolding(block_fields::specs::Fields::body, crate::specs::Expected::expected, crate::specs::Expected::expected_modules))]
+pub fn expected_in<'a>(
+    bytes: &'a [u8],
+    modules: &mut ArrayVec<ExpectedModule, 256>,
+    submodules: &mut ArrayVec<ExpectedSubmodule, 256>,
+) -> Result<ExpectedSubmoduleBlockReq<'a>, BlockFault>
+    ensures { Gives (λ x. x) result ((body expected).read bytes.now) }
 {
-    let mut modules = ArrayVec::new();
-    let mut submodules = ArrayVec::new();
-    Modules::at(bytes, &mut modules, &mut submodules)
+    let rest = version_at(bytes)?;
+    let (modules, rest) = Modules::at(rest, modules, submodules)?;
+    ended(rest)?;
+    Ok(ExpectedSubmoduleBlockReq { modules })
 }
 
 /// What BlockLength counts of an ExpectedSubmoduleBlockReq, to the last octet.
-#[tactic(auto, unfolding(block_fields::specs::Fields::body, crate::specs::Expected::expected))]
 pub fn expected_at(bytes: &[u8]) -> Result<ExpectedSubmoduleBlockReq<'_>, BlockFault>
     ensures { Gives (λ x. x) result ((body expected).read bytes.now) }
 {
-    expected_fields!(read_body[bytes])
+    let mut modules = ArrayVec::new();
+    let mut submodules = ArrayVec::new();
+    expected_in(bytes, &mut modules, &mut submodules)
 }
 
 /// Appends NumberOfAPIs and the entries of modules and submodules. There must be room.
@@ -225,7 +223,7 @@ pub fn put_expected<const N: usize>(out: &mut ArrayVec<u8, N>, value: &ExpectedS
     ensures len { array_vec_len out.new ≡ array_vec_len out.old + expected.size value.now }
     ensures fits { IsExpectedSubmoduleBlockReq value.now → expected.Fits value.now }
 {
-    expected_fields!(put_fields [out, value]);
+    put_expected_modules(out, &value.modules);
 }
 
 /// How many octets the fields of a ExpectedSubmoduleBlockReq take.
@@ -234,5 +232,5 @@ pub fn expected_len(value: &ExpectedSubmoduleBlockReq) -> usize
     ensures size { result ≡ expected.size value.now }
     ensures few { result ≤ 8706 }
 {
-    expected_fields!(len_fields[value])
+    expected_modules_len(&value.modules)
 }

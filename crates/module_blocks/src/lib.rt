@@ -9,7 +9,7 @@ mod submodule_data;
 
 pub use expected::{
     ExpectedModule, ExpectedModules, ExpectedSubmodule, ExpectedSubmoduleBlockReq, expected_at,
-    expected_len, put_expected,
+    expected_in, expected_len, put_expected,
 };
 pub use module_diff::{
     DiffModule, DiffModules, DiffSubmodule, ModuleDiffBlock, module_diff_at, module_diff_len,

@@ -1,6 +1,9 @@
 -- The lists are sound, and reading goes on behind an entry or ends at a fault.
-use Rattle.std.proofs.Common.{◌≡◌, ℕ, ◌+◌, ◌<◌, List, [], ◌∷◌, ◌++◌, length, drop, Ok, Err, refl}
+use Rattle.std.proofs.Common.{◌≡◌, ℕ, ◌+◌, ◌<◌, List, [], ◌∷◌, ◌++◌, length, take, drop, sum_by, Ok, Err, refl, sym, ap, subst, arith}
+use Rattle.std.proofs.lemmas.List.{length-append, take-append-drop, length-take-le}
+use Rattle.std.proofs.lemmas.List.Sums.{sum_by-cons}
 use Rattle.wire.specs.Codec.{Codec, IsSound}
+use Rattle.wire.specs.Nested.{SpellOuter}
 use Rattle.wire.proofs.Counts.{bounded_sound}
 use Rattle.wire.proofs.Joined.{seen_sound}
 use Rattle.wire.proofs.Nesting.{nested_sound, inner_goes_on, inner_fails, inner_ends, outer_goes_on, outer_fails, outer_fails_inside, outer_ends}
@@ -8,7 +11,7 @@ use Rattle.block_fields.specs.declared.fault.BlockFault.{BlockFault}
 use Rattle.block_fields.specs.declared.fault.BlockFault.TheVariants.{Count}
 use Rattle.block_fields.specs.Fields.{two}
 use Rattle.block_fields.proofs.Sound.{numeral_sound}
-use Rattle.module_lists.specs.Lists.{next_entry, module_list, listed_modules, submodules_read, modules_read}
+use Rattle.module_lists.specs.Lists.{Listed, next_entry, module_list, listed_modules, submodules_read, modules_read}
 
 next_sound : {E : Type 0} (format : List E → Codec BlockFault E) → ((before : List E) → IsSound (format before)) → (start : ℕ) (before : List E)
     → IsSound (next_entry format start before)
@@ -61,3 +64,27 @@ module _ {M S : Type 0} (head : List M → Codec BlockFault M) (own : M → ℕ)
       → modules_read head own item left modules submodules bytes ≡ Ok ((modules, submodules), bytes)
   unfolding modules_read
   modules_end modules submodules bytes left h = outer_ends (next_entry head 0) own (next_entry item) modules submodules bytes left h
+
+-- ---- what is spelled
+
+module _ {M S : Type 0} (head : List M → Codec BlockFault M) (own : M → ℕ) (item : List S → Codec BlockFault S) where
+  outer_counted : (first : List M) (second : List S) (bytes : List ℕ) (modules : List M) (submodules : List S) (rest : List ℕ)
+      → SpellOuter (next_entry head 0) own (next_entry item) first second bytes modules submodules rest → sum_by own modules ≡ length submodules
+  outer_counted first second bytes [] submodules rest s = sym (ap (λ (xs : List S). length xs) s.0)
+  outer_counted first second bytes (entry ∷ modules) submodules rest s =
+      let n = own entry in
+      let others : sum_by own modules ≡ length (drop n submodules) =
+      outer_counted (first ++ entry ∷ []) (second ++ take n submodules) s.1 modules (drop n submodules) rest s.5 in
+      let sum : sum_by own (entry ∷ modules) ≡ n + sum_by own modules = sum_by-cons own entry modules in
+      let mine : length (take n submodules) ≡ n = length-take-le n submodules s.3 in
+      let both : length (take n submodules) + length (drop n submodules) ≡ length submodules =
+      rw (← length-append (take n submodules) (drop n submodules), take-append-drop n submodules) refl in
+      omega (arith, others, sum, mine, both)
+
+  -- the modules count the submodules that there are
+  pub listed_counted : (bytes : List ℕ) (value : Listed M S) (rest : List ℕ) → (listed_modules head own item).Spells bytes value rest
+      → sum_by own value.modules ≡ length value.submodules
+  unfolding listed_modules module_list
+  listed_counted bytes value rest s =
+      subst (λ (x : Listed M S). sum_by own x.modules ≡ length x.submodules) s.1
+      (outer_counted [] [] s.2.0 s.0.0 s.0.1 rest s.2.2)

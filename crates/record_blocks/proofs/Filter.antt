@@ -1,15 +1,17 @@
 -- The modules of an I&M0FilterData, one after another.
-use Rattle.std.proofs.Common.{◌+◌, ◌*◌, ◌≤◌, length, refl, arith}
+use Rattle.std.proofs.Common.{ℕ, ◌+◌, ◌*◌, ◌≤◌, List, length, refl, subst, arith}
 use Rattle.wire.specs.Codec.{IsSound}
 use Rattle.wire.specs.Nested.{FitsNested}
 use Rattle.wire.proofs.Joined.{then_by_sound, seen_sound}
+use Rattle.block_fields.specs.Fields.{body}
 use Rattle.block_fields.proofs.Sound.{numeral_sound, fixed_sound}
-use Rattle.module_lists.proofs.Taken.{listed_sound}
+use Rattle.module_lists.proofs.Taken.{listed_sound, listed_counted}
 use Rattle.module_lists.proofs.Written.{modules_few as few, modules_fit as fit}
 use Rattle.module_lists.specs.Lists.{Listed}
 use Rattle.record_blocks.specs.declared.filter_data.FilterModule.{FilterModule}
 use Rattle.record_blocks.specs.declared.filter_data.FilterSubmodule.{FilterSubmodule}
-use Rattle.record_blocks.specs.FilterData.{filter_module, filter_submodule, own_of, filter_modules, filter_data, IsCounted}
+use Rattle.record_blocks.specs.declared.filter_data.ImFilterData.{ImFilterData}
+use Rattle.record_blocks.specs.FilterData.{filter_module, filter_submodule, own_of, filter_modules, filter_data, IsCounted, IsFilterData}
 
 -- ---- the law
 
@@ -28,6 +30,19 @@ filter_modules_sound = listed_sound (λ _. filter_module) own_of (λ _. filter_s
 pub filter_data_sound : IsSound filter_data
 unfolding filter_data
 filter_data_sound = seen_sound _ _ _ (λ _. refl) (then_by_sound _ _ (fixed_sound 4 1) (λ _. then_by_sound _ _ (numeral_sound 4) (λ _. filter_modules_sound)))
+
+-- ---- what is read
+
+modules_counted : (bytes : List ℕ) (value : Listed FilterModule FilterSubmodule) (rest : List ℕ) → filter_modules.Spells bytes value rest → IsCounted value
+unfolding filter_modules
+modules_counted bytes value rest s = listed_counted (λ _. filter_module) own_of (λ _. filter_submodule) bytes value rest s
+
+pub filter_data_accepted : (inside : List ℕ) (value : ImFilterData) → (body filter_data).Spells inside value → IsFilterData value
+unfolding body filter_data
+filter_data_accepted inside value s =
+    let fields = s.2.2 in
+    let all : IsFilterData s.0.1 = subst (λ (block : ImFilterData). IsFilterData block) fields.1 (modules_counted _ fields.0.1.1 _ fields.2.2.2) in
+    subst (λ (block : ImFilterData). IsFilterData block) s.1 all
 
 -- ---- what is written
 

@@ -8,13 +8,13 @@ use Rattle.record_blocks.specs.declared.read_record.IodReadReq.{IodReadReq}
 use Rattle.im_records.specs.Records.{record_of}
 use Rattle.pnio_status.specs.declared.call_fault.CallFault.{CallFault}
 use Rattle.call_blocks.specs.Naming.{in_relation, is_relation}
-use Rattle.record_reads.specs.Judged.{request_of, read_of}
+use Rattle.record_reads.specs.Judged.{module_diff_index, request_of, read_of}
 
 -- the record that a request means where the ModuleDiffBlock of the relation is these octets: it stands at each place, and anybody
 -- reads the others
 abbrev pub record_within : List ℕ → IodReadReq → Identity → Real → Settings → Option (List ℕ)
 record_within differing request identity real settings =
-    if request.index == 0xE002 then Some differing
+    if request.index == module_diff_index then Some differing
     else record_of request.index request.slot_number request.subslot_number identity real settings
 
 -- the IODReadReqHeader that a call consists of while this relation stands: ARUUID is judged right behind the block

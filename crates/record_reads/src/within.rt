@@ -5,16 +5,13 @@ ghost use Rattle.record_reads.specs.Judged.{read_of};
 ghost use Rattle.record_reads.specs.Within.{record_within, relation_read, request_within};
 
 use crate::answering::put_read_answer;
-use crate::judging::{check_place, read_request};
+use crate::judging::{MODULE_DIFF, check_place, read_request};
 use crate::serving::{Blocks, serve};
 use block_codec::IodReadReq;
 use block_fields::Uuid;
 use call_blocks::check_relation;
 use pn_values::{Identity, Real, Settings};
 use pnio_status::CallFault;
-
-/// The index of the ModuleDiffBlock.
-const MODULE_DIFF: u16 = 0xE002;
 
 /// Serves a Read of the controller while the relation of this ARUUID stands, if one does: puts the blocks of the answer into an empty
 /// list, or says why the call is refused. Of the faults the first in the order of the statuses counts. To what anybody reads comes

@@ -16,7 +16,7 @@ use Rattle.pnio_status.specs.declared.call_fault.CallFault.TheVariants as fault
 use Rattle.call_blocks.specs.Judged.{judged}
 use Rattle.call_blocks.specs.Single.{single_of}
 use Rattle.call_blocks.specs.Naming.{in_relation}
-use Rattle.record_reads.specs.Judged.{has_parameter, placed}
+use Rattle.record_reads.specs.Judged.{has_parameter, is_anywhere, placed}
 use Rattle.record_reads.specs.Parameters.{parameter_length}
 use Rattle.record_writes.specs.declared.write.Effect.{Effect}
 use Rattle.record_writes.specs.declared.write.Effect.TheVariants.{Stores, Keeps}
@@ -24,9 +24,9 @@ use Rattle.record_writes.specs.declared.write.Write.{Write}
 
 -- ---- what it asks for
 
--- the indices of records that are read alone: I&M0, I&M0FilterData and ModuleDiffBlock
+-- the indices of records that are read alone: I&M0, and those that stand at any place
 abbrev pub is_read_only : ℕ → Bool
-is_read_only index = index == 0xAFF0 || index == 0xF840 || index == 0xE002
+is_read_only index = index == 0xAFF0 || is_anywhere index
 
 -- whether there is a record of the index of a request at its slot and subslot, where a submodule is plugged in
 abbrev pub is_known : Real → IodWriteReq → Bool

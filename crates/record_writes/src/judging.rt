@@ -11,7 +11,7 @@ use call_blocks::{check_relation, single_block};
 use im_records::{is_writable, read_write};
 use pn_values::{Command, Real};
 use pnio_status::CallFault;
-use record_reads::{check_place, parameter_length};
+use record_reads::{check_place, is_anywhere, parameter_length};
 
 /// What a Write asks for while the relation of this ARUUID stands, if one does, or why it is refused. Of the faults the first in the
 /// order of the statuses counts.
@@ -90,7 +90,7 @@ fn check_record(real: &Real, request: &IodWriteReq, behind: &[u8]) -> Result<Eff
 fn is_read_only(index: u16) -> bool
     ensures { result ≡ is_read_only index }
 {
-    index == 0xAFF0 || index == 0xF840 || index == 0xE002
+    index == 0xAFF0 || is_anywhere(index)
 }
 
 /// Whether there is a record of this index where a request means it, at a proper place.

@@ -1,10 +1,8 @@
 -- One place after another.
-use Rattle.std.proofs.Common.{rules, ◌≡◌, ◌+◌, ◌*◌, ◌≤◌, ◌++◌, ℕ, List, [], length, take, ap, sym, subst, ◌∙◌, arith}
+use Rattle.std.proofs.Common.{rules, ◌≡◌, ◌≤◌, ◌++◌, ℕ, List, [], length, take, arith}
 use Rattle.std.proofs.lemmas.List.{take_all}
-use Rattle.wire.specs.Counted.{write_each, FitsEach}
-use Rattle.block_fields.specs.Fields.{two}
-use Rattle.connect_blocks.specs.declared.io_object.IoObject.{IoObject}
-use Rattle.connect_blocks.specs.Objects.{io_objects, next_object}
+use Rattle.wire.specs.Counted.{write_each}
+use Rattle.connect_blocks.specs.Objects.{next_object}
 use Rattle.connect_blocks.proofs.Objects.{put_starts, put_one, put_all, objects_put, list_size, list_fits}
 use Rattle.connect_blocks.proofs.io_objects.put_io_objects.Goals as goal
 

@@ -1,5 +1,5 @@
 -- The place of a number, where it lies.
-use Rattle.std.proofs.Common.{◌≡◌, ◌<◌, List, length, sym, ap, subst, ◌∙◌, arith}
+use Rattle.std.proofs.Common.{◌≡◌, List, length, sym, ap, subst, ◌∙◌, arith}
 use Rattle.std.proofs.lemmas.Option.{slice_get-get_or}
 use Rattle.connect_blocks.specs.declared.io_object.IoObject.{IoObject}
 use Rattle.connect_blocks.specs.declared.io_objects.Place.{Place}

@@ -28,7 +28,7 @@ loop-index-preserved c =
       pieces = ap (λ (octets : List ℕ). with_pieces (sofar_of c.add_piece.new.self c.add_piece.new.expected) (pieces_in (c.args.most - (c.loop-index._index + 1)) octets)) c.in_ok-rest.ensures.behind
           ∙ (sym (goes_on (sofar_of c.loop-index.self c.loop-index.expected) (sofar_of c.add_piece.new.self c.add_piece.new.expected) (c.args.most - c.loop-index._index) (c.args.most - (c.loop-index._index + 1)) c.loop-index.rest.now count some c.in_ok-rest.ensures.piece)
           ∙ c.loop-index.invariant.pieces);
-      short = λ h. c.in_ok-rest.ensures.short (c.loop-index.invariant.short h);
+      accepted = λ h. c.in_ok-rest.ensures.accepted (c.loop-index.invariant.accepted h);
     }
 
 pub returns-clause-pieces : goal.returns-clause-pieces
