@@ -10,7 +10,7 @@ const IM0: [u8; 60] =
     *b"\x00\x20\x00\x38\x01\x00\x01\x23                                    \x00\x00V\x00\x00\x00\x00\x00\x00\x00\x00\x00\x01\x01\x00\x1E";
 
 /// A station whose texts are spaces.
-fn station() -> Identity {
+pub(crate) fn station() -> Identity {
     Identity {
         mac: Mac {
             octets: [2, 0, 0, 0, 0, 1],
@@ -49,7 +49,7 @@ fn with_parameters() -> RealSubmodule {
 }
 
 /// An access point, and two modules, of which the second has a submodule with parameter records too.
-fn plugged() -> Real {
+pub(crate) fn plugged() -> Real {
     let mut modules = ArrayVec::new();
     modules.push(module(0, 1, &[(1, 1), (0x8000, 2), (0x8001, 3)]));
     modules.push(module(1, 16, &[(1, 16)]));
@@ -59,20 +59,20 @@ fn plugged() -> Real {
     Real { modules }
 }
 
-/// What a Read Implicit asks for.
+/// What a call for a record asks for.
 #[derive(Clone, Copy)]
-struct Asked {
-    kind: u16,
-    version: u8,
-    api: u32,
-    slot: u16,
-    subslot: u16,
-    index: u16,
-    length: u32,
+pub(crate) struct Asked {
+    pub(crate) kind: u16,
+    pub(crate) version: u8,
+    pub(crate) api: u32,
+    pub(crate) slot: u16,
+    pub(crate) subslot: u16,
+    pub(crate) index: u16,
+    pub(crate) length: u32,
 }
 
 /// Record 0xAFF0 of the access point.
-const GOOD: Asked = Asked {
+pub(crate) const GOOD: Asked = Asked {
     kind: 0x0009,
     version: 1,
     api: 0,
@@ -83,8 +83,8 @@ const GOOD: Asked = Asked {
 };
 
 impl Asked {
-    /// The IODReadReqHeader, of SeqNumber 0x0A0B and an ARUUID of 7s.
-    fn octets(self) -> [u8; 64] {
+    /// Its header, of SeqNumber 0x0A0B and an ARUUID of 7s.
+    pub(crate) fn octets(self) -> [u8; 64] {
         let mut octets = [0; 64];
         octets[..2].copy_from_slice(&self.kind.to_be_bytes());
         octets[3] = 60;

@@ -1,0 +1,78 @@
+// Records that are read within a relation.
+ghost use Rattle.std.specs.Prelude.{◌≤◌, length};
+
+use super::reads::{Asked, GOOD, plugged, station};
+use super::records::settings;
+use block_fields::Uuid;
+use pnio_status::{CallFault, Operation};
+use record_reads::{Blocks, names_relation, read_within};
+
+/// The ModuleDiffBlock, in any slot.
+const DIFFERENCE: Asked = Asked {
+    slot: 9,
+    subslot: 9,
+    index: 0xE002,
+    ..GOOD
+};
+
+/// What a Read is answered while the relation of an ARUUID of these octets stands, whose ModuleDiffBlock is these.
+fn answered(relation: u8, differing: &[u8], asked: Asked) -> Result<Blocks, CallFault>
+    requires { length differing.now ≤ 1308 }
+{
+    let uuid = Uuid::from_bytes([relation; 16]);
+    let mut answer = Blocks::new();
+    read_within(
+        Some(&uuid),
+        differing,
+        &station(),
+        &plugged(),
+        &settings(),
+        &asked.octets(),
+        &mut answer,
+    )?;
+    Ok(answer)
+}
+
+/// RecordDataLength of an answer and the octets of the record.
+fn sent(answer: &Blocks) -> Option<(&[u8], &[u8])> {
+    let (header, octets) = answer.as_slice().split_at_checked(64)?;
+    Some((header.get(36..40)?, octets))
+}
+
+#[test]
+fn reads_what_differs(rt: HostRuntime) {
+    let differing = [1, 2, 3, 4, 5];
+    for size in 0..=5 {
+        let Ok(answer) = answered(7, &differing[..size], DIFFERENCE) else {
+            panic!(rt; "refused");
+        };
+        let told = [0, 0, 0, size as u8];
+        assert_eq!(rt; sent(&answer), Some((told.as_slice(), &differing[..size])));
+    }
+}
+
+#[test]
+fn reads_within_its_relation_alone(rt: HostRuntime) {
+    for asked in [DIFFERENCE, GOOD, Asked { api: 1, ..GOOD }] {
+        let fault = answered(8, &[], asked).err();
+        let status = fault.map(|fault| fault.number(Operation::Read));
+        let octets = status.map(|status| [status.code, status.decode, status.code1, status.code2]);
+        assert_eq!(rt; octets, Some([0xDE, 0x81, 0x40, 0x05]));
+    }
+    assert!(rt; answered(7, &[], GOOD).is_ok());
+}
+
+#[test]
+fn knows_whose_relation_a_read_names(rt: HostRuntime) {
+    let octets = GOOD.octets();
+    assert!(rt; names_relation(Some(&Uuid::from_bytes([7; 16])), &octets));
+    assert!(rt; !names_relation(Some(&Uuid::from_bytes([8; 16])), &octets));
+    assert!(rt; !names_relation(None, &octets));
+}
+
+#[test]
+fn knows_no_relation_that_a_broken_read_names(rt: HostRuntime) {
+    let octets = GOOD.octets();
+    let uuid = Uuid::from_bytes([7; 16]);
+    assert!(rt; !names_relation(Some(&uuid), &octets[..63]));
+}
