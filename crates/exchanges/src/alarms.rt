@@ -44,6 +44,8 @@ impl DataExchange {
     pub fn hear(&mut self, message: &Message) -> Heard
         ensures heard { result ≡ heard_as self.old.alarms message.now }
         ensures state { self.new ≡ behind_message self.old message.now }
+        // One that is ignored changes nothing.
+        ensures ignored { result ≡ Heard.Ignored → self.new ≡ self.old }
     {
         self.alarms.hear(message)
     }

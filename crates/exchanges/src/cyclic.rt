@@ -1,5 +1,5 @@
 //! Cyclic frames.
-ghost use Rattle.std.specs.Prelude.{◌≡◌, ◌+◌, ◌≤◌, ◌++◌};
+ghost use Rattle.std.specs.Prelude.{◌≡◌, ◌≢◌, ◌+◌, ◌≤◌, ◌++◌};
 ghost use Rattle.arrayvec.specs.ArrayVec.{array_vec_len};
 ghost use Rattle.exchanges.specs.Frames.{body_of, inputs_frame};
 ghost use Rattle.exchanges.specs.Received.{behind_frame, received_as};
@@ -23,10 +23,12 @@ pub enum Received {
 }
 
 impl DataExchange {
-    /// A cyclic frame comes: from this station, of this FrameID, and all that follows it. Where it is not taken nothing changes.
+    /// A cyclic frame comes: from this station, of this FrameID, and all that follows it.
     pub fn receive(&mut self, source: Mac, frame_id: u16, body: &[u8]) -> Received
         ensures received { result ≡ received_as self.old source frame_id body.now }
         ensures state { self.new ≡ behind_frame self.old source frame_id body.now }
+        // One that is not taken changes nothing.
+        ensures refused { result ≢ Received.Taken → self.new ≡ self.old }
     {
         if !self.route.is_of_outputs(source, frame_id) {
             return Received::Foreign;

@@ -8,11 +8,13 @@
 mod alarms;
 mod cyclic;
 mod exchange;
+mod laws;
 mod opening;
 mod route;
 mod units;
 
 pub use cyclic::Received;
 pub use exchange::DataExchange;
+pub use laws::exchange_is_kept;
 pub use route::Route;
 pub use units::Tick;

@@ -85,12 +85,7 @@ impl DiffRows {
 }
 
 /// Whether a submodule is listed in the rows of modules, each of which has as many of these submodules as it counts.
-fn lists(
-    modules: &[DiffModule],
-    submodules: &[DiffSubmodule],
-    slot: u16,
-    subslot: u16,
-) -> bool
+fn lists(modules: &[DiffModule], submodules: &[DiffSubmodule], slot: u16, subslot: u16) -> bool
     ensures { result ≡ lists slot subslot modules.now submodules.now }
 {
     let mut left = submodules;
