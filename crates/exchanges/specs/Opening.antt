@@ -1,5 +1,5 @@
 -- The exchange of a relation that is made now, with the answer to its Connect (IEC 61158-6-10, 5.2.4).
-use Rattle.std.specs.Prelude.{◌*◌, ◌-◌, ◌<◌, ◌≤◌, ℕ, false, true, map, replicate, None, if◌then◌else◌}
+use Rattle.std.specs.Prelude.{◌*◌, ◌-◌, ℕ, false, true, map, replicate, None, if◌then◌else◌}
 use Rattle.module_lists.specs.Lists.{Listed}
 use Rattle.module_blocks.specs.declared.module_diff.DiffModule.{DiffModule}
 use Rattle.module_blocks.specs.declared.module_diff.DiffSubmodule.{DiffSubmodule}
@@ -12,20 +12,6 @@ use Rattle.connect_requests.specs.Request.{Request}
 use Rattle.pn_alarms.specs.Device.{idle}
 use Rattle.exchanges.specs.declared.route.Route.{Route}
 use Rattle.exchanges.specs.Flow.{Flow}
-
--- the numbers of a communication relation of cyclic frames, and of one of alarms, are in their ranges
-pub record IsTimed (iocr : Iocr) : Type 0 where
-  pub clock : 0 < iocr.send_clock_factor
-  pub clock_most : iocr.send_clock_factor ≤ 128
-  pub ratio : 0 < iocr.reduction_ratio
-  pub ratio_most : iocr.reduction_ratio ≤ 512
-  pub hold_most : iocr.data_hold_factor ≤ 7680
-
-pub record AreInRange (request : Request) : Type 0 where
-  pub input : IsTimed request.input
-  pub output : IsTimed request.output
-  pub factor : 0 < request.alarm.timeout_factor
-  pub retries : request.alarm.retries ≤ 15
 
 -- cyclic frames and alarms go to CMInitiatorMacAdd and come from there
 abbrev pub route_of : Request → Route

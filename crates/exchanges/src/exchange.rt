@@ -1,10 +1,10 @@
 //! What is exchanged.
 ghost use Rattle.std.specs.Prelude.{◌≡◌, is_some, length, option_map, unwrap_or};
-ghost use Rattle.exchanges.specs.Opening.{AreInRange, begun_of, opened};
+ghost use Rattle.exchanges.specs.Opening.{begun_of, opened};
 ghost use Rattle.exchanges.specs.Process.{given_at, output_at};
 
 use crate::Route;
-use crate::opening::{fill_inputs, interval_of};
+use crate::opening::fill_inputs;
 use connect_requests::ConnectRequest;
 use cyclic_data::{Consumer, Image, Provider, ReceivedImage};
 use module_diff::DiffRows;
@@ -59,7 +59,6 @@ impl DataExchange {
     /// A Connect is answered, where these modules and submodules differ: nothing was given and nothing taken, and the interval of the
     /// inputs is counted from now. Nothing is left of an earlier relation.
     pub fn open(&mut self, request: &ConnectRequest, rows: &DiffRows)
-        requires { AreInRange request.now }
         ensures { self.new ≡ opened request.now rows.now }
     {
         let (input, output, alarm) = (request.input(), request.output(), request.alarm());
@@ -67,7 +66,7 @@ impl DataExchange {
         self.begun = false;
         self.provider = Provider::start(input.send_clock_factor, input.reduction_ratio);
         fill_inputs(&mut self.inputs, &input.layout, rows);
-        self.consumer = Consumer::new(output.data_hold_factor, interval_of(output));
+        self.consumer = Consumer::new(output.data_hold_factor, output.interval());
         self.outputs.start(&output.layout);
         self.alarms = DeviceAlarms::new(alarm.timeout_factor, alarm.retries);
     }

@@ -1,22 +1,12 @@
 //! An exchange that is opened.
-ghost use Rattle.std.specs.Prelude.{◌≡◌, ◌≤◌};
-ghost use Rattle.exchanges.specs.Opening.{IsTimed, first_inputs, interval_of, status_of};
+ghost use Rattle.std.specs.Prelude.{◌≡◌};
+ghost use Rattle.exchanges.specs.Opening.{first_inputs, status_of};
 
-use connect_requests::Iocr;
 use cyclic_data::{Image, Layout};
 use module_diff::DiffRows;
 
 /// The status of good data (IEC 61158-6-10, 4.7.2.1.1).
 const GOOD: u8 = 0x80;
-
-/// The interval of a communication relation, in units of 31.25 microseconds.
-pub(crate) fn interval_of(iocr: &Iocr) -> u32
-    requires { IsTimed iocr.now }
-    ensures value { result ≡ interval_of iocr.now }
-    ensures short { result ≤ 65536 }
-{
-    u32::from(iocr.send_clock_factor) * u32::from(iocr.reduction_ratio)
-}
 
 /// IOPS and IOCS of a submodule: bad where these rows list it, and else good.
 fn status_of(rows: &DiffRows, slot: u16, subslot: u16) -> u8
