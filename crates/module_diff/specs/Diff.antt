@@ -1,5 +1,5 @@
 -- Which modules are not as a Connect expects them (IEC 61158-6-10, 5.2.4.11).
-use Rattle.std.specs.Prelude.{◌==◌, ◌&&◌, ◌||◌, ◌++◌, ℕ, Bool, not, List, [], ◌∷◌, map, length, take, drop, Option, Some, None, if◌then◌else◌}
+use Rattle.std.specs.Prelude.{◌==◌, ◌&&◌, ◌||◌, ◌++◌, ℕ, Bool, false, not, List, [], ◌∷◌, map, length, take, drop, Option, Some, None, if◌then◌else◌}
 use Rattle.std.specs.List.{filter, list_any}
 use Rattle.pn_values.specs.declared.real.RealModule.{RealModule}
 use Rattle.module_lists.specs.Lists.{Listed}
@@ -8,6 +8,7 @@ use Rattle.module_blocks.specs.declared.expected.ExpectedSubmodule.{ExpectedSubm
 use Rattle.module_blocks.specs.declared.module_diff.DiffModule.{DiffModule}
 use Rattle.module_blocks.specs.declared.module_diff.DiffSubmodule.{DiffSubmodule}
 use Rattle.module_blocks.specs.Expected.{own_of}
+use Rattle.module_blocks.specs.ModuleDiff.{own_of as rows_of}
 use Rattle.module_diff.specs.declared.expected.Expected.{Expected}
 use Rattle.module_diff.specs.Plugged.{is_ident, module_ident, submodule_ident}
 
@@ -105,3 +106,15 @@ diff_of expected real = record {
   modules = module_rows real (wanted_in expected.modules.items expected.submodules.items);
   submodules = submodule_rows real (wanted_in expected.modules.items expected.submodules.items);
 }
+
+-- whether a submodule is listed in rows, each of which has as many of these submodules as it counts
+abbrev pub has_subslot : ℕ → List DiffSubmodule → Bool
+has_subslot subslot rows = list_any (λ row. row.subslot_number == subslot) rows
+
+abbrev pub lists : ℕ → ℕ → List DiffModule → List DiffSubmodule → Bool
+lists slot subslot [] submodules = false
+lists slot subslot (row ∷ modules) submodules =
+    (row.slot_number == slot && has_subslot subslot (take (rows_of row) submodules)) || lists slot subslot modules (drop (rows_of row) submodules)
+
+abbrev pub is_listed : ℕ → ℕ → Listed DiffModule DiffSubmodule → Bool
+is_listed slot subslot rows = lists slot subslot rows.modules rows.submodules

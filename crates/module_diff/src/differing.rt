@@ -57,10 +57,7 @@ fn fill_rows(
 }
 
 /// So many submodules, or all where there are fewer, and those behind them.
-fn split_own(
-    submodules: &[ExpectedSubmodule],
-    count: u16,
-) -> (&[ExpectedSubmodule], &[ExpectedSubmodule])
+pub(crate) fn split_own<T>(submodules: &[T], count: u16) -> (&[T], &[T])
     ensures own { result.0.now ≡ take count submodules.now }
     ensures behind { result.1.now ≡ drop count submodules.now }
     ensures sizes { length result.0.now + length result.1.now ≡ length submodules.now }

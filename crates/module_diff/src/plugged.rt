@@ -5,7 +5,7 @@ ghost use Rattle.module_diff.specs.Plugged.{module_ident, part_ident, submodule_
 use pn_values::{Real, RealModule};
 
 /// The ident number of the module in this slot, if there is one.
-pub(crate) fn module_ident(real: &Real, slot: u16) -> Option<u32>
+pub fn module_ident(real: &Real, slot: u16) -> Option<u32>
     ensures { result ≡ module_ident real.now.modules.items slot }
 {
     for entry in real.modules.as_slice() {
@@ -17,7 +17,7 @@ pub(crate) fn module_ident(real: &Real, slot: u16) -> Option<u32>
 }
 
 /// The ident number of the submodule in this slot and subslot, if there is one.
-pub(crate) fn submodule_ident(real: &Real, slot: u16, subslot: u16) -> Option<u32>
+pub fn submodule_ident(real: &Real, slot: u16, subslot: u16) -> Option<u32>
     ensures { result ≡ submodule_ident real.now.modules.items slot subslot }
 {
     for entry in real.modules.as_slice() {

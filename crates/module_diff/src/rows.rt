@@ -1,8 +1,10 @@
 //! The rows of a ModuleDiffBlock.
 ghost use Rattle.std.specs.Prelude.{◌≡◌, ◌==◌, ◌≤◌, length};
 ghost use Rattle.module_blocks.specs.ModuleDiff.{IsModuleDiff, module_diff};
+ghost use Rattle.module_diff.specs.Diff.{has_subslot, is_listed, lists};
 ghost use Rattle.module_diff.specs.Rows.{AreRows};
 
+use crate::differing::split_own;
 use arrayvec::ArrayVec;
 use module_blocks::{DiffModule, DiffModules, DiffSubmodule, ModuleDiffBlock};
 use std::marker::Model;
@@ -52,6 +54,18 @@ impl DiffRows {
         self.modules.is_empty()
     }
 
+    /// Whether a submodule is listed.
+    pub fn is_listed(&self, slot: u16, subslot: u16) -> bool
+        ensures { result ≡ is_listed slot subslot self.now }
+    {
+        lists(
+            self.modules.as_slice(),
+            self.submodules.as_slice(),
+            slot,
+            subslot,
+        )
+    }
+
     /// The block that says so.
     #[tactic(auto, using(crate::proofs::Sizes::rows_small))]
     pub fn to_block(&self) -> ModuleDiffBlock<'_>
@@ -68,4 +82,26 @@ impl DiffRows {
             modules: DiffModules::lent(&self.modules, &self.submodules),
         }
     }
+}
+
+/// Whether a submodule is listed in the rows of modules, each of which has as many of these submodules as it counts.
+fn lists(modules: &[DiffModule], submodules: &[DiffSubmodule], slot: u16, subslot: u16) -> bool
+    ensures { result ≡ lists slot subslot modules.now submodules.now }
+{
+    let mut left = submodules;
+    for row in modules {
+        let (own, behind) = split_own(left, row.number_of_submodules);
+        if row.slot_number == slot && has_subslot(own, subslot) {
+            return true;
+        }
+        left = behind;
+    }
+    false
+}
+
+/// Whether one of these rows is of a subslot.
+fn has_subslot(rows: &[DiffSubmodule], subslot: u16) -> bool
+    ensures { result ≡ has_subslot subslot rows.now }
+{
+    rows.iter().any(|row| row.subslot_number == subslot)
 }

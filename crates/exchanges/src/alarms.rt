@@ -1,0 +1,87 @@
+//! Alarms.
+ghost use Rattle.std.specs.Prelude.{◌≡◌, ◌+◌, ◌≤◌, ◌++◌, is_some, unwrap_or};
+ghost use Rattle.arrayvec.specs.ArrayVec.{array_vec_len};
+ghost use Rattle.pn_alarms.specs.Device.{heard_as};
+ghost use Rattle.exchanges.specs.Frames.{alarm_frame, body_in, body_of, reply_frame};
+ghost use Rattle.exchanges.specs.Notices.{behind_message, header_of, raised_at};
+
+use crate::DataExchange;
+use arrayvec::ArrayVec;
+use module_diff::{module_ident, submodule_ident};
+use pn_alarms::{Alarm, Header, Heard, Message, Pdu, PduType, Taken, write_alarm, write_pdu};
+use pn_values::Real;
+
+/// The endpoint of the device: the LocalAlarmReference that it answers in AlarmCRBlockRes.
+const OWN_REFERENCE: u16 = 1;
+
+impl DataExchange {
+    /// Raises a process alarm of a submodule, which then is to be sent. Answers whether it may be: once data is exchanged, with at
+    /// most 32 octets, where this submodule is plugged and no alarm stands; if not, nothing changes.
+    pub fn raise(&mut self, real: &Real, slot: u16, subslot: u16, octets: &[u8]) -> bool
+        ensures done { result ≡ is_some (raised_at self.old real.now.modules.items slot subslot octets.now) }
+        ensures state { self.new ≡ unwrap_or (raised_at self.old real.now.modules.items slot subslot octets.now) self.old }
+    {
+        let Some(module_ident_number) = module_ident(real, slot) else {
+            return false;
+        };
+        let Some(submodule_ident_number) = submodule_ident(real, slot, subslot) else {
+            return false;
+        };
+        if !self.begun || octets.len() > 32 {
+            return false;
+        }
+        let alarm = Alarm {
+            slot_number: slot,
+            subslot_number: subslot,
+            module_ident_number,
+            submodule_ident_number,
+            alarm_data: octets,
+        };
+        self.alarms.raise(&alarm).is_ok()
+    }
+
+    /// A PDU of the partner comes. Answers what becomes of it: data is answered by ACK or NACK, an ERR ends the relation.
+    pub fn hear(&mut self, message: &Message) -> Heard
+        ensures heard { result ≡ heard_as self.old.alarms message.now }
+        ensures state { self.new ≡ behind_message self.old message.now }
+        // One that is ignored changes nothing.
+        ensures ignored { result ≡ Heard.Ignored → self.new ≡ self.old }
+    {
+        self.alarms.hear(message)
+    }
+
+    /// The header of a PDU of this type that is sent now: with the endpoints of the relation, and the numbers of the last data that
+    /// was sent and that was taken.
+    pub fn header(&self, kind: PduType) -> Header
+        ensures { result ≡ header_of self.now kind }
+    {
+        self.alarms
+            .header(kind, self.route.reference, OWN_REFERENCE)
+    }
+
+    /// Appends what follows the FrameID of the alarm that stands, at most 72 octets, if one does. There must be room. Answers whether
+    /// one does.
+    pub fn put_alarm<const N: usize>(&self, out: &mut ArrayVec<u8, N>) -> bool
+        requires { array_vec_len out.old + 72 ≤ N }
+        ensures stands { result ≡ is_some (alarm_frame self.now) }
+        ensures items { out.new.items ≡ out.old.items ++ body_in (alarm_frame self.now) }
+    {
+        let Some(alarm) = self.alarms.standing() else {
+            return false;
+        };
+        write_alarm(out, &self.header(PduType::Data), alarm);
+        true
+    }
+
+    /// Appends what follows the FrameID of the answer to data that was taken so, 12 octets. There must be room.
+    pub fn put_reply<const N: usize>(&self, taken: Taken, out: &mut ArrayVec<u8, N>)
+        requires { array_vec_len out.old + 12 ≤ N }
+        ensures { out.new.items ≡ out.old.items ++ body_of (reply_frame self.now taken) }
+    {
+        let pdu = Pdu {
+            header: self.header(taken.answer()),
+            body: &[],
+        };
+        write_pdu(out, &pdu);
+    }
+}

@@ -1,0 +1,105 @@
+//! What is exchanged.
+ghost use Rattle.std.specs.Prelude.{◌≡◌, is_some, length, option_map, unwrap_or};
+ghost use Rattle.exchanges.specs.Opening.{begun_of, opened};
+ghost use Rattle.exchanges.specs.Process.{given_at, output_at};
+
+use crate::Route;
+use crate::opening::fill_inputs;
+use connect_requests::ConnectRequest;
+use cyclic_data::{Consumer, Image, Provider, ReceivedImage};
+use module_diff::DiffRows;
+use pn_alarms::DeviceAlarms;
+use std::marker::Model;
+
+/// What a relation exchanges with its partner. It is large, and stays in its place: what was exchanged is filled anew as the next
+/// relation opens it.
+#[derive(Drop)]
+pub struct DataExchange {
+    pub(crate) route: Route,
+    /// ApplicationReady was answered.
+    pub(crate) begun: bool,
+    pub(crate) provider: Provider,
+    pub(crate) inputs: Image,
+    pub(crate) consumer: Consumer,
+    pub(crate) outputs: ReceivedImage,
+    pub(crate) alarms: DeviceAlarms,
+}
+
+// Clauses see one value a place, and the states of those who send and take.
+impl Model for DataExchange {
+    ghost use Rattle.exchanges.specs.Flow.{Flow};
+
+    ghost Value = { Flow };
+
+    ghost view = { λ exchange. record {
+      route = exchange.route;
+      begun = exchange.begun;
+      sending = exchange.provider;
+      inputs = exchange.inputs;
+      hearing = exchange.consumer;
+      outputs = exchange.outputs;
+      alarms = exchange.alarms;
+    } };
+}
+
+impl DataExchange {
+    /// One of nobody, to be opened.
+    pub fn new() -> DataExchange {
+        DataExchange {
+            route: Route::blank(),
+            begun: false,
+            provider: Provider::start(1, 1),
+            inputs: Image::new(),
+            consumer: Consumer::new(1, 1),
+            outputs: ReceivedImage::new(),
+            alarms: DeviceAlarms::new(1, 1),
+        }
+    }
+
+    /// A Connect is answered, where these modules and submodules differ: nothing was given and nothing taken, and the interval of the
+    /// inputs is counted from now. Nothing is left of an earlier relation.
+    pub fn open(&mut self, request: &ConnectRequest, rows: &DiffRows)
+        ensures { self.new ≡ opened request.now rows.now }
+    {
+        let (input, output, alarm) = (request.input(), request.output(), request.alarm());
+        self.route = Route::of(request);
+        self.begun = false;
+        self.provider = Provider::start(input.send_clock_factor, input.reduction_ratio);
+        fill_inputs(&mut self.inputs, &input.layout, rows);
+        self.consumer = Consumer::new(output.data_hold_factor, output.interval());
+        self.outputs.start(&output.layout);
+        self.alarms = DeviceAlarms::new(alarm.timeout_factor, alarm.retries);
+    }
+
+    /// ApplicationReady is answered: data is exchanged, and the data hold time runs from now on.
+    pub fn begin(&mut self)
+        ensures { self.new ≡ begun_of self.old }
+    {
+        self.begun = true;
+        self.consumer.restart();
+    }
+
+    /// With whom, and the numbers of its frames.
+    pub fn route(&self) -> &Route
+        ensures { result.now ≡ self.now.route }
+    {
+        &self.route
+    }
+
+    /// Gives a submodule its input, which the frames have from now on. Answers whether it has an input of this length; if not,
+    /// nothing changes. One with no data has an input of no octets.
+    pub fn give(&mut self, slot: u16, subslot: u16, value: &[u8]) -> bool
+        ensures done { result ≡ is_some (given_at self.old slot subslot value.now) }
+        ensures state { self.new ≡ unwrap_or (given_at self.old slot subslot value.now) self.old }
+    {
+        self.inputs.put(slot, subslot, value)
+    }
+
+    /// The output of a submodule, if it has one: what the last frame that was taken holds, and zeros where none was taken or its IOPS
+    /// is not good.
+    pub fn output(&self, slot: u16, subslot: u16) -> Option<&[u8]>
+        ensures { option_map (λ value. value.now) result ≡ output_at self.now slot subslot }
+    {
+        self.outputs.output(slot, subslot)
+    }
+}

@@ -1,0 +1,12 @@
+//! What holds of exchanges over many events.
+ghost use Rattle.exchanges.specs.Runs.{AreOfTheLast, IsDueEachInterval, IsHeldSoLong};
+
+/// What is exchanged, over any list of events: laws of the definitions by which `DataExchange` is stated, and no code.
+pub fn exchange_is_kept()
+    // A frame of inputs is due each interval, counted from the answer to the Connect, whatever happens meanwhile.
+    ensures interval { IsDueEachInterval }
+    // The outputs are those of the last frame that was taken.
+    ensures last { AreOfTheLast }
+    // The data hold time is over with the unit that completes it, unless a frame is taken before.
+    ensures hold { IsHeldSoLong }
+{}
