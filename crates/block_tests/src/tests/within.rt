@@ -72,7 +72,8 @@ fn knows_whose_relation_a_read_names(rt: HostRuntime) {
 
 #[test]
 fn knows_no_relation_that_a_broken_read_names(rt: HostRuntime) {
-    let octets = GOOD.octets();
-    let uuid = Uuid::from_bytes([7; 16]);
-    assert!(rt; !names_relation(Some(&uuid), &octets[..63]));
+    let mut octets = GOOD.octets();
+    // another BlockLength
+    octets[3] = 59;
+    assert!(rt; !names_relation(Some(&Uuid::from_bytes([7; 16])), &octets));
 }

@@ -2,7 +2,7 @@
 use super::reads::{Asked, plugged};
 use arrayvec::ArrayVec;
 use block_fields::Uuid;
-use pn_values::ImValue;
+use pn_values::{Command, Settings};
 use pnio_status::{CallFault, Operation};
 use record_writes::{Effect, Taken, TakenRecords, Write, judge_write, put_write_answer};
 
@@ -54,11 +54,11 @@ fn kept(asked: Asked, behind: &[u8]) -> Option<Taken> {
     }
 }
 
-/// The octets of the I&M2 that a Write asks to store.
-fn stored(asked: Asked, behind: &[u8]) -> Option<[u8; 16]> {
+/// The settings of the factory with the text that a Write asks to store.
+fn stored(asked: Asked, behind: &[u8]) -> Option<Settings> {
     match judged_in(7, asked, behind).ok()?.effect {
-        Effect::Stores(ImValue::Im2(text)) => text.as_bytes().first_chunk().copied(),
-        _ => None,
+        Effect::Stores(value) => Some(Command::SetIm(value).show(Settings::factory())),
+        Effect::Keeps(_taken) => None,
     }
 }
 
@@ -121,7 +121,10 @@ fn keeps_a_record_of_its_exact_length(rt: HostRuntime) {
 #[test]
 fn stores_a_whole_text(rt: HostRuntime) {
     let whole = *b"\x00\x22\x00\x12\x01\x002024-05-06 07:08";
-    assert_eq!(rt; stored(DATE, &whole), Some(*b"2024-05-06 07:08"));
+    let Some(settings) = stored(DATE, &whole) else {
+        panic!(rt; "refused");
+    };
+    assert_eq!(rt; settings.im2.as_bytes(), &whole[6..]);
     let short = Asked { length: 21, ..DATE };
     assert_eq!(rt;
         refused(short, &whole[..21]),
