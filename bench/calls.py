@@ -16,6 +16,7 @@ ARP = "frame ffffffffffff02000000000208060001080006040001020000000002c0a80001000
 
 def checksum(octets):
     """The ones' complement of the ones' complement sum (RFC 1071)."""
+    octets += bytes(len(octets) % 2)
     total = sum(struct.unpack(f">{len(octets) // 2}H", octets))
     while total > 0xFFFF:
         total = (total & 0xFFFF) + (total >> 16)
@@ -23,7 +24,7 @@ def checksum(octets):
 
 
 def datagram(port, body):
-    """A frame with an even number of octets to a port of the device, with both checksums."""
+    """A frame to a port of the device, with both checksums."""
     length = 8 + len(body)
     sum_of = TOOL_IP + DEVICE_IP + struct.pack(">HHHHHH", 17, length, RPC_PORT, port, length, 0) + body
     segment = struct.pack(">HHHH", RPC_PORT, port, length, checksum(sum_of) or 0xFFFF) + body
@@ -31,10 +32,73 @@ def datagram(port, body):
     return DEVICE + TOOL + b"\x08\0" + front + struct.pack(">H", checksum(front + behind)) + behind + segment
 
 
-def read_implicit(sequence, port=RPC_PORT):
-    """A line with a Read Implicit of I&M0 at slot 0, subslot 1."""
-    block = struct.pack(">HHHH16sIHHHHI24x", 9, 60, 0x0100, 0, bytes(16), 0, 0, 1, 0, 0xAFF0, 4096)
-    body = struct.pack(">5I", 1372, len(block), 1372, 0, len(block)) + block
-    header = struct.pack(">BBBB4x16s16s16sIIIHHHHHBB", 4, 0, 0x20, 0, OBJECT, DEVICE_INTERFACE, ACTIVITY, 0, 1, sequence, 5,
+def call(sequence, operation, blocks, port=RPC_PORT):
+    """A line with a call of these blocks."""
+    body = struct.pack(">5I", 1372, len(blocks), 1372, 0, len(blocks)) + blocks
+    header = struct.pack(">BBBB4x16s16s16sIIIHHHHHBB", 4, 0, 0x20, 0, OBJECT, DEVICE_INTERFACE, ACTIVITY, 0, 1, sequence, operation,
                          0xFFFF, 0xFFFF, len(body), 0, 0, 0)
     return f"frame {datagram(port, header + body).hex()}\n"
+
+
+def read_implicit(sequence, port=RPC_PORT):
+    """A line with a Read Implicit of I&M0 at slot 0, subslot 1."""
+    return call(sequence, 5, struct.pack(">HHHH16sIHHHHI24x", 9, 60, 0x0100, 0, bytes(16), 0, 0, 1, 0, 0xAFF0, 4096), port)
+
+
+# What a controller expects: the slot and the ident number of each module, and of each of its submodules the subslot, the ident
+# number and the octets of input and output. First the demo device as it is; then 64 modules, ten of them with a submodule.
+THREE = [(0, 1, [(1, 1, 0, 0), (0x8000, 2, 0, 0), (0x8001, 3, 0, 0)]), (1, 16, [(1, 16, 2, 0)]), (2, 32, [(1, 32, 0, 2)])]
+SIXTY_FOUR = [(slot, 7, [(1, 7, 0, 0)] if slot < 10 else []) for slot in range(64)]
+AR = bytes(16 * (0x11,))
+
+
+def block(kind, fields):
+    """A block of version 1.0."""
+    return struct.pack(">HHBB", kind, len(fields) + 2, 1, 0) + fields
+
+
+def iocr(kind, frame_id, lists):
+    """An IOCRBlockReq: its data objects, and its IOCSs, each by slot, subslot and octets, one behind the other."""
+    offset, places = 0, b""
+    for found in lists:
+        places += struct.pack(">H", len(found))
+        for slot, subslot, octets in found:
+            places += struct.pack(">HHH", slot, subslot, offset)
+            offset += octets
+    head = struct.pack(">HHHIHHHHHHIHHH6xHI", kind, kind, 0x8892, 1, max(40, offset), frame_id, 32, 1, 1, 0, 0xFFFFFFFF, 3, 3,
+                       0xC000, 1, 0)
+    return block(0x0102, head + places)
+
+
+def expected(modules):
+    """One ExpectedSubmoduleBlockReq of these modules."""
+    fields = struct.pack(">H", len(modules))
+    for slot, ident, submodules in modules:
+        fields += struct.pack(">IHIHH", 0, slot, ident, 0, len(submodules))
+        for subslot, number, came, sent in submodules:
+            kind = 2 if sent else 1 if came else 0
+            fields += struct.pack(">HIHHHBB", subslot, number, kind, kind or 1, came + sent, 1, 1)
+    return block(0x0104, fields)
+
+
+def connect(sequence, modules):
+    """A line with a Connect; its controller may be silent for 100 seconds."""
+    relation = block(0x0101, struct.pack(">H16sH6s16sIHHH", 1, AR, 1, TOOL, OBJECT, 0x11, 1000, 0x8892, 3) + b"plc")
+    alarms = block(0x0103, struct.pack(">HHIHHHHHH", 1, 0x8892, 0, 1, 3, 1, 200, 0xC000, 0xA000))
+    parts = [(slot, subslot, came, sent) for slot, _, submodules in modules for subslot, _, came, sent in submodules]
+    data = ([(slot, subslot, came + 1) for slot, subslot, came, sent in parts if came or not sent],
+            [(slot, subslot, sent + 1) for slot, subslot, _, sent in parts if sent])
+    status = [[(slot, subslot, 1) for slot, subslot, _ in listed] for listed in data]
+    inputs, outputs = iocr(1, 0xC001, (data[0], status[1])), iocr(2, 0xFFFF, (data[1], status[0]))
+    return call(sequence, 0, relation + inputs + outputs + alarms + expected(modules))
+
+
+def control(sequence, kind, command):
+    """A line with PrmEnd (0x0110, 1) or Release (0x0114, 4)."""
+    return call(sequence, 1 if kind == 0x0114 else 4, block(kind, struct.pack(">2x16sH2xHH", AR, 1, command, 0)))
+
+
+def write_date(sequence):
+    """A line with a Write of I&M2."""
+    head = block(0x0008, struct.pack(">H16sIHH2xHI24x", sequence, AR, 0, 0, 1, 0xAFF2, 22))
+    return call(sequence, 3, head + block(0x0022, b"2024-05-06 07:%02d" % (sequence % 60)))

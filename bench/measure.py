@@ -19,6 +19,11 @@ SET_REFUSED = "frame 0200000000010200000000028892fefd040000000002000000080202000
 GET_16 = "frame 0200000000010200000000028892fefd03000000000300000020" + "0101010202010202020302040205020705030504" + "050505060301040106020909" + "\n"
 TICK = "tick 100\n"
 
+# Lines that make a relation, end its parameters and release it, by calls of the sequence numbers from three times this number on.
+CONNECT = lambda number, modules=calls.THREE: calls.connect(3 * number, modules)
+PRM_END = lambda number: calls.control(3 * number + 1, 0x0110, 1)
+RELEASE = lambda number: calls.control(3 * number + 2, 0x0114, 4)
+
 # The head of a frame for another station.
 NOT_MINE = "frame 0200000000030200000000028892fefd"
 
@@ -46,7 +51,16 @@ STEPS = (
     ("a Read Implicit of I&M0", calls.SET_SUITE, calls.read_implicit, 1, 12000),
     ("the same call again", calls.SET_SUITE + calls.read_implicit(0), lambda _: calls.read_implicit(0), 1, 6000),
     ("a datagram of 172 octets for another port", calls.SET_SUITE, lambda number: calls.read_implicit(number, 161), 1, 3500),
+    ("a tick in a relation", calls.SET_SUITE + CONNECT(0), lambda _: TICK, 100, 200),
+    ("a Connect of 3 modules and its Release", calls.SET_SUITE, lambda number: CONNECT(number) + RELEASE(number), 1, 150_000),
+    ("a Connect of 64 modules and its Release", calls.SET_SUITE,
+     lambda number: CONNECT(number, calls.SIXTY_FOUR) + RELEASE(number), 1, 400_000),
+    ("a Write of I&M2, with the flash", calls.SET_SUITE + CONNECT(0), lambda number: calls.write_date(number + 1), 1, 20_000),
 )
+
+# The same of a line beyond what another one makes.
+BEYOND = ("a PrmEnd", calls.SET_SUITE, lambda number: CONNECT(number) + PRM_END(number) + RELEASE(number),
+          lambda number: CONNECT(number) + RELEASE(number), 15_000)
 
 # Instructions of a commit into a slot beside the flash's own bytes, and of a start over a sector with fourteen open slots;
 # and how many starts are counted.
@@ -185,6 +199,24 @@ def print_step(program, file, name, front, line, steps, bound):
     return keeps(name, step, bound)
 
 
+def print_beyond(program, file, name, front, line, without, bound):
+    """The instructions of the step by which one line is longer than another, the printing of its frames taken off. Says whether
+    they keep the bound."""
+    (step, printing_too, whole), (step_less, printing_less, whole_less) = (
+        each(program, front, made, 1, file) for made in (line, without))
+    if step is not None and step_less is not None:
+        print(f"{name}: {step - step_less:.0f} instructions a step (at most {bound})")
+        return keeps(name, step - step_less, bound)
+    if printing_too is None or printing_less is None:
+        print(f"{name}: {whole - whole_less:.0f} instructions with all of its line (a step: at most {bound})")
+        return keeps(name, whole - whole_less, bound)
+    octets = sent(program, front + line(0)) - sent(program, front + without(0))
+    step = printing_too - printing_less - octets * printing(program, file)
+    print(f"{name}: about {step:.0f} instructions a step (at most {bound}); with the printing of {octets} bytes "
+          f"{printing_too - printing_less:.0f}")
+    return keeps(name, step, bound)
+
+
 def print_journal(bench):
     """The instructions of a commit into a slot, the flash's own counted too, and of a start over a full sector. Says whether
     they keep their bounds. The first commit over a blank flash writes a base, and the others go into its slots."""
@@ -223,6 +255,7 @@ def main():
     file = os.path.join(build, "callgrind.out")
     kept.append(print_hex(program, file))
     kept += [print_step(program, file, *step) for step in STEPS]
+    kept.append(print_beyond(program, file, *BEYOND))
     kept.append(print_journal(journal))
     kept.append(print_room(program, device))
     return 0 if all(kept) else 1

@@ -4,7 +4,8 @@ address, connect, write and read records, end the parameters, answer Application
 takes part. Calls are in little endian but where a part says otherwise.
 
     bench/scapy_relation.py                 runs the lines by ./pnscript and says what was asserted; status 1 where one differs
-    bench/scapy_relation.py --script [--bent]   prints the lines, those that no tool sends too
+    bench/scapy_relation.py --script        prints examples/relation.txt, whose lines these are
+    bench/scapy_relation.py --script --bent prints the lines that no tool sends too
     bench/scapy_relation.py --output FILE   judges what was printed for all of them somewhere else
     bench/scapy_relation.py --recorded FOLDER
                                             judges scripts (NAME) and what was printed for them (NAME.stdout) that others made:
@@ -46,6 +47,7 @@ OTHER_ACTIVITY = uuid.UUID("66666666-7777-8888-9999-aaaaaaaaaaab")
 AR = uuid.UUID("11111111-2222-3333-4444-555555555555")
 OTHER_AR = uuid.UUID("11111111-2222-3333-4444-555555555556")
 DATE = b"2024-05-06 07:08"
+EXAMPLE = os.path.join(TOP, "examples", "relation.txt")
 
 CONNECT, RELEASE, READ, WRITE, CONTROL = range(5)
 PRM_END, READY, ENDS = 0x0110, 0x0112, 0x0114
@@ -305,8 +307,6 @@ def conversation():
         ("Write of I&M2.", written, keep("write", frames(is_written))),
         ("The same Write again: one command.", written, again(lambda: kept["write"])),
         ("Read of I&M2 in the relation.", read(ACTIVITY, 2, 0xAFF2), frames(has_date)),
-        ("I&M2 of another API.", write(OTHER_ACTIVITY, 4, date, api=1), status(WRITE_API)),
-        ("Write in another relation.", write(OTHER_ACTIVITY, 7, date, ar=OTHER_AR), status(NO_RELATION[WRITE])),
         ("Read in another relation.", read(OTHER_ACTIVITY, 8, 0xAFF2, ar=OTHER_AR), status(NO_RELATION[READ])),
         ("A record that there is not.", read(OTHER_ACTIVITY, 9, 0xAFF5, BIG), status(NO_INDEX)),
         ("A record of another API.", read(OTHER_ACTIVITY, 10, 0xAFF2, api=1), status(NO_API)),
@@ -344,6 +344,8 @@ def bent():
     cut[PNIOServiceReqPDU].args_length = cut[PNIOServiceReqPDU].actual_count = 85
     return [
         ("Connect.", connect(ACTIVITY, 1, BIG), frames(is_connected())),
+        ("I&M2 of another API.", write(OTHER_ACTIVITY, 4, date, api=1), status(WRITE_API)),
+        ("Write in another relation.", write(OTHER_ACTIVITY, 7, date, ar=OTHER_AR), status(NO_RELATION[WRITE])),
         ("I&M2 with a date of fifteen octets.", write(ACTIVITY, 2, date[:-1]), status(LENGTH)),
         ("I&M0 is not written.", write(ACTIVITY, 3, date, index=0xAFF0), status(READ_ONLY)),
         ("I&M1 of a module.", write(ACTIVITY, 4, date, index=0xAFF1, slot=1), status(WRITE_INDEX)),
@@ -381,6 +383,15 @@ def line_of(said):
     return said if isinstance(said, str) else f"frame {raw(said).hex()}"
 
 
+def script():
+    """The example: each line behind its comment."""
+    lines = ["# Makes a relation as a controller does, writes and reads records in it, and ends it.",
+             "# `bench/scapy_relation.py --script` printed this: the frames are those that Scapy builds."]
+    for comment, said, _ in conversation():
+        lines += [f"# {comment}", line_of(said)]
+    return "\n".join(lines) + "\n"
+
+
 def parted(lines, text):
     """What was printed for each line: the frames sent, or the lines."""
     left = text.splitlines()
@@ -407,6 +418,8 @@ def talk(text=None):
     """Judges the whole conversation, as the program prints it or as it was printed before."""
     parts = conversation() + bent()
     lines = [line_of(said) for _, said, _ in parts]
+    with open(EXAMPLE, encoding="ascii") as file:
+        same("examples/relation.txt (--script prints it)", file.read(), script())
     if text is None:
         ran = subprocess.run([os.path.join(TOP, "pnscript"), "run"], input="\n".join(lines).encode(), stdout=subprocess.PIPE, check=True)
         text = ran.stdout.decode()
@@ -537,8 +550,11 @@ def recorded(folder):
 
 
 def main(words):
-    if words in (["--script"], ["--script", "--bent"]):
-        print("\n".join(line_of(said) for _, said, _ in conversation() + (bent() if "--bent" in words else [])))
+    if words == ["--script"]:
+        print(script(), end="")
+        return 0
+    if words == ["--script", "--bent"]:
+        print("\n".join(line_of(said) for _, said, _ in conversation() + bent()))
         return 0
     if len(words) == 2 and words[0] == "--output":
         with open(words[1], encoding="ascii") as file:

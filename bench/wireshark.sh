@@ -1,8 +1,9 @@
 #!/usr/bin/env bash
 # Runs a script by the proved program (`./pnscript prove` makes it) and writes its frames, those that come in and those that
 # are sent, in their order into a capture file for Wireshark; then lists them as tshark reads them, and counts them. Its status
-# is 1 where tshark does not read a frame as what its EtherType and its port say (DCP, ARP, a call of PROFINET IO, a datagram
-# for another port), finds it malformed or finds a wrong checksum, or where it finds no call for a response.
+# is 1 where tshark does not read a frame as what its EtherType, its FrameID and its port say (DCP, a PDU of alarms, ARP, a call
+# of PROFINET IO, of the controller or of the device, a datagram for another port), finds it malformed or finds a wrong checksum,
+# or where it finds no call for a response.
 # Use: bench/wireshark.sh SCRIPT FILE.pcapng. Needs awk, sed, and text2pcap and tshark (Debian: apt-get install tshark).
 set -euo pipefail
 here=$(cd "$(dirname "$0")" && pwd)
@@ -54,11 +55,14 @@ compare() {
 conversation > "$frames"
 sed 's/../ &/g; s/^/000000/' "$frames" | text2pcap -q - "$capture"
 tshark -r "$capture"
+alarm='pn_io.pdu_type'
 call='0800.{40}(8894.{4}|.{4}8894)'
-compare 'frames' "$(wc -l < "$frames")" "$(count_read 'pn_dcp || arp || pn_io.opnum || (udp && !dcerpc)')"
-compare 'of DCP' "$(count 8892)" "$(count_read pn_dcp)"
+compare 'frames' "$(wc -l < "$frames")" "$(count_read "pn_dcp || $alarm || arp || pn_io.opnum || (udp && !dcerpc)")"
+compare 'of DCP' "$(count 8892fef)" "$(count_read pn_dcp)"
+compare 'of alarms' "$(count '8892f[ce]01')" "$(count_read "$alarm")"
 compare 'of ARP' "$(count 0806)" "$(count_read arp)"
 compare 'calls and responses' "$(count "$call")" "$(count_read pn_io.opnum)"
+compare 'calls of ApplicationReady' "$(count "$call.{8}.{2}00.{196}0112")" "$(count_read 'dcerpc.pkt_type == 0 && pn_io.block_type == 0x0112')"
 compare 'responses, each behind its call' "$(count "$call.{8}.{2}02")" "$(count_read 'dcerpc.pkt_type == 2 && dcerpc.request_in')"
 compare 'for another port' "$(($(count 0800) - $(count "$call")))" "$(count_read 'udp && !dcerpc')"
 exit $status

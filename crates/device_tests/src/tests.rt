@@ -8,6 +8,6 @@ mod frames;
 mod full;
 mod losses;
 mod records;
-mod relations;
+mod relation;
 mod requests;
 mod stations;

@@ -10,7 +10,6 @@ use Rattle.record_blocks.specs.declared.alarm_notification.AlarmNotification.{Al
 use Rattle.block_codec.specs.declared.block.Block.{Block}
 use Rattle.block_codec.specs.declared.block.Block.TheVariants as is
 use Rattle.block_codec.specs.Block.{block_of, block_bytes, in_alarm_ack, in_alarm_notification}
-use Rattle.pn_alarms.specs.declared.fault.AlarmFault.{AlarmFault}
 use Rattle.pn_alarms.specs.declared.fault.AlarmFault.TheVariants as fault
 use Rattle.pn_alarms.specs.Carried.{notification_of, wanted}
 

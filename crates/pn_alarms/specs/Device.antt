@@ -1,5 +1,5 @@
 -- A device's end of a relation's alarms: it sends alarms, and takes AlarmAcks.
-use Rattle.std.specs.Prelude.{ℕ, Option, Some, None, if◌then◌else◌}
+use Rattle.std.specs.Prelude.{ℕ, None, if◌then◌else◌}
 use Rattle.record_blocks.specs.declared.alarm_ack.AlarmAck.{AlarmAck}
 use Rattle.pn_alarms.specs.declared.device.Heard.{Heard}
 use Rattle.pn_alarms.specs.declared.device.Heard.TheVariants.{Data, Done, Ignored, Aborted}

@@ -11,6 +11,3 @@ pub mod Message
 pub mod Ends
 pub mod Device
 pub mod Controller
-pub mod Line
-pub mod World
-pub mod Shown

@@ -5,7 +5,6 @@
 mod abort;
 mod controller;
 mod device;
-mod exchange;
 mod fault;
 mod message;
 mod numbers;
@@ -19,7 +18,6 @@ mod writing;
 pub use abort::Abort;
 pub use controller::ControllerAlarms;
 pub use device::{DeviceAlarms, Heard};
-pub use exchange::{Exchange, Move};
 pub use fault::AlarmFault;
 pub use message::{Message, read_message};
 pub use pdu::{Header, Pdu, PduType};

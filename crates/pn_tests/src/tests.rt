@@ -11,7 +11,7 @@ mod input;
 mod lines;
 mod losses;
 mod off;
-mod relations;
+mod relation;
 mod rows;
 mod samples;
 mod vectors;

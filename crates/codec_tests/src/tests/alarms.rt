@@ -1,7 +1,9 @@
 // PDUs of alarms: the octets are worked out by hand from the formats, and those of the first alarm are a worked frame's.
 ghost use Rattle.std.specs.Prelude.{◌≡◌};
 
+use alarm_exchange::{Exchange, Kept, Move};
 use arrayvec::ArrayVec;
+use block_codec::AlarmAck;
 use pn_alarms::{
     Abort, Alarm, AlarmFault, DeviceAlarms, Due, Heard, Message, PduType, Receiver, Taken,
     read_message, read_notification, read_pdu, write_alarm, write_pdu,
@@ -224,4 +226,56 @@ fn relation_is_ended(rt: HostRuntime) {
         }
         assert_eq!(rt; fault_of(&short), Some(AlarmFault::Cause));
     }
+}
+
+/// AlarmSpecifier and the first octet of data of each alarm.
+fn told(alarms: &[Kept]) -> ArrayVec<(u16, u8), 4> {
+    let mut list = ArrayVec::new();
+    for kept in alarms {
+        let alarm = kept.notification();
+        let octet = alarm.alarm_data.octets().first().copied().unwrap_or(0);
+        let _ = list.try_push((alarm.alarm_specifier, octet));
+    }
+    list
+}
+
+#[test]
+fn alarms_come_in_order_over_a_network_that_repeats_them(rt: HostRuntime) {
+    let ack = AlarmAck {
+        alarm_type: 2,
+        api: 0,
+        slot_number: 1,
+        subslot_number: 1,
+        alarm_specifier: 0,
+        pnio_status: 0,
+    };
+    let moves = [
+        Move::Raise(alarm_of(&[0xAA])),
+        // refused: one stands
+        Move::Raise(alarm_of(&[0xCC])),
+        Move::AlarmComes(0),
+        Move::AlarmComes(0),
+        Move::AckComesToDevice(1),
+        Move::Confirm(ack),
+        // refused: one alarm was taken
+        Move::Confirm(ack),
+        Move::ConfirmComes(0),
+        Move::ConfirmComes(0),
+        Move::Raise(alarm_of(&[0xBB])),
+        Move::AlarmComes(0),
+        Move::AlarmComes(1),
+        // no such place
+        Move::AlarmComes(2),
+    ];
+    let mut raised = ArrayVec::new();
+    let mut taken = ArrayVec::new();
+    let mut heard = 0;
+    if let Ok(exchange) = Exchange::play(rt.alloc(), 1, 3, &moves) {
+        raised = told(exchange.raised());
+        taken = told(exchange.taken());
+        heard = exchange.heard().len();
+    }
+    assert_eq!(rt; raised.as_slice(), [(0, 0xAA), (1, 0xBB)].as_slice());
+    assert_eq!(rt; taken.as_slice(), [(0, 0xAA), (1, 0xBB)].as_slice());
+    assert_eq!(rt; heard, 1);
 }

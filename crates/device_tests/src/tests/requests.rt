@@ -88,7 +88,8 @@ pub(crate) fn write(sequence: u8, slot: u16, subslot: u16, index: u16, record: &
     let _ = blocks.try_extend_from_slice(&subslot.to_be_bytes());
     let _ = blocks.try_extend_from_slice(&[0; 2]);
     let _ = blocks.try_extend_from_slice(&index.to_be_bytes());
-    let _ = blocks.try_extend_from_slice(&(record.len() as u32).to_be_bytes());
+    // the last four of eight octets
+    let _ = blocks.try_extend_from_slice(&record.len().to_be_bytes()[4..]);
     let _ = blocks.try_extend_from_slice(&[0; 24]);
     let _ = blocks.try_extend_from_slice(record);
     blocks

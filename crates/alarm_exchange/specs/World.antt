@@ -1,9 +1,9 @@
 -- Both ends of a relation, and each PDU that either ever sent: what may happen between them, in any order and number.
-use Rattle.std.specs.Prelude.{◌≡◌, ◌+◌, ◌≤◌, ℕ, List, [], ◌∷◌, ◌++◌, length, nat_le, nat_lt, slice_get, Option, Some, None, if◌then◌else◌}
+use Rattle.std.specs.Prelude.{◌≡◌, ℕ, List, [], ◌∷◌, ◌++◌, length, nat_le, nat_lt, slice_get, Option, Some, None, if◌then◌else◌}
 use Rattle.record_blocks.specs.declared.alarm_ack.AlarmAck.{AlarmAck}
 use Rattle.record_blocks.specs.declared.alarm_notification.AlarmNotification.{AlarmNotification}
-use Rattle.pn_alarms.specs.declared.exchange.Move.{Move}
-use Rattle.pn_alarms.specs.declared.exchange.Move.TheVariants.{Raise, Confirm, DeviceTick, ControllerTick, AlarmComes, ConfirmComes, AckComesToDevice, AckComesToController}
+use Rattle.alarm_exchange.specs.declared.exchange.Move.{Move}
+use Rattle.alarm_exchange.specs.declared.exchange.Move.TheVariants.{Raise, Confirm, DeviceTick, ControllerTick, AlarmComes, ConfirmComes, AckComesToDevice, AckComesToController}
 use Rattle.pn_alarms.specs.declared.message.Message.TheVariants as message
 use Rattle.pn_alarms.specs.declared.repeats.Due.{Due}
 use Rattle.pn_alarms.specs.declared.repeats.Due.TheVariants as due_is
@@ -16,7 +16,7 @@ use Rattle.pn_alarms.specs.Receiver.{taken_as}
 use Rattle.pn_alarms.specs.Ends.{DeviceEnd, ControllerEnd}
 use Rattle.pn_alarms.specs.Device.{idle, end_raised, end_later, end_behind}
 use Rattle.pn_alarms.specs.Controller.{unheard, confirmed, controller_later, with_data, with_ack}
-use Rattle.pn_alarms.specs.Line.{Line, empty, with_sent, with_again, with_come}
+use Rattle.alarm_exchange.specs.Line.{Line, empty, with_sent, with_again, with_come}
 
 -- both ends; the alarms on their way to the controller, and the AlarmAcks on theirs to the device; and each ACK that ever was
 -- sent to either

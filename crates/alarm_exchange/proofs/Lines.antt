@@ -1,5 +1,5 @@
 -- One direction: what is taken begins what was sent, while the numbers are different.
-use Rattle.std.proofs.Common.{◌≡◌, ℕ, zero, suc, ◌≤◌, ◌<◌, ◌+◌, Bool, true, false, cond, eqb, List, [], ◌∷◌, ◌++◌, length, Option, Some, None, refl, sym, ap, subst, ◌∙◌, append_assoc, arith}
+use Rattle.std.proofs.Common.{◌≡◌, ℕ, zero, suc, ◌≤◌, ◌+◌, Bool, true, false, cond, eqb, List, [], ◌∷◌, ◌++◌, length, Option, Some, None, refl, sym, ap, subst, ◌∙◌, append_assoc, arith}
 use Rattle.std.specs.Prelude.{slice_get}
 use Rattle.std.specs.List.{AllByRecursion}
 use Rattle.std.proofs.lemmas.Bool.{eqb-true}
@@ -10,9 +10,9 @@ use Rattle.pn_alarms.specs.declared.repeats.Due.{Due}
 use Rattle.pn_alarms.specs.declared.repeats.Due.TheVariants as due_is
 use Rattle.pn_alarms.specs.Numbers.{next_number, send_number, is_last}
 use Rattle.pn_alarms.specs.Receiver.{last_behind}
-use Rattle.pn_alarms.specs.Line.{Line, empty, with_sent, with_again, more_taken, with_come}
-use Rattle.pn_alarms.specs.World.{repeated, line_after}
-use Rattle.pn_alarms.proofs.Numbered.{number_of, last_of, next_is, same_number}
+use Rattle.alarm_exchange.specs.Line.{Line, empty, with_sent, with_again, more_taken, with_come}
+use Rattle.alarm_exchange.specs.World.{repeated, line_after}
+use Rattle.alarm_exchange.proofs.Numbered.{number_of, last_of, next_is, same_number}
 
 -- ---- lists
 

@@ -1,12 +1,12 @@
 //! Both ends of a relation's alarms, and each PDU that either ever sent.
 ghost use Rattle.std.specs.Prelude.{◌≡◌, ◌<◌, ◌≤◌, ◌+◌, ◌∷◌, [], ◌++◌, length, slice_get, IfOk, OnOk, Some};
 ghost use Rattle.std.specs.Option.{option_copied};
-ghost use Rattle.pn_alarms.specs.World.{start, with_raised, after_raise, after_confirm, after_device_tick, after_controller_tick, repeated_to_controller, repeated_to_device, after_alarm, after_confirms, after_ack_to_device, after_ack_to_controller, happens, behind_all, IsPrefixOf};
-ghost use Rattle.pn_alarms.specs.Shown.{world_of};
+ghost use Rattle.alarm_exchange.specs.World.{start, with_raised, after_raise, after_confirm, after_device_tick, after_controller_tick, repeated_to_controller, repeated_to_device, after_alarm, after_confirms, after_ack_to_device, after_ack_to_controller, happens, behind_all, IsPrefixOf};
+ghost use Rattle.alarm_exchange.specs.Shown.{world_of};
 
-use crate::{Alarm, ControllerAlarms, DeviceAlarms, Due, Heard, Message, PduType, Taken};
 use arrayvec::ArrayVec;
-use block_codec::{AlarmAck, AlarmNotification};
+use block_codec::{AlarmAck, AlarmData, AlarmNotification};
+use pn_alarms::{Alarm, ControllerAlarms, DeviceAlarms, Due, Heard, Message, PduType, Taken};
 use std::alloc::{AllocError, Global};
 use std::marker::Model;
 
@@ -33,7 +33,7 @@ pub enum Move<'a> {
 
 /// An alarm that is kept.
 #[derive(Drop)]
-struct Kept {
+pub struct Kept {
     alarm_type: u16,
     api: u32,
     slot_number: u16,
@@ -78,6 +78,22 @@ impl Kept {
             submodule_ident_number: alarm.submodule_ident_number,
             alarm_specifier: alarm.alarm_specifier,
             alarm_data: data_of(alarm.alarm_data.octets()),
+        }
+    }
+
+    /// Its block.
+    pub fn notification(&self) -> AlarmNotification<'_>
+        ensures { result ≡ self.now }
+    {
+        AlarmNotification {
+            alarm_type: self.alarm_type,
+            api: self.api,
+            slot_number: self.slot_number,
+            subslot_number: self.subslot_number,
+            module_ident_number: self.module_ident_number,
+            submodule_ident_number: self.submodule_ident_number,
+            alarm_specifier: self.alarm_specifier,
+            alarm_data: AlarmData::new(self.alarm_data.as_slice()),
         }
     }
 
@@ -372,6 +388,27 @@ impl Exchange {
     {
         let exchange = Exchange::played(alloc, timeout_factor, retries, moves)?;
         Ok(exchange)
+    }
+
+    /// The alarms that the device raised, in their order.
+    pub fn raised(&self) -> &[Kept]
+        ensures { result.now ≡ (world_of self.now).alarms.sent }
+    {
+        self.raised.as_slice()
+    }
+
+    /// The alarms that the controller took, in their order.
+    pub fn taken(&self) -> &[Kept]
+        ensures { result.now ≡ (world_of self.now).alarms.taken }
+    {
+        self.taken.as_slice()
+    }
+
+    /// The AlarmAcks that the device took, in their order.
+    pub fn heard(&self) -> &[AlarmAck]
+        ensures { result.now ≡ (world_of self.now).confirms.taken }
+    {
+        self.heard.as_slice()
     }
 
     /// The moves, one behind the other.

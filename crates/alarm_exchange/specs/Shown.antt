@@ -1,6 +1,6 @@
 -- What an exchange holds, as a world.
-use Rattle.pn_alarms.specs.declared.exchange.Exchange.{Exchange}
-use Rattle.pn_alarms.specs.World.{World}
+use Rattle.alarm_exchange.specs.declared.exchange.Exchange.{Exchange}
+use Rattle.alarm_exchange.specs.World.{World}
 
 abbrev pub world_of : Exchange → World
 world_of e = record {

@@ -1,5 +1,5 @@
 -- Over any list of moves, what is taken begins what was raised, and lacks at most its last.
-use Rattle.std.proofs.Common.{◌≡◌, ℕ, ◌≤◌, ◌<◌, ◌+◌, Bool, true, false, cond, leb, ltb, List, [], ◌∷◌, ◌++◌, length, Option, Some, None, refl, sym, ap, subst, ◌∙◌, arith}
+use Rattle.std.proofs.Common.{◌≡◌, ℕ, ◌≤◌, ◌+◌, Bool, true, false, cond, leb, ltb, List, [], ◌∷◌, length, Option, Some, None, refl, sym, ap, subst, arith}
 use Rattle.std.specs.Prelude.{slice_get}
 use Rattle.std.proofs.lemmas.Bool.{ltb-true}
 use Rattle.std.proofs.lemmas.List.{length-append}
@@ -7,20 +7,19 @@ use Rattle.record_blocks.specs.declared.alarm_ack.AlarmAck.{AlarmAck}
 use Rattle.record_blocks.specs.declared.alarm_notification.AlarmNotification.{AlarmNotification}
 use Rattle.pn_alarms.specs.declared.receiver.Taken.{Taken}
 use Rattle.pn_alarms.specs.declared.receiver.Taken.TheVariants.{New, Again, Refused}
-use Rattle.pn_alarms.specs.declared.exchange.Move.{Move}
-use Rattle.pn_alarms.specs.declared.exchange.Move.TheVariants.{Raise, Confirm, DeviceTick, ControllerTick, AlarmComes, ConfirmComes, AckComesToDevice, AckComesToController}
+use Rattle.alarm_exchange.specs.declared.exchange.Move.{Move}
+use Rattle.alarm_exchange.specs.declared.exchange.Move.TheVariants.{Raise, Confirm, DeviceTick, ControllerTick, AlarmComes, ConfirmComes, AckComesToDevice, AckComesToController}
 use Rattle.pn_alarms.specs.declared.sender.Alarm.{Alarm}
-use Rattle.pn_alarms.specs.declared.sender.Reply.TheVariants as reply
-use Rattle.pn_alarms.specs.Numbers.{next_number, send_number, is_last}
-use Rattle.pn_alarms.specs.Sending.{Sending, sent, due, ticked, rested, acked}
+use Rattle.pn_alarms.specs.Numbers.{send_number, is_last}
+use Rattle.pn_alarms.specs.Sending.{Sending, due, rested}
 use Rattle.pn_alarms.specs.Alarming.{Alarming}
-use Rattle.pn_alarms.specs.Sender.{notified, raised, is_end, ended_by, answered, later}
+use Rattle.pn_alarms.specs.Sender.{notified, raised, is_end}
 use Rattle.pn_alarms.specs.Receiver.{taken_as}
 use Rattle.pn_alarms.specs.Device.{sender_after, end_raised}
 use Rattle.pn_alarms.specs.Controller.{confirmed}
-use Rattle.pn_alarms.specs.Line.{Line, with_sent, more_taken, with_come}
-use Rattle.pn_alarms.specs.World.{World, start, with_raised, after_raise, after_confirm, after_device_tick, after_controller_tick, after_alarm, after_confirms, after_ack_to_device, after_ack_to_controller, happens, behind_all, IsPrefixOf}
-use Rattle.pn_alarms.proofs.Lines.{IsLine, IsLast, line_starts, few_taken, line_sends, line_ticks, same_sent, same_taken, line_comes, more_is_more}
+use Rattle.alarm_exchange.specs.Line.{with_sent, more_taken}
+use Rattle.alarm_exchange.specs.World.{World, start, with_raised, after_raise, after_device_tick, after_controller_tick, after_alarm, after_confirms, after_ack_to_device, after_ack_to_controller, happens, behind_all, IsPrefixOf}
+use Rattle.alarm_exchange.proofs.Lines.{IsLine, IsLast, line_starts, few_taken, line_sends, line_ticks, same_sent, same_taken, line_comes, more_is_more}
 
 -- how many stand
 abbrev standing_count : Option AlarmNotification → ℕ

@@ -1,9 +1,9 @@
-use Rattle.std.proofs.Common.{◌≡◌, ℕ, List, Option, Some, ap, sym, subst, ◌∙◌}
+use Rattle.std.proofs.Common.{◌≡◌, ℕ, List, Option, Some, ap, subst, ◌∙◌}
 use Rattle.std.specs.Prelude.{OnOk, slice_get}
 use Rattle.record_blocks.specs.declared.alarm_ack.AlarmAck.{AlarmAck}
-use Rattle.pn_alarms.specs.World.{after_confirms}
-use Rattle.pn_alarms.specs.Shown.{world_of}
-use Rattle.pn_alarms.proofs.exchange.Exchange.deliver_confirm.Goals as goal
+use Rattle.alarm_exchange.specs.World.{after_confirms}
+use Rattle.alarm_exchange.specs.Shown.{world_of}
+use Rattle.alarm_exchange.proofs.exchange.Exchange.deliver_confirm.Goals as goal
 
 pub returns-in-Some : goal.returns-in-Some
 returns-in-Some c =
