@@ -1,6 +1,6 @@
 //! Records that are written in a relation: what is stored and kept, what is refused, and what a loss of power, a fault and a
 //! flash without room leave of it.
-use crate::tests::connects::{THREE, connect};
+use crate::tests::connects::{Blocks, THREE, connect};
 use crate::tests::full::write_last;
 use crate::tests::requests::{
     CONNECT, WRITE, call, exchanging, plugged, related, sent_in, served, station, write,
@@ -48,6 +48,15 @@ fn a_write_that_is_repeated_is_one_command(rt: HostRuntime) -> Result<(), Fail> 
     Ok(())
 }
 
+// A Write of a date in the relation of another ARUUID.
+fn write_elsewhere(sequence: u8) -> Blocks {
+    let mut blocks = write(sequence, 0, 1, 0xAFF2, &DATE);
+    if let Some(octet) = blocks.as_mut_slice().get_mut(8) {
+        *octet = 0x12;
+    }
+    blocks
+}
+
 #[test]
 fn what_is_not_written_is_refused(rt: HostRuntime) -> Result<(), Fail> {
     let mut device = related(600, THREE).ok_or("starts")?;
@@ -64,8 +73,7 @@ fn what_is_not_written_is_refused(rt: HostRuntime) -> Result<(), Fail> {
         status_of(&mut device, 3, (0, 1, 0xAFF2), &DATE[..21]),
         [0xDF, 0x80, 0xB1, 0]
     );
-    let mut other = write(4, 0, 1, 0xAFF2, &DATE);
-    other[8] = 0x12;
+    let other = write_elsewhere(4);
     assert_eq!(rt;
         served(&mut device, &call(WRITE, 7, 4, other.as_slice())),
         (1, 142, [0xDF, 0x81, 0x40, 5])
