@@ -32,12 +32,17 @@ def datagram(port, body):
     return DEVICE + TOOL + b"\x08\0" + front + struct.pack(">H", checksum(front + behind)) + behind + segment
 
 
-def call(sequence, operation, blocks, port=RPC_PORT):
-    """A line with a call of these blocks."""
-    body = struct.pack(">5I", 1372, len(blocks), 1372, 0, len(blocks)) + blocks
-    header = struct.pack(">BBBB4x16s16s16sIIIHHHHHBB", 4, 0, 0x20, 0, OBJECT, DEVICE_INTERFACE, ACTIVITY, 0, 1, sequence, operation,
+def pdu(kind, activity, sequence, operation, first, blocks, port):
+    """A line with a call (0) or a response (2) of these blocks. `first` is the word in front of their lengths."""
+    body = struct.pack(">5I", first, len(blocks), 1372, 0, len(blocks)) + blocks
+    header = struct.pack(">BBBB4x16s16s16sIIIHHHHHBB", 4, kind, 0x20, 0, OBJECT, DEVICE_INTERFACE, activity, 0, 1, sequence, operation,
                          0xFFFF, 0xFFFF, len(body), 0, 0, 0)
     return f"frame {datagram(port, header + body).hex()}\n"
+
+
+def call(sequence, operation, blocks, port=RPC_PORT):
+    """A line with a call of these blocks."""
+    return pdu(0, ACTIVITY, sequence, operation, 1372, blocks, port)
 
 
 def read_implicit(sequence, port=RPC_PORT):
@@ -57,7 +62,11 @@ def block(kind, fields):
     return struct.pack(">HHBB", kind, len(fields) + 2, 1, 0) + fields
 
 
-def iocr(kind, frame_id, lists):
+# SendClockFactor, ReductionRatio and DataHoldFactor: an interval of 1 ms, of which three may be silent.
+TIMING = (32, 1, 3)
+
+
+def iocr(kind, frame_id, lists, timing):
     """An IOCRBlockReq: its data objects, and its IOCSs, each by slot, subslot and octets, one behind the other."""
     offset, places = 0, b""
     for found in lists:
@@ -65,8 +74,9 @@ def iocr(kind, frame_id, lists):
         for slot, subslot, octets in found:
             places += struct.pack(">HHH", slot, subslot, offset)
             offset += octets
-    head = struct.pack(">HHHIHHHHHHIHHH6xHI", kind, kind, 0x8892, 1, max(40, offset), frame_id, 32, 1, 1, 0, 0xFFFFFFFF, 3, 3,
-                       0xC000, 1, 0)
+    factor, ratio, hold = timing
+    head = struct.pack(">HHHIHHHHHHIHHH6xHI", kind, kind, 0x8892, 1, max(40, offset), frame_id, factor, ratio, 1, 0, 0xFFFFFFFF, 3,
+                       hold, 0xC000, 1, 0)
     return block(0x0102, head + places)
 
 
@@ -81,7 +91,7 @@ def expected(modules):
     return block(0x0104, fields)
 
 
-def connect(sequence, modules):
+def connect(sequence, modules, timing=TIMING):
     """A line with a Connect; its controller may be silent for 100 seconds."""
     relation = block(0x0101, struct.pack(">H16sH6s16sIHHH", 1, AR, 1, TOOL, OBJECT, 0x11, 1000, 0x8892, 3) + b"plc")
     alarms = block(0x0103, struct.pack(">HHIHHHHHH", 1, 0x8892, 0, 1, 3, 1, 200, 0xC000, 0xA000))
@@ -89,7 +99,7 @@ def connect(sequence, modules):
     data = ([(slot, subslot, came + 1) for slot, subslot, came, sent in parts if came or not sent],
             [(slot, subslot, sent + 1) for slot, subslot, _, sent in parts if sent])
     status = [[(slot, subslot, 1) for slot, subslot, _ in listed] for listed in data]
-    inputs, outputs = iocr(1, 0xC001, (data[0], status[1])), iocr(2, 0xFFFF, (data[1], status[0]))
+    inputs, outputs = iocr(1, 0xC001, (data[0], status[1]), timing), iocr(2, 0xFFFF, (data[1], status[0]), timing)
     return call(sequence, 0, relation + inputs + outputs + alarms + expected(modules))
 
 
@@ -102,3 +112,8 @@ def write_date(sequence):
     """A line with a Write of I&M2."""
     head = block(0x0008, struct.pack(">H16sIHH2xHI24x", sequence, AR, 0, 0, 1, 0xAFF2, 22))
     return call(sequence, 3, head + block(0x0022, b"2024-05-06 07:%02d" % (sequence % 60)))
+
+
+def ready():
+    """A line with the positive answer to ApplicationReady, a call of the activity of the ARUUID."""
+    return pdu(2, AR, 0, 4, 0, block(0x8112, struct.pack(">2x16sH2xHH", AR, 1, 8, 0)), RPC_PORT)

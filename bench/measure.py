@@ -70,7 +70,7 @@ SLOTS = 14
 STARTS = 10
 
 # Octets of a device in memory without the two sectors of its flash, and of the largest frame on the stack of a step.
-MOST_IN_MEMORY = 32 * 1024
+MOST_IN_MEMORY = 40 * 1024
 MOST_ON_THE_STACK = 16 * 1024
 SECTORS = 2 * 4096
 

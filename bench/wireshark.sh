@@ -1,9 +1,9 @@
 #!/usr/bin/env bash
 # Runs a script by the proved program (`./pnscript prove` makes it) and writes its frames, those that come in and those that
 # are sent, in their order into a capture file for Wireshark; then lists them as tshark reads them, and counts them. Its status
-# is 1 where tshark does not read a frame as what its EtherType, its FrameID and its port say (DCP, a PDU of alarms, ARP, a call
-# of PROFINET IO, of the controller or of the device, a datagram for another port), finds it malformed or finds a wrong checksum,
-# or where it finds no call for a response.
+# is 1 where tshark does not read a frame as what its EtherType, its FrameID and its port say (DCP, cyclic data, a PDU of alarms,
+# ARP, a call of PROFINET IO, of the controller or of the device, a datagram for another port), finds it malformed or finds a wrong
+# checksum, where it finds no call for a response, or no place that a Connect named in a cyclic frame.
 # Use: bench/wireshark.sh SCRIPT FILE.pcapng. Needs awk, sed, and text2pcap and tshark (Debian: apt-get install tshark).
 set -euo pipefail
 here=$(cd "$(dirname "$0")" && pwd)
@@ -27,7 +27,7 @@ conversation() {
         is_left("^off$") { next_line(); next }
         $1 == "restart" { next_line() }
         $1 == "show" { while (is_left("^(name|ip|stored-name|stored-ip|im[1-9]|lamp|phase|output|state) ")) next_line() }
-        $1 == "frame" || $1 == "tick" {
+        $1 == "frame" || $1 == "tick" || $1 == "input" || $1 == "alarm" {
             while (is_left("^out ")) { print substr(line, 5); next_line() }
             next_line()                                         # its note, or that power is lost
         }
@@ -57,9 +57,14 @@ sed 's/../ &/g; s/^/000000/' "$frames" | text2pcap -q - "$capture"
 tshark -r "$capture"
 alarm='pn_io.pdu_type'
 call='0800.{40}(8894.{4}|.{4}8894)'
-compare 'frames' "$(wc -l < "$frames")" "$(count_read "pn_dcp || $alarm || arp || pn_io.opnum || (udp && !dcerpc)")"
+cyclic='pn_rt.cycle_counter'
+is_cyclic='8892([89a].|b[0-9ab]|[c-e].|f[0-7])'
+compare 'frames' "$(wc -l < "$frames")" "$(count_read "pn_dcp || $cyclic || $alarm || arp || pn_io.opnum || (udp && !dcerpc)")"
 compare 'of DCP' "$(count 8892fef)" "$(count_read pn_dcp)"
+compare 'of cyclic data, each with the statuses at the places of its Connect' "$(count "$is_cyclic")" "$(count_read "$cyclic && pn_io.ioxs.datastate")"
 compare 'of alarms' "$(count '8892f[ce]01')" "$(count_read "$alarm")"
+compare 'of alarms with data' "$(count '8892fc01.{8}11')" "$(count_read "$alarm && (pn_io.block_type == 0x0001 || pn_io.block_type == 0x8001)")"
+compare 'of alarms that acknowledge' "$(count '8892fc01.{8}13')" "$(count_read 'pn_io.pdu_type.type == 3')"
 compare 'of ARP' "$(count 0806)" "$(count_read arp)"
 compare 'calls and responses' "$(count "$call")" "$(count_read pn_io.opnum)"
 compare 'calls of ApplicationReady' "$(count "$call.{8}.{2}00.{196}0112")" "$(count_read 'dcerpc.pkt_type == 0 && pn_io.block_type == 0x0112')"

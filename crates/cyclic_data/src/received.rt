@@ -41,7 +41,8 @@ impl Model for ReceivedImage {
 /// So many zeros.
 fn zeros(size: usize) -> &'static [u8]
     requires { size ≤ 1440 }
-    ensures { result.now ≡ replicate size 0 }
+    ensures value { result.now ≡ replicate size 0 }
+    ensures short { length result.now ≤ 1440 }
 {
     &ZEROS[..size]
 }
@@ -102,7 +103,8 @@ impl ReceivedImage {
     /// The output of a submodule, if it has data in these frames: its data in the last frame that was taken, and zeros where
     /// none was or its IOPS is not good.
     pub fn output(&self, slot: u16, subslot: u16) -> Option<&[u8]>
-        ensures { option_map (λ value. value.now) result ≡ option_map output_of (cell_at Data slot subslot self.now.cells) }
+        ensures value { option_map (λ value. value.now) result ≡ option_map output_of (cell_at Data slot subslot self.now.cells) }
+        ensures short { IfSome result (λ value. length value.now ≤ 1440) }
     {
         let value = self.get(slot, subslot)?;
         match self.status(PlaceKind::Data, slot, subslot) {

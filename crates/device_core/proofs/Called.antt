@@ -21,12 +21,16 @@ use Rattle.record_writes.specs.declared.write.Effect.{Effect}
 use Rattle.record_writes.specs.declared.write.Effect.TheVariants.{Stores, Keeps}
 use Rattle.record_writes.specs.declared.write.Write.{Write as Asking}
 use Rattle.record_writes.specs.Judged.{write_of}
-use Rattle.pn_alarms.specs.declared.message.Message.{Message}
-use Rattle.pn_alarms.specs.declared.message.Message.TheVariants as says
+use Rattle.pn_alarms.specs.declared.device.Heard.{Heard as Fate}
+use Rattle.pn_alarms.specs.declared.device.Heard.TheVariants as fate
+use Rattle.exchanges.specs.declared.cyclic.Received.{Received}
+use Rattle.exchanges.specs.declared.cyclic.Received.TheVariants as received
+use Rattle.exchanges.specs.Flow.{Flow}
+use Rattle.relations.specs.Exchanged.{given_to, heard_by, hearing, raised_to, received_by, receiving}
 use Rattle.relations.specs.declared.hearing.Heard.{Heard as Answer}
 use Rattle.relations.specs.declared.hearing.Heard.TheVariants as to_ready
-use Rattle.relations.specs.Link.{uuid_of, differing_in, is_alarm_of}
-use Rattle.relations.specs.Phases.{keeping}
+use Rattle.relations.specs.Link.{Link, uuid_of, differing_in, is_alarm_of}
+use Rattle.relations.specs.Phases.{keeping, moved}
 use Rattle.relations.specs.Calls.{prm_end_answer, release_answer}
 use Rattle.relations.specs.Connect.{connect_answer}
 use Rattle.relations.specs.Ready.{answer_of as ready_answer}
@@ -34,8 +38,8 @@ use Rattle.device_core.specs.declared.event.Event.{Event}
 use Rattle.device_core.specs.declared.hearing.Caller.{Caller}
 use Rattle.device_core.specs.State.{Station, Live}
 use Rattle.device_core.specs.Sent.{Sent}
-use Rattle.device_core.specs.Heard.{Heard, Ticks, Unreadable, Elsewhere, Asks, Resolves, Told, Cyclic, Alarms, Said, Calls, Responds, Garbled, heard_of}
-use Rattle.device_core.specs.Judged.{Judged, is_running, is_request, answer_from, kept_for, kept_answer, judged_request, judged_effect, judged_write, judged_new, judged_looked, judged_blocks, judged_call, judged_answer, judged_said, judged_message, judged}
+use Rattle.device_core.specs.Heard.{Heard, Ticks, Unreadable, Elsewhere, Asks, Resolves, Told, Cyclic, Alarms, Given, Raised, Said, Calls, Responds, Garbled, heard_of}
+use Rattle.device_core.specs.Judged.{Judged, is_running, is_request, answer_from, kept_for, kept_answer, judged_request, judged_effect, judged_write, judged_new, judged_looked, judged_blocks, judged_call, judged_answer, judged_said, judged_pdu, judged_received, judged_input, judged_notice, judged}
 use Rattle.device_core.specs.Machine.{items_in, first_answer, written_as, finished, heard_step, judged_step, step_of, first_step, later_steps, run_of}
 use Rattle.device_core.specs.Steps.{IsBehindCalls}
 
@@ -119,11 +123,25 @@ said_called station live answers caller (Calls call) = call_called station live 
 said_called station live answers caller (Responds response) = answer_called station live answers (ready_answer response live.rest.link)
 said_called station live answers caller Garbled = ([], refl)
 
-message_called : (station : Station) (live : Live) (answers : List BlockError) (message : Message) → IsKept station live answers (judged_message live message)
-message_called station live answers says.Abort = ([], refl)
-message_called station live answers (says.Data number ack) = ([], refl)
-message_called station live answers (says.Ack number) = ([], refl)
-message_called station live answers says.Nack = ([], refl)
+pdu_called : (station : Station) (live : Live) (answers : List BlockError) (came : Fate) (link : Option Link) → IsKept station live answers (judged_pdu live came link)
+pdu_called station live answers (fate.Data taken) link = ([], refl)
+pdu_called station live answers fate.Done link = ([], refl)
+pdu_called station live answers fate.Ignored link = ([], refl)
+pdu_called station live answers fate.Aborted link = ([], refl)
+
+received_called : (station : Station) (live : Live) (answers : List BlockError) (came : Received) (link : Option Link) → IsKept station live answers (judged_received live came link)
+received_called station live answers received.Foreign link = ([], refl)
+received_called station live answers received.Short link = ([], refl)
+received_called station live answers received.Stale link = ([], refl)
+received_called station live answers received.Taken link = ([], refl)
+
+input_called : (station : Station) (live : Live) (answers : List BlockError) (flow : Option Flow) → IsKept station live answers (judged_input live flow)
+input_called station live answers (Some flow) = ([], refl)
+input_called station live answers None = ([], refl)
+
+notice_called : (station : Station) (live : Live) (answers : List BlockError) (flow : Option Flow) → IsKept station live answers (judged_notice live flow)
+notice_called station live answers (Some flow) = ([], refl)
+notice_called station live answers None = ([], refl)
 
 judged_called : (station : Station) (live : Live) (answers : List BlockError) (heard : Heard) → IsKept station live answers (judged station live heard)
 judged_called station live answers (Asks asker request) = request_called station live answers asker request.service request
@@ -132,8 +150,11 @@ judged_called station live answers (Resolves asker packet) =
 judged_called station live answers (Told caller address said) =
     cond_both (is_running live.values.running address) _ _ (IsKept station live answers) (λ _. said_called station live answers caller said) (λ _. ([], refl))
 judged_called station live answers (Alarms source header message) =
-    cond_both (is_alarm_of source header.destination header.source live.rest.link) _ _ (IsKept station live answers) (λ _. message_called station live answers message) (λ _. ([], refl))
-judged_called station live answers (Cyclic source frame_id body) = ([], refl)
+    cond_both (is_alarm_of source header.destination header.source live.rest.link) _ _ (IsKept station live answers) (λ _. pdu_called station live answers (heard_by message live.rest.link) (moved (hearing message live.rest.link) live.rest.link)) (λ _. ([], refl))
+judged_called station live answers (Cyclic source frame_id body) =
+    received_called station live answers (received_by source frame_id body live.rest.link) (moved (receiving source frame_id body live.rest.link) live.rest.link)
+judged_called station live answers (Given slot subslot value) = input_called station live answers (given_to slot subslot value live.rest.link)
+judged_called station live answers (Raised slot subslot octets) = notice_called station live answers (raised_to station.real.modules.items slot subslot octets live.rest.link)
 judged_called station live answers Ticks = ([], refl)
 judged_called station live answers Unreadable = ([], refl)
 judged_called station live answers Elsewhere = ([], refl)

@@ -1,16 +1,22 @@
 -- What is judged of an event and asks nothing of the settings.
 use Rattle.std.proofs.lemmas.Bool.{cond_both}
-use Rattle.std.proofs.Common.{◌≡◌, ◌&&◌, false, [], refl}
+use Rattle.std.proofs.Common.{◌≡◌, ◌&&◌, ℕ, false, List, [], Option, Some, None, refl}
 use Rattle.pn_values.specs.declared.mac.Mac.{Mac}
 use Rattle.frame_codec.specs.declared.arp.Arp.{Arp}
 use Rattle.pn_alarms.specs.declared.pdu.Header.{Header}
 use Rattle.pn_alarms.specs.declared.message.Message.{Message}
-use Rattle.pn_alarms.specs.declared.message.Message.TheVariants as says
-use Rattle.relations.specs.Link.{is_alarm_of}
+use Rattle.pn_alarms.specs.declared.device.Heard.{Heard as Fate}
+use Rattle.pn_alarms.specs.declared.device.Heard.TheVariants as fate
+use Rattle.exchanges.specs.declared.cyclic.Received.{Received}
+use Rattle.exchanges.specs.declared.cyclic.Received.TheVariants as received
+use Rattle.exchanges.specs.Flow.{Flow}
+use Rattle.relations.specs.Link.{Link, is_alarm_of}
+use Rattle.relations.specs.Phases.{moved}
+use Rattle.relations.specs.Exchanged.{heard_by, hearing, received_by, receiving}
 use Rattle.relations.specs.declared.hearing.Heard.{Heard as Answer}
 use Rattle.relations.specs.declared.hearing.Heard.TheVariants as to_ready
 use Rattle.device_core.specs.State.{Station, Live}
-use Rattle.device_core.specs.Judged.{is_running, is_request, judged_arp, judged_answer, judged_message, judged_alarm}
+use Rattle.device_core.specs.Judged.{is_running, is_request, judged_arp, judged_answer, judged_alarm, judged_pdu, judged_received, judged_cyclic, judged_input, judged_notice}
 use Rattle.device_core.specs.Machine.{end_of}
 use Rattle.device_core.proofs.Machine.{is_asking}
 
@@ -23,26 +29,51 @@ pub arp_leaves : (station : Station) (live : Live) (asker : Mac) (packet : Arp) 
 arp_leaves station live asker packet =
     cond_both (is_request packet.operation && is_running live.values.running packet.target.address) _ _ (λ what. (end_of station live what).rest ≡ live.rest) (λ _. refl) (λ _. refl)
 
--- an alarm frame, which is not answered
-message_asks_nothing : (live : Live) (message : Message) → is_asking (judged_message live message) ≡ false
-message_asks_nothing live says.Abort = refl
-message_asks_nothing live (says.Data number ack) = refl
-message_asks_nothing live (says.Ack number) = refl
-message_asks_nothing live says.Nack = refl
+-- a PDU of the partner, by what becomes of it
+pdu_asks_nothing : (live : Live) (heard : Fate) (link : Option Link) → is_asking (judged_pdu live heard link) ≡ false
+pdu_asks_nothing live (fate.Data taken) link = refl
+pdu_asks_nothing live fate.Done link = refl
+pdu_asks_nothing live fate.Ignored link = refl
+pdu_asks_nothing live fate.Aborted link = refl
 
 pub alarm_asks_nothing : (live : Live) (source : Mac) (header : Header) (message : Message) → is_asking (judged_alarm live source header message) ≡ false
 alarm_asks_nothing live source header message =
-    cond_both (is_alarm_of source header.destination header.source live.rest.link) _ _ (λ what. is_asking what ≡ false) (λ _. message_asks_nothing live message) (λ _. refl)
+    cond_both (is_alarm_of source header.destination header.source live.rest.link) _ _ (λ what. is_asking what ≡ false)
+    (λ _. pdu_asks_nothing live (heard_by message live.rest.link) (moved (hearing message live.rest.link) live.rest.link)) (λ _. refl)
 
-message_sends_nothing : (station : Station) (live : Live) (message : Message) → (end_of station live (judged_message live message)).sent ≡ []
-message_sends_nothing station live says.Abort = refl
-message_sends_nothing station live (says.Data number ack) = refl
-message_sends_nothing station live (says.Ack number) = refl
-message_sends_nothing station live says.Nack = refl
+-- a cyclic frame, by what becomes of it, which is not answered
+received_asks_nothing : (live : Live) (received : Received) (link : Option Link) → is_asking (judged_received live received link) ≡ false
+received_asks_nothing live received.Foreign link = refl
+received_asks_nothing live received.Short link = refl
+received_asks_nothing live received.Stale link = refl
+received_asks_nothing live received.Taken link = refl
 
-pub alarm_sends_nothing : (station : Station) (live : Live) (source : Mac) (header : Header) (message : Message) → (end_of station live (judged_alarm live source header message)).sent ≡ []
-alarm_sends_nothing station live source header message =
-    cond_both (is_alarm_of source header.destination header.source live.rest.link) _ _ (λ what. (end_of station live what).sent ≡ []) (λ _. message_sends_nothing station live message) (λ _. refl)
+received_sends_nothing : (station : Station) (live : Live) (received : Received) (link : Option Link) → (end_of station live (judged_received live received link)).sent ≡ []
+received_sends_nothing station live received.Foreign link = refl
+received_sends_nothing station live received.Short link = refl
+received_sends_nothing station live received.Stale link = refl
+received_sends_nothing station live received.Taken link = refl
+
+pub cyclic_asks_nothing : (live : Live) (source : Mac) (frame_id : ℕ) (body : List ℕ) → is_asking (judged_cyclic live source frame_id body) ≡ false
+cyclic_asks_nothing live source frame_id body =
+    received_asks_nothing live (received_by source frame_id body live.rest.link) (moved (receiving source frame_id body live.rest.link) live.rest.link)
+
+pub cyclic_sends_nothing : (station : Station) (live : Live) (source : Mac) (frame_id : ℕ) (body : List ℕ) → (end_of station live (judged_cyclic live source frame_id body)).sent ≡ []
+cyclic_sends_nothing station live source frame_id body =
+    received_sends_nothing station live (received_by source frame_id body live.rest.link) (moved (receiving source frame_id body live.rest.link) live.rest.link)
+
+-- an input that is given, and an alarm that is raised, or refused
+pub input_asks_nothing : (live : Live) (flow : Option Flow) → is_asking (judged_input live flow) ≡ false
+input_asks_nothing live (Some flow) = refl
+input_asks_nothing live None = refl
+
+pub input_sends_nothing : (station : Station) (live : Live) (flow : Option Flow) → (end_of station live (judged_input live flow)).sent ≡ []
+input_sends_nothing station live (Some flow) = refl
+input_sends_nothing station live None = refl
+
+pub notice_asks_nothing : (live : Live) (flow : Option Flow) → is_asking (judged_notice live flow) ≡ false
+notice_asks_nothing live (Some flow) = refl
+notice_asks_nothing live None = refl
 
 -- the answer to ApplicationReady
 pub answer_asks_nothing : (live : Live) (answer : Answer) → is_asking (judged_answer live answer) ≡ false

@@ -8,3 +8,4 @@ pub mod Steps
 pub mod Called
 pub mod Runs
 pub mod Restarts
+pub mod Exchanged

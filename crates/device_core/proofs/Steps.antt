@@ -298,7 +298,7 @@ again_step image failures asked old new heard frames said steps call frame serve
 
 -- the values of a store that has just started, an empty cache, and no relation
 pub as_started : (values : store.Values) (calls : List Kept) (link : Option Link) (settings : Settings) (room : ℕ) → values.running ≡ values.stored → values.has_failed ≡ false → values.is_lost ≡ false
-    → calls ≡ [] → link ≡ None → values.stored ≡ settings → values.room ≡ room → record { values = values; rest = record { lamp = 0; calls = calls; link = link } } ≡ started settings room
+    → calls ≡ [] → link ≡ None → values.stored ≡ settings → values.room ≡ room → record { values = values; rest = record { lamp = 0; calls = calls; link = link; units = 0 } } ≡ started settings room
 as_started values calls link settings room running failed lost empty none stored left =
     same_live _ _ (same_values values (started settings room).values (running ∙ stored) stored left failed lost)
-    (ap (λ c. record { lamp = 0; calls = c; link = link }) empty ∙ ap (λ l. record { lamp = 0; calls = []; link = l }) none)
+    (ap (λ c. record { lamp = 0; calls = c; link = link; units = 0 }) empty ∙ ap (λ l. record { lamp = 0; calls = []; link = l; units = 0 }) none)

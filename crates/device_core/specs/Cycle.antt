@@ -20,7 +20,7 @@ use Rattle.device_core.specs.Steps.{EventByEvent, AnswersBy}
 abbrev pub started : Settings → ℕ → Live
 started settings room = record {
   values = record { running = settings; stored = settings; room = room; has_failed = false; is_lost = false };
-  rest = record { lamp = 0; calls = []; link = None };
+  rest = record { lamp = 0; calls = []; link = None; units = 0 };
 }
 
 -- the events of a cycle that begins with the first settings, and with room for so many commits

@@ -19,7 +19,7 @@ use Rattle.pn_alarms.specs.declared.message.Message.{Message}
 use Rattle.pn_alarms.specs.declared.pdu.Header.{Header}
 use Rattle.pn_alarms.specs.Message.{message_of}
 use Rattle.device_core.specs.declared.event.Event.{Event}
-use Rattle.device_core.specs.declared.event.Event.TheVariants.{Frame, Tick}
+use Rattle.device_core.specs.declared.event.Event.TheVariants.{Frame, Tick, Input, Alarm}
 use Rattle.device_core.specs.declared.hearing.Caller.{Caller}
 
 -- what the body of a datagram says: a call to the device, else a response, else neither
@@ -29,8 +29,8 @@ pub data Said : Type 0 where
   Garbled : Said
 
 -- What an event is: a unit of time, a frame that cannot be read, one for somebody else, a request of DCP and who asks it, a
--- packet of ARP and who sends it, a datagram: who sends it, to which address, and what it says; a cyclic frame; or an alarm frame:
--- who sends it, between which endpoints, and what it says.
+-- packet of ARP and who sends it, a datagram: who sends it, to which address, and what it says; a cyclic frame; an alarm frame: who
+-- sends it, between which endpoints, and what it says; or, from the application, the input of a submodule or an alarm of one.
 pub data Heard : Type 0 where
   Ticks : Heard
   Unreadable : Heard
@@ -40,6 +40,8 @@ pub data Heard : Type 0 where
   Told : (caller : Caller) → (address : List ℕ) → (said : Said) → Heard
   Cyclic : (source : Mac) → (frame_id : ℕ) → (body : List ℕ) → Heard
   Alarms : (source : Mac) → (header : Header) → (message : Message) → Heard
+  Given : (slot : ℕ) → (subslot : ℕ) → (value : List ℕ) → Heard
+  Raised : (slot : ℕ) → (subslot : ℕ) → (octets : List ℕ) → Heard
 
 -- the address of all stations for Identify requests
 abbrev pub identify_multicast : List ℕ
@@ -109,3 +111,5 @@ heard_frame identity (Err fault) = Unreadable
 unfoldable pub heard_of : Identity → Event → Heard
 heard_of identity (Frame bytes) = heard_frame identity (frame_of bytes.items)
 heard_of identity Tick = Ticks
+heard_of identity (Input slot subslot value) = Given slot subslot value.items
+heard_of identity (Alarm slot subslot octets) = Raised slot subslot octets.items

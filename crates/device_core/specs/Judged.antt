@@ -1,5 +1,5 @@
 -- What an event comes to, judged on the state before it.
-use Rattle.std.specs.Prelude.{◌-◌, ◌&&◌, ℕ, Bool, true, false, not, nat_eq, List, [], ◌∷◌, ◌++◌, if◌then◌else◌, Option, Some, None, is_some, Result, Ok, Err}
+use Rattle.std.specs.Prelude.{◌+◌, ◌%◌, ◌-◌, ◌&&◌, ℕ, Bool, true, false, not, nat_eq, List, [], ◌∷◌, ◌++◌, if◌then◌else◌, Option, Some, None, is_some, Result, Ok, Err}
 use Rattle.std.specs.Cmp.Lexicographic.{pointwise}
 use Rattle.pn_values.specs.declared.mac.Mac.{Mac}
 use Rattle.pn_values.specs.declared.identity.Identity.{Identity}
@@ -34,24 +34,33 @@ use Rattle.record_writes.specs.declared.write.Write.{Write as Asking}
 use Rattle.record_writes.specs.Answer.{answer_of}
 use Rattle.record_writes.specs.Judged.{write_of}
 use Rattle.pn_alarms.specs.declared.message.Message.{Message}
-use Rattle.pn_alarms.specs.declared.message.Message.TheVariants as says
+use Rattle.pn_alarms.specs.declared.device.Heard.{Heard as Fate}
+use Rattle.pn_alarms.specs.declared.device.Heard.TheVariants as fate
+use Rattle.pn_alarms.specs.declared.receiver.Taken.{Taken as Take}
 use Rattle.pn_alarms.specs.declared.pdu.Header.{Header}
+use Rattle.exchanges.specs.declared.cyclic.Received.{Received}
+use Rattle.exchanges.specs.declared.cyclic.Received.TheVariants as received
+use Rattle.exchanges.specs.declared.route.Route.{Route}
+use Rattle.exchanges.specs.Flow.{Flow}
+use Rattle.exchanges.specs.Frames.{Frame, alarm_frame, inputs_frame, reply_frame}
 use Rattle.relations.specs.declared.farewell.Farewell.{Farewell}
+use Rattle.relations.specs.declared.time.Due.{Due}
+use Rattle.relations.specs.Exchanged.{given_to, heard_by, hearing, raised_to, received_by, receiving}
 use Rattle.relations.specs.declared.hearing.Heard.{Heard as Answer}
 use Rattle.relations.specs.declared.hearing.Heard.TheVariants as to_ready
 use Rattle.relations.specs.declared.phase.Partner.{Partner}
-use Rattle.relations.specs.Link.{Link, uuid_of, differing_in, is_alarm_of}
+use Rattle.relations.specs.Link.{Link, uuid_of, differing_in, flow_of, is_alarm_of}
 use Rattle.relations.specs.Calls.{prm_end_of, release_of, prm_end_answer, release_answer}
 use Rattle.relations.specs.Connect.{connect_of, connect_answer, making}
 use Rattle.relations.specs.Ready.{ready_of, answer_of as ready_answer, judged_by}
 use Rattle.relations.specs.Timers.{due_of}
-use Rattle.relations.specs.Phases.{Judged as Moving, Parameterized, Named, Ended, Unmoved, answered, keeping, moved, passing, taking}
+use Rattle.relations.specs.Phases.{Judged as Moving, Parameterized, Named, Ended, Exchanged, Unmoved, answered, keeping, moved, passing, taking}
 use Rattle.device_core.specs.declared.event.Note.{Note}
 use Rattle.device_core.specs.declared.event.Note.TheVariants as note
 use Rattle.device_core.specs.declared.hearing.Caller.{Caller}
 use Rattle.device_core.specs.State.{Station, Rest, Live}
-use Rattle.device_core.specs.Sent.{Sent, IdentifyAnswer, GetAnswer, ArpReply, CallAnswer, Again, ReadyCall, Ends, bytes_of}
-use Rattle.device_core.specs.Heard.{Heard, Ticks, Unreadable, Elsewhere, Asks, Resolves, Told, Cyclic, Alarms, Said, Calls, Responds, Garbled}
+use Rattle.device_core.specs.Sent.{Sent, IdentifyAnswer, GetAnswer, ArpReply, CallAnswer, Again, ReadyCall, Ends, Exchanges, bytes_of}
+use Rattle.device_core.specs.Heard.{Heard, Ticks, Unreadable, Elsewhere, Asks, Resolves, Told, Cyclic, Alarms, Given, Raised, Said, Calls, Responds, Garbled}
 
 -- What an event comes to: refused, with the note that says why; a Set, whose blocks are asked of the settings; a Write of an I&M
 -- text, which is asked of them, by whom and to which address it was called, the call, its header and the text; or a move, after
@@ -215,13 +224,68 @@ abbrev pub judged_datagram : Station → Live → Caller → List ℕ → Said �
 judged_datagram station live caller address said =
     if is_running live.values.running address then judged_said station live caller said else Refuses note.NotMine
 
--- ---- alarm frames: the ERR of the controller ends the relation, and nothing is sent; alarms themselves are not served yet
+-- ---- what is exchanged
+
+-- the frames of it that there are: of a relation, the alarm that stands, the inputs at this CycleCounter, and the answer to data that was
+-- taken so
+abbrev pub frames_in : Route → Option Frame → List Sent
+frames_in route (Some frame) = Exchanges route frame ∷ []
+frames_in route None = []
+
+abbrev pub alarms_of : Option Flow → List Sent
+alarms_of None = []
+alarms_of (Some flow) = frames_in flow.route (alarm_frame flow)
+
+abbrev pub inputs_of : ℕ → Option Flow → List Sent
+inputs_of counter None = []
+inputs_of counter (Some flow) = Exchanges flow.route (inputs_frame flow counter) ∷ []
+
+abbrev pub replies_of : Take → Option Flow → List Sent
+replies_of taken None = []
+replies_of taken (Some flow) = Exchanges flow.route (reply_frame flow taken) ∷ []
+
+-- the relation became this, and these frames are sent
+abbrev pub goes_on_with : Live → Option Link → List Sent → Judged
+goes_on_with live link sent = Moves (record live.rest { link = link }) sent
+
+-- a cyclic frame, by what becomes of it
+abbrev pub judged_received : Live → Received → Option Link → Judged
+judged_received live received.Foreign link = Refuses note.NoRelation
+judged_received live received.Short link = Refuses note.Fault
+judged_received live received.Stale link = Refuses note.StaleCycle
+judged_received live received.Taken link = goes_on_with live link []
+
+abbrev pub judged_cyclic : Live → Mac → ℕ → List ℕ → Judged
+judged_cyclic live source frame_id body =
+    judged_received live (received_by source frame_id body live.rest.link) (moved (receiving source frame_id body live.rest.link) live.rest.link)
+
+-- an input is given, or refused
+abbrev pub judged_input : Live → Option Flow → Judged
+judged_input live (Some flow) = goes_on_with live (moved (Exchanged flow) live.rest.link) []
+judged_input live None = Refuses note.Refused
+
+abbrev pub judged_given : Live → ℕ → ℕ → List ℕ → Judged
+judged_given live slot subslot value = judged_input live (given_to slot subslot value live.rest.link)
+
+-- an alarm is raised and sent, or refused
+abbrev pub judged_notice : Live → Option Flow → Judged
+judged_notice live (Some flow) =
+    let link = moved (Exchanged flow) live.rest.link in
+    goes_on_with live link (alarms_of (flow_of link))
+judged_notice live None = Refuses note.Refused
+
+abbrev pub judged_raised : Station → Live → ℕ → ℕ → List ℕ → Judged
+judged_raised station live slot subslot octets = judged_notice live (raised_to station.real.modules.items slot subslot octets live.rest.link)
+
+-- a PDU of the partner, by what becomes of it: data is answered, an ACK counts or does not, and an ERR ends the relation
+abbrev pub judged_pdu : Live → Fate → Option Link → Judged
+judged_pdu live (fate.Data taken) link = goes_on_with live link (replies_of taken (flow_of link))
+judged_pdu live fate.Done link = goes_on_with live link []
+judged_pdu live fate.Ignored link = Refuses note.Filter
+judged_pdu live fate.Aborted link = goes_on_with live link []
 
 abbrev pub judged_message : Live → Message → Judged
-judged_message live says.Abort = Moves (record live.rest { link = moved Ended live.rest.link }) []
-judged_message live (says.Data number ack) = Refuses note.Filter
-judged_message live (says.Ack number) = Refuses note.Filter
-judged_message live says.Nack = Refuses note.Filter
+judged_message live message = judged_pdu live (heard_by message live.rest.link) (moved (hearing message live.rest.link) live.rest.link)
 
 abbrev pub judged_alarm : Live → Mac → Header → Message → Judged
 judged_alarm live source header message =
@@ -233,19 +297,32 @@ abbrev pub farewells_in : Option Farewell → List Sent
 farewells_in None = []
 farewells_in (Some farewell) = Ends farewell ∷ []
 
--- a unit of time later: timers advance, a timeout ends the relation and nothing more is sent, and else ApplicationReady may be due
+abbrev pub where_due : Bool → List Sent → List Sent
+where_due is_due sent = if is_due then sent else []
+
+-- what is sent with a unit: the ERR of a timeout, and nothing else; or the alarm that stands again, ApplicationReady again, and inputs
+abbrev pub due_frames : List ℕ → ℕ → Due → Option Link → List Sent
+due_frames address units due link =
+    farewells_in due.farewell
+    ++ (where_due due.is_alarm (alarms_of (flow_of link)) ++ (where_due due.is_ready (ready_calls address link) ++ where_due due.is_cyclic (inputs_of units (flow_of link))))
+
+-- a unit of time later
 abbrev pub ticked : Live → Judged
 ticked live =
     let due = due_of live.rest.link in
     let link = moved (passing live.rest.link) live.rest.link in
-    Moves (record live.rest { lamp = live.rest.lamp - 1; link = link }) (farewells_in due.farewell ++ (if due.is_ready then ready_calls live.values.running.suite.address link else []))
+    let units = (live.rest.units + 1) % 65536 in
+    Moves (record live.rest { lamp = live.rest.lamp - 1; link = link; units = units })
+    (due_frames live.values.running.suite.address units due link)
 
 abbrev pub judged : Station → Live → Heard → Judged
 judged station live (Asks asker request) = judged_request station live asker request.service request
 judged station live (Resolves asker packet) = judged_arp live asker packet
 judged station live (Told caller address said) = judged_datagram station live caller address said
 judged station live (Alarms source header message) = judged_alarm live source header message
-judged station live (Cyclic source frame_id body) = Refuses note.NoRelation
+judged station live (Cyclic source frame_id body) = judged_cyclic live source frame_id body
+judged station live (Given slot subslot value) = judged_given live slot subslot value
+judged station live (Raised slot subslot octets) = judged_raised station live slot subslot octets
 judged station live Ticks = ticked live
 judged station live Unreadable = Refuses note.Fault
 judged station live Elsewhere = Refuses note.NotMine

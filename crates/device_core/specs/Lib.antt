@@ -7,3 +7,4 @@ pub mod Machine
 pub mod Faults
 pub mod Steps
 pub mod Cycle
+pub mod Outputs

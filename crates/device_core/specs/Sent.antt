@@ -22,11 +22,13 @@ use Rattle.pn_alarms.specs.Format.{frame_id_of, pdu_bytes}
 use Rattle.relations.specs.declared.farewell.Farewell.{Farewell}
 use Rattle.relations.specs.declared.ready.Ready.{Ready}
 use Rattle.relations.specs.Farewells.{said_by}
+use Rattle.exchanges.specs.declared.route.Route.{Route}
+use Rattle.exchanges.specs.Frames.{Frame, tag_of, id_of, body_of}
 use Rattle.device_core.specs.declared.hearing.Caller.{Caller}
 
 -- A message, and to whom: the answer to an Identify request, to a Get, or to a Set and how each of its blocks came out; who
 -- holds an address, told to whom asked for it; the answer to a call, from this address; the frame of such an answer again; the
--- call ApplicationReady, from this address; or the ERR by which this device ends its relation.
+-- call ApplicationReady, from this address; the ERR by which this device ends its relation; or a frame by which it exchanges.
 pub data Sent : Type 0 where
   IdentifyAnswer : (asker : Mac) → (running : Settings) → (xid : ℕ) → Sent
   GetAnswer : (asker : Mac) → (running : Settings) → (request : Asked) → Sent
@@ -36,6 +38,7 @@ pub data Sent : Type 0 where
   Again : (frame : List ℕ) → Sent
   ReadyCall : (address : List ℕ) → (ready : Ready) → Sent
   Ends : (farewell : Farewell) → Sent
+  Exchanges : (route : Route) → (frame : Frame) → Sent
 
 -- a frame of this device, which has no tag
 abbrev pub own_frame : Identity → Mac → Content → List ℕ
@@ -69,6 +72,10 @@ ready_frame identity address ready =
 abbrev pub farewell_frame : Identity → Farewell → List ℕ
 farewell_frame identity farewell = tagged_frame identity farewell.initiator farewell.tag (RealTime (frame_id_of Error) (pdu_bytes (said_by farewell)))
 
+-- a frame of inputs, of an alarm, or of the answer to an AlarmAck, to the partner
+abbrev pub exchange_frame : Identity → Route → Frame → List ℕ
+exchange_frame identity route frame = tagged_frame identity route.partner (tag_of route frame) (RealTime (id_of route frame) (body_of frame))
+
 -- the octets of a message
 abbrev pub bytes_of : Identity → Sent → List ℕ
 bytes_of identity (IdentifyAnswer asker running xid) = answer_frame identity asker 65279 (identify_bytes identity running xid)
@@ -79,3 +86,4 @@ bytes_of identity (CallAnswer caller address answer) = response_frame identity c
 bytes_of identity (Again frame) = frame
 bytes_of identity (ReadyCall address ready) = ready_frame identity address ready
 bytes_of identity (Ends farewell) = farewell_frame identity farewell
+bytes_of identity (Exchanges route frame) = exchange_frame identity route frame

@@ -13,11 +13,12 @@ pub record Station : Type 0 where
   pub real : Real
 
 -- what a device keeps beside its settings, and loses with its power: for how many units the lamp still flashes, the answers to
--- the last calls, the newest first, and its application relation, if there is one
+-- the last calls, the newest first, its application relation, if there is one, and the units since its start, modulo 65,536
 pub record Rest : Type 0 where
   pub lamp : ℕ
   pub calls : List Kept
   pub link : Option Link
+  pub units : ℕ
 
 -- what changes from event to event: the settings, and the rest
 pub record Live : Type 0 where

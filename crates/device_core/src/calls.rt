@@ -13,7 +13,7 @@ ghost use Rattle.record_blocks.specs.declared.write_record.IodWriteReq.{IodWrite
 ghost use Rattle.record_writes.specs.Answer.{answer_of};
 ghost use Rattle.record_writes.specs.declared.write.Effect.TheVariants.{Keeps};
 ghost use Rattle.pnio_status.specs.Operation.{operation_of};
-ghost use Rattle.device_core.specs.Heard.{Heard as Hears, Told, Calls, said_by};
+ghost use Rattle.device_core.specs.Heard.{Heard as Hears, Told, said_by};
 ghost use Rattle.device_core.specs.Sent.{bytes_of, response_frame};
 ghost use Rattle.device_core.specs.Judged.{Writes, answer_from, came_with, kept_for, judged, judged_new, judged_answer, judged_call, judged_effect, judged_write};
 ghost use Rattle.device_core.specs.Machine.{end_of, written_as as comes_out};
@@ -27,7 +27,7 @@ use block_codec::IodWriteReq;
 use flash_model::Flash;
 use frame_codec::{Endpoint, Layered, Outbox, Payload, RPC_PORT, Udp};
 use pn_values::{BlockError, Command, Identity, ImValue, SetItem};
-use pnio_status::{CallFault, Operation, Status, done};
+use pnio_status::{CallFault, Operation, done};
 use record_reads::{Blocks, names_relation, read_implicit, read_within};
 use record_writes::{Effect, Taken, Write, judge_write, put_write_answer};
 use relations::{Heard, Partner};

@@ -1,14 +1,17 @@
 // The device.
-ghost use Rattle.std.specs.Prelude.{◌≡◌, ◌∷◌, [], ℕ, true, false, IsErr, IfOk, IfErr, MatchResult};
+ghost use Rattle.std.specs.Prelude.{◌≡◌, ◌∷◌, [], ℕ, true, false, IsErr, ◌≤◌, IfOk, IfErr, IfSome, MatchResult, length, option_map};
 ghost use Rattle.flash_model.specs.Calls.{Arms};
 ghost use Rattle.flash_model.specs.Image.{erased};
 ghost use Rattle.pn_values.specs.Settings.{factory_settings};
 ghost use Rattle.pn_values.specs.declared.settings.Settings.{Settings};
 ghost use Rattle.settings_journal.specs.Commit.{HasBootCause};
 ghost use Rattle.settings_journal.specs.Image.{StartsWith, IsAmple, capacity, IsForeign, LeftByDevice};
+ghost use Rattle.relations.specs.Exchanged.{output_in};
 ghost use Rattle.relations.specs.Link.{phase_of, taken_of};
+ghost use Rattle.device_core.specs.Outputs.{output_of};
 ghost use Rattle.device_core.specs.Cycle.{started};
 
+use crate::output::zero_output;
 use arrayvec::ArrayVec;
 use flash_model::{Flash, Order};
 use pn_values::{Identity, Real, SetItem, Settings};
@@ -30,6 +33,8 @@ pub struct Device<F: Flash<S>, const S: usize> {
     pub(crate) cache: CallCache<4>,
     // The application relation, if there is one.
     pub(crate) relation: Relation,
+    // The units since the start, modulo 65,536.
+    pub(crate) units: u16,
     // Room for the plan of a Set, in which the last one lies.
     pub(crate) plan: ArrayVec<SetItem, 16>,
     // Room for the blocks of an answer to a call.
@@ -45,7 +50,7 @@ impl<F: Flash<S>, const S: usize> Model for Device<F, S> {
     ghost view = { λ device. record {
       flash = device.store.flash;
       station = record { identity = device.identity; real = device.real };
-      live = record { values = device.store.values; rest = record { lamp = device.lamp; calls = device.cache; link = device.relation } };
+      live = record { values = device.store.values; rest = record { lamp = device.lamp; calls = device.cache; link = device.relation; units = device.units } };
     } };
 
     ghost invariant = { λ device. Holds (F.image device.store.flash) device.store.values };
@@ -86,6 +91,7 @@ impl<F: Flash<S>, const S: usize> Device<F, S> {
             lamp: 0,
             cache: CallCache::new(),
             relation: Relation::new(),
+            units: 0,
             plan: ArrayVec::new(),
             blocks: Blocks::new(),
         })
@@ -126,6 +132,18 @@ impl<F: Flash<S>, const S: usize> Device<F, S> {
         ensures { result.now ≡ taken_of self.now.live.rest.link }
     {
         self.relation.taken()
+    }
+
+    /// The output of a submodule: what the last cyclic frame that was taken holds at its place; zeros where none was, its IOPS is not
+    /// good or, as many as the submodule that is plugged has, where it has no place. None where nothing with an output is plugged either.
+    pub fn output(&self, slot: u16, subslot: u16) -> Option<&[u8]>
+        ensures value { option_map (λ value. value.now) result ≡ output_of self.now.station.real slot subslot (output_in slot subslot self.now.live.rest.link) }
+        ensures short { IfSome result (λ value. length value.now ≤ 1440) }
+    {
+        match self.relation.output(slot, subslot) {
+            Some(value) => Some(value),
+            None => zero_output(&self.real, slot, subslot),
+        }
     }
 
     /// What is plugged in.
@@ -178,6 +196,7 @@ impl<F: Flash<S>, const S: usize> Device<F, S> {
             lamp: _,
             cache: _,
             relation: _,
+            units: _,
             plan: _,
             blocks: _,
         } = self;

@@ -7,6 +7,10 @@ pub enum Event {
     Frame(Bytes),
     /// A unit of 31.25 microseconds is over.
     Tick,
+    /// The application gives the input of the submodule in this slot and subslot.
+    Input(u16, u16, Bytes),
+    /// The application raises a process alarm of the submodule in this slot and subslot, with these octets.
+    Alarm(u16, u16, Bytes),
 }
 
 /// What became of an event.
@@ -24,4 +28,8 @@ pub enum Note {
     OldCall = 4,
     /// No relation stands that the frame could belong to.
     NoRelation = 5,
+    /// A cyclic frame whose data is not valid, or whose CycleCounter is not newer.
+    StaleCycle = 6,
+    /// An input of a submodule that has none of this length, or an alarm that may not be raised now or of this submodule.
+    Refused = 7,
 }

@@ -60,6 +60,18 @@ pub(crate) enum Heard<'a> {
         header: Header,
         message: Message,
     },
+    /// The application gives an input.
+    Given {
+        slot: u16,
+        subslot: u16,
+        value: &'a [u8],
+    },
+    /// The application raises an alarm.
+    Raised {
+        slot: u16,
+        subslot: u16,
+        octets: &'a [u8],
+    },
     /// A packet of ARP to this station or to all.
     Arp {
         asker: Mac,
@@ -80,6 +92,16 @@ pub(crate) fn hear<'a>(identity: &Identity, event: &'a Event) -> Heard<'a>
 {
     match event {
         Event::Tick => Heard::Tick,
+        Event::Input(slot, subslot, value) => Heard::Given {
+            slot: *slot,
+            subslot: *subslot,
+            value: value.as_slice(),
+        },
+        Event::Alarm(slot, subslot, octets) => Heard::Raised {
+            slot: *slot,
+            subslot: *subslot,
+            octets: octets.as_slice(),
+        },
         Event::Frame(bytes) => match read(bytes.as_slice()) {
             Ok(layered) => hear_frame(identity, layered),
             Err(_) => Heard::Unreadable,

@@ -1,5 +1,5 @@
 // What a device sends of its relation: ApplicationReady, and the ERR that ends it (IEC 61158-6-10, 5.2.4.5 and 5.2.6).
-ghost use Rattle.std.specs.Prelude.{◌≡◌, ◌<◌, ◌++◌, ◌∷◌, [], if◌then◌else◌, map};
+ghost use Rattle.std.specs.Prelude.{◌≡◌, ◌<◌, ◌≤◌, ◌+◌, ◌++◌, ◌∷◌, [], if◌then◌else◌, map};
 ghost use Rattle.arrayvec.specs.ArrayVec.{array_vec_len};
 ghost use Rattle.device_core.specs.Sent.{bytes_of, farewell_frame};
 ghost use Rattle.relations.specs.Phases.{Named, Unmoved, answered, moved};
@@ -19,7 +19,8 @@ const ARGS_MAXIMUM: u32 = 1_372;
 /// Puts the ERR that ends the relation into the box, behind what is in it.
 pub(crate) fn send_farewell(identity: &Identity, farewell: &Farewell, outbox: &mut Outbox)
     requires room { array_vec_len outbox.old < 4 }
-    ensures { map (λ frame. frame.items) outbox.new.items ≡ map (λ frame. frame.items) outbox.old.items ++ farewell_frame identity.now farewell.now ∷ [] }
+    ensures frames { map (λ frame. frame.items) outbox.new.items ≡ map (λ frame. frame.items) outbox.old.items ++ farewell_frame identity.now farewell.now ∷ [] }
+    ensures len { array_vec_len outbox.new ≡ array_vec_len outbox.old + 1 }
 {
     let pdu = farewell.pdu();
     let mut body: ArrayVec<u8, 16> = ArrayVec::new();
@@ -43,8 +44,9 @@ pub(crate) fn send_ready(
     outbox: &mut Outbox,
 )
     requires room { array_vec_len outbox.old < 4 }
-    ensures { map (λ frame. frame.items) outbox.new.items
+    ensures frames { map (λ frame. frame.items) outbox.new.items
         ≡ map (λ frame. frame.items) outbox.old.items ++ map (bytes_of identity.now) (ready_calls address relation.now) }
+    ensures few { array_vec_len outbox.new ≤ array_vec_len outbox.old + 1 }
 {
     let Some(ready) = relation.ready() else {
         return;

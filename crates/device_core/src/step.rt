@@ -1,27 +1,28 @@
 // One step: what an event is, and what comes of it.
-ghost use Rattle.std.specs.Prelude.{◌≡◌, ◌≢◌, ◌<◌, ◌-◌, ◌^◌, ◌++◌, if◌then◌else◌, [], true, false, List, ℕ, map};
+ghost use Rattle.std.specs.Prelude.{◌≡◌, ◌≢◌, ◌<◌, ◌-◌, ◌^◌, [], true, false, List, ℕ, Option, map};
 ghost use Rattle.settings_store.specs.Carries.{Holds};
 ghost use Rattle.dcp_core.specs.Request.{Asked};
 ghost use Rattle.device_core.specs.Heard.{Asks, heard_of};
 ghost use Rattle.device_core.specs.Hearing.{meaning_of};
-ghost use Rattle.device_core.specs.State.{with_rest};
+ghost use Rattle.relations.specs.Link.{Link};
+ghost use Rattle.device_core.specs.State.{Live, Station, with_rest};
 ghost use Rattle.device_core.specs.Sent.{bytes_of};
-ghost use Rattle.device_core.specs.Judged.{farewells_in, judged_alarm, ready_calls, ticked};
+ghost use Rattle.device_core.specs.Judged.{judged_alarm, judged_message, judged_cyclic, judged_given, judged_raised, judged_received, ticked};
 ghost use Rattle.device_core.specs.Machine.{end_of};
 ghost use Rattle.rpc_core.specs.Call.{Asked as Called};
 ghost use Rattle.rpc_core.specs.Cache.{looked, again};
 ghost use Rattle.device_core.specs.Faults.{StepGoesOn};
 ghost use Rattle.device_core.specs.Steps.{Steps, Identifies, IsServed, IsAgain, IsExactStep};
 
+use crate::exchange::{send_alarm, send_due, send_reply};
 use crate::hearing::{Heard, hear};
-use crate::relation::{send_farewell, send_ready};
 use crate::{Device, Event, Note};
 use dcp_core::Service;
 use flash_model::Flash;
 use frame_codec::Outbox;
-use pn_alarms::{Header, Message};
-use pn_values::{Identity, Mac};
-use relations::{Due, Relation};
+use pn_alarms::{Header, Heard as Fate, Message};
+use pn_values::Mac;
+use relations::Received;
 
 impl<F: Flash<S>, const S: usize> Device<F, S> {
     /// Takes an event, and puts the frames to be sent into the box, which holds nothing else then.
@@ -69,13 +70,26 @@ impl<F: Flash<S>, const S: usize> Device<F, S> {
                 frame_id,
                 body,
             } => self.read_and_serve(source, frame_id, body, outbox),
-            // No cyclic data is exchanged yet.
-            Heard::Cyclic { .. } => Note::NoRelation,
+            Heard::Cyclic {
+                source,
+                frame_id,
+                body,
+            } => self.hear_cyclic(source, frame_id, body),
+            Heard::Given {
+                slot,
+                subslot,
+                value,
+            } => self.give(slot, subslot, value),
+            Heard::Raised {
+                slot,
+                subslot,
+                octets,
+            } => self.raise(slot, subslot, octets, outbox),
             Heard::Alarm {
                 source,
                 header,
                 message,
-            } => self.hear_alarm(source, &header, &message),
+            } => self.hear_alarm(source, &header, &message, outbox),
             Heard::Arp { asker, packet } => self.resolve(asker, &packet, outbox),
             Heard::Datagram {
                 caller,
@@ -94,15 +108,68 @@ impl<F: Flash<S>, const S: usize> Device<F, S> {
         ensures note { result ≡ Note.Done }
     {
         self.lamp = self.lamp.saturating_sub(1);
+        self.units = self.units.wrapping_add(1);
         let due = self.relation.tick();
         let address = self.store.running().suite.address();
-        send_due(&self.identity, address, &due, &self.relation, outbox);
+        send_due(
+            &self.identity,
+            address,
+            self.units,
+            &due,
+            &self.relation,
+            outbox,
+        );
         Note::Done
     }
 
-    // An alarm frame: it belongs to the relation, or not. The ERR of the controller ends the relation.
-    fn hear_alarm(&mut self, source: Mac, header: &Header, message: &Message) -> Note
+    // A cyclic frame: its outputs are taken, or it changes nothing.
+    fn hear_cyclic(&mut self, source: Mac, frame_id: u16, body: &[u8]) -> Note
+        ensures state { self.new ≡ with_rest self.old (end_of self.old.station self.old.live (judged_cyclic self.old.live source frame_id body.now)).rest }
+        ensures note { result ≡ (end_of self.old.station self.old.live (judged_cyclic self.old.live source frame_id body.now)).note }
+    {
+        let received = self.relation.receive(source, frame_id, body);
+        note_of(received)
+    }
+
+    // An input that the application gives.
+    fn give(&mut self, slot: u16, subslot: u16, value: &[u8]) -> Note
+        ensures state { self.new ≡ with_rest self.old (end_of self.old.station self.old.live (judged_given self.old.live slot subslot value.now)).rest }
+        ensures note { result ≡ (end_of self.old.station self.old.live (judged_given self.old.live slot subslot value.now)).note }
+    {
+        if self.relation.give(slot, subslot, value) {
+            Note::Done
+        } else {
+            Note::Refused
+        }
+    }
+
+    // An alarm that the application raises.
+    fn raise(&mut self, slot: u16, subslot: u16, octets: &[u8], outbox: &mut Outbox) -> Note
+        requires empty { outbox.old.items ≡ [] }
+        ensures state { self.new ≡ with_rest self.old (end_of self.old.station self.old.live (judged_raised self.old.station self.old.live slot subslot octets.now)).rest }
+        ensures frames { map (λ frame. frame.items) outbox.new.items
+            ≡ map (bytes_of self.old.station.identity) (end_of self.old.station self.old.live (judged_raised self.old.station self.old.live slot subslot octets.now)).sent }
+        ensures note { result ≡ (end_of self.old.station self.old.live (judged_raised self.old.station self.old.live slot subslot octets.now)).note }
+    {
+        if !self.relation.raise(&self.real, slot, subslot, octets) {
+            return Note::Refused;
+        }
+        send_alarm(&self.identity, true, &self.relation, outbox);
+        Note::Done
+    }
+
+    // An alarm frame: it belongs to the relation, or not. Data is answered, and the ERR of the controller ends the relation.
+    fn hear_alarm(
+        &mut self,
+        source: Mac,
+        header: &Header,
+        message: &Message,
+        outbox: &mut Outbox,
+    ) -> Note
+        requires empty { outbox.old.items ≡ [] }
         ensures state { self.new ≡ with_rest self.old (end_of self.old.station self.old.live (judged_alarm self.old.live source header.now message.now)).rest }
+        ensures frames { map (λ frame. frame.items) outbox.new.items
+            ≡ map (bytes_of self.old.station.identity) (end_of self.old.station self.old.live (judged_alarm self.old.live source header.now message.now)).sent }
         ensures note { result ≡ (end_of self.old.station self.old.live (judged_alarm self.old.live source header.now message.now)).note }
     {
         if !self
@@ -111,32 +178,37 @@ impl<F: Flash<S>, const S: usize> Device<F, S> {
         {
             return Note::NoRelation;
         }
-        match message {
-            Message::Abort => {
-                self.relation.hear_abort();
+        self.hear_message(message, outbox)
+    }
+
+    // What an alarm frame of the relation says: data is answered, an ACK counts or does not, and ERR ends the relation.
+    #[tactic(auto, using(crate::proofs::Exchanged::stays_ignored))]
+    fn hear_message(&mut self, message: &Message, outbox: &mut Outbox) -> Note
+        requires empty { outbox.old.items ≡ [] }
+        ensures state { self.new ≡ with_rest self.old (end_of self.old.station self.old.live (judged_message self.old.live message.now)).rest }
+        ensures frames { map (λ frame. frame.items) outbox.new.items
+            ≡ map (bytes_of self.old.station.identity) (end_of self.old.station self.old.live (judged_message self.old.live message.now)).sent }
+        ensures note { result ≡ (end_of self.old.station self.old.live (judged_message self.old.live message.now)).note }
+    {
+        match self.relation.hear(message) {
+            Fate::Data(taken) => {
+                send_reply(&self.identity, taken, &self.relation, outbox);
                 Note::Done
             }
-            Message::Data(..) | Message::Ack(_) | Message::Nack => Note::Filter,
+            Fate::Done | Fate::Aborted => Note::Done,
+            Fate::Ignored => Note::Filter,
         }
     }
 }
 
-// Puts what is due into the empty box: the ERR of a relation that a timeout ended, or ApplicationReady again.
-fn send_due(
-    identity: &Identity,
-    address: [u8; 4],
-    due: &Due,
-    relation: &Relation,
-    outbox: &mut Outbox,
-)
-    requires { outbox.old.items ≡ [] }
-    ensures { map (λ frame. frame.items) outbox.new.items ≡ map (bytes_of identity.now)
-        (farewells_in due.now.farewell ++ (if due.now.is_ready then ready_calls address relation.now else [])) }
+// What is said of a cyclic frame.
+fn note_of(received: Received) -> Note
+    ensures { (station : Station) (live : Live) (link : Option Link) → result ≡ (end_of station live (judged_received live received link)).note }
 {
-    if let Some(farewell) = due.farewell {
-        send_farewell(identity, &farewell, outbox);
-    }
-    if due.is_ready {
-        send_ready(identity, address, relation, outbox);
+    match received {
+        Received::Foreign => Note::NoRelation,
+        Received::Short => Note::Fault,
+        Received::Stale => Note::StaleCycle,
+        Received::Taken => Note::Done,
     }
 }

@@ -1,5 +1,5 @@
 //! What is exchanged.
-ghost use Rattle.std.specs.Prelude.{◌≡◌, is_some, length, option_map, unwrap_or};
+ghost use Rattle.std.specs.Prelude.{◌≡◌, ◌≤◌, IfSome, is_some, length, option_map, unwrap_or};
 ghost use Rattle.exchanges.specs.Opening.{begun_of, opened};
 ghost use Rattle.exchanges.specs.Process.{given_at, output_at};
 
@@ -98,7 +98,8 @@ impl DataExchange {
     /// The output of a submodule, if it has one: what the last frame that was taken holds, and zeros where none was taken or its IOPS
     /// is not good.
     pub fn output(&self, slot: u16, subslot: u16) -> Option<&[u8]>
-        ensures { option_map (λ value. value.now) result ≡ output_at self.now slot subslot }
+        ensures value { option_map (λ value. value.now) result ≡ output_at self.now slot subslot }
+        ensures short { IfSome result (λ value. length value.now ≤ 1440) }
     {
         self.outputs.output(slot, subslot)
     }

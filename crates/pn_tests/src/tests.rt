@@ -6,6 +6,7 @@ use std::test::Fail;
 
 mod calls;
 mod cuts;
+mod exchange;
 mod faults;
 mod input;
 mod lines;
@@ -14,7 +15,9 @@ mod off;
 mod relation;
 mod rows;
 mod samples;
+mod struck;
 mod vectors;
+mod whole;
 
 /// An Identify request for all stations, and its answer by a device with no name and no address.
 const IDENTIFY: &str = "frame 010ecf0000000200000000028892fefe05000000000100010004ffff0000";
@@ -71,7 +74,7 @@ type Shown = (&'static str, &'static str);
 /// What `show` prints of these running and stored settings, where the texts are blank and the lamp is off.
 fn shown(alloc: Global, running: Shown, stored: Shown) -> Result<String, AllocError> {
     format!(in alloc;
-        "name {}\nip {}\nstored-name {}\nstored-ip {}\n{TEXTS} 0\n",
+        "name {}\nip {}\nstored-name {}\nstored-ip {}\n{TEXTS} 0\noutput 2 1 0000\n",
         running.0, running.1, stored.0, stored.1
     )
 }

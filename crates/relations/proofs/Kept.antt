@@ -4,12 +4,15 @@ use Rattle.std.proofs.lemmas.Bool.Decides.{nat_tests}
 use Rattle.connect_requests.specs.Request.{Request}
 use Rattle.relations.specs.declared.phase.Phase.{Phase}
 use Rattle.relations.specs.declared.phase.Phase.TheVariants.{Started, Awaiting, Exchanging}
+use Rattle.pn_alarms.specs.declared.abort.Abort.{Abort}
 use Rattle.pn_alarms.specs.declared.abort.Abort.TheVariants.{Activity}
+use Rattle.pn_alarms.specs.Numbers.{send_number, ack_number}
+use Rattle.relations.specs.declared.farewell.Farewell.{Farewell}
 use Rattle.relations.specs.declared.time.Due.{Due}
 use Rattle.relations.specs.Link.{Link, phase_of, is_awaiting}
-use Rattle.relations.specs.Farewells.{farewell_by, farewell_of}
-use Rattle.relations.specs.Timers.{is_timed, is_over, is_again, limit_of, waited_later, quiet_later, unit_later, due_of}
-use Rattle.relations.specs.Phases.{Ended, Passed, moved}
+use Rattle.relations.specs.Farewells.{farewell_of}
+use Rattle.relations.specs.Timers.{is_timed, ending_of, is_again, limit_of, waited_later, quiet_later, unit_later, due_by, due_of}
+use Rattle.relations.specs.Phases.{moved, passing_by}
 use Rattle.relations.specs.Runs.{unit_over, units_over, StandsUntil, EndsAt, IsDueEachSecond}
 
 -- a relation of which nothing was heard for so many units: the same, but for its timers
@@ -18,6 +21,8 @@ pub record IsLater (link : Link) (units : ℕ) (later : Link) : Type 0 where
   pub request : later.request ≡ link.request
   pub quiet : later.quiet ≡ units
   pub waited : is_awaiting link.phase ≡ true → link.waited ≡ 0 → later.waited ≡ units % 32000
+  pub last : later.flow.alarms.sender.sending.last ≡ link.flow.alarms.sender.sending.last
+  pub seen : later.flow.alarms.seen ≡ link.flow.alarms.seen
 
 pub record Stands (link : Link) (units : ℕ) : Type 0 where
   pub later : Link
@@ -37,36 +42,42 @@ le_true a b h = grind (arith, nat_tests)
 le_false : (a b : ℕ) → b < a → nat_le a b ≡ false
 le_false a b h = grind (arith, nat_tests)
 
-and_false : (a b : Bool) → b ≡ false → (a && b) ≡ false
-and_false true b h = h
-and_false false b h = refl
+ends_where : (link : Link) → is_timed link.phase ≡ true → limit_of link ≤ link.quiet + 1 → ending_of link ≡ Some Activity
+ends_where link timed h = rw timed (rw (le_true (limit_of link) (link.quiet + 1) h) refl)
 
-is_over_true : (link : Link) → is_timed link.phase ≡ true → limit_of link ≤ link.quiet + 1 → is_over link ≡ true
-is_over_true link timed h = rw timed (le_true (limit_of link) (link.quiet + 1) h)
+stays_where : (link : Link) → is_timed link.phase ≡ true → link.quiet + 1 < limit_of link → ending_of link ≡ None
+stays_where link timed h = rw timed (rw (le_false (limit_of link) (link.quiet + 1) h) refl)
 
-is_over_false : (link : Link) → link.quiet + 1 < limit_of link → is_over link ≡ false
-is_over_false link h = and_false (is_timed link.phase) _ (le_false (limit_of link) (link.quiet + 1) h)
+moved_on : (ending : Option Abort) (link : Link) → ending ≡ None → moved (passing_by ending) (Some link) ≡ Some (unit_later link)
+moved_on (Some reason) link h = cc
+moved_on None link h = refl
 
-moved_on : (b : Bool) (link : Link) → b ≡ false → moved (if b then Ended else Passed) (Some link) ≡ Some (unit_later link)
-moved_on true link h = cc
-moved_on false link h = refl
+moved_off : (ending : Option Abort) (link : Link) → ending ≡ Some Activity → moved (passing_by ending) (Some link) ≡ None
+moved_off (Some reason) link h = refl
+moved_off None link h = cc
 
-moved_off : (b : Bool) (link : Link) → b ≡ true → moved (if b then Ended else Passed) (Some link) ≡ None
-moved_off true link h = refl
-moved_off false link h = cc
+due_on : (ending : Option Abort) (link : Link) → ending ≡ None → (due_by link ending).is_ready ≡ is_again link
+due_on ending link h = ap (λ (e : Option Abort). (due_by link e).is_ready) h
 
-abbrev due_by : Bool → Link → Due
-due_by over link = if over
-    then record { farewell = Some (farewell_of Activity link); is_ready = false }
-    else record { farewell = None; is_ready = is_again link }
+due_off : (ending : Option Abort) (link : Link) → ending ≡ Some Activity → (due_by link ending).farewell ≡ Some (farewell_of Activity link)
+due_off ending link h = ap (λ (e : Option Abort). (due_by link e).farewell) h
 
-due_on : (b : Bool) (link : Link) → b ≡ false → (due_by b link).is_ready ≡ is_again link
-due_on true link h = cc
-due_on false link h = refl
+-- the ERR hangs on what was asked for, and on the last data that was sent and that was taken
+abbrev farewell_at : Request → Option ℕ → Option ℕ → Farewell
+farewell_at request last seen = record {
+  initiator = request.ar.initiator;
+  tag = request.alarm.tag_low;
+  reference = request.alarm.reference;
+  send_number = send_number last;
+  ack_number = ack_number seen;
+  reason = Activity;
+}
 
-due_off : (b : Bool) (link : Link) → b ≡ true → (due_by b link).farewell ≡ Some (farewell_of Activity link)
-due_off true link h = refl
-due_off false link h = cc
+same_farewell : (link later : Link) (units : ℕ) → IsLater link units later → farewell_of Activity later ≡ farewell_of Activity link
+same_farewell link later units same =
+    ap (λ (r : Request). farewell_at r later.flow.alarms.sender.sending.last later.flow.alarms.seen) same.request
+    ∙ (ap (λ (n : Option ℕ). farewell_at link.request n later.flow.alarms.seen) same.last
+    ∙ ap (λ (n : Option ℕ). farewell_at link.request link.flow.alarms.sender.sending.last n) same.seen)
 
 -- ApplicationReady was waited for so many units
 wraps : (waited units : ℕ) → waited ≡ units % 32000 → (if (waited + 1 == 32000) then 0 else waited + 1) ≡ (units + 1) % 32000
@@ -92,18 +103,21 @@ later_next link units later timed same = record {
   request = same.request;
   quiet = quiet_next later (ap is_timed same.phase ∙ timed) ∙ (ap (λ (n : ℕ). n + 1) same.quiet ∙ add-one units);
   waited = λ waits fresh. waited_next later units (ap is_awaiting same.phase ∙ waits) (same.waited waits fresh) ∙ ap (λ (n : ℕ). n % 32000) (add-one units);
+  last = same.last;
+  seen = same.seen;
 }
 
 pub stands : (link : Link) (units : ℕ) → is_timed link.phase ≡ true → link.quiet ≡ 0 → units < limit_of link → Stands link units
 stands link zero timed fresh below =
-    record { later = link; is = refl; same = record { phase = refl; request = refl; quiet = fresh; waited = λ _ w. w } }
+    record { later = link; is = refl; same = record { phase = refl; request = refl; quiet = fresh; waited = λ _ w. w; last = refl; seen = refl } }
 stands link (suc units) timed fresh below =
     let before = stands link units timed fresh (omega arith) in
     let limit = limit_same link before.later before.same.request in
     let on : before.later.quiet + 1 < limit_of before.later = omega (arith, limit, before.same.quiet, below) in
+    let timed' : is_timed before.later.phase ≡ true = ap is_timed before.same.phase ∙ timed in
     record {
       later = unit_later before.later;
-      is = ap unit_over before.is ∙ moved_on (is_over before.later) before.later (is_over_false before.later on);
+      is = ap unit_over before.is ∙ moved_on (ending_of before.later) before.later (stays_where before.later timed' on);
       same = later_next link units before.later timed before.same;
     }
 
@@ -116,9 +130,10 @@ ends_at link units timed fresh last =
     let so = stands link units timed fresh (omega arith) in
     let limit = limit_same link so.later so.same.request in
     let end : limit_of so.later ≤ so.later.quiet + 1 = omega (arith, limit, so.same.quiet, last) in
-    let over = is_over_true so.later (ap is_timed so.same.phase ∙ timed) end in (
-      ap unit_over so.is ∙ moved_off (is_over so.later) so.later over,
-      ap (λ (l : Option Link). (due_of l).farewell) so.is ∙ (due_off (is_over so.later) so.later over ∙ ap (λ (r : Request). Some (farewell_by Activity r)) so.same.request),
+    let over = ends_where so.later (ap is_timed so.same.phase ∙ timed) end in (
+      ap unit_over so.is ∙ moved_off (ending_of so.later) so.later over,
+      ap (λ (l : Option Link). (due_of l).farewell) so.is
+          ∙ (due_off (ending_of so.later) so.later over ∙ ap (λ (f : Farewell). Some f) (same_farewell link so.later units so.same)),
     )
 
 pub is_due_each_second : IsDueEachSecond
@@ -128,5 +143,5 @@ is_due_each_second link units waits fresh new below =
     let on : so.later.quiet + 1 < limit_of so.later = omega (arith, limit, so.same.quiet, below) in
     let still : is_awaiting so.later.phase ≡ true = ap is_awaiting so.same.phase ∙ waits in
     ap (λ (l : Option Link). (due_of l).is_ready) so.is
-    ∙ (due_on (is_over so.later) so.later (is_over_false so.later on)
+    ∙ (due_on (ending_of so.later) so.later (stays_where so.later (timed_where so.later.phase still) on)
     ∙ rw still (again_with so.later.waited units (so.same.waited waits new)))

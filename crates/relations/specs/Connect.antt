@@ -1,5 +1,5 @@
 -- Connect: which relation a device makes, and what it answers (IEC 61158-6-10, 5.2.4).
-use Rattle.std.specs.Prelude.{◌==◌, ◌++◌, ℕ, List, [], length, Option, Result, Ok, Err, if◌then◌else◌}
+use Rattle.std.specs.Prelude.{◌++◌, ℕ, List, Option, Result, Ok, Err, if◌then◌else◌}
 use Rattle.pn_values.specs.declared.identity.Identity.{Identity}
 use Rattle.pn_values.specs.declared.real.Real.{Real}
 use Rattle.wire.specs.Codec.{◌>>=◌}
@@ -15,14 +15,14 @@ use Rattle.connect_requests.specs.Request.{Request}
 use Rattle.connect_requests.specs.Judged.{request_of}
 use Rattle.relations.specs.declared.phase.Partner.{Partner}
 use Rattle.relations.specs.Link.{Link, uuid_of}
-use Rattle.relations.specs.Phases.{Judged, Made, Unmoved}
+use Rattle.relations.specs.Phases.{Judged, Made, Unmoved, differing_octets}
 
--- the ModuleDiffBlock with these rows, which is there exactly when there is a row
-abbrev pub differing_octets : Listed DiffModule DiffSubmodule → List ℕ
-differing_octets rows = if length rows.modules == 0 then [] else block_bytes (is.ModuleDiffBlock (record { api = 0; modules = rows }))
+-- what differs, and its ModuleDiffBlock, if there is one
+abbrev pub rows_of : Request → Real → Listed DiffModule DiffSubmodule
+rows_of request real = diff_of request.expected real.modules.items
 
 abbrev pub differing_of : Request → Real → List ℕ
-differing_of request real = differing_octets (diff_of request.expected real.modules.items)
+differing_of request real = differing_octets (rows_of request real)
 
 -- ---- the answer
 
@@ -60,5 +60,5 @@ connect_answer identity real link blocks = connect_of link blocks >>= λ request
 
 -- what was judged of it
 abbrev pub making : Real → Partner → Result Request CallFault → Judged
-making real partner (Ok request) = Made request partner (differing_of request real)
+making real partner (Ok request) = Made request partner (rows_of request real)
 making real partner (Err fault) = Unmoved

@@ -2,23 +2,27 @@
 use Rattle.pn_alarms.specs.declared.abort.Abort.{Abort}
 use Rattle.pn_alarms.specs.Abort.{abort_of}
 use Rattle.pn_alarms.specs.Format.{Said}
+use Rattle.pn_alarms.specs.declared.pdu.Header.{Header}
+use Rattle.pn_alarms.specs.declared.pdu.PduType.TheVariants.{Error}
 use Rattle.connect_requests.specs.Request.{Request}
+use Rattle.exchanges.specs.Notices.{header_of}
 use Rattle.relations.specs.declared.farewell.Farewell.{Farewell}
 use Rattle.relations.specs.Link.{Link}
 
--- it goes to CMInitiatorMacAdd, to the LocalAlarmReference there, with the tag of low priority; no alarm was sent or taken before it
-abbrev pub farewell_by : Abort → Request → Farewell
-farewell_by reason request = record {
+-- it goes to CMInitiatorMacAdd, to the LocalAlarmReference there, with the tag of low priority, and with the numbers of the last data
+-- that was sent and that was taken
+abbrev pub farewell_by : Abort → Request → Header → Farewell
+farewell_by reason request header = record {
   initiator = request.ar.initiator;
   tag = request.alarm.tag_low;
   reference = request.alarm.reference;
-  send_number = 0xFFFF;
-  ack_number = 0xFFFE;
+  send_number = header.send_number;
+  ack_number = header.ack_number;
   reason = reason;
 }
 
 abbrev pub farewell_of : Abort → Link → Farewell
-farewell_of reason link = farewell_by reason link.request
+farewell_of reason link = farewell_by reason link.request (header_of link.flow Error)
 
 -- its PDU, from endpoint 1 of the device
 abbrev pub said_by : Farewell → Said

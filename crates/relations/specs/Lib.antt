@@ -6,3 +6,4 @@ pub mod Calls
 pub mod Connect
 pub mod Ready
 pub mod Runs
+pub mod Exchanged

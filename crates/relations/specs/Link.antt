@@ -5,13 +5,14 @@ use Rattle.pn_values.specs.declared.mac.Mac.{Mac}
 use Rattle.call_blocks.specs.Naming.{is_relation}
 use Rattle.connect_requests.specs.Request.{Request}
 use Rattle.record_writes.specs.declared.taken.Taken.{Taken}
+use Rattle.exchanges.specs.Flow.{Flow}
 use Rattle.relations.specs.declared.phase.Phase.{Phase}
 use Rattle.relations.specs.declared.phase.Phase.TheVariants.{Started, Awaiting, Exchanging}
 use Rattle.relations.specs.declared.phase.Partner.{Partner}
 
 -- A relation: what it waits for, what its Connect asked for and who sent that, for how many units the activity timer runs, how
--- many are over since ApplicationReady was sent, the parameter records that were taken, and the octets of its ModuleDiffBlock,
--- none where no module differs.
+-- many are over since ApplicationReady was sent, the parameter records that were taken, the octets of its ModuleDiffBlock, none where
+-- no module differs, and what it exchanges.
 pub record Link : Type 0 where
   pub phase : Phase
   pub request : Request
@@ -20,6 +21,7 @@ pub record Link : Type 0 where
   pub waited : ℕ
   pub taken : List Taken
   pub differing : List ℕ
+  pub flow : Flow
 
 -- a relation in a phase, if there is one
 abbrev pub link_in : Option Phase → (Phase → Link) → Option Link
@@ -40,6 +42,10 @@ taken_of (Some link) = link.taken
 abbrev pub differing_in : Option Link → List ℕ
 differing_in None = []
 differing_in (Some link) = link.differing
+
+-- what it exchanges
+abbrev pub flow_of : Option Link → Option Flow
+flow_of link = option_map (λ l. l.flow) link
 
 -- whether this is its ARUUID
 abbrev pub is_named : List ℕ → Option Link → Bool

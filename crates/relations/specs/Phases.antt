@@ -1,33 +1,54 @@
 -- The phases of a relation: what moves it, and where to.
-use Rattle.std.specs.Prelude.{ℕ, List, [], Option, Some, None, Result, Ok, Err, option_map, if◌then◌else◌}
+use Rattle.std.specs.Prelude.{◌==◌, ℕ, List, [], length, Option, Some, None, Result, Ok, Err, option_map, if◌then◌else◌}
+use Rattle.module_lists.specs.Lists.{Listed}
+use Rattle.module_blocks.specs.declared.module_diff.DiffModule.{DiffModule}
+use Rattle.module_blocks.specs.declared.module_diff.DiffSubmodule.{DiffSubmodule}
+use Rattle.block_codec.specs.declared.block.Block.TheVariants as is
+use Rattle.block_codec.specs.Block.{block_bytes}
 use Rattle.connect_requests.specs.Request.{Request}
 use Rattle.pnio_status.specs.declared.call_fault.CallFault.{CallFault}
 use Rattle.pnio_status.specs.declared.call_fault.CallFault.TheVariants as fault
 use Rattle.record_writes.specs.declared.taken.Taken.{Taken}
 use Rattle.record_writes.specs.Taken.{keep_of}
+use Rattle.pn_alarms.specs.declared.abort.Abort.{Abort}
+use Rattle.exchanges.specs.Flow.{Flow}
+use Rattle.exchanges.specs.Opening.{begun_of, opened}
 use Rattle.relations.specs.declared.phase.Phase.TheVariants.{Started, Awaiting, Exchanging}
 use Rattle.relations.specs.declared.phase.Partner.{Partner}
 use Rattle.relations.specs.Link.{Link, is_named}
-use Rattle.relations.specs.Timers.{is_over, unit_later}
+use Rattle.relations.specs.Timers.{ending_of, unit_later}
 
 -- What was judged of an event: a Connect is accepted; PrmEnd is; ApplicationReady was confirmed; another call that names the
--- relation is answered positively; one more parameter record is taken, which makes it these; a unit of time is over, and ends nothing; the
--- relation ended, by Release, a timeout, a reset, the ERR of the controller, or because ApplicationReady was refused; or nothing
+-- relation is answered positively; one more parameter record is taken, which makes it these; what is exchanged became this; a unit of
+-- time is over, and ends nothing; the relation ended, by Release, a timeout, a reset, the ERR of the controller, or because ApplicationReady was refused; or nothing
 -- of these.
 pub data Judged : Type 0 where
-  Made : (request : Request) → (partner : Partner) → (differing : List ℕ) → Judged
+  Made : (request : Request) → (partner : Partner) → (rows : Listed DiffModule DiffSubmodule) → Judged
   Parameterized : Judged
   Confirmed : Judged
   Named : Judged
   Took : (taken : List Taken) → Judged
+  Exchanged : (flow : Flow) → Judged
   Passed : Judged
   Ended : Judged
   Unmoved : Judged
 
--- a relation that is made now
-abbrev pub made_of : Request → Partner → List ℕ → Link
-made_of request partner differing =
-    record { phase = Started; request = request; partner = partner; quiet = 0; waited = 0; taken = []; differing = differing }
+-- the ModuleDiffBlock with these rows, which is there exactly when there is a row
+abbrev pub differing_octets : Listed DiffModule DiffSubmodule → List ℕ
+differing_octets rows = if length rows.modules == 0 then [] else block_bytes (is.ModuleDiffBlock (record { api = 0; modules = rows }))
+
+-- a relation that is made now, where these modules differ
+abbrev pub made_of : Request → Partner → Listed DiffModule DiffSubmodule → Link
+made_of request partner rows = record {
+  phase = Started;
+  request = request;
+  partner = partner;
+  quiet = 0;
+  waited = 0;
+  taken = [];
+  differing = differing_octets rows;
+  flow = opened request rows;
+}
 
 -- its parameters are all written, and ApplicationReady is sent
 abbrev pub awaiting_from : Link → Link
@@ -35,7 +56,7 @@ awaiting_from link = record link { phase = Awaiting; quiet = 0; waited = 0 }
 
 -- data is exchanged
 abbrev pub exchanging_from : Link → Link
-exchanging_from link = record link { phase = Exchanging }
+exchanging_from link = record link { phase = Exchanging; flow = begun_of link.flow }
 
 -- the activity timer starts again
 abbrev pub restarted : Link → Link
@@ -45,13 +66,18 @@ restarted link = record link { quiet = 0 }
 abbrev pub with_taken : List Taken → Link → Link
 with_taken taken link = record link { taken = taken }
 
+-- what it exchanges became this
+abbrev pub with_flow : Flow → Link → Link
+with_flow flow link = record link { flow = flow }
+
 -- what was judged moves the relation
 abbrev pub moved : Judged → Option Link → Option Link
-moved (Made request partner differing) link = Some (made_of request partner differing)
+moved (Made request partner rows) link = Some (made_of request partner rows)
 moved Parameterized link = option_map awaiting_from link
 moved Confirmed link = option_map exchanging_from link
 moved Named link = option_map restarted link
 moved (Took taken) link = option_map (with_taken taken) link
+moved (Exchanged flow) link = option_map (with_flow flow) link
 moved Passed link = option_map unit_later link
 moved Ended link = None
 moved Unmoved link = link
@@ -59,9 +85,13 @@ moved Unmoved link = link
 -- ---- what was judged of a unit of time, of a call that names an ARUUID, of a call that is answered positively or not, and of a
 -- parameter record that is written
 
+abbrev pub passing_by : Option Abort → Judged
+passing_by (Some reason) = Ended
+passing_by None = Passed
+
 abbrev pub passing : Option Link → Judged
 passing None = Unmoved
-passing (Some link) = if is_over link then Ended else Passed
+passing (Some link) = passing_by (ending_of link)
 
 abbrev pub naming : List ℕ → Option Link → Judged
 naming uuid link = if is_named uuid link then Named else Unmoved

@@ -2,6 +2,8 @@
 use Rattle.std.specs.Prelude.{◌==◌, ◌+◌, ◌*◌, ◌&&◌, ℕ, Bool, true, false, nat_le, Option, Some, None, if◌then◌else◌}
 use Rattle.relations.specs.declared.phase.Phase.{Phase}
 use Rattle.relations.specs.declared.phase.Phase.TheVariants.{Started, Awaiting, Exchanging}
+use Rattle.exchanges.specs.Units.{flow_later, tick_of}
+use Rattle.pn_alarms.specs.declared.abort.Abort.{Abort}
 use Rattle.pn_alarms.specs.declared.abort.Abort.TheVariants.{Activity}
 use Rattle.relations.specs.declared.time.Due.{Due}
 use Rattle.relations.specs.Link.{Link, is_awaiting}
@@ -17,9 +19,13 @@ is_timed Exchanging = false
 abbrev pub limit_of : Link → ℕ
 limit_of link = link.request.ar.timeout_factor * 3200
 
--- whether it ends with the next unit
+-- whether it is over with the next unit
 abbrev pub is_over : Link → Bool
-is_over link = is_timed link.phase && nat_le (limit_of link) (link.quiet + 1)
+is_over link = nat_le (limit_of link) (link.quiet + 1)
+
+-- why the relation ends with the next unit, if it does: the activity timer is over, or, once data is exchanged, what is exchanged ends it
+abbrev pub ending_of : Link → Option Abort
+ending_of link = if is_timed link.phase then (if is_over link then Some Activity else None) else (tick_of link.flow).ending
 
 -- ApplicationReady is sent again each second, 32,000 units, until it is answered
 abbrev pub is_again : Link → Bool
@@ -33,14 +39,18 @@ abbrev pub waited_later : Link → ℕ
 waited_later link = if is_again link then 0 else (if is_awaiting link.phase then link.waited + 1 else link.waited)
 
 abbrev pub unit_later : Link → Link
-unit_later link = record link { quiet = quiet_later link; waited = waited_later link }
+unit_later link = record link { quiet = quiet_later link; waited = waited_later link; flow = flow_later link.flow }
 
--- what a unit brings: a timeout ends the relation, and nothing more is done; else ApplicationReady may be due again
+-- what a unit brings: a timeout ends the relation, and nothing more is done; else the alarm that stands may be due again, then
+-- ApplicationReady, and then a frame of inputs
+abbrev pub due_by : Link → Option Abort → Due
+due_by link (Some reason) = record { farewell = Some (farewell_of reason link); is_alarm = false; is_ready = false; is_cyclic = false }
+due_by link None =
+    record { farewell = None; is_alarm = (tick_of link.flow).is_alarm; is_ready = is_again link; is_cyclic = (tick_of link.flow).is_cyclic }
+
 abbrev pub due_in : Link → Due
-due_in link = if is_over link
-    then record { farewell = Some (farewell_of Activity link); is_ready = false }
-    else record { farewell = None; is_ready = is_again link }
+due_in link = due_by link (ending_of link)
 
 abbrev pub due_of : Option Link → Due
-due_of None = record { farewell = None; is_ready = false }
+due_of None = record { farewell = None; is_alarm = false; is_ready = false; is_cyclic = false }
 due_of (Some link) = due_in link

@@ -1,9 +1,8 @@
 //! Connect (IEC 61158-6-10, 5.2.4.1 to 5.2.4.11).
 ghost use Rattle.std.specs.Prelude.{◌≡◌, ◌+◌, ◌≤◌, ◌++◌, [], length, IfErr, IfOk, Err, Ok};
 ghost use Rattle.arrayvec.specs.ArrayVec.{array_vec_len};
-ghost use Rattle.module_diff.specs.Diff.{diff_of};
-ghost use Rattle.relations.specs.Connect.{connect_answer, connect_blocks, connect_of, differing_octets, iocr_answer, iocrs_answer, making};
-ghost use Rattle.relations.specs.Phases.{moved};
+ghost use Rattle.relations.specs.Connect.{connect_answer, connect_blocks, connect_of, iocr_answer, iocrs_answer, making};
+ghost use Rattle.relations.specs.Phases.{differing_octets, moved};
 
 use crate::{Partner, Phase, Relation};
 use arrayvec::ArrayVec;
@@ -11,7 +10,7 @@ use block_codec::{AlarmCrBlockRes, ArBlockRes, Block, IocrBlockRes, write_block}
 use connect_blocks::{alarm_cr_block_res_len, ar_block_res_len, iocr_block_res_len};
 use connect_requests::{ConnectRequest, Iocr, refuse};
 use module_blocks::module_diff_len;
-use module_diff::{Expected, diff};
+use module_diff::{DiffRows, diff};
 use pn_values::{Identity, Real};
 use pnio_status::CallFault;
 use wire::append;
@@ -21,13 +20,12 @@ const INPUT: u16 = 1;
 /// IOCRType of outputs.
 const OUTPUT: u16 = 2;
 
-/// Puts the ModuleDiffBlock of what is expected in the place of what is there: nothing where no module differs.
+/// Puts the ModuleDiffBlock with these rows in the place of what is there: nothing where no module differs.
 #[tactic(auto, unfolding(block_codec::specs::Block::block_size, block_codec::specs::Block::fields_of, block_fields::specs::Fields::body, block_fields::specs::Fields::version))]
-fn put_differing(octets: &mut ArrayVec<u8, 1166>, expected: &Expected, real: &Real)
-    ensures { octets.new.items ≡ differing_octets (diff_of expected.now real.now.modules.items) }
+fn put_differing(octets: &mut ArrayVec<u8, 1166>, rows: &DiffRows)
+    ensures { octets.new.items ≡ differing_octets rows.now }
 {
     octets.clear();
-    let rows = diff(expected, real);
     if rows.is_empty() {
         return;
     }
@@ -116,7 +114,9 @@ impl Relation {
             return Err(refuse(&self.request.ar().uuid, blocks));
         }
         self.request.read(blocks)?;
-        put_differing(&mut self.differing, self.request.expected(), real);
+        let rows = diff(self.request.expected(), real);
+        put_differing(&mut self.differing, &rows);
+        self.exchange.open(&self.request, &rows);
         self.taken.clear();
         self.partner = partner;
         self.quiet = 0;

@@ -4,7 +4,7 @@ ghost use Rattle.pn_alarms.specs.Format.{is_long, said};
 ghost use Rattle.relations.specs.Farewells.{farewell_by, said_by};
 
 use connect_requests::ConnectRequest;
-use pn_alarms::{Abort, Pdu};
+use pn_alarms::{Abort, Header, Pdu};
 use pn_values::Mac;
 
 /// The endpoint of the device: the LocalAlarmReference that it answers in AlarmCRBlockRes.
@@ -28,17 +28,17 @@ pub struct Farewell {
 }
 
 impl Farewell {
-    /// The ERR of a relation that was asked for so.
-    pub(crate) fn of(request: &ConnectRequest, reason: Abort) -> Farewell
-        ensures { result ≡ farewell_by reason request.now }
+    /// The ERR of a relation that was asked for so, with the numbers of this header.
+    pub(crate) fn of(request: &ConnectRequest, header: &Header, reason: Abort) -> Farewell
+        ensures { result ≡ farewell_by reason request.now header.now }
     {
         let alarm = request.alarm();
         Farewell {
             initiator: request.ar().initiator,
             tag: alarm.tag_low,
             reference: alarm.reference,
-            send_number: 0xFFFF,
-            ack_number: 0xFFFE,
+            send_number: header.send_number,
+            ack_number: header.ack_number,
             reason,
         }
     }

@@ -10,7 +10,7 @@ ghost use Rattle.relations.specs.Ready.{answer_of, confirmed_block, confirmed_by
 use crate::ready::CONTROL;
 use crate::{Farewell, Phase, Relation};
 use block_codec::{Block, read_block};
-use pn_alarms::Abort;
+use pn_alarms::{Abort, PduType};
 use rpc_core::{Header, Response, Status};
 use uuid::Uuid;
 
@@ -47,11 +47,13 @@ impl Relation {
         }
         if !is_done(response.status) {
             self.phase = None;
-            return Heard::Refused(Farewell::of(&self.request, Abort::Other));
+            let header = self.exchange.header(PduType::Error);
+            return Heard::Refused(Farewell::of(&self.request, &header, Abort::Other));
         }
         let heard = confirmed_by(&uuid, response.blocks);
         if let Heard::Confirmed = heard {
             self.phase = Some(Phase::Exchanging);
+            self.exchange.begin();
         }
         heard
     }

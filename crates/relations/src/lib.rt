@@ -7,6 +7,7 @@
 
 mod calls;
 mod connect;
+mod exchanged;
 mod farewell;
 mod hearing;
 mod laws;
@@ -15,6 +16,7 @@ mod ready;
 mod relation;
 mod time;
 
+pub use exchanges::{DataExchange, Received, Route};
 pub use farewell::Farewell;
 pub use hearing::Heard;
 pub use laws::time_is_kept;

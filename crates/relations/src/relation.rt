@@ -10,7 +10,8 @@ use crate::{Farewell, Partner, Phase};
 use arrayvec::ArrayVec;
 use call_blocks::is_relation;
 use connect_requests::ConnectRequest;
-use pn_alarms::Abort;
+use exchanges::DataExchange;
+use pn_alarms::{Abort, PduType};
 use pn_values::Mac;
 use pnio_status::CallFault;
 use record_writes::{Taken, TakenRecords};
@@ -31,6 +32,8 @@ pub struct Relation {
     pub(crate) taken: TakenRecords,
     /// The ModuleDiffBlock, if there is one.
     pub(crate) differing: ArrayVec<u8, 1166>,
+    /// What is exchanged.
+    pub(crate) exchange: DataExchange,
 }
 
 // Clauses see what is kept of the relation, where there is one.
@@ -51,6 +54,7 @@ impl Model for Relation {
       waited = relation.waited;
       taken = relation.taken;
       differing = relation.differing.items;
+      flow = relation.exchange;
     }) };
 
     ghost invariant = { λ relation. (relation.quiet ≤ 209712000) × (relation.waited < 32000) };
@@ -72,6 +76,7 @@ impl Relation {
             waited: 0,
             taken: TakenRecords::new(),
             differing: ArrayVec::new(),
+            exchange: DataExchange::new(),
         }
     }
 
@@ -165,7 +170,10 @@ impl Relation {
         ensures state { self.new ≡ moved Ended self.old }
     {
         let farewell = match self.phase {
-            Some(_) => Some(Farewell::of(&self.request, Abort::Other)),
+            Some(_) => {
+                let header = self.exchange.header(PduType::Error);
+                Some(Farewell::of(&self.request, &header, Abort::Other))
+            }
             None => None,
         };
         self.phase = None;

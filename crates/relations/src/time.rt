@@ -1,12 +1,13 @@
 //! The units of time.
-ghost use Rattle.std.specs.Prelude.{◌≡◌, ◌==◌, ◌+◌, ◌<◌, ◌⊎◌, None, Some, if◌then◌else◌};
+ghost use Rattle.std.specs.Prelude.{◌≡◌, ◌==◌, ◌+◌, ◌<◌, ◌⊎◌, None, Some, false, nat_le, if◌then◌else◌};
+ghost use Rattle.pn_alarms.specs.declared.abort.Abort.TheVariants.{Activity};
 ghost use Rattle.relations.specs.Link.{Link, is_awaiting, phase_of};
 ghost use Rattle.relations.specs.Timers.{due_of, is_timed};
 ghost use Rattle.relations.specs.Phases.{moved, passing};
 ghost use Rattle.relations.specs.Ready.{ready_of};
 
 use crate::{Farewell, Phase, Relation};
-use pn_alarms::Abort;
+use pn_alarms::{Abort, PduType};
 
 /// 100 ms, in units of 31.25 microseconds: what CMInitiatorActivityTimeoutFactor counts.
 const TENTH_OF_A_SECOND: u32 = 3_200;
@@ -19,8 +20,26 @@ const SECOND: u32 = 32_000;
 pub struct Due {
     /// A timeout has ended the relation: its ERR, and nothing else.
     pub farewell: Option<Farewell>,
+    /// The alarm that stands is sent again.
+    pub is_alarm: bool,
     /// ApplicationReady is sent again.
     pub is_ready: bool,
+    /// A frame of inputs is sent.
+    pub is_cyclic: bool,
+}
+
+impl Due {
+    /// A timeout has ended the relation, or there is none.
+    fn ended(farewell: Option<Farewell>) -> Due
+        ensures { result ≡ record { farewell = farewell; is_alarm = false; is_ready = false; is_cyclic = false } }
+    {
+        Due {
+            farewell,
+            is_alarm: false,
+            is_ready: false,
+            is_cyclic: false,
+        }
+    }
 }
 
 /// Whether the activity timer runs.
@@ -45,7 +64,8 @@ fn is_awaiting(phase: Phase) -> bool
 
 impl Relation {
     /// A unit of 31.25 microseconds passes. The activity timer ends the relation at CMInitiatorActivityTimeoutFactor times 3,200
-    /// units; where it does not, ApplicationReady is due again each 32,000 units until it is answered.
+    /// units; once data is exchanged data hold does, and then an alarm that was sent as often as it may be. Where none does, the alarm
+    /// that stands may be due again, ApplicationReady is each 32,000 units until it is answered, and a frame of inputs each interval.
     pub fn tick(&mut self) -> Due
         ensures due { result ≡ due_of self.old }
         ensures state { self.new ≡ moved (passing self.old) self.old }
@@ -55,27 +75,40 @@ impl Relation {
         ensures same { (old new : Link) → self.old ≡ Some old → self.new ≡ Some new → ready_of new ≡ ready_of old }
     {
         let Some(phase) = self.phase else {
-            return Due {
-                farewell: None,
-                is_ready: false,
-            };
+            return Due::ended(None);
         };
-        if is_timed(phase) {
+        let header = self.exchange.header(PduType::Error);
+        let tick = self.exchange.tick();
+        let ending = if is_timed(phase) {
             let limit = u32::from(self.request.ar().timeout_factor) * TENTH_OF_A_SECOND;
-            if limit <= self.quiet + 1 {
-                self.phase = None;
-                return Due {
-                    farewell: Some(Farewell::of(&self.request, Abort::Activity)),
-                    is_ready: false,
-                };
-            }
-            self.quiet += 1;
+            unit_quiet(&mut self.quiet, limit)
+        } else {
+            tick.ending
+        };
+        if let Some(reason) = ending {
+            self.phase = None;
+            return Due::ended(Some(Farewell::of(&self.request, &header, reason)));
         }
         Due {
             farewell: None,
+            is_alarm: tick.is_alarm,
             is_ready: is_awaiting(phase) && unit_waited(&mut self.waited),
+            is_cyclic: tick.is_cyclic,
         }
     }
+}
+
+/// A unit passes in which the activity timer of so many units runs, which ends the relation where it is over.
+fn unit_quiet(quiet: &mut u32, limit: u32) -> Option<Abort>
+    requires few { quiet.old + 1 < 4294967296 }
+    ensures ending { result ≡ (if nat_le limit (quiet.old + 1) then Some Activity else None) }
+    ensures quiet { quiet.new ≡ (if nat_le limit (quiet.old + 1) then quiet.old else quiet.old + 1) }
+{
+    if limit <= *quiet + 1 {
+        return Some(Abort::Activity);
+    }
+    *quiet += 1;
+    None
 }
 
 /// A unit passes in which ApplicationReady waits for its answer. Answers whether it is due again.

@@ -9,16 +9,18 @@ use Rattle.flash_model.specs.declared.flash.Order.TheVariants.{Cut, Fault}
 use Rattle.script_runner.specs.Numbers.{number_of, repeated}
 use Rattle.hex.specs.declared.error.FromHexError.{FromHexError}
 use Rattle.script_runner.specs.declared.command.Words.{Words}
-use Rattle.script_runner.specs.declared.command.Words.TheVariants.{One, Two, Three, More}
+use Rattle.script_runner.specs.declared.command.Words.TheVariants.{One, Two, Three, Four, More}
 
--- what a script asks for: hand in these bytes, take the power away and give it back, let time go by, show the settings,
--- tell the flash what to do
+-- what a script asks for: hand in these bytes, take the power away and give it back, let time go by, show the settings, tell the flash
+-- what to do, give the submodule in a slot and subslot this input, or raise an alarm of it with these octets
 pub data Command : Type 0 where
   Frame : (bytes : List ℕ) → Command
   Restart : Command
   Tick : (units : ℕ) → Command
   Show : Command
   Arm : (order : Order) → Command
+  Input : (slot : ℕ) → (subslot : ℕ) → (bytes : List ℕ) → Command
+  Alarm : (slot : ℕ) → (subslot : ℕ) → (bytes : List ℕ) → Command
 
 -- what a line is: too long or not ASCII, empty or a comment, one that asks for something, or none of these
 pub data Line : Type 0 where
@@ -41,7 +43,8 @@ abbrev pub AreWords : List ℕ → Words → Type 0
 AreWords line (One first) = words_of line ≡ first.now ∷ []
 AreWords line (Two first second) = words_of line ≡ first.now ∷ second.now ∷ []
 AreWords line (Three first second third) = words_of line ≡ first.now ∷ second.now ∷ third.now ∷ []
-AreWords line More = (first second third fourth : List ℕ) × (more : List (List ℕ)) × (words_of line ≡ first ∷ second ∷ third ∷ fourth ∷ more)
+AreWords line (Four first second third fourth) = words_of line ≡ first.now ∷ second.now ∷ third.now ∷ fourth.now ∷ []
+AreWords line More = (first second third fourth fifth : List ℕ) × (more : List (List ℕ)) × (words_of line ≡ first ∷ second ∷ third ∷ fourth ∷ fifth ∷ more)
 
 -- a word is this text
 abbrev pub is_text : List ℕ → List ℕ → Bool
@@ -94,13 +97,26 @@ ordered word (Some strike) = order_of word strike
 abbrev pub with_two : List ℕ → List ℕ → List ℕ → Option Command
 with_two word first second = ordered word (strike_of (number_of 4294967295 first) (mask_of (decode_of second)))
 
+-- what a word asks for with a slot, a subslot and bytes
+abbrev pub targeted : List ℕ → Option ℕ → Option ℕ → Option (List ℕ) → Option Command
+targeted word (Some slot) (Some subslot) (Some bytes) =
+    if is_text word (codes "input") then Some (Input slot subslot bytes)
+    else (if is_text word (codes "alarm") then Some (Alarm slot subslot bytes) else None)
+targeted word (Some slot) (Some subslot) None = None
+targeted word (Some slot) None bytes = None
+targeted word None subslot bytes = None
+
+abbrev pub with_three : List ℕ → List ℕ → List ℕ → List ℕ → Option Command
+with_three word first second third = targeted word (number_of 65535 first) (number_of 65535 second) (bytes_of third)
+
 -- what some words ask for
 abbrev pub command_of : List (List ℕ) → Option Command
 command_of [] = None
 command_of (word ∷ []) = bare word
 command_of (word ∷ first ∷ []) = with_one word first
 command_of (word ∷ first ∷ second ∷ []) = with_two word first second
-command_of (word ∷ first ∷ second ∷ third ∷ more) = None
+command_of (word ∷ first ∷ second ∷ third ∷ []) = with_three word first second third
+command_of (word ∷ first ∷ second ∷ third ∷ fourth ∷ more) = None
 
 -- longer than 65,536 bytes, or not ASCII
 abbrev pub is_unfit : List ℕ → Bool

@@ -12,8 +12,8 @@ use Rattle.device_core.specs.State.{Station as Device, Live}
 use Rattle.device_core.specs.Machine.{Stepped, step_of}
 use Rattle.device_core.specs.Cycle.{started}
 use Rattle.script_runner.specs.Demo.{demo_device}
-use Rattle.script_runner.specs.Line.{Command, Frame, Restart, Tick, Show, Arm, Line, Unfit, Skipped, Asks, Unknown, meaning_of}
-use Rattle.script_runner.specs.Show.{shown}
+use Rattle.script_runner.specs.Line.{Command, Frame, Restart, Tick, Show, Arm, Input, Alarm, Line, Unfit, Skipped, Asks, Unknown, meaning_of}
+use Rattle.script_runner.specs.Show.{shown, outputs_shown}
 use Rattle.script_runner.specs.Text.{boot_line, out_lines, note_line}
 
 -- a device without its flash: what it is, and what changes
@@ -56,8 +56,14 @@ unfoldable pub said : Station → Command → Answer
 said station (Frame bytes) = step_answer station (step_of [] station.device station.live (event.Frame (record { items = take 1519 bytes })))
 said station Restart = record { station = demo_started station.live.values.stored station.live.values.room; text = boot_line None }
 said station (Tick units) = tick_answer (ticked units station)
-said station Show = record { station = station; text = shown station.live.values.running station.live.values.stored (phase_of station.live.rest.link) station.live.rest.lamp }
+said station Show = record {
+  station = station;
+  text = shown station.live.values.running station.live.values.stored (phase_of station.live.rest.link) station.live.rest.lamp
+      ++ outputs_shown station.device.real station.live.rest.link;
+}
 said station (Arm order) = record { station = station; text = [] }
+said station (Input slot subslot bytes) = step_answer station (step_of [] station.device station.live (event.Input slot subslot (record { items = take 1519 bytes })))
+said station (Alarm slot subslot bytes) = step_answer station (step_of [] station.device station.live (event.Alarm slot subslot (record { items = take 1519 bytes })))
 
 -- what a line does; None where it is refused
 abbrev pub answer_of : Station → Line → Option Answer
@@ -95,6 +101,8 @@ arms Restart = false
 arms (Tick units) = false
 arms Show = false
 arms (Arm order) = true
+arms (Input slot subslot bytes) = false
+arms (Alarm slot subslot bytes) = false
 
 -- a line that does
 abbrev pub is_order : Line → Bool

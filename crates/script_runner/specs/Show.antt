@@ -1,8 +1,14 @@
 -- The lines that show the settings and the lamp.
-use Rattle.std.specs.Prelude.{ℕ, List, [], ◌∷◌, ◌++◌, length, ◌==◌, slice_index, codes, decimal, if◌then◌else◌, Option, Some, None}
+use Rattle.std.specs.Prelude.{ℕ, List, [], ◌∷◌, ◌++◌, length, ◌==◌, slice_index, codes, decimal, flat_map, if◌then◌else◌, Option, Some, None}
 use Rattle.hex.specs.Hex.{encode_lower}
 use Rattle.pn_values.specs.IpSuite.{Suite}
 use Rattle.pn_values.specs.declared.settings.Settings.{Settings}
+use Rattle.pn_values.specs.declared.real.Real.{Real}
+use Rattle.pn_values.specs.declared.real.RealModule.{RealModule}
+use Rattle.pn_values.specs.declared.real.RealSubmodule.{RealSubmodule}
+use Rattle.device_core.specs.Outputs.{output_of}
+use Rattle.relations.specs.Exchanged.{output_in}
+use Rattle.relations.specs.Link.{Link}
 use Rattle.relations.specs.declared.phase.Phase.{Phase}
 use Rattle.relations.specs.declared.phase.Phase.TheVariants.{Started, Awaiting, Exchanging}
 use Rattle.script_runner.specs.Text.{printed}
@@ -37,6 +43,26 @@ phase_line phase = printed (codes "phase " ++ phase_word phase)
 -- for how many units of time the lamp still flashes
 unfoldable pub lamp_line : ℕ → List ℕ
 lamp_line units = printed (codes "lamp " ++ decimal units)
+
+-- the output of a submodule, in hex
+abbrev pub shown_or : Option (List ℕ) → List ℕ
+shown_or (Some value) = value
+shown_or None = []
+
+unfoldable pub output_line : ℕ → ℕ → List ℕ → List ℕ
+output_line slot subslot value = printed (codes "output " ++ decimal slot ++ codes " " ++ decimal subslot ++ codes " " ++ encode_lower value)
+
+-- of a submodule that has one
+abbrev pub part_shown : Real → Option Link → ℕ → RealSubmodule → List ℕ
+part_shown real link slot part =
+    if part.output == 0 then [] else output_line slot part.subslot (shown_or (output_of real slot part.subslot (output_in slot part.subslot link)))
+
+abbrev pub module_shown : Real → Option Link → RealModule → List ℕ
+module_shown real link entry = flat_map (part_shown real link entry.slot) entry.submodules.items
+
+-- of all that are plugged, in their order
+abbrev pub outputs_shown : Real → Option Link → List ℕ
+outputs_shown real link = flat_map (module_shown real link) real.modules.items
 
 -- what runs, beside the name and the suite that are stored, the relation and the lamp
 abbrev pub shown : Settings → Settings → Option Phase → ℕ → List ℕ

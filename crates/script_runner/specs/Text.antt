@@ -5,7 +5,7 @@ use Rattle.hex.specs.Hex.{encode_lower}
 use Rattle.settings_journal.specs.declared.journal.BootFault.{BootFault}
 use Rattle.settings_journal.specs.declared.journal.BootFault.TheVariants.{FlashFault, Foreign}
 use Rattle.device_core.specs.declared.event.Note.{Note}
-use Rattle.device_core.specs.declared.event.Note.TheVariants.{Done, NotMine, Fault, Filter, OldCall, NoRelation}
+use Rattle.device_core.specs.declared.event.Note.TheVariants.{Done, NotMine, Fault, Filter, OldCall, NoRelation, StaleCycle, Refused}
 
 -- a line of the output, with the line feed at its end
 abbrev pub printed : List ℕ → List ℕ
@@ -36,6 +36,8 @@ note_word Fault = codes "fault"
 note_word Filter = codes "filter"
 note_word OldCall = codes "old-call"
 note_word NoRelation = codes "no-relation"
+note_word StaleCycle = codes "stale-cycle"
+note_word Refused = codes "refused"
 
 -- what became of an event
 unfoldable pub note_line : Note → List ℕ

@@ -4,7 +4,7 @@ ghost use Rattle.std.specs.List.{slice_split, list_any, position};
 ghost use Rattle.std.specs.Option.{option_map, option_copied};
 ghost use Rattle.std.specs.Str.Lines.{lines, strip_carriage_return};
 ghost use Rattle.hex.specs.Hex.{decode_of};
-ghost use Rattle.script_runner.specs.Line.{behind, AreWords, bytes_of, command_of, meaning_of, words_of, bare, with_one, with_two, ticks_of, mask_of, strike_of};
+ghost use Rattle.script_runner.specs.Line.{behind, AreWords, bytes_of, command_of, meaning_of, words_of, bare, with_one, with_two, with_three, ticks_of, mask_of, strike_of};
 ghost use Rattle.script_runner.specs.Numbers.{number_of};
 ghost use Rattle.script_runner.specs.Read.{command_read, line_read};
 
@@ -32,6 +32,10 @@ pub(crate) enum Command<'a> {
     Show,
     /// Tell the flash what to do to a later call.
     Arm(Order),
+    /// Give the submodule in this slot and subslot its input.
+    Input(u16, u16, &'a [u8]),
+    /// Raise an alarm of the submodule in this slot and subslot, with these octets.
+    Alarm(u16, u16, &'a [u8]),
 }
 
 /// What a line is.
@@ -52,6 +56,7 @@ pub(crate) enum Words<'a> {
     One(&'a [u8]),
     Two(&'a [u8], &'a [u8]),
     Three(&'a [u8], &'a [u8], &'a [u8]),
+    Four(&'a [u8], &'a [u8], &'a [u8], &'a [u8]),
     More,
 }
 
@@ -113,8 +118,12 @@ pub(crate) fn words_in(line: &[u8]) -> Words<'_>
         return Words::Two(first, second);
     };
     let (third, rest) = cut_at(rest, b' ');
+    let Some(rest) = rest else {
+        return Words::Three(first, second, third);
+    };
+    let (fourth, rest) = cut_at(rest, b' ');
     match rest {
-        None => Words::Three(first, second, third),
+        None => Words::Four(first, second, third, fourth),
         Some(_) => Words::More,
     }
 }
@@ -157,6 +166,7 @@ fn asked_by<'a>(
         Words::One(word) => Ok(bare(word)),
         Words::Two(word, first) => with_one(word, first, buffer),
         Words::Three(word, first, second) => with_two(word, first, second, buffer),
+        Words::Four(word, first, second, third) => with_three(word, first, second, third, buffer),
         Words::More => Ok(None),
     }
 }
@@ -216,6 +226,43 @@ fn with_two(
         Ok(Some(Command::Arm(Order::Fault { after, mask })))
     } else {
         Ok(None)
+    }
+}
+
+fn with_three<'a>(
+    word: &[u8],
+    first: &[u8],
+    second: &[u8],
+    third: &[u8],
+    buffer: &'a mut Vec<u8>,
+) -> Result<Option<Command<'a>>, AllocError>
+    ensures { IfOk result (λ command. option_map command_read command ≡ with_three word.now first.now second.now third.now) }
+{
+    let Some(slot) = place_number(first) else {
+        return Ok(None);
+    };
+    let Some(subslot) = place_number(second) else {
+        return Ok(None);
+    };
+    let Some(bytes) = decoded(third, buffer)? else {
+        return Ok(None);
+    };
+    if word == b"input".as_slice() {
+        Ok(Some(Command::Input(slot, subslot, bytes)))
+    } else if word == b"alarm".as_slice() {
+        Ok(Some(Command::Alarm(slot, subslot, bytes)))
+    } else {
+        Ok(None)
+    }
+}
+
+/// The number of a slot or a subslot.
+fn place_number(digits: &[u8]) -> Option<u16>
+    ensures { result ≡ number_of 65535 digits.now }
+{
+    match numbers::decimal(digits, 65_535) {
+        Some(number) => Some(number as u16),
+        None => None,
     }
 }
 

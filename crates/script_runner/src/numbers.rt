@@ -1,11 +1,12 @@
 // Numbers as a script writes them.
-ghost use Rattle.std.specs.Prelude.{◌≡◌, ◌<◌, ◌%◌, ◌^◌, length, slice_index};
+ghost use Rattle.std.specs.Prelude.{◌≡◌, ◌<◌, ◌≤◌, IfSome, ◌%◌, ◌^◌, length, slice_index};
 ghost use Rattle.script_runner.specs.Numbers.{number_of, repeated};
 
 /// The number that decimal digits spell, at least one of them, where it is not greater than `most`.
 #[tactic(auto, unfolding(crate::specs::Numbers::number_of))]
 pub(crate) fn decimal(digits: &[u8], most: u32) -> Option<u32>
-    ensures { result ≡ number_of most digits.now }
+    ensures value { result ≡ number_of most digits.now }
+    ensures few { IfSome result (λ number. number ≤ most) }
 {
     if digits.is_empty() {
         return None;

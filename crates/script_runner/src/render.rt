@@ -71,5 +71,7 @@ fn word(note: Note) -> &'static [u8]
         Note::Filter => b"filter",
         Note::OldCall => b"old-call",
         Note::NoRelation => b"no-relation",
+        Note::StaleCycle => b"stale-cycle",
+        Note::Refused => b"refused",
     }
 }

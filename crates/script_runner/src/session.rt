@@ -8,6 +8,7 @@ ghost use Rattle.device_core.specs.declared.event.Event.TheVariants as event;
 ghost use Rattle.device_core.specs.Machine.{step_of};
 ghost use Rattle.script_runner.specs.Read.{line_read};
 ghost use Rattle.script_runner.specs.Script.{Station, demo_started, step_answer, ticked};
+ghost use Rattle.script_runner.specs.Show.{module_shown, outputs_shown, part_shown};
 ghost use Rattle.script_runner.specs.Session.{Runs, IsStepped, IsDone, is_heard_off};
 
 use crate::bytes::{copied, front};
@@ -17,6 +18,7 @@ use crate::{RunFault, demo, render, show};
 use device_core::{Device, Event, Note};
 use flash_model::{Flash, Lent, MemoryFlash, Order};
 use frame_codec::Outbox;
+use pn_values::{RealModule, RealSubmodule};
 use settings_journal::BootFault;
 use std::alloc::{AllocError, Global};
 use std::io::Write;
@@ -113,7 +115,7 @@ pub(crate) struct Session<'a> {
 }
 
 impl<'a> Session<'a> {
-    ghost use Rattle.script_runner.specs.Line.{Frame, Restart, Tick, Show, meaning_of};
+    ghost use Rattle.script_runner.specs.Line.{Frame, Restart, Tick, Show, Input, Alarm, meaning_of};
     ghost use Rattle.script_runner.specs.Read.{command_read};
     ghost use Rattle.script_runner.specs.Output.{Grows};
     ghost use Rattle.script_runner.specs.Script.{said, factory_device, arms, is_order};
@@ -190,6 +192,8 @@ impl<'a> Session<'a> {
     {
         match command {
             Command::Frame(bytes) => self.hand_in(bytes),
+            Command::Input(slot, subslot, bytes) => self.give(slot, subslot, bytes),
+            Command::Alarm(slot, subslot, bytes) => self.alarm(slot, subslot, bytes),
             Command::Restart => self.restart(),
             Command::Tick(units) => self.tick(units),
             Command::Show => self.show(),
@@ -211,6 +215,38 @@ impl<'a> Session<'a> {
             Power::On(device) => {
                 receive(&mut self.received, bytes);
                 respond(device, &self.received, &mut self.outbox, &mut self.text)
+            }
+            Power::Off(_, _) | Power::Away => self.text.extend_from_slice(b"off\n"),
+        }
+    }
+
+    /// Gives the device the input of a submodule, at most 1,519 bytes: no input is so long.
+    #[tactic(auto, unfolding(crate::specs::Script::said))]
+    fn give(&mut self, slot: u16, subslot: u16, bytes: &[u8]) -> Result<(), AllocError>
+        ensures obeys { (station : Station) → IsRunning station self.old.power →
+            OnOk result (IsObeyed (said station (Input slot subslot bytes.now)) self.new.power self.old.text.items self.new.text.items) }
+        ensures demo { IsDemo self.old.power → IsDemo self.new.power }
+    {
+        match &mut self.power {
+            Power::On(device) => {
+                let event = Event::Input(slot, subslot, copied(front(bytes, 1519)));
+                respond(device, &event, &mut self.outbox, &mut self.text)
+            }
+            Power::Off(_, _) | Power::Away => self.text.extend_from_slice(b"off\n"),
+        }
+    }
+
+    /// Raises an alarm at the device, of at most 1,519 bytes: none is so long.
+    #[tactic(auto, unfolding(crate::specs::Script::said))]
+    fn alarm(&mut self, slot: u16, subslot: u16, bytes: &[u8]) -> Result<(), AllocError>
+        ensures obeys { (station : Station) → IsRunning station self.old.power →
+            OnOk result (IsObeyed (said station (Alarm slot subslot bytes.now)) self.new.power self.old.text.items self.new.text.items) }
+        ensures demo { IsDemo self.old.power → IsDemo self.new.power }
+    {
+        match &mut self.power {
+            Power::On(device) => {
+                let event = Event::Alarm(slot, subslot, copied(front(bytes, 1519)));
+                respond(device, &event, &mut self.outbox, &mut self.text)
             }
             Power::Off(_, _) | Power::Away => self.text.extend_from_slice(b"off\n"),
         }
@@ -261,7 +297,8 @@ impl<'a> Session<'a> {
                     phase,
                     lamp,
                     &mut self.text,
-                )
+                )?;
+                outputs(device, &mut self.text)
             }
             Power::Off(_, _) | Power::Away => self.text.extend_from_slice(b"off\n"),
         }
@@ -276,6 +313,48 @@ impl<'a> Session<'a> {
             Power::Off(_, flash) => flash.arm(order),
             Power::Away => {}
         }
+    }
+}
+
+/// The outputs of the submodules that have one.
+fn outputs(device: &DemoDevice<'_>, text: &mut Vec<u8>) -> Result<(), AllocError>
+    ensures { OnOk result (text.new.items ≡ text.old.items ++ outputs_shown device.now.station.real device.now.live.rest.link) }
+{
+    for entry in device.real().modules.as_slice() {
+        module_outputs(device, entry, text)?;
+    }
+    Ok(())
+}
+
+/// Those of a module.
+fn module_outputs(
+    device: &DemoDevice<'_>,
+    entry: &RealModule,
+    text: &mut Vec<u8>,
+) -> Result<(), AllocError>
+    ensures { OnOk result (text.new.items ≡ text.old.items ++ module_shown device.now.station.real device.now.live.rest.link entry.now) }
+{
+    for part in entry.submodules.as_slice() {
+        part_output(device, entry.slot, part, text)?;
+    }
+    Ok(())
+}
+
+/// That of a submodule, if it has one.
+fn part_output(
+    device: &DemoDevice<'_>,
+    slot: u16,
+    part: &RealSubmodule,
+    text: &mut Vec<u8>,
+) -> Result<(), AllocError>
+    ensures { OnOk result (text.new.items ≡ text.old.items ++ part_shown device.now.station.real device.now.live.rest.link slot part.now) }
+{
+    if part.output == 0 {
+        return Ok(());
+    }
+    match device.output(slot, part.subslot) {
+        Some(value) => show::output(slot, part.subslot, value, text),
+        None => show::output(slot, part.subslot, &[], text),
     }
 }
 
@@ -300,7 +379,9 @@ fn receive(received: &mut Event, bytes: &[u8])
             room.clear();
             let _ = room.try_extend_from_slice(bytes);
         }
-        Event::Tick => *received = Event::Frame(copied(bytes)),
+        Event::Tick | Event::Input(..) | Event::Alarm(..) => *received = Event::Frame(copied(
+            bytes,
+        )),
     }
 }
 

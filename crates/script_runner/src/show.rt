@@ -1,6 +1,6 @@
 // The lines that show the settings, the relation and the lamp. Each function appends one of them to a text.
 ghost use Rattle.std.specs.Prelude.{◌≡◌, ◌++◌, ◌≤◌, length, OnOk, decimal};
-ghost use Rattle.script_runner.specs.Show.{name_line, suite_line, dotted, text_line, phase_line, phase_word, lamp_line, shown};
+ghost use Rattle.script_runner.specs.Show.{name_line, suite_line, dotted, text_line, phase_line, phase_word, lamp_line, output_line, shown};
 
 use crate::render::hex_digits;
 use itoa::Buffer;
@@ -116,5 +116,25 @@ fn lamp_units(units: u32, text: &mut Vec<u8>) -> Result<(), AllocError>
 {
     text.extend_from_slice(b"lamp ")?;
     number(units, text)?;
+    text.extend_from_slice(b"\n")
+}
+
+/// The output of a submodule, in hex.
+#[tactic(auto, unfolding(crate::specs::Show::output_line))]
+pub(crate) fn output(
+    slot: u16,
+    subslot: u16,
+    value: &[u8],
+    text: &mut Vec<u8>,
+) -> Result<(), AllocError>
+    requires { length value.now ≤ 1518 }
+    ensures { OnOk result (text.new.items ≡ text.old.items ++ output_line slot subslot value.now) }
+{
+    text.extend_from_slice(b"output ")?;
+    number(u32::from(slot), text)?;
+    text.extend_from_slice(b" ")?;
+    number(u32::from(subslot), text)?;
+    text.extend_from_slice(b" ")?;
+    hex_digits(value, text)?;
     text.extend_from_slice(b"\n")
 }

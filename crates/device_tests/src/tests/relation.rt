@@ -63,7 +63,7 @@ fn a_connect_makes_a_relation(rt: HostRuntime) -> Result<(), Fail> {
     is_made(&rt, &three(), 212, &[&MADE])
 }
 
-// The same in little endian, with the checksum of UDP that Scapy computes for it.
+// The same in little endian.
 #[test]
 fn a_connect_in_little_endian_gets_the_same_answer(rt: HostRuntime) -> Result<(), Fail> {
     let mut bytes = three();
@@ -196,7 +196,8 @@ fn a_second_connect_is_refused(rt: HostRuntime) -> Result<(), Fail> {
 #[test]
 fn silence_ends_a_relation(rt: HostRuntime) -> Result<(), Fail> {
     let mut device = related(1, THREE).ok_or("starts")?;
-    assert_eq!(rt; sent_in(&mut device, 3199), 0);
+    // a cyclic frame each interval of 32 units
+    assert_eq!(rt; sent_in(&mut device, 3199), 99);
     assert_eq!(rt; device.phase(), Some(Phase::Started));
     let mut outbox = Outbox::new();
     assert_eq!(rt; device.step(&Event::Tick, &mut outbox), Note::Done);
@@ -260,7 +261,8 @@ fn the_parameters_end_once(rt: HostRuntime) -> Result<(), Fail> {
         served(&mut device, &again),
         (1, 142, [0xDD, 0x81, 0x40, 6])
     );
-    assert_eq!(rt; sent_in(&mut device, 32_000), 1);
+    // ApplicationReady again, beside a cyclic frame each interval
+    assert_eq!(rt; sent_in(&mut device, 32_000), 1001);
     let device = exchanging().ok_or("starts")?;
     assert_eq!(rt; device.phase(), Some(Phase::Exchanging));
     Ok(())

@@ -11,6 +11,8 @@ pub(crate) const CONNECT: u8 = 0;
 
 pub(crate) const RELEASE: u8 = 1;
 
+pub(crate) const READ: u8 = 2;
+
 pub(crate) const WRITE: u8 = 3;
 
 pub(crate) const CONTROL: u8 = 4;
@@ -65,13 +67,19 @@ pub(crate) fn call(operation: u8, activity: u8, sequence: u8, blocks: &[u8]) -> 
     }
     set(&mut bytes, 109, sequence);
     set(&mut bytes, 111, operation);
-    let sum = ones_sum(bytes.get(14..34).unwrap_or(&[]));
-    set_number(&mut bytes, 24, !sum);
+    mend(&mut bytes);
     bytes
 }
 
+/// Makes the checksum of the IPv4 header right.
+pub(crate) fn mend(bytes: &mut Bytes) {
+    set_number(bytes, 24, 0);
+    let sum = ones_sum(bytes.get(14..34).unwrap_or(&[]));
+    set_number(bytes, 24, !sum);
+}
+
 /// The response to ApplicationReady, which is of the activity of the ARUUID and of the sequence number 0.
-fn response() -> Bytes {
+pub(crate) fn response() -> Bytes {
     let mut bytes = call(CONTROL, 0x11, 0, &READY);
     set(&mut bytes, 43, 2);
     set_number(&mut bytes, 124, 0);

@@ -135,8 +135,9 @@ fn flashing_lamp(rt: HostRuntime) -> Result<(), Fail> {
         "name -\nip {NO_SUITE}\nstored-name -\nstored-ip {NO_SUITE}\n{TEXTS}"
     )?;
     let padding = "0000000000000000000000000000000000000000000000000000";
+    let output = "output 2 1 0000\n";
     let wanted = format!(in alloc;
-        "boot ok\n{answer}{padding}\nnote done\n{shown} 96000\nnote done\n{shown} 95999\nboot ok\n{shown} 0\n"
+        "boot ok\n{answer}{padding}\nnote done\n{shown} 96000\n{output}note done\n{shown} 95999\n{output}boot ok\n{shown} 0\n{output}"
     )?;
     prints(&rt, alloc, script.as_str(), wanted.as_str())
 }

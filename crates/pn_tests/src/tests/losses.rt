@@ -79,7 +79,7 @@ fn name(alloc: Global, number: u32) -> Result<String, AllocError> {
 fn named(alloc: Global, number: u32) -> Result<String, AllocError> {
     let name = name(alloc, number)?;
     format!(in alloc;
-        "name {name}\nip {NO_SUITE}\nstored-name {name}\nstored-ip {NO_SUITE}\n{TEXTS} 0\n"
+        "name {name}\nip {NO_SUITE}\nstored-name {name}\nstored-ip {NO_SUITE}\n{TEXTS} 0\noutput 2 1 0000\n"
     )
 }
 

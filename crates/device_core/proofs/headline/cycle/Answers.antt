@@ -2,6 +2,8 @@
 use Rattle.std.proofs.Common.{◌≡◌, false, refl, sym, ap, subst, ◌∙◌, inl}
 use Rattle.std.proofs.lemmas.Result.{err_from_is_err_and}
 use Rattle.settings_journal.specs.Image.{LeftByDevice}
+use Rattle.settings_journal.specs.declared.journal.BootFault.{BootFault}
+use Rattle.settings_journal.specs.declared.journal.BootFault.TheVariants.{FlashFault, Foreign}
 use Rattle.device_core.proofs.Restarts.{restarts_if, is_started_if, refuses_from, refused_if, never_refused}
 use Rattle.device_core.proofs.headline.cycle.Goals as goal
 
@@ -38,6 +40,17 @@ returns-in_err-device-clause-refused g c =
       refl,
       refuses_from g.F.Flash.image g.F.Flash.failures g.F.Flash.asked c.args.flash _ _ c.in_err-device.ensures.cause c.in_err-device.ensures.same c.in_err-device.ensures.calls c.in_err-device.ensures.foreign,
     ))
+
+pub returns-in_err-device-clause-left : goal.returns-in_err-device-clause-left
+returns-in_err-device-clause-left g c = λ left.
+    let p = err_from_is_err_and c.from_residual.result c.from_residual.ensures.1 in rw (p.1, p.2) (c.in_err-device.ensures.left left)
+
+-- a device whose flash does not fail starts on what a device left
+pub returns-in_err-device-clause-reliable : goal.returns-in_err-device-clause-reliable
+returns-in_err-device-clause-reliable g c = λ reliable powers left.
+    let failed = c.in_err-device.ensures.left left in
+    let foreign = (c.in_err-device.ensures.reliable reliable).1 in
+    let e : ◌≡◌ {A = BootFault} FlashFault Foreign = sym failed ∙ foreign in cc
 
 pub returns-clause-refused : goal.returns-clause-refused
 returns-clause-refused g c =

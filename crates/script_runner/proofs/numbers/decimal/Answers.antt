@@ -4,9 +4,9 @@ use Rattle.script_runner.specs.Numbers.{is_digit, at_most, digits_from, number_o
 use Rattle.script_runner.proofs.Decimals.{past_most}
 use Rattle.script_runner.proofs.numbers.decimal.Goals as goal
 
-pub returns-then-number-from : goal.returns-then-number-from
+pub returns-then-number-from-clause-value : goal.returns-then-number-from-clause-value
 unfolding number_of
-returns-then-number-from c =
+returns-then-number-from-clause-value c =
     let within : c.loop-digit.digit-index < length c.args.digits.now = omega arith in
     let digit : is_digit (get_or c.args.digits.now c.loop-digit.digit-index 0) ≡ true = grind (arith, nat_tests) in
     let past : c.args.most < c.loop-digit.number * 10 + (get_or c.args.digits.now c.loop-digit.digit-index 0 - 48) = omega arith in

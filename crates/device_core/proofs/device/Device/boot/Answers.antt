@@ -14,3 +14,11 @@ returns-clause-known g c = λ settings room starts.
 
 pub returns-clause-reliable : goal.returns-clause-reliable
 returns-clause-reliable g c = λ reliable. c.in_ok-boot.ensures.reliable reliable
+
+pub returns-in_err-boot-clause-left : goal.returns-in_err-boot-clause-left
+returns-in_err-boot-clause-left g c = λ left.
+    let p = err_from_is_err_and c.from_residual.result c.from_residual.ensures.1 in rw (p.1, p.2) (c.in_err-boot.ensures.left left)
+
+pub returns-in_err-boot-clause-reliable : goal.returns-in_err-boot-clause-reliable
+returns-in_err-boot-clause-reliable g c = λ reliable.
+    let p = err_from_is_err_and c.from_residual.result c.from_residual.ensures.1 in rw (p.1, p.2) (c.in_err-boot.ensures.reliable reliable)

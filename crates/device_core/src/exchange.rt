@@ -1,0 +1,179 @@
+// What a device sends of what its relation exchanges (IEC 61158-6-10, 4.7 and 4.8), and what is due with a unit of time.
+ghost use Rattle.std.specs.Prelude.{◌≡◌, ◌<◌, ◌≤◌, ◌+◌, ◌++◌, ◌∷◌, [], length, map};
+ghost use Rattle.arrayvec.specs.ArrayVec.{array_vec_len};
+ghost use Rattle.frame_codec.specs.Meaning.{RealTime};
+ghost use Rattle.device_core.specs.Sent.{bytes_of, tagged_frame};
+ghost use Rattle.device_core.specs.Judged.{alarms_of, due_frames, farewells_in, inputs_of, ready_calls, replies_of, where_due};
+ghost use Rattle.relations.specs.Link.{flow_of};
+
+use crate::relation::{send_farewell, send_ready};
+use arrayvec::ArrayVec;
+use frame_codec::{Layered, Outbox, Payload};
+use pn_alarms::{PduType, Taken};
+use pn_values::{Identity, Mac};
+use relations::{Due, Farewell, Relation};
+
+/// Puts a frame with this tag and FrameID to the partner into the box, behind what is in it.
+fn send_tagged(
+    identity: &Identity,
+    partner: Mac,
+    tag: u16,
+    frame_id: u16,
+    body: &[u8],
+    outbox: &mut Outbox,
+)
+    requires room { array_vec_len outbox.old < 4 }
+    requires short { length body.now ≤ 1444 }
+    ensures frames { map (λ frame. frame.items) outbox.new.items
+        ≡ map (λ frame. frame.items) outbox.old.items ++ tagged_frame identity.now partner tag (RealTime frame_id body.now) ∷ [] }
+    ensures len { array_vec_len outbox.new ≡ array_vec_len outbox.old + 1 }
+{
+    outbox.put(&Layered {
+        destination: partner,
+        source: identity.mac,
+        tag: Some(tag),
+        payload: Payload::RealTime { frame_id, body },
+    });
+}
+
+/// Puts the inputs of the relation at this CycleCounter into the box, behind what is in it: if they are due, and there is one.
+fn send_inputs(
+    identity: &Identity,
+    counter: u16,
+    is_due: bool,
+    relation: &Relation,
+    outbox: &mut Outbox,
+)
+    requires room { array_vec_len outbox.old < 4 }
+    ensures frames { map (λ frame. frame.items) outbox.new.items
+        ≡ map (λ frame. frame.items) outbox.old.items ++ map (bytes_of identity.now) (where_due is_due (inputs_of counter (flow_of relation.now))) }
+    ensures few { array_vec_len outbox.new ≤ array_vec_len outbox.old + 1 }
+{
+    if !is_due {
+        return;
+    }
+    let Some(exchange) = relation.exchange() else {
+        return;
+    };
+    let route = exchange.route();
+    let mut body: ArrayVec<u8, 1444> = ArrayVec::new();
+    exchange.put_inputs(counter, &mut body);
+    send_tagged(
+        identity,
+        route.partner,
+        route.input_tag,
+        route.input_id,
+        body.as_slice(),
+        outbox,
+    );
+}
+
+/// Puts the alarm that stands in the relation into the box, behind what is in it: if it is due, and there is one.
+pub(crate) fn send_alarm(
+    identity: &Identity,
+    is_due: bool,
+    relation: &Relation,
+    outbox: &mut Outbox,
+)
+    requires room { array_vec_len outbox.old < 4 }
+    ensures frames { map (λ frame. frame.items) outbox.new.items
+        ≡ map (λ frame. frame.items) outbox.old.items ++ map (bytes_of identity.now) (where_due is_due (alarms_of (flow_of relation.now))) }
+    ensures few { array_vec_len outbox.new ≤ array_vec_len outbox.old + 1 }
+{
+    if !is_due {
+        return;
+    }
+    let Some(exchange) = relation.exchange() else {
+        return;
+    };
+    let route = exchange.route();
+    let mut body: ArrayVec<u8, 72> = ArrayVec::new();
+    if !exchange.put_alarm(&mut body) {
+        return;
+    }
+    send_tagged(
+        identity,
+        route.partner,
+        route.alarm_tag,
+        PduType::Data.frame_id(),
+        body.as_slice(),
+        outbox,
+    );
+}
+
+/// Puts the answer to data that was taken so into the box, behind what is in it, if there is a relation.
+pub(crate) fn send_reply(
+    identity: &Identity,
+    taken: Taken,
+    relation: &Relation,
+    outbox: &mut Outbox,
+)
+    requires room { array_vec_len outbox.old < 4 }
+    ensures { map (λ frame. frame.items) outbox.new.items
+        ≡ map (λ frame. frame.items) outbox.old.items ++ map (bytes_of identity.now) (replies_of taken (flow_of relation.now)) }
+{
+    let Some(exchange) = relation.exchange() else {
+        return;
+    };
+    let route = exchange.route();
+    let mut body: ArrayVec<u8, 12> = ArrayVec::new();
+    exchange.put_reply(taken, &mut body);
+    send_tagged(
+        identity,
+        route.partner,
+        route.alarm_tag,
+        taken.answer().frame_id(),
+        body.as_slice(),
+        outbox,
+    );
+}
+
+/// Puts the ERR of a relation that a timeout ended into the box, behind what is in it, if one did.
+fn send_farewells(identity: &Identity, farewell: Option<Farewell>, outbox: &mut Outbox)
+    requires room { array_vec_len outbox.old < 4 }
+    ensures frames { map (λ frame. frame.items) outbox.new.items
+        ≡ map (λ frame. frame.items) outbox.old.items ++ map (bytes_of identity.now) (farewells_in farewell) }
+    ensures few { array_vec_len outbox.new ≤ array_vec_len outbox.old + 1 }
+{
+    match farewell {
+        Some(farewell) => send_farewell(identity, &farewell, outbox),
+        None => {}
+    }
+}
+
+/// Puts ApplicationReady into the box, behind what is in it: if it is due, and there is a relation.
+fn send_ready_again(
+    identity: &Identity,
+    address: [u8; 4],
+    is_due: bool,
+    relation: &Relation,
+    outbox: &mut Outbox,
+)
+    requires room { array_vec_len outbox.old < 4 }
+    ensures frames { map (λ frame. frame.items) outbox.new.items
+        ≡ map (λ frame. frame.items) outbox.old.items ++ map (bytes_of identity.now) (where_due is_due (ready_calls address relation.now)) }
+    ensures few { array_vec_len outbox.new ≤ array_vec_len outbox.old + 1 }
+{
+    if is_due {
+        send_ready(identity, address, relation, outbox);
+    }
+}
+
+/// Puts what is due at this CycleCounter into the empty box: the ERR of a relation that a timeout ended; or the alarm that stands again,
+/// ApplicationReady again, and inputs.
+pub(crate) fn send_due(
+    identity: &Identity,
+    address: [u8; 4],
+    counter: u16,
+    due: &Due,
+    relation: &Relation,
+    outbox: &mut Outbox,
+)
+    requires { outbox.old.items ≡ [] }
+    ensures { map (λ frame. frame.items) outbox.new.items ≡ map (bytes_of identity.now) (due_frames address counter due.now relation.now) }
+{
+    send_farewells(identity, due.farewell, outbox);
+    send_alarm(identity, due.is_alarm, relation, outbox);
+    send_ready_again(identity, address, due.is_ready, relation, outbox);
+    send_inputs(identity, counter, due.is_cyclic, relation, outbox);
+}

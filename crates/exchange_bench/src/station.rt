@@ -1,0 +1,52 @@
+// The device: an access point, a module with an input in slot 1 and one with an output in slot 2.
+use arrayvec::ArrayVec;
+use device_core::Device;
+use flash_model::MemoryFlash;
+use pn_values::{Identity, Mac, Real, RealModule, RealSubmodule};
+
+/// A device over the smallest flash.
+pub(crate) type Station = Device<MemoryFlash<768>, 768>;
+
+/// A device that was never set.
+pub(crate) fn station() -> Option<Station> {
+    Device::boot(identity(), real(), MemoryFlash::blank()).ok()
+}
+
+fn identity() -> Identity {
+    Identity {
+        mac: Mac {
+            octets: [2, 0, 0, 0, 0, 1],
+        },
+        station_type: ArrayVec::new(),
+        vendor_id: 0x0123,
+        device_id: 0x0456,
+        instance: 1,
+        order_id: [b' '; 20],
+        serial_number: [b' '; 16],
+        hardware_revision: 0,
+        software_revision: *b"V\0\0\0",
+        profile_id: 0,
+        profile_specific_type: 0,
+    }
+}
+
+// Slot and ident number of each module; its one submodule has the same ident number.
+const MODULES: [(u16, u32); 3] = [(0, 1), (1, 16), (2, 32)];
+
+fn real() -> Real {
+    let mut modules = ArrayVec::new();
+    for (slot, ident) in MODULES {
+        let mut module = RealModule {
+            slot,
+            ident,
+            submodules: ArrayVec::new(),
+        };
+        let _ = module.submodules.try_push(RealSubmodule {
+            subslot: 1,
+            ident,
+            ..RealSubmodule::default()
+        });
+        let _ = modules.try_push(module);
+    }
+    Real { modules }
+}

@@ -1,0 +1,66 @@
+-- What a relation exchanges: cyclic frames, inputs, alarms, and the PDUs of its partner.
+use Rattle.std.specs.Prelude.{ℕ, List, Option, Some, None}
+use Rattle.pn_values.specs.declared.mac.Mac.{Mac}
+use Rattle.pn_values.specs.declared.real.RealModule.{RealModule}
+use Rattle.pn_alarms.specs.declared.device.Heard.{Heard}
+use Rattle.pn_alarms.specs.declared.device.Heard.TheVariants.{Data, Done, Ignored, Aborted}
+use Rattle.pn_alarms.specs.declared.message.Message.{Message}
+use Rattle.pn_alarms.specs.Device.{heard_as}
+use Rattle.exchanges.specs.declared.cyclic.Received.{Received}
+use Rattle.exchanges.specs.declared.cyclic.Received.TheVariants.{Foreign, Short, Stale, Taken}
+use Rattle.exchanges.specs.Flow.{Flow}
+use Rattle.exchanges.specs.Received.{behind_frame, received_as}
+use Rattle.exchanges.specs.Process.{given_at, output_at}
+use Rattle.exchanges.specs.Notices.{behind_message, raised_at}
+use Rattle.relations.specs.Link.{Link}
+use Rattle.relations.specs.Phases.{Judged, Ended, Exchanged, Unmoved}
+
+-- a cyclic frame: what becomes of it, and of the relation
+abbrev pub received_by : Mac → ℕ → List ℕ → Option Link → Received
+received_by source frame_id body None = Foreign
+received_by source frame_id body (Some link) = received_as link.flow source frame_id body
+
+abbrev pub receiving_as : Received → Flow → Judged
+receiving_as Foreign flow = Unmoved
+receiving_as Short flow = Unmoved
+receiving_as Stale flow = Unmoved
+receiving_as Taken flow = Exchanged flow
+
+abbrev pub receiving : Mac → ℕ → List ℕ → Option Link → Judged
+receiving source frame_id body None = Unmoved
+receiving source frame_id body (Some link) =
+    receiving_as (received_as link.flow source frame_id body) (behind_frame link.flow source frame_id body)
+
+-- what was exchanged became this, or it stays as it was
+abbrev pub becoming : Option Flow → Judged
+becoming (Some flow) = Exchanged flow
+becoming None = Unmoved
+
+-- what is exchanged behind an input that is given, and behind an alarm that is raised, if it may be
+abbrev pub given_to : ℕ → ℕ → List ℕ → Option Link → Option Flow
+given_to slot subslot value None = None
+given_to slot subslot value (Some link) = given_at link.flow slot subslot value
+
+abbrev pub raised_to : List RealModule → ℕ → ℕ → List ℕ → Option Link → Option Flow
+raised_to real slot subslot octets None = None
+raised_to real slot subslot octets (Some link) = raised_at link.flow real slot subslot octets
+
+-- the output of a submodule, if it has a place
+abbrev pub output_in : ℕ → ℕ → Option Link → Option (List ℕ)
+output_in slot subslot None = None
+output_in slot subslot (Some link) = output_at link.flow slot subslot
+
+-- a PDU of the partner: what becomes of it, and of the relation, which ERR ends
+abbrev pub heard_by : Message → Option Link → Heard
+heard_by message None = Ignored
+heard_by message (Some link) = heard_as link.flow.alarms message
+
+abbrev pub hearing_as : Heard → Flow → Judged
+hearing_as (Data taken) flow = Exchanged flow
+hearing_as Done flow = Exchanged flow
+hearing_as Ignored flow = Unmoved
+hearing_as Aborted flow = Ended
+
+abbrev pub hearing : Message → Option Link → Judged
+hearing message None = Unmoved
+hearing message (Some link) = hearing_as (heard_as link.flow.alarms message) (behind_message link.flow message)

@@ -1,0 +1,82 @@
+//! What a relation exchanges.
+ghost use Rattle.std.specs.Prelude.{◌≡◌, ◌≤◌, IfSome, is_some, length, option_map};
+ghost use Rattle.relations.specs.Exchanged.{becoming, given_to, heard_by, hearing, output_in, raised_to, received_by, receiving};
+ghost use Rattle.relations.specs.Link.{flow_of};
+ghost use Rattle.relations.specs.Phases.{moved};
+
+use crate::Relation;
+use exchanges::{DataExchange, Received};
+use pn_alarms::{Heard, Message};
+use pn_values::{Mac, Real};
+
+impl Relation {
+    /// What is exchanged, if there is a relation: of it the frames are made that are sent.
+    pub fn exchange(&self) -> Option<&DataExchange>
+        ensures { option_map (λ exchange. exchange.now) result ≡ flow_of self.now }
+    {
+        match self.phase {
+            Some(_) => Some(&self.exchange),
+            None => None,
+        }
+    }
+
+    /// A cyclic frame comes: from this station, of this FrameID, and all that follows it. Where it is not taken nothing changes.
+    pub fn receive(&mut self, source: Mac, frame_id: u16, body: &[u8]) -> Received
+        ensures received { result ≡ received_by source frame_id body.now self.old }
+        ensures state { self.new ≡ moved (receiving source frame_id body.now self.old) self.old }
+    {
+        match self.phase {
+            Some(_) => self.exchange.receive(source, frame_id, body),
+            None => Received::Foreign,
+        }
+    }
+
+    /// Gives a submodule its input. Answers whether there is a relation in which it has an input of this length; if not, nothing
+    /// changes.
+    pub fn give(&mut self, slot: u16, subslot: u16, value: &[u8]) -> bool
+        ensures done { result ≡ is_some (given_to slot subslot value.now self.old) }
+        ensures state { self.new ≡ moved (becoming (given_to slot subslot value.now self.old)) self.old }
+    {
+        match self.phase {
+            Some(_) => self.exchange.give(slot, subslot, value),
+            None => false,
+        }
+    }
+
+    /// The output of a submodule, if there is a relation in which it has one.
+    pub fn output(&self, slot: u16, subslot: u16) -> Option<&[u8]>
+        ensures value { option_map (λ value. value.now) result ≡ output_in slot subslot self.now }
+        ensures short { IfSome result (λ value. length value.now ≤ 1440) }
+    {
+        match self.phase {
+            Some(_) => self.exchange.output(slot, subslot),
+            None => None,
+        }
+    }
+
+    /// Raises a process alarm of a submodule, which then is to be sent. Answers whether it may be; if not, nothing changes.
+    pub fn raise(&mut self, real: &Real, slot: u16, subslot: u16, octets: &[u8]) -> bool
+        ensures done { result ≡ is_some (raised_to real.now.modules.items slot subslot octets.now self.old) }
+        ensures state { self.new ≡ moved (becoming (raised_to real.now.modules.items slot subslot octets.now self.old)) self.old }
+    {
+        match self.phase {
+            Some(_) => self.exchange.raise(real, slot, subslot, octets),
+            None => false,
+        }
+    }
+
+    /// A PDU of the partner comes. Answers what becomes of it: data is to be answered, and an ERR has ended the relation.
+    pub fn hear(&mut self, message: &Message) -> Heard
+        ensures heard { result ≡ heard_by message.now self.old }
+        ensures state { self.new ≡ moved (hearing message.now self.old) self.old }
+    {
+        let Some(_) = self.phase else {
+            return Heard::Ignored;
+        };
+        let heard = self.exchange.hear(message);
+        if let Heard::Aborted = heard {
+            self.phase = None;
+        }
+        heard
+    }
+}
