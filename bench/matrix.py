@@ -75,7 +75,7 @@ def is_right(lines, order, calls, mask):
     answered, at_gate = met(calls)
     left = name(answered + 1) if at_gate and mask.startswith("ff") else name(answered)
     wanted = front_of(order, answered) + [f"name {left}", f"ip {SUITE}", f"stored-name {left}", f"stored-ip {SUITE}"]
-    texts = ["im1 " + 54 * "20", "im2 " + 16 * "20", "im3 " + 54 * "20", "im4 " + 54 * "00", "phase none", "lamp 0"]
+    texts = ["im1 " + 54 * "20", "im2 " + 16 * "20", "im3 " + 54 * "20", "im4 " + 54 * "00", "phase none", "lamp 0", "output 2 1 0000"]
     return lines == wanted + texts
 
 
