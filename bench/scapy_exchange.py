@@ -396,12 +396,20 @@ def is_read(came, wanted):
                                 "AckSeqNum", "VarPartLen")})
 
 
-def is_found(_, came):
-    """Reads the answer to Identify: the name, the maker, and no address yet."""
-    blocks = {(block.option, block.sub_option): block for block in Ether(came)[ProfinetDCP].dcp_blocks}
-    same("the name", blocks[2, 2].name_of_station, b"pump-1")
-    same("vendor and device", (blocks[2, 3].vendor_id, blocks[2, 3].device_id), (0x0123, 0x0456))
-    same("the address", blocks[1, 2].ip, "0.0.0.0")
+def is_found(name):
+    """Reads the answer to Identify: this name, the maker, and no address yet."""
+    def judge(_, came):
+        blocks = {(block.option, block.sub_option): block for block in Ether(came)[ProfinetDCP].dcp_blocks}
+        same("the name", blocks[2, 2].name_of_station, name)
+        same("vendor and device", (blocks[2, 3].vendor_id, blocks[2, 3].device_id), (0x0123, 0x0456))
+        same("the address", blocks[1, 2].ip, "0.0.0.0")
+    return judge
+
+
+def identify(xid, **block):
+    """An Identify request with one block, to all stations."""
+    return Ether(dst="01:0e:cf:00:00:00", src=TOOL) / ProfinetIO(frameID=0xFEFE) / ProfinetDCP(
+        service_id=5, service_type=0, xid=xid, reserved=1, **block)
 
 
 def is_named(_, came):
@@ -412,11 +420,11 @@ def is_named(_, came):
 def started(talk):
     """The example: a whole start-up, cyclic frames, an alarm and a release."""
     naming = relation.dcp(9, option=2, sub_option=2, dcp_block_length=8, dcp_data_length=12, block_qualifier=1, name_of_station="pump-1")
-    asked = Ether(dst="01:0e:cf:00:00:00", src=TOOL) / ProfinetIO(frameID=0xFEFE) / ProfinetDCP(
-        service_id=5, service_type=0, xid=1, reserved=1, option=2, sub_option=2, dcp_block_length=6, dcp_data_length=10,
-        name_of_station="pump-1")
+    everyone = identify(8, option=0xFF, sub_option=0xFF, dcp_block_length=0, dcp_data_length=4)
+    asked = identify(1, option=2, sub_option=2, dcp_block_length=6, dcp_data_length=10, name_of_station="pump-1")
+    talk.call("DCP Identify: which stations are there? One without a name.", everyone, frames(is_found(b"")))
     talk.call("The station gets its name, once: DCP Set, permanent.", naming, frames(is_named))
-    talk.call("DCP Identify: who is pump-1?", asked, frames(is_found))
+    talk.call("DCP Identify: who is pump-1?", asked, frames(is_found(b"pump-1")))
     talk.call("DCP Set, permanent: the IP suite.", SUITE, frames(read_set))
     talk.made(0, LITTLE, AR, relation.STATION)
     controller = Controller(0)
