@@ -95,11 +95,11 @@ read_short view n bytes (Err fault) given = elim (cases_lt (length bytes) (n + 4
 
 -- ---- what is written
 
-pub written_again : (octets : List ℕ) (tail : CyclicTail) → tail.counter < 256 ^ 2 → tail.data_status.0 < 256 ^ 1 → tail.transfer_status < 256 ^ 1 → (rest : List ℕ)
+pub written_again : (octets : List ℕ) (tail : CyclicTail) → cyclic_tail.Fits tail → (rest : List ℕ)
     → cyclic_of (length octets) (cyclic_bytes octets tail [] ++ rest) ≡ Ok (octets, tail)
-unfolding cyclic_frame cyclic_tail
-written_again octets tail counter status transfer rest =
+unfolding cyclic_frame
+written_again octets tail fits rest =
     let sound = frame_sound (length octets) in
-    let spelled = sound.written (octets, tail) rest (refl, (counter, (status, transfer))) in
+    let spelled = sound.written (octets, tail) rest (refl, fits) in
     subst (λ (bytes : List ℕ). cyclic_of (length octets) bytes ≡ Ok (octets, tail)) (sound.local (octets, tail) rest)
     (cyclic_again (length octets) (cyclic_bytes octets tail rest) (octets, tail) (rest, spelled))

@@ -37,6 +37,22 @@ impl CyclicTail {
     }
 }
 
+impl CyclicTail {
+    /// Its four octets.
+    #[tactic(auto, unfolding(crate::specs::Tail::cyclic_tail))]
+    pub fn octets(self) -> ArrayVec<u8, 4>
+        ensures value { result.items ≡ cyclic_tail.write self [] }
+        ensures len { array_vec_len result ≡ 4 }
+        ensures fits { cyclic_tail.Fits self }
+    {
+        let mut octets = ArrayVec::new();
+        append_u16(&mut octets, self.counter);
+        append_u8(&mut octets, self.data_status.0);
+        append_u8(&mut octets, self.transfer_status);
+        octets
+    }
+}
+
 /// What stands behind the octets, and what is behind it.
 #[tactic(auto, unfolding(crate::specs::Tail::cyclic_tail))]
 fn tail_at(bytes: &[u8]) -> Result<(CyclicTail, &[u8]), ShortFrame>
@@ -79,7 +95,7 @@ pub fn read_cyclic(bytes: &[u8], data_length: u16) -> Result<(&[u8], CyclicTail)
 }
 
 /// Appends the octets of a cyclic frame and what stands behind them. There must be room.
-#[tactic(auto, unfolding(crate::specs::Tail::cyclic_frame, crate::specs::Tail::cyclic_tail))]
+#[tactic(auto, unfolding(crate::specs::Tail::cyclic_frame))]
 pub fn put_cyclic<const N: usize>(out: &mut ArrayVec<u8, N>, octets: &[u8], tail: CyclicTail)
     requires { array_vec_len out.old + length octets.now + 4 ≤ N }
     ensures items { out.new.items ≡ out.old.items ++ cyclic_bytes octets.now tail [] }
@@ -88,7 +104,5 @@ pub fn put_cyclic<const N: usize>(out: &mut ArrayVec<u8, N>, octets: &[u8], tail
     ensures again { (rest : List ℕ) → cyclic_of (length octets.now) (cyclic_bytes octets.now tail [] ++ rest) ≡ Ok (octets.now, tail) }
 {
     append(out, octets);
-    append_u16(out, tail.counter);
-    append_u8(out, tail.data_status.0);
-    append_u8(out, tail.transfer_status);
+    append(out, tail.octets().as_slice());
 }

@@ -8,7 +8,7 @@ ghost use Rattle.relations.specs.Link.{flow_of};
 
 use crate::relation::{send_farewell, send_ready};
 use arrayvec::ArrayVec;
-use frame_codec::{Layered, Outbox, Payload};
+use frame_codec::{Layered, Outbox, Payload, Pieces};
 use pn_alarms::{PduType, Taken};
 use pn_values::{Identity, Mac};
 use relations::{Due, Farewell, Relation};
@@ -56,16 +56,15 @@ fn send_inputs(
         return;
     };
     let route = exchange.route();
-    let mut body: ArrayVec<u8, 1444> = ArrayVec::new();
-    exchange.put_inputs(counter, &mut body);
-    send_tagged(
-        identity,
-        route.partner,
-        route.input_tag,
-        route.input_id,
-        body.as_slice(),
-        outbox,
-    );
+    let (inputs, tail) = exchange.inputs(counter);
+    outbox.put_pieces(&Pieces {
+        destination: route.partner,
+        source: identity.mac,
+        tag: Some(route.input_tag),
+        frame_id: route.input_id,
+        front: inputs,
+        behind: tail.as_slice(),
+    });
 }
 
 /// Puts the alarm that stands in the relation into the box, behind what is in it: if it is due, and there is one.

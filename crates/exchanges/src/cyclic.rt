@@ -1,12 +1,12 @@
 //! Cyclic frames.
-ghost use Rattle.std.specs.Prelude.{◌≡◌, ◌≢◌, ◌+◌, ◌≤◌, ◌++◌};
+ghost use Rattle.std.specs.Prelude.{◌≡◌, ◌≢◌, ◌≤◌, ◌++◌, length};
 ghost use Rattle.arrayvec.specs.ArrayVec.{array_vec_len};
 ghost use Rattle.exchanges.specs.Frames.{body_of, inputs_frame};
 ghost use Rattle.exchanges.specs.Received.{behind_frame, received_as};
 
 use crate::DataExchange;
 use arrayvec::ArrayVec;
-use cyclic_data::{CyclicTail, put_cyclic, read_cyclic};
+use cyclic_data::{CyclicTail, read_cyclic};
 use pn_values::Mac;
 
 /// What becomes of a cyclic frame.
@@ -46,12 +46,13 @@ impl DataExchange {
         Received::Taken
     }
 
-    /// Appends what follows the FrameID of a frame of inputs, at this CycleCounter: at most 1,444 octets. There must be room.
-    pub fn put_inputs<const N: usize>(&self, counter: u16, out: &mut ArrayVec<u8, N>)
-        requires { array_vec_len out.old + 1444 ≤ N }
-        ensures items { out.new.items ≡ out.old.items ++ body_of (inputs_frame self.now counter) }
-        ensures few { array_vec_len out.new ≤ array_vec_len out.old + 1444 }
+    /// What follows the FrameID of a frame of inputs at this CycleCounter: the inputs, at most 1,440 octets, and these four behind
+    /// them.
+    pub fn inputs(&self, counter: u16) -> (&[u8], ArrayVec<u8, 4>)
+        ensures exact { result.0.now ++ result.1.items ≡ body_of (inputs_frame self.now counter) }
+        ensures few { length result.0.now ≤ 1440 }
+        ensures tail { array_vec_len result.1 ≡ 4 }
     {
-        put_cyclic(out, self.inputs.bytes(), CyclicTail::running(counter));
+        (self.inputs.bytes(), CyclicTail::running(counter).octets())
     }
 }

@@ -1,10 +1,11 @@
 -- What a frame means.
-use Rattle.std.specs.Prelude.{ℕ, List, Option}
+use Rattle.std.specs.Prelude.{ℕ, List, Option, ◌++◌}
 use Rattle.pn_values.specs.declared.mac.Mac.{Mac}
 use Rattle.frame_codec.specs.declared.arp.Arp.{Arp}
 use Rattle.frame_codec.specs.declared.udp.Endpoint.{Endpoint}
 use Rattle.frame_codec.specs.declared.layered.Layered.{Layered}
 use Rattle.frame_codec.specs.declared.layered.Payload.{Payload}
+use Rattle.frame_codec.specs.declared.layered.Pieces.{Pieces}
 use Rattle.frame_codec.specs.declared.layered.Payload.TheVariants as payload
 
 -- What a frame carries: under EtherType 0x8892 a FrameID and all bytes behind it, padding too; under 0x0806 a packet of
@@ -30,3 +31,7 @@ content_of (payload.Udp udp) = UdpDatagram udp.source udp.destination udp.body.n
 -- what layers mean, without where their bytes lie in memory
 abbrev pub meaning_of : Layered → Meaning
 meaning_of layered = record { destination = layered.destination; source = layered.source; tag = layered.tag; content = content_of layered.payload }
+
+-- what pieces mean: their body is the one behind the other
+abbrev pub meaning_in : Pieces → Meaning
+meaning_in pieces = record { destination = pieces.destination; source = pieces.source; tag = pieces.tag; content = RealTime pieces.frame_id (pieces.front.now ++ pieces.behind.now) }

@@ -24,3 +24,20 @@ pub enum Payload<'a> {
     /// EtherType 0x0800: a datagram of UDP in a packet of IPv4.
     Udp(Udp<'a>),
 }
+
+/// A frame of EtherType 0x8892 that is written of a body in two pieces, so that neither is copied before.
+#[derive(Clone, Copy, Debug, PartialEq, Eq)]
+pub struct Pieces<'a> {
+    /// To whom it goes.
+    pub destination: Mac,
+    /// From whom it comes.
+    pub source: Mac,
+    /// The tag control information of its VLAN tag (IEEE 802.1Q, 9.6), if it has one.
+    pub tag: Option<u16>,
+    /// The FrameID.
+    pub frame_id: u16,
+    /// The octets behind the FrameID.
+    pub front: &'a [u8],
+    /// The octets behind these.
+    pub behind: &'a [u8],
+}

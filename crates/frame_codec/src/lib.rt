@@ -21,7 +21,7 @@ pub use fault::FrameFault;
 pub use frame_id::{
     ALARM_HIGH, ALARM_LOW, DCP_GET_SET, DCP_IDENTIFY_REQUEST, DCP_IDENTIFY_RESPONSE,
 };
-pub use layered::{Layered, Payload};
+pub use layered::{Layered, Payload, Pieces};
 pub use limits::{Bytes, Frame};
 pub use outbox::Outbox;
 pub use reading::read;

@@ -1,11 +1,11 @@
 //! What one event sends.
 ghost use Rattle.std.specs.Prelude.{◌≡◌, ◌+◌, ◌<◌, ◌≤◌, ◌==◌, [], ◌∷◌, ◌++◌, length};
 ghost use Rattle.arrayvec.specs.ArrayVec.{array_vec_len};
-ghost use Rattle.frame_codec.specs.Meaning.{meaning_of};
+ghost use Rattle.frame_codec.specs.Meaning.{meaning_in, meaning_of};
 ghost use Rattle.frame_codec.specs.Frame.{FitsFrame, frame_bytes};
 
-use crate::writing::fill;
-use crate::{Frame, Layered};
+use crate::writing::{fill, fill_pieces};
+use crate::{Frame, Layered, Pieces};
 use std::marker::Model;
 use wire::append;
 
@@ -81,6 +81,21 @@ impl Outbox {
         let frame = &mut self.frames[self.used];
         frame.clear();
         fill(frame, layered);
+        self.used += 1;
+    }
+
+    /// Writes a frame of EtherType 0x8892 behind the others, its body in two pieces, and behind it zeros up to 60 octets, the tag
+    /// counted.
+    pub fn put_pieces(&mut self, pieces: &Pieces)
+        requires room { array_vec_len self.old < 4 }
+        requires fits { FitsFrame (meaning_in pieces.now) }
+        // The others stay, and each octet of the new one.
+        ensures items { self.new.items ≡ self.old.items ++ record { items = frame_bytes (meaning_in pieces.now) } ∷ [] }
+        ensures len { array_vec_len self.new ≡ array_vec_len self.old + 1 }
+    {
+        let written = &mut self.frames[self.used];
+        written.clear();
+        fill_pieces(written, pieces);
         self.used += 1;
     }
 

@@ -1,14 +1,14 @@
 //! From layers to octets.
 ghost use Rattle.std.specs.Prelude.{◌≡◌, ◌+◌, ◌-◌, ◌≢◌, ◌≤◌, List, ℕ, [], ◌++◌, length, replicate, Ok};
 ghost use Rattle.arrayvec.specs.ArrayVec.{array_vec_len};
-ghost use Rattle.frame_codec.specs.Meaning.{UdpDatagram, content_of, meaning_of};
-ghost use Rattle.frame_codec.specs.Frame.{IsFrame, FitsFrame, content_size, content_under, datagram, frame_of, frame_bytes, layers, link, longest, padding_of, tag_and_type, type_of, vlan, with_behind};
+ghost use Rattle.frame_codec.specs.Meaning.{UdpDatagram, content_of, meaning_in, meaning_of};
+ghost use Rattle.frame_codec.specs.Frame.{IsFrame, FitsFrame, content_size, content_under, datagram, frame_of, frame_bytes, layers, link, longest, padding_of, real_time, tag_and_type, type_of, vlan, with_behind};
 
 use crate::arp::{ADDRESS_RESOLUTION, put_arp};
 use crate::internet::{INTERNET, InternetHeader, put_internet_header};
 use crate::link::{Link, PROFINET, VLAN};
 use crate::udp::{UdpHeader, put_udp_header};
-use crate::{Frame, Layered, Payload, Udp};
+use crate::{Frame, Layered, Payload, Pieces, Udp};
 use arrayvec::ArrayVec;
 use wire::{append, append_u16};
 
@@ -139,6 +139,34 @@ pub(crate) fn fill(frame: &mut Frame, layered: &Layered)
     ensures fits { layers.Fits (meaning_of layered.now) }
 {
     put_layers(frame, layered);
+    pad(frame);
+}
+
+/// Appends a FrameID and a body in two pieces.
+#[tactic(auto, unfolding(crate::specs::Frame::real_time))]
+fn put_body(frame: &mut Frame, pieces: &Pieces)
+    requires room { array_vec_len frame.old + content_size (meaning_in pieces.now).content ≤ 1518 }
+    ensures items { frame.new.items ≡ frame.old.items ++ real_time.write (meaning_in pieces.now).content }
+{
+    append_u16(frame, pieces.frame_id);
+    append(frame, pieces.front);
+    append(frame, pieces.behind);
+}
+
+/// Appends the layers of a frame of EtherType 0x8892, its body in two pieces, and zeros up to 60 octets, to an empty frame.
+pub(crate) fn fill_pieces(frame: &mut Frame, pieces: &Pieces)
+    requires empty { array_vec_len frame.old ≡ 0 }
+    requires room { FitsFrame (meaning_in pieces.now) }
+    ensures { frame.new.items ≡ frame_bytes (meaning_in pieces.now) }
+{
+    let header = Link {
+        destination: pieces.destination,
+        source: pieces.source,
+        tag: pieces.tag,
+        ether_type: PROFINET,
+    };
+    put_link(frame, &header);
+    put_body(frame, pieces);
     pad(frame);
 }
 
