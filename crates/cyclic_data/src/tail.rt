@@ -39,9 +39,11 @@ impl CyclicTail {
 
 impl CyclicTail {
     /// Its four octets.
-    #[tactic(auto, unfolding(crate::specs::Tail::cyclic_tail))]
+    #[tactic(auto, unfolding(crate::specs::Tail::cyclic_frame, crate::specs::Tail::cyclic_tail))]
     pub fn octets(self) -> ArrayVec<u8, 4>
         ensures value { result.items ≡ cyclic_tail.write self [] }
+        // Behind the octets of a frame they make what follows its FrameID.
+        ensures behind { (octets : List ℕ) → octets ++ result.items ≡ cyclic_bytes octets self [] }
         ensures len { array_vec_len result ≡ 4 }
         ensures fits { cyclic_tail.Fits self }
     {

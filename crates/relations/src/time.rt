@@ -77,7 +77,6 @@ impl Relation {
         let Some(phase) = self.phase else {
             return Due::ended(None);
         };
-        let header = self.exchange.header(PduType::Error);
         let tick = self.exchange.tick();
         let ending = if is_timed(phase) {
             let limit = u32::from(self.request.ar().timeout_factor) * TENTH_OF_A_SECOND;
@@ -87,6 +86,7 @@ impl Relation {
         };
         if let Some(reason) = ending {
             self.phase = None;
+            let header = self.exchange.header(PduType::Error);
             return Due::ended(Some(Farewell::of(&self.request, &header, reason)));
         }
         Due {
