@@ -48,3 +48,7 @@ heard hearing counter data_status transfer_status =
 -- a unit later; the units stop at the limit
 abbrev pub held_on : Hearing → Hearing
 held_on hearing = record { last = hearing.last; held = min hearing.limit (hearing.held + 1); limit = hearing.limit }
+
+-- one who waits since so many units: those since the last frame that was taken or the restart, as far as the limit
+abbrev pub HasWaited : Hearing → ℕ → Type 0
+HasWaited hearing units = hearing.held ≡ min hearing.limit units

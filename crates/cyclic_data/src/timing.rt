@@ -1,6 +1,6 @@
 //! When cyclic frames are due, which are taken, and when none came for too long.
-ghost use Rattle.std.specs.Prelude.{◌≡◌, ◌==◌, ◌+◌, ◌*◌, ◌%◌, ◌<◌, ◌≤◌, ℕ, None};
-ghost use Rattle.cyclic_data.specs.Timing.{Sending, Hearing, is_due, unit_later, HasRun, is_newer, is_taken, heard, held_on};
+ghost use Rattle.std.specs.Prelude.{◌≡◌, ◌==◌, ◌+◌, ◌*◌, ◌%◌, ◌<◌, ◌≤◌, ℕ, None, nat_le};
+ghost use Rattle.cyclic_data.specs.Timing.{Sending, Hearing, is_due, unit_later, HasRun, is_newer, is_taken, heard, held_on, HasWaited};
 
 use crate::status::DataStatus;
 use bitflags::Flags;
@@ -133,6 +133,8 @@ impl Consumer {
     pub fn expired(&mut self) -> bool
         ensures expired { result ≡ (self.new.held == self.old.limit) }
         ensures state { self.new ≡ held_on self.old }
+        // For one who waits since so many units it is over exactly where with this one they are the limit or more.
+        ensures exactly { (units : ℕ) → HasWaited self.old units → HasWaited self.new (units + 1) × (result ≡ nat_le self.old.limit (units + 1)) }
     {
         if self.held < self.limit {
             self.held += 1;
