@@ -1,5 +1,5 @@
 -- What is kept of an application relation.
-use Rattle.std.specs.Prelude.{◌==◌, ◌&&◌, ℕ, Bool, true, false, nat_eq, List, [], Option, Some, None, option_map}
+use Rattle.std.specs.Prelude.{◌≡◌, ◌==◌, ◌&&◌, ℕ, Bool, true, false, nat_eq, List, [], Option, Some, None, option_map}
 use Rattle.std.specs.Cmp.Lexicographic.{pointwise}
 use Rattle.pn_values.specs.declared.mac.Mac.{Mac}
 use Rattle.call_blocks.specs.Naming.{is_relation}
@@ -67,6 +67,22 @@ abbrev pub is_awaiting : Phase → Bool
 is_awaiting Started = false
 is_awaiting Awaiting = true
 is_awaiting Exchanging = false
+
+-- whether data is exchanged in a phase
+abbrev pub is_exchanging : Phase → Bool
+is_exchanging Started = false
+is_exchanging Awaiting = false
+is_exchanging Exchanging = true
+
+-- where there is a relation in a phase, its exchange has begun exactly if data is exchanged in it
+abbrev pub HasBegunIn : Option Phase → Flow → Type 0
+HasBegunIn None flow = Unit {0}
+HasBegunIn (Some phase) flow = flow.begun ≡ is_exchanging phase
+
+-- the same of what is kept of the relation
+abbrev pub IsInStep : Option Link → Type 0
+IsInStep None = Unit {0}
+IsInStep (Some link) = HasBegunIn (Some link.phase) link.flow
 
 -- whether an alarm frame from this station, to this endpoint and from this one, belongs to it
 abbrev pub is_alarm_of : Mac → ℕ → ℕ → Option Link → Bool

@@ -1,10 +1,11 @@
 -- What a unit of time, 31.25 microseconds, does to a relation.
-use Rattle.std.specs.Prelude.{◌==◌, ◌+◌, ◌*◌, ◌&&◌, ℕ, Bool, true, false, nat_le, Option, Some, None, if◌then◌else◌}
+use Rattle.std.specs.Prelude.{◌≡◌, ◌⊎◌, ◌==◌, ◌+◌, ◌*◌, ◌&&◌, ℕ, Bool, true, false, nat_le, Option, Some, None, if◌then◌else◌}
 use Rattle.relations.specs.declared.phase.Phase.{Phase}
 use Rattle.relations.specs.declared.phase.Phase.TheVariants.{Started, Awaiting, Exchanging}
 use Rattle.exchanges.specs.Units.{flow_later, tick_of}
 use Rattle.pn_alarms.specs.declared.abort.Abort.{Abort}
-use Rattle.pn_alarms.specs.declared.abort.Abort.TheVariants.{Activity}
+use Rattle.pn_alarms.specs.declared.abort.Abort.TheVariants.{Activity, DataHold, Other}
+use Rattle.cyclic_data.specs.Timing.{held_on}
 use Rattle.relations.specs.declared.time.Due.{Due}
 use Rattle.relations.specs.Link.{Link, is_awaiting}
 use Rattle.relations.specs.Farewells.{farewell_of}
@@ -26,6 +27,16 @@ is_over link = nat_le (limit_of link) (link.quiet + 1)
 -- why the relation ends with the next unit, if it does: the activity timer is over, or, once data is exchanged, what is exchanged ends it
 abbrev pub ending_of : Link → Option Abort
 ending_of link = if is_timed link.phase then (if is_over link then Some Activity else None) else (tick_of link.flow).ending
+
+-- in which phase a timeout ends a relation: the activity timer before data is exchanged, data hold and an alarm without an ACK only then
+abbrev pub EndsIn : Abort → Option Phase → Type 0
+EndsIn Activity phase = (phase ≡ Some Started) ⊎ (phase ≡ Some Awaiting)
+EndsIn DataHold phase = phase ≡ Some Exchanging
+EndsIn Other phase = phase ≡ Some Exchanging
+
+-- whether the data hold time is over with the next unit, if data is exchanged
+abbrev pub is_unheard : Link → Bool
+is_unheard link = (held_on link.flow.hearing).held == link.flow.hearing.limit
 
 -- ApplicationReady is sent again each second, 32,000 units, until it is answered
 abbrev pub is_again : Link → Bool

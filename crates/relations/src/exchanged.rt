@@ -1,7 +1,8 @@
 //! What a relation exchanges.
-ghost use Rattle.std.specs.Prelude.{◌≡◌, ◌≤◌, IfSome, is_some, length, option_map};
+ghost use Rattle.std.specs.Prelude.{◌≡◌, ◌≤◌, IfSome, Some, is_some, length, option_map, true};
+ghost use Rattle.relations.specs.declared.phase.Phase.TheVariants.{Exchanging};
 ghost use Rattle.relations.specs.Exchanged.{becoming, given_to, heard_by, hearing, output_in, raised_to, received_by, receiving};
-ghost use Rattle.relations.specs.Link.{flow_of};
+ghost use Rattle.relations.specs.Link.{flow_of, phase_of};
 ghost use Rattle.relations.specs.Phases.{moved};
 
 use crate::Relation;
@@ -58,6 +59,8 @@ impl Relation {
     pub fn raise(&mut self, real: &Real, slot: u16, subslot: u16, octets: &[u8]) -> bool
         ensures done { result ≡ is_some (raised_to real.now.modules.items slot subslot octets.now self.old) }
         ensures state { self.new ≡ moved (becoming (raised_to real.now.modules.items slot subslot octets.now self.old)) self.old }
+        // It may be only while data is exchanged.
+        ensures phase { result ≡ true → phase_of self.old ≡ Some Exchanging }
     {
         match self.phase {
             Some(_) => self.exchange.raise(real, slot, subslot, octets),

@@ -3,7 +3,7 @@ ghost use Rattle.std.specs.Prelude.{◌≡◌, ◌≤◌, Err, IfErr, IsOk, None
 ghost use Rattle.pn_alarms.specs.declared.abort.Abort.TheVariants.{Other};
 ghost use Rattle.relations.specs.Phases.{Ended, Named, keeping, moved, naming, taking};
 ghost use Rattle.relations.specs.Farewells.{farewell_of};
-ghost use Rattle.relations.specs.Link.{differing_in, is_alarm_of, is_named, phase_of, taken_of, uuid_of};
+ghost use Rattle.relations.specs.Link.{IsInStep, differing_in, is_alarm_of, is_named, phase_of, taken_of, uuid_of};
 
 use crate::farewell::OWN_REFERENCE;
 use crate::{Farewell, Partner, Phase};
@@ -44,7 +44,7 @@ impl Model for Relation {
     ghost Value = { Option Link };
 
     ghost use Rattle.std.specs.Prelude.{◌≤◌, ◌<◌};
-    ghost use Rattle.relations.specs.Link.{link_in};
+    ghost use Rattle.relations.specs.Link.{HasBegunIn, link_in};
 
     ghost view = { λ relation. link_in relation.phase (λ phase. record {
       phase = phase;
@@ -57,7 +57,7 @@ impl Model for Relation {
       flow = relation.exchange;
     }) };
 
-    ghost invariant = { λ relation. (relation.quiet ≤ 209712000) × (relation.waited < 32000) };
+    ghost invariant = { λ relation. (relation.quiet ≤ 209712000) × (relation.waited < 32000) × HasBegunIn relation.phase relation.exchange };
 }
 
 impl Relation {
@@ -82,7 +82,9 @@ impl Relation {
 
     /// What the relation waits for, if there is one.
     pub fn phase(&self) -> Option<Phase>
-        ensures { result ≡ phase_of self.now }
+        ensures phase { result ≡ phase_of self.now }
+        // Data is exchanged in the last phase alone.
+        ensures step { IsInStep self.now }
     {
         self.phase
     }

@@ -1,8 +1,10 @@
 //! The units of time.
-ghost use Rattle.std.specs.Prelude.{◌≡◌, ◌==◌, ◌+◌, ◌<◌, ◌⊎◌, None, Some, false, nat_le, if◌then◌else◌};
-ghost use Rattle.pn_alarms.specs.declared.abort.Abort.TheVariants.{Activity};
+ghost use Rattle.std.specs.Prelude.{◌≡◌, ◌==◌, ◌+◌, ◌<◌, ◌⊎◌, IfSome, None, Some, false, nat_le, true, if◌then◌else◌};
+ghost use Rattle.pn_alarms.specs.declared.abort.Abort.TheVariants.{Activity, DataHold};
+ghost use Rattle.relations.specs.declared.phase.Phase.TheVariants.{Exchanging};
+ghost use Rattle.relations.specs.Farewells.{farewell_of};
 ghost use Rattle.relations.specs.Link.{Link, is_awaiting, phase_of};
-ghost use Rattle.relations.specs.Timers.{due_of, is_timed};
+ghost use Rattle.relations.specs.Timers.{EndsIn, due_of, is_timed, is_unheard};
 ghost use Rattle.relations.specs.Phases.{moved, passing};
 ghost use Rattle.relations.specs.Ready.{ready_of};
 
@@ -69,6 +71,10 @@ impl Relation {
     pub fn tick(&mut self) -> Due
         ensures due { result ≡ due_of self.old }
         ensures state { self.new ≡ moved (passing self.old) self.old }
+        // The activity timer ends a relation before data is exchanged, data hold and an alarm without an ACK only then,
+        ensures reason { IfSome result.farewell (λ farewell. EndsIn farewell.reason (phase_of self.old)) }
+        // and then data hold always does where it is over.
+        ensures hold { (old : Link) → self.old ≡ Some old → old.phase ≡ Exchanging → is_unheard old ≡ true → result.farewell ≡ Some (farewell_of DataHold old) }
         // A unit of time leads nowhere but to the end.
         ensures phase { (phase_of self.new ≡ None) ⊎ (phase_of self.new ≡ phase_of self.old) }
         // ApplicationReady is sent again as it was.
