@@ -1,5 +1,5 @@
 -- Events, one by one.
-use Rattle.std.proofs.Common.{◌≡◌, inl, inr, ◌+◌, ◌%◌, ◌==◌, ◌<◌, ◌≤◌, ℕ, Bool, true, false, nat_le, List, [], ◌∷◌, length, map, Option, Some, None, is_some, unwrap_or, Result, Ok, Err, refl, sym, ap, subst, ◌∙◌, arith, if◌then◌else◌}
+use Rattle.std.proofs.Common.{◌≡◌, inl, inr, ◌+◌, ◌%◌, ◌==◌, ◌<◌, ℕ, true, false, nat_le, List, [], ◌∷◌, length, map, Option, Some, None, is_some, unwrap_or, Result, Ok, Err, refl, sym, ap, subst, ◌∙◌, arith}
 use Rattle.std.specs.Prelude.{min}
 use Rattle.std.proofs.lemmas.Bool.{cases_Bool, cases_lt, ne_eqb, eq-eqb, true≢false}
 use Rattle.std.proofs.lemmas.Bool.Decides.{nat_tests}
@@ -9,15 +9,15 @@ use Rattle.module_diff.specs.Plugged.{module_ident, submodule_ident}
 use Rattle.cyclic_data.specs.declared.place.PlaceKind.TheVariants.{Data}
 use Rattle.cyclic_data.specs.declared.tail.CyclicTail.{CyclicTail}
 use Rattle.cyclic_data.specs.declared.tail.ShortFrame.{ShortFrame}
-use Rattle.cyclic_data.specs.Image.{Cell, Shown, cell_at, cell_of, has_size, with_frame}
+use Rattle.cyclic_data.specs.Image.{Cell, Shown, cell_at, cell_of, has_size}
 use Rattle.cyclic_data.specs.Tail.{cyclic_of}
-use Rattle.cyclic_data.specs.Timing.{Hearing, Sending, heard, held_on, is_due, unit_later}
+use Rattle.cyclic_data.specs.Timing.{Hearing, Sending, is_due, unit_later}
 use Rattle.exchanges.specs.Flow.{Flow}
 use Rattle.exchanges.specs.Opening.{interval_of, opened}
 use Rattle.exchanges.specs.Units.{flow_later, is_silent}
 use Rattle.exchanges.specs.Received.{behind_frame, behind_read, is_new, is_of_outputs}
 use Rattle.exchanges.specs.Process.{given_at}
-use Rattle.exchanges.specs.Notices.{behind_message, may_raise, raised_at, raised_by}
+use Rattle.exchanges.specs.Notices.{behind_message, may_raise, raised_by}
 use Rattle.exchanges.specs.Runs.{Event, Begins, Passes, Comes, Gives, Raises, Says, behind, behind_all, units_of, units_in, taken_in, taken_with, later_one, last_taken, held_in, is_renewal, AreNoRenewals, IsDueEachInterval, AreOfTheLast, IsHeldSoLong}
 
 -- ---- inputs that are given, and alarms
@@ -48,27 +48,28 @@ beside_raised flow slot subslot octets None part = record { begun = refl; sendin
 
 -- ---- frames that come
 
--- a frame that comes leaves when frames are due, and whether data is exchanged; what it holds is taken, or nothing
-record IsComing (flow new : Flow) (taken : Option (List ℕ)) : Type 0 where
-  begun : new.begun ≡ flow.begun
-  sending : new.sending ≡ flow.sending
-  outputs : new.outputs ≡ held_in flow.outputs taken
-  hearing : is_some taken ≡ false → new.hearing ≡ flow.hearing
+-- a frame that comes leaves when frames are due, whether data is exchanged, and the inputs; what it holds is taken, or nothing
+pub record IsComing (flow new : Flow) (taken : Option (List ℕ)) : Type 0 where
+  pub begun : new.begun ≡ flow.begun
+  pub sending : new.sending ≡ flow.sending
+  pub inputs : new.inputs ≡ flow.inputs
+  pub outputs : new.outputs ≡ held_in flow.outputs taken
+  pub hearing : is_some taken ≡ false → new.hearing ≡ flow.hearing
 
 coming_read : (flow : Flow) (r : Result (List ℕ × CyclicTail) ShortFrame) → IsComing flow (behind_read flow r) (taken_in flow r)
 coming_read flow (Ok x) =
     elim (cases_Bool (is_new flow x.1)) [
-      | inl t ↦ rw t (record { begun = refl; sending = refl; outputs = refl; hearing = λ h. absurd (true≢false h) })
-      | inr t ↦ rw t (record { begun = refl; sending = refl; outputs = refl; hearing = λ h. refl })
+      | inl t ↦ rw t (record { begun = refl; sending = refl; inputs = refl; outputs = refl; hearing = λ h. absurd (true≢false h) })
+      | inr t ↦ rw t (record { begun = refl; sending = refl; inputs = refl; outputs = refl; hearing = λ h. refl })
     ]
-coming_read flow (Err short) = record { begun = refl; sending = refl; outputs = refl; hearing = λ h. refl }
+coming_read flow (Err short) = record { begun = refl; sending = refl; inputs = refl; outputs = refl; hearing = λ h. refl }
 
-coming : (flow : Flow) (source : Mac) (frame_id : ℕ) (body : List ℕ)
+pub coming : (flow : Flow) (source : Mac) (frame_id : ℕ) (body : List ℕ)
     → IsComing flow (behind_frame flow source frame_id body) (taken_with (Comes source frame_id body) flow)
 coming flow source frame_id body =
     elim (cases_Bool (is_of_outputs flow.route source frame_id)) [
       | inl t ↦ rw t (coming_read flow (cyclic_of flow.outputs.data_length body))
-      | inr t ↦ rw t (record { begun = refl; sending = refl; outputs = refl; hearing = λ h. refl })
+      | inr t ↦ rw t (record { begun = refl; sending = refl; inputs = refl; outputs = refl; hearing = λ h. refl })
     ]
 
 -- ---- when frames are due

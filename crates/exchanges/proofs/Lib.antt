@@ -1,2 +1,3 @@
 mod Statuses
 mod Kept
+mod Given

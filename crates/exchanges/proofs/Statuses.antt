@@ -1,6 +1,6 @@
 -- The statuses of an image, place after place.
-use Rattle.std.proofs.Common.{◌≡◌, inl, inr, ◌-◌, ℕ, ◌==◌, ◌&&◌, ◌||◌, Bool, true, false, List, [], ◌∷◌, map, replicate, Option, Some, None, is_some, refl, sym, ap, ◌∙◌, if◌then◌else◌}
-use Rattle.std.specs.List.{AllByRecursion, list_any}
+use Rattle.std.proofs.Common.{◌≡◌, inl, inr, ◌-◌, ℕ, ◌==◌, ◌&&◌, ◌||◌, Bool, true, false, List, [], ◌∷◌, map, replicate, Some, is_some, refl, sym, ap, ◌∙◌, if◌then◌else◌}
+use Rattle.std.specs.List.{AllByRecursion}
 use Rattle.std.proofs.lemmas.Bool.{cases_Bool, and_parts, and_from, eqb-true, eq-eqb, true≢false, false≢true}
 use Rattle.module_lists.specs.Lists.{Listed}
 use Rattle.module_blocks.specs.declared.module_diff.DiffModule.{DiffModule}
@@ -22,7 +22,7 @@ of_itself : (place : Place) → is_of place.kind place.slot place.subslot place 
 of_itself place =
     and_from _ _ (kind_itself place.kind) (and_from _ _ (eq-eqb place.slot place.slot refl) (eq-eqb place.subslot place.subslot refl))
 
-of_parts : (kind : PlaceKind) (slot subslot : ℕ) (place : Place) → is_of kind slot subslot place ≡ true → (slot ≡ place.slot) × (subslot ≡ place.subslot)
+pub of_parts : (kind : PlaceKind) (slot subslot : ℕ) (place : Place) → is_of kind slot subslot place ≡ true → (slot ≡ place.slot) × (subslot ≡ place.subslot)
 of_parts kind slot subslot place h =
     let all = and_parts (is_same_kind kind place.kind) ((place.slot == slot) && (place.subslot == subslot)) h in
     let two = and_parts (place.slot == slot) (place.subslot == subslot) all.1 in

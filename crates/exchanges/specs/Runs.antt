@@ -1,19 +1,22 @@
 -- Exchanges over many events.
-use Rattle.std.specs.Prelude.{◌≡◌, ◌+◌, ◌%◌, ◌==◌, ◌<◌, ℕ, Bool, true, false, nat_le, List, [], ◌∷◌, Option, Some, None, is_some, unwrap_or, Result, Ok, Err, if◌then◌else◌}
+use Rattle.std.specs.Prelude.{◌≡◌, ◌+◌, ◌-◌, ◌%◌, ◌==◌, ◌&&◌, ◌<◌, ℕ, Bool, true, false, nat_le, List, [], ◌∷◌, length, replicate, Option, Some, None, is_some, option_map, unwrap_or, Result, Ok, Err, if◌then◌else◌}
 use Rattle.pn_values.specs.declared.mac.Mac.{Mac}
 use Rattle.pn_values.specs.declared.real.RealModule.{RealModule}
 use Rattle.module_lists.specs.Lists.{Listed}
 use Rattle.module_blocks.specs.declared.module_diff.DiffModule.{DiffModule}
 use Rattle.module_blocks.specs.declared.module_diff.DiffSubmodule.{DiffSubmodule}
+use Rattle.cyclic_data.specs.declared.place.Place.{Place}
+use Rattle.cyclic_data.specs.declared.place.PlaceKind.{PlaceKind}
+use Rattle.cyclic_data.specs.declared.place.PlaceKind.TheVariants.{Data}
 use Rattle.cyclic_data.specs.declared.tail.CyclicTail.{CyclicTail}
 use Rattle.cyclic_data.specs.declared.tail.ShortFrame.{ShortFrame}
-use Rattle.cyclic_data.specs.Image.{Shown, with_frame}
+use Rattle.cyclic_data.specs.Image.{Cell, Shown, cell_at, place_at, with_frame, with_value}
 use Rattle.cyclic_data.specs.Tail.{cyclic_of}
 use Rattle.cyclic_data.specs.Timing.{is_due}
 use Rattle.connect_requests.specs.Request.{Request}
 use Rattle.pn_alarms.specs.declared.message.Message.{Message}
 use Rattle.exchanges.specs.Flow.{Flow}
-use Rattle.exchanges.specs.Opening.{begun_of, interval_of, opened}
+use Rattle.exchanges.specs.Opening.{begun_of, first_cell, interval_of, opened, status_of}
 use Rattle.exchanges.specs.Units.{flow_later, is_silent}
 use Rattle.exchanges.specs.Received.{behind_frame, is_new, is_of_outputs}
 use Rattle.exchanges.specs.Process.{given_at}
@@ -81,6 +84,25 @@ abbrev pub held_in : Shown → Option (List ℕ) → Shown
 held_in shown (Some octets) = with_frame octets shown
 held_in shown None = shown
 
+-- the value that a submodule is given, if its length is that of the place: so many octets with its IOPS; and the last one
+abbrev pub given_with : ℕ → ℕ → ℕ → Event → Option (List ℕ)
+given_with slot subslot size Begins = None
+given_with slot subslot size Passes = None
+given_with slot subslot size (Comes source frame_id body) = None
+given_with slot subslot size (Gives to_slot to_subslot value) =
+    if ((to_slot == slot) && (to_subslot == subslot)) && (size == length value + 1) then Some value else None
+given_with slot subslot size (Raises real of_slot of_subslot octets) = None
+given_with slot subslot size (Says message) = None
+
+abbrev pub last_given : ℕ → ℕ → ℕ → List Event → Option (List ℕ)
+last_given slot subslot size [] = None
+last_given slot subslot size (event ∷ events) = later_one (last_given slot subslot size events) (given_with slot subslot size event)
+
+-- what lies at the place of an input: the value last given, and zeros where none was; and the status of the opening
+abbrev pub input_cell : Listed DiffModule DiffSubmodule → ℕ → ℕ → List Event → Place → Cell
+input_cell rows slot subslot events place =
+    with_value (unwrap_or (last_given slot subslot place.size events) (replicate (place.size - 1) 0)) (first_cell rows place)
+
 -- whether the data hold time begins anew with an event
 abbrev pub is_renewal : Event → Flow → Bool
 is_renewal Begins flow = true
@@ -103,6 +125,18 @@ IsDueEachInterval = (request : Request) (rows : Listed DiffModule DiffSubmodule)
 -- Whatever happens, the outputs are those that the last frame that was taken holds, and as they were where none was.
 abbrev pub AreOfTheLast : Type 0
 AreOfTheLast = (events : List Event) (flow : Flow) → (behind_all events flow).outputs ≡ held_in flow.outputs (last_taken events flow)
+
+-- Whatever happens, the input of a submodule is the value last given since the answer to the Connect, and zeros where none was.
+abbrev pub AreTheLastGiven : Type 0
+AreTheLastGiven = (request : Request) (rows : Listed DiffModule DiffSubmodule) (events : List Event) (slot subslot : ℕ)
+    → cell_at Data slot subslot (behind_all events (opened request rows)).inputs.cells
+    ≡ option_map (input_cell rows slot subslot events) (place_at Data slot subslot request.input.layout.places)
+
+-- Whatever happens, IOPS and IOCS that are sent are those of the answer to the Connect.
+abbrev pub AreStillTheStatuses : Type 0
+AreStillTheStatuses = (request : Request) (rows : Listed DiffModule DiffSubmodule) (events : List Event) (kind : PlaceKind) (slot subslot : ℕ)
+    → option_map (λ cell. cell.status) (cell_at kind slot subslot (behind_all events (opened request rows)).inputs.cells)
+    ≡ option_map (λ place. status_of rows place.slot place.subslot) (place_at kind slot subslot request.input.layout.places)
 
 -- Once data is exchanged, and behind a frame that is taken, the data hold time is over with the unit that completes it, and with none
 -- before, unless a frame is taken.

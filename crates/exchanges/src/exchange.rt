@@ -1,5 +1,5 @@
 //! What is exchanged.
-ghost use Rattle.std.specs.Prelude.{◌≡◌, ◌≤◌, IfSome, is_some, length, option_map, unwrap_or};
+ghost use Rattle.std.specs.Prelude.{◌≡◌, ◌≤◌, IfSome, None, [], false, is_some, length, option_map, unwrap_or};
 ghost use Rattle.exchanges.specs.Opening.{begun_of, opened};
 ghost use Rattle.exchanges.specs.Process.{given_at, output_at};
 
@@ -43,8 +43,13 @@ impl Model for DataExchange {
 }
 
 impl DataExchange {
-    /// One of nobody, to be opened.
-    pub fn new() -> DataExchange {
+    /// One of nobody, to be opened: no data is exchanged, no submodule has an input or an output, and no alarm stands.
+    pub fn new() -> DataExchange
+        ensures begun { result.begun ≡ false }
+        ensures inputs { result.inputs.cells ≡ [] }
+        ensures outputs { result.outputs.cells ≡ [] }
+        ensures alarms { result.alarms.sender.standing ≡ None }
+    {
         DataExchange {
             route: Route::blank(),
             begun: false,

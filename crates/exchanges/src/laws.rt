@@ -1,5 +1,5 @@
 //! What holds of exchanges over many events.
-ghost use Rattle.exchanges.specs.Runs.{AreOfTheLast, IsDueEachInterval, IsHeldSoLong};
+ghost use Rattle.exchanges.specs.Runs.{AreOfTheLast, AreStillTheStatuses, AreTheLastGiven, IsDueEachInterval, IsHeldSoLong};
 
 /// What is exchanged, over any list of events: laws of the definitions by which `DataExchange` is stated, and no code.
 pub fn exchange_is_kept()
@@ -7,6 +7,10 @@ pub fn exchange_is_kept()
     ensures interval { IsDueEachInterval }
     // The outputs are those of the last frame that was taken.
     ensures last { AreOfTheLast }
+    // The inputs are those that were given last, and zeros where none was.
+    ensures given { AreTheLastGiven }
+    // What is sent of IOPS and IOCS is that of the answer to the Connect.
+    ensures statuses { AreStillTheStatuses }
     // The data hold time is over with the unit that completes it, unless a frame is taken before.
     ensures hold { IsHeldSoLong }
 {}

@@ -1,4 +1,5 @@
 use Rattle.exchanges.proofs.Kept.{are_of_the_last, is_due_each_interval, is_held_so_long}
+use Rattle.exchanges.proofs.Given.{are_still_the_statuses, are_the_last_given}
 use Rattle.exchanges.proofs.laws.exchange_is_kept.Goals as goal
 
 pub returns-clause-interval : goal.returns-clause-interval
@@ -6,6 +7,12 @@ returns-clause-interval c = is_due_each_interval
 
 pub returns-clause-last : goal.returns-clause-last
 returns-clause-last c = are_of_the_last
+
+pub returns-clause-given : goal.returns-clause-given
+returns-clause-given c = are_the_last_given
+
+pub returns-clause-statuses : goal.returns-clause-statuses
+returns-clause-statuses c = are_still_the_statuses
 
 pub returns-clause-hold : goal.returns-clause-hold
 returns-clause-hold c = is_held_so_long
