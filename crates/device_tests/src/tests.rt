@@ -7,7 +7,6 @@ mod exchange;
 mod faults;
 mod frames;
 mod full;
-mod hostile;
 mod losses;
 mod records;
 mod relation;

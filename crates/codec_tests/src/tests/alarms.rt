@@ -5,8 +5,8 @@ use alarm_exchange::{Exchange, Kept, Move};
 use arrayvec::ArrayVec;
 use block_codec::AlarmAck;
 use pn_alarms::{
-    Abort, Alarm, AlarmFault, DeviceAlarms, Due, Heard, Message, PduType, Receiver, Taken,
-    read_message, read_notification, read_pdu, write_alarm, write_pdu,
+    Abort, Alarm, AlarmFault, DeviceAlarms, Due, Heard, Message, PduType, RaiseFault, Receiver,
+    Taken, read_message, read_notification, read_pdu, write_alarm, write_pdu,
 };
 
 /// The first alarm of a relation, of slot 1 and subslot 1, with two octets of data.
@@ -98,7 +98,9 @@ fn alarm_is_read(rt: HostRuntime) {
 #[test]
 fn one_stands_at_a_time(rt: HostRuntime) {
     let mut alarms = alarmed();
-    assert!(rt; alarms.raise(&alarm_of(&[])).is_err());
+    let refused = alarms.raise(&alarm_of(&[])).err();
+    assert_eq!(rt; refused, Some(RaiseFault::Busy));
+    assert_eq!(rt; RaiseFault::Busy.number(), 1);
     assert_eq!(rt; heard(&mut alarms, &ACK), Some(Heard::Data(Taken::New)));
     assert!(rt; alarms.standing().is_none());
     // again it is acknowledged, and ends nothing

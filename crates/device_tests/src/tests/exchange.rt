@@ -1,7 +1,7 @@
 //! What a relation exchanges: cyclic frames each way, and an alarm. The octets were worked out by hand from IEC 61158-6-10.
-use crate::tests::connects::THREE;
-use crate::tests::requests::{exchanging, related, sent_in};
-use crate::tests::stations::{Station, frame, is_padded};
+use crate::tests::connects::{THREE, connect};
+use crate::tests::requests::{exchanging, exchanging_by, related, sent_in};
+use crate::tests::stations::{Station, frame, is_filled, is_padded};
 use device_core::{Event, Note};
 use frame_codec::{Bytes, Outbox};
 use relations::Phase;
@@ -14,8 +14,8 @@ const INPUTS: [u8; 64] =
     \x80\x80\x80\x12\x34\x80\x80\x00\x00\x00\x00\x00\x00\x00\x00\x00\x00\x00\x00\x00\
     \x00\x00\x00\x00\x00\x00\x00\x00\x00\x00\x00\x00\x00\x00\x00\x00\x00\x00\x00\x00\x00\x20\x35\x00";
 
-/// A cyclic frame of the controller: the output aa 55, with the CycleCounter 32.
-pub(crate) const OUTPUTS: [u8; 64] =
+// A cyclic frame of the controller: the output aa 55, with the CycleCounter 32.
+const OUTPUTS: [u8; 64] =
     *b"\x02\x00\x00\x00\x00\x01\x02\x00\x00\x00\x00\x02\x81\x00\xc0\x00\x88\x92\xc0\x00\
     \xaa\x55\x80\x80\x80\x80\x80\x00\x00\x00\x00\x00\x00\x00\x00\x00\x00\x00\x00\x00\
     \x00\x00\x00\x00\x00\x00\x00\x00\x00\x00\x00\x00\x00\x00\x00\x00\x00\x00\x00\x00\x00\x20\x35\x00";
@@ -27,24 +27,15 @@ const NOTIFIED: [u8; 62] =
     \x00\x01\x00\x1a\x01\x00\x00\x02\x00\x00\x00\x00\x00\x01\x00\x01\x00\x00\x00\x10\x00\x00\x00\x10\x00\x00\
     \x00\x01\xaa\xbb";
 
-/// The controller's ACK of it, a NACK, and the AlarmAck of its application.
-pub(crate) const ACK: [u8; 32] =
+// The controller's ACK of it, and the AlarmAck of its application.
+const ACK: [u8; 32] =
     *b"\x02\x00\x00\x00\x00\x01\x02\x00\x00\x00\x00\x02\x81\x00\xc0\x00\x88\x92\xfc\x01\
     \x00\x01\x00\x01\x13\x01\xff\xff\xff\xff\x00\x00";
 
-pub(crate) const NACK: [u8; 32] =
-    *b"\x02\x00\x00\x00\x00\x01\x02\x00\x00\x00\x00\x02\x81\x00\xc0\x00\x88\x92\xfc\x01\
-    \x00\x01\x00\x01\x12\x01\xff\xff\xff\xff\x00\x00";
-
-pub(crate) const ALARM_ACK: [u8; 54] =
+const ALARM_ACK: [u8; 54] =
     *b"\x02\x00\x00\x00\x00\x01\x02\x00\x00\x00\x00\x02\x81\x00\xc0\x00\x88\x92\xfc\x01\
     \x00\x01\x00\x01\x11\x11\xff\xff\xff\xff\x00\x16\
     \x80\x01\x00\x12\x01\x00\x00\x02\x00\x00\x00\x00\x00\x01\x00\x01\x00\x00\x00\x00\x00\x00";
-
-/// The ERR by which the controller ends a relation.
-pub(crate) const ERR: [u8; 36] =
-    *b"\x02\x00\x00\x00\x00\x01\x02\x00\x00\x00\x00\x02\x81\x00\xa0\x00\x88\x92\xfe\x01\
-    \x00\x01\x00\x01\x14\x01\xff\xff\xff\xfe\x00\x04\xcf\x81\xfd\x06";
 
 // The device's ACK of the AlarmAck.
 const TAKEN: [u8; 32] =
@@ -56,15 +47,30 @@ const SILENT: [u8; 36] =
     *b"\x02\x00\x00\x00\x00\x02\x02\x00\x00\x00\x00\x01\x81\x00\xa0\x00\x88\x92\xfe\x01\
     \x00\x01\x00\x01\x14\x01\xff\xff\xff\xfe\x00\x04\xcf\x81\xfd\x05";
 
+// The ERR of a device whose alarm nobody acknowledges: one alarm was sent, and none was taken.
+const SPENT: [u8; 36] =
+    *b"\x02\x00\x00\x00\x00\x02\x02\x00\x00\x00\x00\x01\x81\x00\xa0\x00\x88\x92\xfe\x01\
+    \x00\x01\x00\x01\x14\x01\xff\xff\xff\xfe\x00\x04\xcf\x81\xfd\x0d";
+
 fn octets(bytes: &[u8]) -> Bytes {
     let mut octets = Bytes::new();
     let _ = octets.try_extend_from_slice(bytes);
     octets
 }
 
-/// The application raises an alarm of the module in slot 1.
-pub(crate) fn alarm(bytes: &[u8]) -> Event {
+// The application raises an alarm of the module in slot 1.
+fn alarm(bytes: &[u8]) -> Event {
     Event::Alarm(1, 1, octets(bytes))
+}
+
+/// The first interval of a relation: behind its last unit one frame is sent, which holds this input.
+pub(crate) fn is_interval_sent(device: &mut Station, value: [u8; 2]) -> bool {
+    let mut outbox = Outbox::new();
+    let early = sent_in(device, 31);
+    let note = device.step(&Event::Tick, &mut outbox);
+    let mut wanted = INPUTS;
+    wanted[23..25].copy_from_slice(&value);
+    early == 0 && note == Note::Done && is_padded(&outbox, &wanted)
 }
 
 #[test]
@@ -80,9 +86,7 @@ fn inputs_are_sent_each_interval(rt: HostRuntime) -> Result<(), Fail> {
         assert_eq!(rt; device.step(&given, &mut outbox), note);
         assert_eq!(rt; outbox.len(), 0);
     }
-    assert_eq!(rt; sent_in(&mut device, 31), 0);
-    assert_eq!(rt; device.step(&Event::Tick, &mut outbox), Note::Done);
-    assert!(rt; is_padded(&outbox, &INPUTS));
+    assert!(rt; is_interval_sent(&mut device, [0x12, 0x34]));
     assert_eq!(rt; sent_in(&mut device, 32), 1);
     Ok(())
 }
@@ -104,8 +108,57 @@ fn one_alarm_stands_at_a_time(rt: HostRuntime) -> Result<(), Fail> {
     Ok(())
 }
 
-// A cyclic frame with this CycleCounter and this output.
-fn outputs(counter: u16, value: [u8; 2]) -> Event {
+// A station whose controller may be silent for 7,427 intervals, by DataHoldFactor of both IOCRs.
+fn patient() -> Option<Station> {
+    let mut blocks = connect(0x11, 600, THREE);
+    for place in [95, 179usize] {
+        if let Some(there) = blocks.as_mut_slice().get_mut(place) {
+            *there = 0x1D;
+        }
+    }
+    exchanging_by(blocks.as_slice())
+}
+
+// The alarm is sent again, in front of the frame of inputs where one is due in this unit.
+fn is_notified_again(outbox: &Outbox, with_inputs: bool) -> bool {
+    match outbox.as_slice() {
+        [sent] => !with_inputs && is_filled(sent, &NOTIFIED),
+        [sent, inputs] => {
+            with_inputs
+                && is_filled(sent, &NOTIFIED)
+                && inputs.as_slice().starts_with(&INPUTS[..20])
+        }
+        _ => false,
+    }
+}
+
+// An alarm that is raised so many units behind the Connect and that nobody acknowledges: it is sent again three times, each 3,200
+// units behind the one before, and the fourth time ends the relation, with nothing beside the ERR.
+#[test]
+fn an_alarm_that_nobody_acknowledges(rt: HostRuntime) -> Result<(), Fail> {
+    for (first, between) in [(0, 99), (5, 100)] {
+        let mut device = patient().ok_or("starts")?;
+        let mut outbox = Outbox::new();
+        assert_eq!(rt; sent_in(&mut device, first), 0);
+        assert_eq!(rt; device.step(&alarm(&[0xAA, 0xBB]), &mut outbox), Note::Done);
+        assert!(rt; is_notified_again(&outbox, false));
+        for _ in 0..3 {
+            assert_eq!(rt; sent_in(&mut device, 3199), between);
+            assert_eq!(rt; device.step(&Event::Tick, &mut outbox), Note::Done);
+            assert!(rt; is_notified_again(&outbox, first == 0));
+        }
+        assert_eq!(rt; sent_in(&mut device, 3199), between);
+        assert_eq!(rt; device.phase(), Some(Phase::Exchanging));
+        assert_eq!(rt; device.step(&Event::Tick, &mut outbox), Note::Done);
+        assert!(rt; is_padded(&outbox, &SPENT));
+        assert_eq!(rt; device.phase(), None);
+        assert_eq!(rt; sent_in(&mut device, 32), 0);
+    }
+    Ok(())
+}
+
+/// A cyclic frame with this CycleCounter and this output.
+pub(crate) fn outputs(counter: u16, value: [u8; 2]) -> Event {
     let mut bytes = OUTPUTS;
     bytes[20..22].copy_from_slice(&value);
     bytes[60..62].copy_from_slice(&counter.to_be_bytes());

@@ -53,6 +53,22 @@ fn a_tagged_request_gets_the_untagged_answer(rt: HostRuntime) -> Result<(), Fail
     Ok(())
 }
 
+#[test]
+fn numbers_of_notes(rt: HostRuntime) {
+    for (note, number) in [
+        (Note::Done, 0u8),
+        (Note::NotMine, 1),
+        (Note::Fault, 2),
+        (Note::Filter, 3),
+        (Note::OldCall, 4),
+        (Note::NoRelation, 5),
+        (Note::StaleCycle, 6),
+        (Note::Refused, 7),
+    ] {
+        assert_eq!(rt; note as u8, number);
+    }
+}
+
 // A device without a name or an address, which meets these octets.
 fn is_noted<R: Abort>(rt: &R, bytes: &[u8], note: Note) -> Result<(), Fail> {
     let mut outbox = Outbox::new();

@@ -1,6 +1,7 @@
 //! Records that are written in a relation: what is stored and kept, what is refused, and what a loss of power, a fault and a
 //! flash without room leave of it.
 use crate::tests::connects::{Blocks, THREE, connect};
+use crate::tests::exchange::{is_interval_sent, outputs};
 use crate::tests::full::write_last;
 use crate::tests::requests::{
     CONNECT, WRITE, call, exchanging, plugged, related, sent_in, served, station, write,
@@ -114,6 +115,18 @@ fn a_date_is_refused_after_a_fault(rt: HostRuntime) -> Result<(), Fail> {
         served(&mut device, &call(WRITE, 8, 0, blocks.as_slice())),
         (1, 142, [0xDF, 0x80, 0xB5, 5])
     );
+    // cyclic frames go on, each way
+    let mut outbox = Outbox::new();
+    for (counter, note) in [
+        (65_520, Note::Done),
+        (16, Note::Done),
+        (65_520, Note::StaleCycle),
+    ] {
+        let event = outputs(counter, [0xAA, 0x55]);
+        assert_eq!(rt; device.step(&event, &mut outbox), note);
+        assert_eq!(rt; outbox.len(), 0);
+    }
+    assert!(rt; is_interval_sent(&mut device, [0, 0]));
     assert_eq!(rt; device.phase(), Some(Phase::Exchanging));
     Ok(())
 }

@@ -11,8 +11,6 @@ pub(crate) const CONNECT: u8 = 0;
 
 pub(crate) const RELEASE: u8 = 1;
 
-pub(crate) const READ: u8 = 2;
-
 pub(crate) const WRITE: u8 = 3;
 
 pub(crate) const CONTROL: u8 = 4;
@@ -72,7 +70,7 @@ pub(crate) fn call(operation: u8, activity: u8, sequence: u8, blocks: &[u8]) -> 
 }
 
 /// Makes the checksum of the IPv4 header right.
-pub(crate) fn mend(bytes: &mut Bytes) {
+fn mend(bytes: &mut Bytes) {
     set_number(bytes, 24, 0);
     let sum = ones_sum(bytes.get(14..34).unwrap_or(&[]));
     set_number(bytes, 24, !sum);
@@ -163,7 +161,13 @@ pub(crate) fn related(factor: u16, plan: Plan) -> Option<Station> {
 
 /// A station that exchanges data.
 pub(crate) fn exchanging() -> Option<Station> {
-    let mut device = related(600, crate::tests::connects::THREE)?;
+    exchanging_by(connect(0x11, 600, crate::tests::connects::THREE).as_slice())
+}
+
+/// A station that exchanges data as these blocks of a Connect ask.
+pub(crate) fn exchanging_by(blocks: &[u8]) -> Option<Station> {
+    let mut device = station(plugged(), MemoryFlash::blank())?;
+    let _ = served(&mut device, &call(CONNECT, 7, 0, blocks));
     let _ = served(&mut device, &call(CONTROL, 7, 1, &PRM_END));
     let _ = served(&mut device, &response());
     Some(device)

@@ -80,7 +80,7 @@ fn hex_digits(rt: HostRuntime) -> Result<(), Fail> {
 
 #[test]
 fn refused_lines(rt: HostRuntime) -> Result<(), Fail> {
-    let cases: [&[u8]; 27] = [
+    let cases: [&[u8]; 43] = [
         b"x",
         b" ",
         b"\r",
@@ -106,6 +106,22 @@ fn refused_lines(rt: HostRuntime) -> Result<(), Fail> {
         b"cut 0 555555",
         b"cut 4294967296 55",
         b"cut 0 55 1",
+        b"input",
+        b"input ",
+        b"input 1",
+        b"input 1 1",
+        b"input 1 1 ",
+        b"input 1 1 0",
+        b"input 1 1 zz",
+        b"input 1 1 00 00",
+        b"input  1 1 00",
+        b"input 65536 1 00",
+        b"input 1 65536 00",
+        b"input +1 1 00",
+        b"input -1 1 00",
+        b"alarm 1 1",
+        b"alarm 1 1 0",
+        b"alarm 1 1 00 00",
         b"# \xc3\xa4",
         b"\x80",
     ];

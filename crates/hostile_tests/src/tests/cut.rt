@@ -1,0 +1,70 @@
+// Frames that are no calls, cut at each length.
+use super::frames::{OUTPUTS, PDUS, elsewhere, octets, untagged};
+use super::stations::{PHASES, Station, at, is_noted, is_untouched};
+use device_core::Note;
+use frame_codec::Bytes;
+use relations::Phase;
+use std::process::Abort;
+use std::test::Fail;
+
+// None of the parts in front of the end of a frame is taken: from this length on this becomes of each, and shorter ones are faults.
+fn are_cut(
+    rt: &impl Abort,
+    device: &mut Station,
+    bytes: &Bytes,
+    (from, note): (usize, Note),
+) -> Result<(), Fail> {
+    for length in 0..bytes.len() {
+        let part = octets(bytes.get(..length).ok_or("is longer")?);
+        let wanted = if length < from { Note::Fault } else { note };
+        is_noted(rt, device, &part, wanted);
+    }
+    Ok(())
+}
+
+// What becomes of a cyclic frame that is too short: without a relation there is none that it could belong to.
+fn note_of_short(phase: Option<Phase>) -> Note {
+    match phase {
+        None => Note::NoRelation,
+        Some(_) => Note::Fault,
+    }
+}
+
+#[test]
+fn cyclic_frames_cut_short(rt: HostRuntime) -> Result<(), Fail> {
+    for phase in PHASES {
+        let mut device = at(phase).ok_or("starts")?;
+        let note = note_of_short(phase);
+        are_cut(&rt, &mut device, &octets(&OUTPUTS), (20, note))?;
+        are_cut(&rt, &mut device, &untagged(&OUTPUTS), (16, note))?;
+        is_untouched(&rt, device, phase)?;
+    }
+    Ok(())
+}
+
+// A PDU that is not whole is a fault, be there a relation or none, under either FrameID.
+#[test]
+fn alarm_frames_cut_short(rt: HostRuntime) -> Result<(), Fail> {
+    for phase in PHASES {
+        let mut device = at(phase).ok_or("starts")?;
+        for bytes in PDUS {
+            for whole in [octets(bytes), untagged(bytes), elsewhere(bytes)] {
+                are_cut(&rt, &mut device, &whole, (0, Note::Fault))?;
+            }
+        }
+        is_untouched(&rt, device, phase)?;
+    }
+    Ok(())
+}
+
+// A whole one belongs to no relation where there is none.
+#[test]
+fn frames_of_no_relation(rt: HostRuntime) -> Result<(), Fail> {
+    let mut device = at(None).ok_or("starts")?;
+    is_noted(&rt, &mut device, &octets(&OUTPUTS), Note::NoRelation);
+    for bytes in PDUS {
+        is_noted(&rt, &mut device, &octets(bytes), Note::NoRelation);
+        is_noted(&rt, &mut device, &elsewhere(bytes), Note::NoRelation);
+    }
+    is_untouched(&rt, device, None)
+}

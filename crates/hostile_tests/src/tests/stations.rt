@@ -1,0 +1,179 @@
+//! The station of these tests in each phase, and whether frames left it as it was.
+use super::frames::{
+    ACK, ALARM_ACK, ASKED, BLOCKS, CONNECT, CONTROL, OUTPUTS, PRM_END, READ, call, frame, octets,
+    response,
+};
+use arrayvec::ArrayVec;
+use device_core::{Device, Event, Note};
+use flash_model::MemoryFlash;
+use frame_codec::{Bytes, Outbox};
+use pn_values::{Identity, Mac, Real, RealModule, RealSubmodule};
+use relations::Phase;
+use std::process::Abort;
+use std::test::Fail;
+
+/// Over the smallest flash.
+pub(crate) type Station = Device<MemoryFlash<768>, 768>;
+
+/// Without a relation, and in each phase of one.
+pub(crate) const PHASES: [Option<Phase>; 4] = [
+    None,
+    Some(Phase::Started),
+    Some(Phase::Awaiting),
+    Some(Phase::Exchanging),
+];
+
+/// A Set of the suite 192.168.0.2, 255.255.255.0, to be kept.
+const SET_ADDRESS: [u8; 44] =
+    *b"\x02\x00\x00\x00\x00\x01\x02\x00\x00\x00\x00\x02\x88\x92\xfe\xfd\x04\x00\x00\x00\x00\x02\x00\x00\x00\x12\
+    \x01\x02\x00\x0e\x00\x01\xc0\xa8\x00\x02\xff\xff\xff\x00\x00\x00\x00\x00";
+
+/// What is plugged in: slot and ident number of each module, and subslot and ident number of its submodules.
+const PLUGGED: [(u16, u32, &[(u16, u32)]); 3] = [
+    (0, 1, &[(1, 1), (0x8000, 2), (0x8001, 3)]),
+    (1, 16, &[(1, 16)]),
+    (2, 32, &[(1, 32)]),
+];
+
+fn identity() -> Identity {
+    Identity {
+        mac: Mac {
+            octets: [2, 0, 0, 0, 0, 1],
+        },
+        station_type: ArrayVec::new(),
+        vendor_id: 0x0123,
+        device_id: 0x0456,
+        instance: 1,
+        order_id: [b' '; 20],
+        serial_number: [b' '; 16],
+        hardware_revision: 0,
+        software_revision: *b"V\0\0\0",
+        profile_id: 0,
+        profile_specific_type: 0,
+    }
+}
+
+fn plugged() -> Real {
+    let mut modules = ArrayVec::new();
+    for (slot, ident, submodules) in PLUGGED {
+        let mut module = RealModule {
+            slot,
+            ident,
+            ..RealModule::default()
+        };
+        for (subslot, number) in submodules {
+            let _ = module.submodules.try_push(RealSubmodule {
+                subslot: *subslot,
+                ident: *number,
+                ..RealSubmodule::default()
+            });
+        }
+        let _ = modules.try_push(module);
+    }
+    Real { modules }
+}
+
+/// A station with an address, in this phase of a relation that these blocks of a Connect made.
+pub(crate) fn asked_for(blocks: &[u8], phase: Option<Phase>) -> Option<Station> {
+    let mut device = Device::boot(identity(), plugged(), MemoryFlash::blank()).ok()?;
+    let mut outbox = Outbox::new();
+    let _ = device.step(&frame(&SET_ADDRESS), &mut outbox);
+    let frames = [
+        call(CONNECT, 0, blocks),
+        call(CONTROL, 1, &PRM_END),
+        response(),
+    ];
+    for bytes in &frames {
+        if device.phase() == phase {
+            break;
+        }
+        let _ = device.step(&frame(bytes.as_slice()), &mut outbox);
+    }
+    if device.phase() == phase {
+        Some(device)
+    } else {
+        None
+    }
+}
+
+pub(crate) fn at(phase: Option<Phase>) -> Option<Station> {
+    asked_for(&BLOCKS, phase)
+}
+
+/// The application raises an alarm of the module in slot 1.
+pub(crate) fn alarm() -> Event {
+    Event::Alarm(1, 1, octets(&[0xAA]))
+}
+
+/// Nothing is sent for a frame, and this becomes of it.
+pub(crate) fn is_noted(rt: &impl Abort, device: &mut Station, bytes: &Bytes, note: Note) {
+    let mut outbox = Outbox::new();
+    let came = device.step(&frame(bytes.as_slice()), &mut outbox);
+    assert_eq!(rt; came, note, "{:?}", bytes.as_slice());
+    assert_eq!(rt; outbox.len(), 0);
+}
+
+/// Hands a call in. How many octets the one answer has, and its status.
+pub(crate) fn served(device: &mut Station, bytes: &Bytes) -> (usize, [u8; 4]) {
+    let mut outbox = Outbox::new();
+    let _ = device.step(&frame(bytes.as_slice()), &mut outbox);
+    let mut status = [0xFF; 4];
+    match outbox.as_slice() {
+        [sent, ..] if sent.len() >= 126 => {
+            status.copy_from_slice(&sent.as_slice()[122..126]);
+            (sent.len(), status)
+        }
+        _ => (0, status),
+    }
+}
+
+/// Two stations answer an event alike, and show the same behind it.
+fn is_alike(rt: &impl Abort, (device, other): (&mut Station, &mut Station), event: &Event) {
+    let (mut outbox, mut wanted) = (Outbox::new(), Outbox::new());
+    let note = device.step(event, &mut outbox);
+    assert_eq!(rt; note, other.step(event, &mut wanted));
+    assert_eq!(rt; outbox.len(), wanted.len());
+    for (sent, same) in outbox.as_slice().iter().zip(wanted.as_slice()) {
+        assert_eq!(rt; sent.as_slice(), same.as_slice());
+    }
+    assert_eq!(rt; device.phase(), other.phase());
+    assert_eq!(rt; device.output(2, 1), other.output(2, 1));
+    assert_eq!(rt;
+        device.running().im2.as_bytes(),
+        other.running().im2.as_bytes()
+    );
+}
+
+/// A station that met broken frames goes on, through the rest of the start-up, an alarm and the end of its relation by silence, as one
+/// in this phase does that met none.
+pub(crate) fn is_untouched(
+    rt: &impl Abort,
+    mut device: Station,
+    phase: Option<Phase>,
+) -> Result<(), Fail> {
+    let mut other = at(phase).ok_or("starts")?;
+    let events = [
+        alarm(),
+        frame(&ACK),
+        frame(&ALARM_ACK),
+        frame(&OUTPUTS),
+        Event::Input(1, 1, octets(&[0x12, 0x34])),
+        frame(call(CONNECT, 0, &BLOCKS).as_slice()),
+        frame(call(CONTROL, 1, &PRM_END).as_slice()),
+        frame(response().as_slice()),
+        frame(call(READ, 2, &ASKED).as_slice()),
+        alarm(),
+        frame(&ACK),
+        frame(&ALARM_ACK),
+        frame(&OUTPUTS),
+    ];
+    for event in &events {
+        is_alike(rt, (&mut device, &mut other), event);
+    }
+    assert_eq!(rt; device.phase(), Some(Phase::Exchanging));
+    for _ in 0..97 {
+        is_alike(rt, (&mut device, &mut other), &Event::Tick);
+    }
+    assert_eq!(rt; device.phase(), None);
+    Ok(())
+}
