@@ -2,10 +2,9 @@
 use Rattle.device_core.specs.declared.hearing.Heard.{Heard as Code}
 use Rattle.device_core.specs.declared.hearing.Heard.TheVariants as code
 use Rattle.dcp_core.specs.Reading.{request_of}
-use Rattle.device_core.specs.Heard.{Heard, Ticks, Unreadable, Elsewhere, Resolves, Told, Cyclic, Alarms, Given, Raised, heard_request, said_by}
+use Rattle.device_core.specs.Heard.{Heard, Unreadable, Elsewhere, Resolves, Told, Cyclic, Alarms, heard_request, said_by}
 
 abbrev pub meaning_of : Code → Heard
-meaning_of code.Tick = Ticks
 meaning_of code.Unreadable = Unreadable
 meaning_of code.Elsewhere = Elsewhere
 meaning_of (code.Asked source frame_id body) = heard_request source (request_of frame_id body.now)
@@ -13,5 +12,3 @@ meaning_of (code.Arp asker packet) = Resolves asker packet
 meaning_of (code.Datagram caller address body) = Told caller address (said_by body.now)
 meaning_of (code.Cyclic source frame_id body) = Cyclic source frame_id body.now
 meaning_of (code.Alarm source header message) = Alarms source header message
-meaning_of (code.Given slot subslot value) = Given slot subslot value.now
-meaning_of (code.Raised slot subslot octets) = Raised slot subslot octets.now

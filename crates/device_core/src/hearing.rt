@@ -2,11 +2,11 @@
 ghost use Rattle.std.specs.Prelude.{◌≡◌, ◌==◌, ◌&&◌};
 ghost use Rattle.device_core.specs.Heard.{is_own as is_own_by, is_taken as is_taken_by, heard_of, heard_content};
 ghost use Rattle.device_core.specs.Hearing.{meaning_of};
+ghost use Rattle.device_core.specs.declared.event.Event.TheVariants.{Frame};
 ghost use Rattle.frame_codec.specs.Meaning.{RealTime, content_of};
 
-use crate::Event;
 use frame_codec::{
-    Arp, DCP_GET_SET, DCP_IDENTIFY_REQUEST, Endpoint, Layered, Payload, RPC_PORT, read,
+    Arp, Bytes, DCP_GET_SET, DCP_IDENTIFY_REQUEST, Endpoint, Layered, Payload, RPC_PORT, read,
 };
 use pn_alarms::{Header, Message, read_message};
 use pn_values::{Identity, Mac};
@@ -33,11 +33,9 @@ pub(crate) struct Caller {
     pub(crate) endpoint: Endpoint,
 }
 
-/// What an event is to a device.
+/// What a frame is to a device.
 #[derive(Drop)]
 pub(crate) enum Heard<'a> {
-    /// A unit of time is over.
-    Tick,
     /// A frame that cannot be read.
     Unreadable,
     /// A frame for another station, or of a kind that a device does not take.
@@ -60,18 +58,6 @@ pub(crate) enum Heard<'a> {
         header: Header,
         message: Message,
     },
-    /// The application gives an input.
-    Given {
-        slot: u16,
-        subslot: u16,
-        value: &'a [u8],
-    },
-    /// The application raises an alarm.
-    Raised {
-        slot: u16,
-        subslot: u16,
-        octets: &'a [u8],
-    },
     /// A packet of ARP to this station or to all.
     Arp {
         asker: Mac,
@@ -85,27 +71,14 @@ pub(crate) enum Heard<'a> {
     },
 }
 
-/// Reads an event. A frame is read first, and then its destination is looked at.
+/// Reads a frame, and then looks at its destination.
 #[tactic(auto, unfolding(crate::specs::Heard::heard_of))]
-pub(crate) fn hear<'a>(identity: &Identity, event: &'a Event) -> Heard<'a>
-    ensures { heard_of identity.now event.now ≡ meaning_of result }
+pub(crate) fn hear<'a>(identity: &Identity, bytes: &'a Bytes) -> Heard<'a>
+    ensures { heard_of identity.now (Frame bytes.now) ≡ meaning_of result }
 {
-    match event {
-        Event::Tick => Heard::Tick,
-        Event::Input(slot, subslot, value) => Heard::Given {
-            slot: *slot,
-            subslot: *subslot,
-            value: value.as_slice(),
-        },
-        Event::Alarm(slot, subslot, octets) => Heard::Raised {
-            slot: *slot,
-            subslot: *subslot,
-            octets: octets.as_slice(),
-        },
-        Event::Frame(bytes) => match read(bytes.as_slice()) {
-            Ok(layered) => hear_frame(identity, layered),
-            Err(_) => Heard::Unreadable,
-        },
+    match read(bytes.as_slice()) {
+        Ok(layered) => hear_frame(identity, layered),
+        Err(_) => Heard::Unreadable,
     }
 }
 

@@ -4,6 +4,7 @@ ghost use Rattle.settings_store.specs.Carries.{Holds};
 ghost use Rattle.dcp_core.specs.Request.{Asked};
 ghost use Rattle.device_core.specs.Heard.{Asks, heard_of};
 ghost use Rattle.device_core.specs.Hearing.{meaning_of};
+ghost use Rattle.device_core.specs.declared.event.Event.TheVariants.{Frame};
 ghost use Rattle.relations.specs.Link.{Link};
 ghost use Rattle.device_core.specs.State.{Live, Station, with_rest};
 ghost use Rattle.device_core.specs.Sent.{bytes_of};
@@ -19,7 +20,7 @@ use crate::hearing::{Heard, hear};
 use crate::{Device, Event, Note};
 use dcp_core::Service;
 use flash_model::Flash;
-use frame_codec::Outbox;
+use frame_codec::{Bytes, Outbox};
 use pn_alarms::{Header, Heard as Fate, Message};
 use pn_values::Mac;
 use relations::Received;
@@ -50,52 +51,67 @@ impl<F: Flash<S>, const S: usize> Device<F, S> {
             IsAgain self.old frame (map (λ frame. frame.items) outbox.new.items) result self.new }
     {
         outbox.clear();
-        let heard = hear(&self.identity, event);
-        self.respond(heard, outbox)
+        self.respond(event, outbox)
     }
 
-    // What comes of what was heard.
-    fn respond(&mut self, heard: Heard<'_>, outbox: &mut Outbox) -> Note
+    // What comes of an event.
+    fn respond(&mut self, event: &Event, outbox: &mut Outbox) -> Note
+        requires empty { outbox.old.items ≡ [] }
+        ensures steps { Steps F.image F.failures F.asked self.old (heard_of self.old.station.identity event.now) (map (λ frame. frame.items) outbox.new.items) result self.new }
+        ensures reliable { F.is_reliable self.old.flash → F.is_reliable self.new.flash × (self.new.live.values.has_failed ≡ self.old.live.values.has_failed) }
+    {
+        match event {
+            Event::Tick => self.tick(outbox),
+            Event::Input(slot, subslot, value) => self.give(*slot, *subslot, value.as_slice()),
+            Event::Alarm(slot, subslot, octets) => {
+                self.raise(*slot, *subslot, octets.as_slice(), outbox)
+            }
+            Event::Frame(bytes) => self.hear(bytes, outbox),
+        }
+    }
+
+    // A frame.
+    #[inline(never)]
+    fn hear(&mut self, bytes: &Bytes, outbox: &mut Outbox) -> Note
+        requires empty { outbox.old.items ≡ [] }
+        ensures steps { Steps F.image F.failures F.asked self.old (heard_of self.old.station.identity (Frame bytes.now)) (map (λ frame. frame.items) outbox.new.items) result self.new }
+        ensures reliable { F.is_reliable self.old.flash → F.is_reliable self.new.flash × (self.new.live.values.has_failed ≡ self.old.live.values.has_failed) }
+    {
+        let heard = hear(&self.identity, bytes);
+        self.respond_to(heard, outbox)
+    }
+
+    // What comes of a frame.
+    fn respond_to(&mut self, heard: Heard<'_>, outbox: &mut Outbox) -> Note
         requires stored { Holds (F.image self.old.flash) self.old.live.values }
         requires empty { outbox.old.items ≡ [] }
         ensures steps { Steps F.image F.failures F.asked self.old (meaning_of heard.entry) (map (λ frame. frame.items) outbox.new.items) result self.new }
         ensures reliable { F.is_reliable self.old.flash → F.is_reliable self.new.flash × (self.new.live.values.has_failed ≡ self.old.live.values.has_failed) }
     {
         match heard {
-            Heard::Tick => self.tick(outbox),
-            Heard::Unreadable => Note::Fault,
-            Heard::Elsewhere => Note::NotMine,
-            Heard::Asked {
-                source,
-                frame_id,
-                body,
-            } => self.read_and_serve(source, frame_id, body, outbox),
             Heard::Cyclic {
                 source,
                 frame_id,
                 body,
             } => self.hear_cyclic(source, frame_id, body),
-            Heard::Given {
-                slot,
-                subslot,
-                value,
-            } => self.give(slot, subslot, value),
-            Heard::Raised {
-                slot,
-                subslot,
-                octets,
-            } => self.raise(slot, subslot, octets, outbox),
             Heard::Alarm {
                 source,
                 header,
                 message,
             } => self.hear_alarm(source, &header, &message, outbox),
+            Heard::Asked {
+                source,
+                frame_id,
+                body,
+            } => self.read_and_serve(source, frame_id, body, outbox),
             Heard::Arp { asker, packet } => self.resolve(asker, &packet, outbox),
             Heard::Datagram {
                 caller,
                 address,
                 body,
             } => self.hear_datagram(&caller, address, body, outbox),
+            Heard::Unreadable => Note::Fault,
+            Heard::Elsewhere => Note::NotMine,
         }
     }
 
@@ -106,10 +122,15 @@ impl<F: Flash<S>, const S: usize> Device<F, S> {
         ensures frames { map (λ frame. frame.items) outbox.new.items
             ≡ map (bytes_of self.old.station.identity) (end_of self.old.station self.old.live (ticked self.old.live)).sent }
         ensures note { result ≡ Note.Done }
+        // Its invariant, for those who do not look into it.
+        ensures stored { Holds (F.image self.old.flash) self.old.live.values }
     {
         self.lamp = self.lamp.saturating_sub(1);
         self.units = self.units.wrapping_add(1);
         let due = self.relation.tick();
+        if due.is_nothing() {
+            return Note::Done;
+        }
         let address = self.store.running().suite.address();
         send_due(
             &self.identity,
@@ -135,6 +156,8 @@ impl<F: Flash<S>, const S: usize> Device<F, S> {
     fn give(&mut self, slot: u16, subslot: u16, value: &[u8]) -> Note
         ensures state { self.new ≡ with_rest self.old (end_of self.old.station self.old.live (judged_given self.old.live slot subslot value.now)).rest }
         ensures note { result ≡ (end_of self.old.station self.old.live (judged_given self.old.live slot subslot value.now)).note }
+        // Its invariant, for those who do not look into it.
+        ensures stored { Holds (F.image self.old.flash) self.old.live.values }
     {
         if self.relation.give(slot, subslot, value) {
             Note::Done
@@ -144,12 +167,15 @@ impl<F: Flash<S>, const S: usize> Device<F, S> {
     }
 
     // An alarm that the application raises.
+    #[inline(never)]
     fn raise(&mut self, slot: u16, subslot: u16, octets: &[u8], outbox: &mut Outbox) -> Note
         requires empty { outbox.old.items ≡ [] }
         ensures state { self.new ≡ with_rest self.old (end_of self.old.station self.old.live (judged_raised self.old.station self.old.live slot subslot octets.now)).rest }
         ensures frames { map (λ frame. frame.items) outbox.new.items
             ≡ map (bytes_of self.old.station.identity) (end_of self.old.station self.old.live (judged_raised self.old.station self.old.live slot subslot octets.now)).sent }
         ensures note { result ≡ (end_of self.old.station self.old.live (judged_raised self.old.station self.old.live slot subslot octets.now)).note }
+        // Its invariant, for those who do not look into it.
+        ensures stored { Holds (F.image self.old.flash) self.old.live.values }
     {
         if !self.relation.raise(&self.real, slot, subslot, octets) {
             return Note::Refused;
@@ -159,6 +185,7 @@ impl<F: Flash<S>, const S: usize> Device<F, S> {
     }
 
     // An alarm frame: it belongs to the relation, or not. Data is answered, and the ERR of the controller ends the relation.
+    #[inline(never)]
     fn hear_alarm(
         &mut self,
         source: Mac,

@@ -62,6 +62,9 @@ due_by link None =
 abbrev pub due_in : Link → Due
 due_in link = due_by link (ending_of link)
 
+abbrev pub nothing : Due
+nothing = record { farewell = None; is_alarm = false; is_ready = false; is_cyclic = false }
+
 abbrev pub due_of : Option Link → Due
-due_of None = record { farewell = None; is_alarm = false; is_ready = false; is_cyclic = false }
+due_of None = nothing
 due_of (Some link) = due_in link

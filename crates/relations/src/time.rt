@@ -1,10 +1,10 @@
 //! The units of time.
-ghost use Rattle.std.specs.Prelude.{◌≡◌, ◌==◌, ◌+◌, ◌<◌, ◌⊎◌, IfSome, None, Some, false, nat_le, true, if◌then◌else◌};
+ghost use Rattle.std.specs.Prelude.{◌≡◌, ◌≢◌, ◌==◌, ◌+◌, ◌<◌, ◌⊎◌, IfSome, None, Some, false, nat_le, true, if◌then◌else◌};
 ghost use Rattle.pn_alarms.specs.declared.abort.Abort.TheVariants.{Activity, DataHold};
 ghost use Rattle.relations.specs.declared.phase.Phase.TheVariants.{Exchanging};
 ghost use Rattle.relations.specs.Farewells.{farewell_of};
 ghost use Rattle.relations.specs.Link.{Link, is_awaiting, phase_of};
-ghost use Rattle.relations.specs.Timers.{EndsIn, due_of, is_timed, is_unheard};
+ghost use Rattle.relations.specs.Timers.{EndsIn, due_of, is_timed, is_unheard, nothing};
 ghost use Rattle.relations.specs.Phases.{moved, passing};
 ghost use Rattle.relations.specs.Ready.{ready_of};
 
@@ -31,6 +31,14 @@ pub struct Due {
 }
 
 impl Due {
+    /// Whether nothing is to be sent.
+    pub fn is_nothing(&self) -> bool
+        ensures nothing { result ≡ true → self.now ≡ nothing }
+        ensures something { result ≡ false → self.now ≢ nothing }
+    {
+        self.farewell.is_none() && !self.is_alarm && !self.is_ready && !self.is_cyclic
+    }
+
     /// A timeout has ended the relation, or there is none.
     fn ended(farewell: Option<Farewell>) -> Due
         ensures { result ≡ record { farewell = farewell; is_alarm = false; is_ready = false; is_cyclic = false } }

@@ -1,76 +1,39 @@
--- A unit of time is a move, and what is for nobody here is refused.
+-- A unit of time is a move, and so is what the application gives and raises.
 use Rattle.std.proofs.Common.{ap, map, refl, sym, ◌∙◌}
-use Rattle.device_core.specs.declared.event.Note.TheVariants.{Fault, NotMine}
-use Rattle.device_core.specs.State.{with_rest}
 use Rattle.device_core.specs.Sent.{bytes_of}
 use Rattle.relations.specs.Exchanged.{given_to, raised_to}
-use Rattle.device_core.specs.Heard.{Ticks, Unreadable, Elsewhere, Resolves, Cyclic, Alarms, Given, Raised}
-use Rattle.device_core.specs.Judged.{judged_arp, judged_alarm, judged_cyclic, judged_given, judged_raised}
-use Rattle.device_core.proofs.Judged.{arp_asks_nothing, arp_leaves, alarm_asks_nothing, cyclic_asks_nothing, cyclic_sends_nothing, input_asks_nothing, input_sends_nothing, notice_asks_nothing}
-use Rattle.device_core.proofs.Steps.{quiet_steps, moves_steps, refuses_steps}
+use Rattle.device_core.specs.Heard.{Ticks, Given, Raised, heard_of}
+use Rattle.device_core.specs.Judged.{judged_given, judged_raised}
+use Rattle.device_core.proofs.Judged.{input_asks_nothing, input_sends_nothing, notice_asks_nothing}
+use Rattle.device_core.proofs.Steps.{quiet_steps, moves_steps}
 use Rattle.device_core.proofs.device.Device.respond.Goals as goal
 
 pub returns-in-Tick-clause-steps : goal.returns-in-Tick-clause-steps
+unfolding heard_of
 returns-in-Tick-clause-steps g c = rw c.in-Tick.is
-    (moves_steps g.F.Flash.image g.F.Flash.failures g.F.Flash.asked c.args.self.now _ Ticks _ _ _ _ c.requires.stored refl c.tick.ensures.state c.tick.ensures.frames c.tick.ensures.note)
+    (moves_steps g.F.Flash.image g.F.Flash.failures g.F.Flash.asked c.args.self.now _ Ticks _ _ _ _ c.tick.ensures.stored refl c.tick.ensures.state c.tick.ensures.frames c.tick.ensures.note)
 
-pub returns-in-Unreadable-clause-steps : goal.returns-in-Unreadable-clause-steps
-returns-in-Unreadable-clause-steps g c = rw c.in-Unreadable.is
-    (refuses_steps g.F.Flash.image g.F.Flash.failures g.F.Flash.asked c.args.self.now Unreadable Fault _ _ c.requires.stored refl (ap (map (λ frame. frame.items)) c.requires.empty) refl)
-
-pub returns-in-Elsewhere-clause-steps : goal.returns-in-Elsewhere-clause-steps
-returns-in-Elsewhere-clause-steps g c = rw c.in-Elsewhere.is
-    (refuses_steps g.F.Flash.image g.F.Flash.failures g.F.Flash.asked c.args.self.now Elsewhere NotMine _ _ c.requires.stored refl (ap (map (λ frame. frame.items)) c.requires.empty) refl)
-
-pub returns-in-Cyclic-clause-steps : goal.returns-in-Cyclic-clause-steps
-returns-in-Cyclic-clause-steps g c =
+pub returns-in-Input-clause-steps : goal.returns-in-Input-clause-steps
+unfolding heard_of
+returns-in-Input-clause-steps g c =
     let old = c.args.self.now in
-    let source = c.in-Cyclic.source in
-    let frame_id = c.in-Cyclic.frame_id in
-    let body = c.in-Cyclic.body.now in
-    rw c.in-Cyclic.is
-    (quiet_steps g.F.Flash.image g.F.Flash.failures g.F.Flash.asked old _ (Cyclic source frame_id body) (judged_cyclic old.live source frame_id body) _ _ c.requires.stored refl
-    (cyclic_asks_nothing old.live source frame_id body) c.hear_cyclic.ensures.state
-    (ap (map (λ frame. frame.items)) c.requires.empty ∙ sym (ap (map (bytes_of old.station.identity)) (cyclic_sends_nothing old.station old.live source frame_id body)))
-    c.hear_cyclic.ensures.note)
-
-pub returns-in-Given-clause-steps : goal.returns-in-Given-clause-steps
-returns-in-Given-clause-steps g c =
-    let old = c.args.self.now in
-    let slot = c.in-Given.slot in
-    let subslot = c.in-Given.subslot in
-    let value = c.in-Given.value.now in
+    let slot = c.in-Input.slot in
+    let subslot = c.in-Input.subslot in
+    let value = c.as_slice.result.now in
     let flow = given_to slot subslot value old.live.rest.link in
-    rw c.in-Given.is
-    (quiet_steps g.F.Flash.image g.F.Flash.failures g.F.Flash.asked old _ (Given slot subslot value) (judged_given old.live slot subslot value) _ _ c.requires.stored refl
+    rw (c.in-Input.is, ← c.as_slice.ensures.value)
+    (quiet_steps g.F.Flash.image g.F.Flash.failures g.F.Flash.asked old _ (Given slot subslot value) (judged_given old.live slot subslot value) _ _ c.give.ensures.stored refl
     (input_asks_nothing old.live flow) c.give.ensures.state
     (ap (map (λ frame. frame.items)) c.requires.empty ∙ sym (ap (map (bytes_of old.station.identity)) (input_sends_nothing old.station old.live flow)))
     c.give.ensures.note)
 
-pub returns-in-Raised-clause-steps : goal.returns-in-Raised-clause-steps
-returns-in-Raised-clause-steps g c =
-    let old = c.args.self.now in
-    let slot = c.in-Raised.slot in
-    let subslot = c.in-Raised.subslot in
-    let octets = c.in-Raised.octets.now in
-    rw c.in-Raised.is
-    (quiet_steps g.F.Flash.image g.F.Flash.failures g.F.Flash.asked old _ (Raised slot subslot octets) (judged_raised old.station old.live slot subslot octets) _ _ c.requires.stored refl
-    (notice_asks_nothing old.live (raised_to old.station.real.modules.items slot subslot octets old.live.rest.link)) c.raise.ensures.state c.raise.ensures.frames c.raise.ensures.note)
-
 pub returns-in-Alarm-clause-steps : goal.returns-in-Alarm-clause-steps
+unfolding heard_of
 returns-in-Alarm-clause-steps g c =
     let old = c.args.self.now in
-    let source = c.in-Alarm.source in
-    let header = c.in-Alarm.header in
-    let message = c.in-Alarm.message in
-    rw c.in-Alarm.is
-    (quiet_steps g.F.Flash.image g.F.Flash.failures g.F.Flash.asked old _ (Alarms source header message) (judged_alarm old.live source header message) _ _ c.requires.stored refl
-    (alarm_asks_nothing old.live source header message) c.hear_alarm.ensures.state c.hear_alarm.ensures.frames c.hear_alarm.ensures.note)
-
-pub returns-in-Arp-clause-steps : goal.returns-in-Arp-clause-steps
-returns-in-Arp-clause-steps g c =
-    let asker = c.in-Arp.asker in
-    let packet = c.in-Arp.packet in
-    rw c.in-Arp.is
-    (quiet_steps g.F.Flash.image g.F.Flash.failures g.F.Flash.asked c.args.self.now _ (Resolves asker packet) (judged_arp c.args.self.now.live asker packet) _ _ c.requires.stored refl
-    (arp_asks_nothing c.args.self.now.live asker packet) (ap (with_rest c.args.self.now) (sym (arp_leaves c.args.self.now.station c.args.self.now.live asker packet))) c.resolve.ensures.frames c.resolve.ensures.note)
+    let slot = c.in-Alarm.slot in
+    let subslot = c.in-Alarm.subslot in
+    let octets = c.as_slice-in-Alarm.result.now in
+    rw (c.in-Alarm.is, ← c.as_slice-in-Alarm.ensures.value)
+    (quiet_steps g.F.Flash.image g.F.Flash.failures g.F.Flash.asked old _ (Raised slot subslot octets) (judged_raised old.station old.live slot subslot octets) _ _ c.raise.ensures.stored refl
+    (notice_asks_nothing old.live (raised_to old.station.real.modules.items slot subslot octets old.live.rest.link)) c.raise.ensures.state c.raise.ensures.frames c.raise.ensures.note)

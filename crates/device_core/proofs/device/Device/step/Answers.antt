@@ -1,26 +1,18 @@
 -- What is said of the event, from what its step does.
-use Rattle.std.proofs.Common.{rules, ap, subst, sym, ◌∙◌}
-use Rattle.settings_store.specs.Carries.{Holds}
-use Rattle.device_core.specs.Heard.{heard_of}
-use Rattle.device_core.specs.Steps.{IsServed}
+use Rattle.std.proofs.Common.{refl, ◌∙◌}
 use Rattle.device_core.proofs.Faults.{heard_goes_on}
 use Rattle.device_core.proofs.Steps.{refused_step, none_sent, identify_step, again_step}
 use Rattle.device_core.proofs.Runs.{step_quietly, step_finely}
 use Rattle.device_core.proofs.device.Device.step.Goals as goal
 
-pub respond-requires : goal.respond-requires
-respond-requires g c =
-    let holds : Holds (g.F.Flash.image c.args.self.now.flash) c.args.self.now.live.values = subst (λ s. Holds (g.F.Flash.image s.flash) s.live.values) c.self.view_is c.self.invariant in
-    search rules
-
 pub returns-clause-goes_on : goal.returns-clause-goes_on
 returns-clause-goes_on g c =
     heard_goes_on c.args.self.now.station c.args.self.now.live _ _ _ _ c.respond.new.self.live
-    (sym c.hear-heard.ensures ∙ ap (λ s. heard_of s.station.identity c.args.event.now) c.self.view_is) c.respond.ensures.steps.goes_on
+    refl c.respond.ensures.steps.goes_on
 
 pub returns-clause-exact : goal.returns-clause-exact
 returns-clause-exact g c = step_quietly g.F.Flash.image g.F.Flash.failures g.F.Flash.asked c.args.self.now c.respond.new.self _ c.args.event.now _ _
-    (sym c.hear-heard.ensures ∙ ap (λ s. heard_of s.station.identity c.args.event.now) c.self.view_is) c.respond.ensures.steps
+    refl c.respond.ensures.steps
 
 pub returns-clause-reliable : goal.returns-clause-reliable
 returns-clause-reliable g c = λ reliable fine.
@@ -28,7 +20,7 @@ returns-clause-reliable g c = λ reliable fine.
       now.0,
       now.1 ∙ fine,
       step_finely g.F.Flash.image g.F.Flash.failures g.F.Flash.asked c.args.self.now c.respond.new.self _ c.args.event.now _ _
-          (sym c.hear-heard.ensures ∙ ap (λ s. heard_of s.station.identity c.args.event.now) c.self.view_is) c.respond.ensures.steps (now.1 ∙ fine),
+          refl c.respond.ensures.steps (now.1 ∙ fine),
     )
 
 pub returns-clause-refused : goal.returns-clause-refused
@@ -39,9 +31,9 @@ returns-clause-refused g c = λ refused.
 pub returns-clause-identify : goal.returns-clause-identify
 returns-clause-identify g c = λ asker request is identify.
     identify_step g.F.Flash.image g.F.Flash.failures g.F.Flash.asked c.args.self.now c.respond.new.self _ _ _ c.respond.ensures.steps asker request
-    (sym c.hear-heard.ensures ∙ ap (λ s. heard_of s.station.identity c.args.event.now) c.self.view_is ∙ is) identify
+    is identify
 
 pub returns-clause-again : goal.returns-clause-again
 returns-clause-again g c = λ call frame served told.
     again_step g.F.Flash.image g.F.Flash.failures g.F.Flash.asked c.args.self.now c.respond.new.self _ _ _ c.respond.ensures.steps call frame
-    (subst (λ heard. IsServed c.args.self.now.live heard call) (sym (sym c.hear-heard.ensures ∙ ap (λ s. heard_of s.station.identity c.args.event.now) c.self.view_is)) served) told
+    served told
