@@ -11,6 +11,7 @@ module differs.
     bench/scapy_exchange.py [SEED]                runs the lines by ./pnscript and says what was asserted; status 1 where one differs
     bench/scapy_exchange.py --script              prints examples/exchange.txt, whose lines come first
     bench/scapy_exchange.py --script SEED         prints all lines of a seed
+    bench/scapy_exchange.py --clean SEED          prints them without the frames that do not belong there, for bench/wireshark.sh
     bench/scapy_exchange.py --output FILE [SEED]  judges what was printed for them somewhere else
 
 Needs Scapy (Debian: apt-get install python3-scapy; 2.5.0 was used) and a program, or `rt` to run the sources with.
@@ -458,8 +459,8 @@ def bent(rng, controller):
 class Exchange:
     """The intervals of a relation over such a network."""
 
-    def __init__(self, talk, seed):
-        self.talk, self.rng = talk, random.Random(seed)
+    def __init__(self, talk, seed, is_clean):
+        self.talk, self.rng, self.is_clean = talk, random.Random(seed), is_clean
         self.network, self.controller = Network(self.rng), Controller(64_000)
         self.brought, self.link, self.values, self.forced = [], talk.station.link, {}, 0
 
@@ -481,7 +482,8 @@ class Exchange:
         self.put(self.talk.tick(units), now)
 
     def hand(self, octets, now):
-        self.put(self.talk.hand(octets), now)
+        if octets is not None:
+            self.put(self.talk.hand(octets), now)
 
     def interval(self, now):
         rng, talk, controller = self.rng, self.talk, self.controller
@@ -495,7 +497,8 @@ class Exchange:
             self.network.send("device", raw(packet), now, controller.repeats >= 2)
         came = self.network.due("device", now)
         if rng.random() < 0.15:
-            came.insert(rng.randrange(len(came) + 1), bent(rng, controller))
+            place, foreign = rng.randrange(len(came) + 1), bent(rng, controller)
+            came.insert(place, None if self.is_clean else foreign)
         part, first = rng.randrange(len(came) + 1), rng.randrange(INTERVAL)
         for octets in came[:part]:
             self.hand(octets, now)
@@ -524,13 +527,14 @@ class Exchange:
         return len(reader.taken_alarms)
 
 
-def conversation(seed):
-    """The example, the exchange of this seed, the silence behind it, and a relation in which modules differ."""
+def conversation(seed, is_clean=False):
+    """The example, the exchange of this seed, the silence behind it, and a relation in which modules differ. Where it is clean each frame
+    that does not belong to the exchange is drawn and left out, so that all else is the same."""
     talk = Talk()
     started(talk)
     example = len(talk.parts)
     talk.made(5, BIG, OTHER_AR, relation.STATION)
-    exchange = Exchange(talk, seed)
+    exchange = Exchange(talk, seed, is_clean)
     for now in range(INTERVALS):
         exchange.interval(now)
     link = talk.station.link
@@ -597,8 +601,8 @@ def main(words):
         started(talk)
         print(script(talk.parts), end="")
         return 0
-    if len(words) == 2 and words[0] == "--script":
-        print("\n".join(line for _, line, _ in conversation(int(words[1]))[0].parts))
+    if len(words) == 2 and words[0] in ("--script", "--clean"):
+        print("\n".join(line for _, line, _ in conversation(int(words[1]), words[0] == "--clean")[0].parts))
         return 0
     if len(words) in (2, 3) and words[0] == "--output":
         with open(words[1], encoding="ascii") as file:
