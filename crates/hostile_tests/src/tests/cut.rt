@@ -1,5 +1,5 @@
 // Frames that are no calls, cut at each length.
-use super::frames::{OUTPUTS, PDUS, elsewhere, octets, untagged};
+use super::frames::{OUTPUTS, PDUS, elsewhere, octets, set, untagged};
 use super::stations::{PHASES, Station, at, is_noted, is_untouched};
 use device_core::Note;
 use frame_codec::Bytes;
@@ -50,6 +50,29 @@ fn alarm_frames_cut_short(rt: HostRuntime) -> Result<(), Fail> {
         for bytes in PDUS {
             for whole in [octets(bytes), untagged(bytes), elsewhere(bytes)] {
                 are_cut(&rt, &mut device, &whole, (0, Note::Fault))?;
+            }
+        }
+        is_untouched(&rt, device, phase)?;
+    }
+    Ok(())
+}
+
+// Broken or whole, what another station sends belongs to no relation; but a PDU that is not whole is a fault, whoever sent it.
+#[test]
+fn frames_of_another_station(rt: HostRuntime) -> Result<(), Fail> {
+    for phase in PHASES {
+        let mut device = at(phase).ok_or("starts")?;
+        let mut cyclic = octets(&OUTPUTS);
+        set(&mut cyclic, 11, 3);
+        are_cut(&rt, &mut device, &cyclic, (20, Note::NoRelation))?;
+        is_noted(&rt, &mut device, &cyclic, Note::NoRelation);
+        for bytes in PDUS {
+            // the source, and either endpoint
+            for place in [11, 21, 23usize] {
+                let mut other = octets(bytes);
+                set(&mut other, place, 3);
+                are_cut(&rt, &mut device, &other, (0, Note::Fault))?;
+                is_noted(&rt, &mut device, &other, Note::NoRelation);
             }
         }
         is_untouched(&rt, device, phase)?;

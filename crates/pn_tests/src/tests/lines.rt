@@ -46,6 +46,12 @@ fn short_outputs(rt: HostRuntime) -> Result<(), Fail> {
             "frame 010ECF0000000200000000028892FEFE0500000000010001000A0202000670756D702D32\n",
             "boot ok\nnote filter\n",
         ),
+        (
+            "frame 0200000000010200000000028892c000\n",
+            "boot ok\nnote no-relation\n",
+        ),
+        ("input 01 1 0A", "boot ok\nnote refused\n"),
+        ("alarm 1 65535 aa", "boot ok\nnote refused\n"),
         ("tick 0001000000", "boot ok\nnote done\n"),
         ("cut 0004294967295 Ff", "boot ok\n"),
     ];
