@@ -1,47 +1,23 @@
 -- The alarms of a device (IEC 61158-6-10, 4.8 and 5.2.5).
-use Rattle.std.specs.Prelude.{◌+◌, ◌%◌, ◌&&◌, ℕ, Bool, nat_le, List, length, Option, Some, None, is_none, if◌then◌else◌}
+use Rattle.std.specs.Prelude.{◌&&◌, ℕ, Bool, nat_le, List, length, Option, Some, None, is_none, if◌then◌else◌}
 use Rattle.pn_values.specs.declared.real.RealModule.{RealModule}
 use Rattle.module_diff.specs.Plugged.{module_ident, submodule_ident}
-use Rattle.record_blocks.specs.declared.alarm_notification.AlarmNotification.{AlarmNotification}
 use Rattle.pn_alarms.specs.declared.message.Message.{Message}
 use Rattle.pn_alarms.specs.declared.pdu.Header.{Header}
 use Rattle.pn_alarms.specs.declared.pdu.PduType.{PduType}
-use Rattle.pn_alarms.specs.Alarming.{Alarming}
-use Rattle.pn_alarms.specs.Device.{end_behind, header_now}
-use Rattle.pn_alarms.specs.Ends.{DeviceEnd}
-use Rattle.pn_alarms.specs.Sending.{sent}
+use Rattle.pn_alarms.specs.Device.{end_behind, end_with, header_now}
+use Rattle.pn_alarms.specs.Sender.{notice_of}
 use Rattle.exchanges.specs.Flow.{Flow}
 
 -- whether an alarm with these octets may be raised: data is exchanged, they are at most 32, and none stands
 abbrev pub may_raise : Flow → List ℕ → Bool
 may_raise flow octets = flow.begun && (nat_le (length octets) 32 && is_none flow.alarms.sender.standing)
 
--- the process alarm, type 2, of what is plugged in a subslot
-abbrev pub notice_of : ℕ → ℕ → ℕ → ℕ → ℕ → List ℕ → AlarmNotification
-notice_of specifier slot subslot ident part octets = record {
-  alarm_type = 2;
-  api = 0;
-  slot_number = slot;
-  subslot_number = subslot;
-  module_ident_number = ident;
-  submodule_ident_number = part;
-  alarm_specifier = specifier;
-  alarm_data = octets;
-}
-
--- it stands, and is sent under the next number; AlarmSpecifier counts modulo 2,048
-abbrev pub standing_with : Alarming → AlarmNotification → Alarming
-standing_with sender notice =
-    record { sending = sent sender.sending; specifier = (sender.specifier + 1) % 2048; standing = Some notice }
-
-abbrev pub alarms_with : DeviceEnd → AlarmNotification → DeviceEnd
-alarms_with alarms notice = record { sender = standing_with alarms.sender notice; seen = alarms.seen }
-
 -- behind an alarm of a subslot, where it may be raised and a submodule is plugged there; else there is none
 abbrev pub raised_by : Flow → ℕ → ℕ → List ℕ → Option ℕ → Option ℕ → Option Flow
 raised_by flow slot subslot octets (Some ident) (Some part) =
     if may_raise flow octets
-    then Some (record flow { alarms = alarms_with flow.alarms (notice_of flow.alarms.sender.specifier slot subslot ident part octets) })
+    then Some (record flow { alarms = end_with flow.alarms (notice_of flow.alarms.sender.specifier slot subslot ident part octets) })
     else None
 raised_by flow slot subslot octets (Some ident) None = None
 raised_by flow slot subslot octets None part = None

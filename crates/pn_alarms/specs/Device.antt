@@ -1,6 +1,7 @@
 -- A device's end of a relation's alarms: it sends alarms, and takes AlarmAcks.
 use Rattle.std.specs.Prelude.{ℕ, None, if◌then◌else◌}
 use Rattle.record_blocks.specs.declared.alarm_ack.AlarmAck.{AlarmAck}
+use Rattle.record_blocks.specs.declared.alarm_notification.AlarmNotification.{AlarmNotification}
 use Rattle.pn_alarms.specs.declared.device.Heard.{Heard}
 use Rattle.pn_alarms.specs.declared.device.Heard.TheVariants.{Data, Done, Ignored, Aborted}
 use Rattle.pn_alarms.specs.declared.message.Message.{Message}
@@ -14,7 +15,7 @@ use Rattle.pn_alarms.specs.declared.sender.Reply.TheVariants as reply
 use Rattle.pn_alarms.specs.Numbers.{is_last, send_number, ack_number}
 use Rattle.pn_alarms.specs.Alarming.{Alarming}
 use Rattle.pn_alarms.specs.Ends.{DeviceEnd}
-use Rattle.pn_alarms.specs.Sender.{quiet, raised, answered, later}
+use Rattle.pn_alarms.specs.Sender.{quiet, standing_with, raised, answered, later}
 use Rattle.pn_alarms.specs.Receiver.{taken_as, last_behind}
 
 -- nothing was raised, and nothing taken
@@ -52,7 +53,10 @@ header_now e kind destination source = record {
   ack_number = ack_number e.seen;
 }
 
--- behind an alarm that is raised, and behind a unit
+-- behind an alarm that stands from now on, behind one that is raised, and behind a unit
+abbrev pub end_with : DeviceEnd → AlarmNotification → DeviceEnd
+end_with e notice = record { sender = standing_with notice e.sender; seen = e.seen }
+
 abbrev pub end_raised : DeviceEnd → Alarm → DeviceEnd
 end_raised e alarm = record { sender = raised alarm e.sender; seen = e.seen }
 

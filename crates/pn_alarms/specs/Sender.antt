@@ -1,5 +1,5 @@
 -- Who sends process alarms: one at a time, until it is over (IEC 61158-6-10, 4.8 and 5.2.5).
-use Rattle.std.specs.Prelude.{◌+◌, ◌%◌, ◌==◌, ◌&&◌, ℕ, Bool, true, false, Option, Some, None, if◌then◌else◌}
+use Rattle.std.specs.Prelude.{◌+◌, ◌%◌, ◌==◌, ◌&&◌, ℕ, Bool, true, false, List, Option, Some, None, if◌then◌else◌}
 use Rattle.record_blocks.specs.declared.alarm_ack.AlarmAck.{AlarmAck}
 use Rattle.record_blocks.specs.declared.alarm_notification.AlarmNotification.{AlarmNotification}
 use Rattle.pn_alarms.specs.declared.sender.Alarm.{Alarm}
@@ -9,26 +9,35 @@ use Rattle.pn_alarms.specs.Numbers.{is_last}
 use Rattle.pn_alarms.specs.Alarming.{Alarming}
 use Rattle.pn_alarms.specs.Sending.{sent, silent, ticked, rested, acked}
 
--- a process alarm, of type 2, in API 0
-abbrev pub notified : ℕ → Alarm → AlarmNotification
-notified specifier alarm = record {
+-- a process alarm, of type 2, in API 0: of this slot and subslot, what is plugged there, and so many octets
+abbrev pub notice_of : ℕ → ℕ → ℕ → ℕ → ℕ → List ℕ → AlarmNotification
+notice_of specifier slot subslot module_ident submodule_ident octets = record {
   alarm_type = 2;
   api = 0;
-  slot_number = alarm.slot_number;
-  subslot_number = alarm.subslot_number;
-  module_ident_number = alarm.module_ident_number;
-  submodule_ident_number = alarm.submodule_ident_number;
+  slot_number = slot;
+  subslot_number = subslot;
+  module_ident_number = module_ident;
+  submodule_ident_number = submodule_ident;
   alarm_specifier = specifier;
-  alarm_data = alarm.alarm_data.now;
+  alarm_data = octets;
 }
+
+-- that of the application
+abbrev pub notified : ℕ → Alarm → AlarmNotification
+notified specifier alarm =
+    notice_of specifier alarm.slot_number alarm.subslot_number alarm.module_ident_number alarm.submodule_ident_number alarm.alarm_data.now
 
 -- none was raised
 abbrev pub quiet : ℕ → ℕ → Alarming
 quiet factor retries = record { sending = silent factor retries; specifier = 0; standing = None }
 
--- an alarm is raised: AlarmSpecifier counts modulo 2,048
+-- it stands, and is sent under the next number; AlarmSpecifier counts modulo 2,048
+abbrev pub standing_with : AlarmNotification → Alarming → Alarming
+standing_with notice a = record { sending = sent a.sending; specifier = (a.specifier + 1) % 2048; standing = Some notice }
+
+-- an alarm is raised
 abbrev pub raised : Alarm → Alarming → Alarming
-raised alarm a = record { sending = sent a.sending; specifier = (a.specifier + 1) % 2048; standing = Some (notified a.specifier alarm) }
+raised alarm a = standing_with (notified a.specifier alarm) a
 
 -- whether an AlarmAck is of this alarm: of the same type, API, slot, subslot and AlarmSpecifier
 abbrev pub is_of : AlarmAck → AlarmNotification → Bool
