@@ -8,7 +8,7 @@ use Rattle.record_blocks.specs.declared.alarm_notification.AlarmNotification.{Al
 use Rattle.pn_alarms.specs.declared.receiver.Taken.{Taken}
 use Rattle.pn_alarms.specs.declared.receiver.Taken.TheVariants.{New, Again, Refused}
 use Rattle.alarm_exchange.specs.declared.exchange.Move.{Move}
-use Rattle.alarm_exchange.specs.declared.exchange.Move.TheVariants.{Raise, Confirm, DeviceTick, ControllerTick, AlarmComes, ConfirmComes, AckComesToDevice, AckComesToController}
+use Rattle.alarm_exchange.specs.declared.exchange.Move.TheVariants.{Raise, Confirm, DeviceTick, ControllerTick, AlarmComes, ConfirmComes, AckComesToDevice, AckComesToController, NackComesToDevice, NackComesToController}
 use Rattle.pn_alarms.specs.declared.sender.Alarm.{Alarm}
 use Rattle.pn_alarms.specs.Numbers.{send_number, is_last}
 use Rattle.pn_alarms.specs.Sending.{Sending, due, rested}
@@ -18,7 +18,7 @@ use Rattle.pn_alarms.specs.Receiver.{taken_as}
 use Rattle.pn_alarms.specs.Device.{sender_after, end_raised}
 use Rattle.pn_alarms.specs.Controller.{confirmed}
 use Rattle.alarm_exchange.specs.Line.{with_sent, more_taken}
-use Rattle.alarm_exchange.specs.World.{World, start, with_raised, after_raise, after_device_tick, after_controller_tick, after_alarm, after_confirms, after_ack_to_device, after_ack_to_controller, happens, behind_all, IsPrefixOf}
+use Rattle.alarm_exchange.specs.World.{World, start, with_raised, after_raise, after_device_tick, after_controller_tick, after_alarm, after_confirms, after_ack_to_device, after_ack_to_controller, after_nack_to_device, happens, behind_all, IsPrefixOf}
 use Rattle.alarm_exchange.proofs.Lines.{IsLine, IsLast, line_starts, few_taken, line_sends, line_ticks, same_sent, same_taken, line_comes, more_is_more}
 
 -- how many stand
@@ -202,6 +202,13 @@ ack_to_controller_step w (Some number) = (
   },
 )
 
+nack_to_device_step : (w : World) (o : Option ℕ) → Step w (after_nack_to_device w o)
+nack_to_device_step w None = (omega arith, λ few i. i)
+nack_to_device_step w (Some number) = (
+  omega arith,
+  λ few i. record { alarms = i.alarms; confirms = i.confirms; standing = i.standing; confirming = i.confirming; few = i.few; settled = i.settled },
+)
+
 step : (w : World) (move : Move) → Step w (happens w move)
 step w (Raise alarm) = raise_step w alarm w.device.sender.standing refl
 step w (Confirm ack) = confirm_as w ack (ltb (length w.confirms.sent) (length w.alarms.taken)) refl
@@ -211,6 +218,8 @@ step w (AlarmComes k) = alarm_step w k (slice_get w.alarms.pdus k) refl
 step w (ConfirmComes k) = confirms_step w k (slice_get w.confirms.pdus k) refl
 step w (AckComesToDevice k) = ack_to_device_step w (slice_get w.acks_to_device k)
 step w (AckComesToController k) = ack_to_controller_step w (slice_get w.acks_to_controller k)
+step w (NackComesToDevice k) = nack_to_device_step w (slice_get w.nacks_to_device k)
+step w (NackComesToController k) = (omega arith, λ few i. i)
 
 -- ---- any list of them
 

@@ -10,4 +10,6 @@ world_of e = record {
   confirms = record { sent = e.confirmed.items; pdus = e.confirms.items; taken = e.heard.items };
   acks_to_device = e.acks_to_device.items;
   acks_to_controller = e.acks_to_controller.items;
+  nacks_to_device = e.nacks_to_device.items;
+  nacks_to_controller = e.nacks_to_controller.items;
 }

@@ -3,7 +3,7 @@ use Rattle.std.specs.Prelude.{◌≡◌, ℕ, List, [], ◌∷◌, ◌++◌, len
 use Rattle.record_blocks.specs.declared.alarm_ack.AlarmAck.{AlarmAck}
 use Rattle.record_blocks.specs.declared.alarm_notification.AlarmNotification.{AlarmNotification}
 use Rattle.alarm_exchange.specs.declared.exchange.Move.{Move}
-use Rattle.alarm_exchange.specs.declared.exchange.Move.TheVariants.{Raise, Confirm, DeviceTick, ControllerTick, AlarmComes, ConfirmComes, AckComesToDevice, AckComesToController}
+use Rattle.alarm_exchange.specs.declared.exchange.Move.TheVariants.{Raise, Confirm, DeviceTick, ControllerTick, AlarmComes, ConfirmComes, AckComesToDevice, AckComesToController, NackComesToDevice, NackComesToController}
 use Rattle.pn_alarms.specs.declared.message.Message.TheVariants as message
 use Rattle.pn_alarms.specs.declared.repeats.Due.{Due}
 use Rattle.pn_alarms.specs.declared.repeats.Due.TheVariants as due_is
@@ -19,7 +19,8 @@ use Rattle.pn_alarms.specs.Controller.{unheard, confirmed, controller_later, wit
 use Rattle.alarm_exchange.specs.Line.{Line, empty, with_sent, with_again, with_come}
 
 -- both ends; the alarms on their way to the controller, and the AlarmAcks on theirs to the device; and each ACK that ever was
--- sent to either
+-- sent to either, and each NACK, by the number of the data that it refused. Of an ERR there is nothing here: who sends one has ended the
+-- relation, and who gets one ends it, so that nothing is taken behind it
 pub record World : Type 0 where
   pub device : DeviceEnd
   pub controller : ControllerEnd
@@ -27,6 +28,8 @@ pub record World : Type 0 where
   pub confirms : Line AlarmAck
   pub acks_to_device : List ℕ
   pub acks_to_controller : List ℕ
+  pub nacks_to_device : List ℕ
+  pub nacks_to_controller : List ℕ
 
 -- nothing happened yet, in a relation with this RTATimeoutFactor and these RTARetries
 abbrev pub start : ℕ → ℕ → World
@@ -37,6 +40,8 @@ start factor retries = record {
   confirms = empty;
   acks_to_device = [];
   acks_to_controller = [];
+  nacks_to_device = [];
+  nacks_to_controller = [];
 }
 
 -- the alarm that was raised is sent
@@ -98,12 +103,19 @@ acks_after acks number New = acks ++ number ∷ []
 acks_after acks number Again = acks ++ number ∷ []
 acks_after acks number Refused = acks
 
+-- and a NACK for data that is not
+abbrev pub nacks_after : List ℕ → ℕ → Taken → List ℕ
+nacks_after nacks number New = nacks
+nacks_after nacks number Again = nacks
+nacks_after nacks number Refused = nacks ++ number ∷ []
+
 abbrev pub after_alarm : World → Option (ℕ × AlarmNotification) → World
 after_alarm w None = w
 after_alarm w (Some pdu) = record w {
   controller = with_data w.controller pdu.0;
   alarms = with_come w.alarms w.controller.seen pdu;
   acks_to_device = acks_after w.acks_to_device pdu.0 (taken_as w.controller.seen pdu.0);
+  nacks_to_device = nacks_after w.nacks_to_device pdu.0 (taken_as w.controller.seen pdu.0);
 }
 
 abbrev pub after_confirms : World → Option (ℕ × AlarmAck) → World
@@ -112,6 +124,7 @@ after_confirms w (Some pdu) = record w {
   device = end_behind w.device (message.Data pdu.0 pdu.1);
   confirms = with_come w.confirms w.device.seen pdu;
   acks_to_controller = acks_after w.acks_to_controller pdu.0 (taken_as w.device.seen pdu.0);
+  nacks_to_controller = nacks_after w.nacks_to_controller pdu.0 (taken_as w.device.seen pdu.0);
 }
 
 abbrev pub after_ack_to_device : World → Option ℕ → World
@@ -121,6 +134,11 @@ after_ack_to_device w (Some number) = record w { device = end_behind w.device (m
 abbrev pub after_ack_to_controller : World → Option ℕ → World
 after_ack_to_controller w None = w
 after_ack_to_controller w (Some number) = record w { controller = with_ack w.controller number }
+
+-- a NACK is heard by a device; a controller looks at none, and goes on to repeat
+abbrev pub after_nack_to_device : World → Option ℕ → World
+after_nack_to_device w None = w
+after_nack_to_device w (Some number) = record w { device = end_behind w.device message.Nack }
 
 -- behind a move
 abbrev pub happens : World → Move → World
@@ -132,6 +150,8 @@ happens w (AlarmComes k) = after_alarm w (slice_get w.alarms.pdus k)
 happens w (ConfirmComes k) = after_confirms w (slice_get w.confirms.pdus k)
 happens w (AckComesToDevice k) = after_ack_to_device w (slice_get w.acks_to_device k)
 happens w (AckComesToController k) = after_ack_to_controller w (slice_get w.acks_to_controller k)
+happens w (NackComesToDevice k) = after_nack_to_device w (slice_get w.nacks_to_device k)
+happens w (NackComesToController k) = w
 
 -- behind a list of moves
 abbrev pub behind_all : List Move → World → World

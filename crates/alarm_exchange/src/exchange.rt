@@ -1,7 +1,7 @@
 //! Both ends of a relation's alarms, and each PDU that either ever sent.
 ghost use Rattle.std.specs.Prelude.{◌≡◌, ◌<◌, ◌≤◌, ◌+◌, ◌∷◌, [], ◌++◌, length, slice_get, IfOk, OnOk, Some};
 ghost use Rattle.std.specs.Option.{option_copied};
-ghost use Rattle.alarm_exchange.specs.World.{start, with_raised, after_raise, after_confirm, after_device_tick, after_controller_tick, repeated_to_controller, repeated_to_device, after_alarm, after_confirms, after_ack_to_device, after_ack_to_controller, happens, behind_all, IsPrefixOf};
+ghost use Rattle.alarm_exchange.specs.World.{start, with_raised, after_raise, after_confirm, after_device_tick, after_controller_tick, repeated_to_controller, repeated_to_device, after_alarm, after_confirms, after_ack_to_device, after_ack_to_controller, after_nack_to_device, happens, behind_all, IsPrefixOf};
 ghost use Rattle.alarm_exchange.specs.Shown.{world_of};
 
 use arrayvec::ArrayVec;
@@ -29,6 +29,10 @@ pub enum Move<'a> {
     AckComesToDevice(usize),
     /// The ACK of this place, of all that the device ever sent, comes to the controller.
     AckComesToController(usize),
+    /// The NACK of this place, of all that the controller ever sent, comes to the device.
+    NackComesToDevice(usize),
+    /// The NACK of this place, of all that the device ever sent, comes to the controller.
+    NackComesToController(usize),
 }
 
 /// An alarm that is kept.
@@ -127,6 +131,8 @@ pub struct Exchange {
     heard: Vec<AlarmAck>,
     acks_to_device: Vec<u16>,
     acks_to_controller: Vec<u16>,
+    nacks_to_device: Vec<u16>,
+    nacks_to_controller: Vec<u16>,
 }
 
 /// The item at a place, if there is one.
@@ -158,6 +164,8 @@ impl Exchange {
             heard: Vec::new(alloc),
             acks_to_device: Vec::new(alloc),
             acks_to_controller: Vec::new(alloc),
+            nacks_to_device: Vec::new(alloc),
+            nacks_to_controller: Vec::new(alloc),
         }
     }
 
@@ -275,7 +283,10 @@ impl Exchange {
                 self.acks_to_device.push(number)?;
                 Ok(())
             }
-            Taken::Refused => Ok(()),
+            Taken::Refused => {
+                self.nacks_to_device.push(number)?;
+                Ok(())
+            }
         }
     }
 
@@ -304,6 +315,10 @@ impl Exchange {
             }
             Heard::Data(Taken::Again) => {
                 self.acks_to_controller.push(number)?;
+                Ok(())
+            }
+            Heard::Data(Taken::Refused) => {
+                self.nacks_to_controller.push(number)?;
                 Ok(())
             }
             _ => Ok(()),
@@ -349,6 +364,15 @@ impl Exchange {
         }
     }
 
+    /// The NACK at a place comes to the device.
+    fn nack_device(&mut self, place: usize)
+        ensures { world_of self.new ≡ after_nack_to_device (world_of self.old) (slice_get self.old.nacks_to_device.items place) }
+    {
+        if item_at(self.nacks_to_device.as_slice(), place).is_some() {
+            self.device.hear(&Message::Nack);
+        }
+    }
+
     /// A move is made.
     fn happen(&mut self, one: &Move) -> Result<(), AllocError>
         ensures { OnOk result (world_of self.new ≡ happens (world_of self.old) one.now) }
@@ -368,6 +392,12 @@ impl Exchange {
                 self.ack_controller(*place);
                 Ok(())
             }
+            Move::NackComesToDevice(place) => {
+                self.nack_device(*place);
+                Ok(())
+            }
+            // A controller hears no NACK: it goes on to repeat.
+            Move::NackComesToController(_) => Ok(()),
         }
     }
 

@@ -266,6 +266,11 @@ fn alarms_come_in_order_over_a_network_that_repeats_them(rt: HostRuntime) {
         Move::Raise(alarm_of(&[0xBB])),
         Move::AlarmComes(0),
         Move::AlarmComes(1),
+        // refused: a later one was taken, and the NACK ends nothing
+        Move::AlarmComes(0),
+        Move::NackComesToDevice(0),
+        Move::NackComesToController(0),
+        Move::Raise(alarm_of(&[0xDD])),
         // no such place
         Move::AlarmComes(2),
     ];
