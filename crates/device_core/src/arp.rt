@@ -12,6 +12,7 @@ use pn_values::{Identity, Mac, Settings};
 
 impl<F: Flash<S>, const S: usize> Device<F, S> {
     // A packet of ARP: a request for the running address is answered.
+    #[inline(never)]
     pub(crate) fn resolve(&self, asker: Mac, packet: &Arp, outbox: &mut Outbox) -> Note
         requires empty { outbox.old.items ≡ [] }
         ensures frames { map (λ frame. frame.items) outbox.new.items

@@ -39,6 +39,7 @@ use rpc_core::{
 impl<F: Flash<S>, const S: usize> Device<F, S> {
     // A datagram to the device's MAC address and the port of calls. Its IP address is looked at before it is read.
     #[tactic(auto, unfolding(crate::specs::Heard::said_by))]
+    #[inline(never)]
     pub(crate) fn hear_datagram(
         &mut self,
         caller: &Caller,

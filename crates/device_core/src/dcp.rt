@@ -27,6 +27,7 @@ const LAMP_UNITS: u32 = 96_000;
 
 impl<F: Flash<S>, const S: usize> Device<F, S> {
     // What a station asks behind a FrameID.
+    #[inline(never)]
     pub(crate) fn read_and_serve(
         &mut self,
         asker: Mac,

@@ -67,21 +67,14 @@ fn send_inputs(
     });
 }
 
-/// Puts the alarm that stands in the relation into the box, behind what is in it: if it is due, and there is one.
-pub(crate) fn send_alarm(
-    identity: &Identity,
-    is_due: bool,
-    relation: &Relation,
-    outbox: &mut Outbox,
-)
+/// Puts the alarm that stands in the relation into the box, behind what is in it, if there is one.
+#[inline(never)]
+pub(crate) fn send_alarm(identity: &Identity, relation: &Relation, outbox: &mut Outbox)
     requires room { array_vec_len outbox.old < 4 }
     ensures frames { map (λ frame. frame.items) outbox.new.items
-        ≡ map (λ frame. frame.items) outbox.old.items ++ map (bytes_of identity.now) (where_due is_due (alarms_of (flow_of relation.now))) }
+        ≡ map (λ frame. frame.items) outbox.old.items ++ map (bytes_of identity.now) (alarms_of (flow_of relation.now)) }
     ensures few { array_vec_len outbox.new ≤ array_vec_len outbox.old + 1 }
 {
-    if !is_due {
-        return;
-    }
     let Some(exchange) = relation.exchange() else {
         return;
     };
@@ -98,6 +91,18 @@ pub(crate) fn send_alarm(
         body.as_slice(),
         outbox,
     );
+}
+
+/// Puts the alarm that stands in the relation into the box, behind what is in it: if it is due, and there is one.
+fn send_alarm_again(identity: &Identity, is_due: bool, relation: &Relation, outbox: &mut Outbox)
+    requires room { array_vec_len outbox.old < 4 }
+    ensures frames { map (λ frame. frame.items) outbox.new.items
+        ≡ map (λ frame. frame.items) outbox.old.items ++ map (bytes_of identity.now) (where_due is_due (alarms_of (flow_of relation.now))) }
+    ensures few { array_vec_len outbox.new ≤ array_vec_len outbox.old + 1 }
+{
+    if is_due {
+        send_alarm(identity, relation, outbox);
+    }
 }
 
 /// Puts the answer to data that was taken so into the box, behind what is in it, if there is a relation.
@@ -172,7 +177,7 @@ pub(crate) fn send_due(
     ensures { map (λ frame. frame.items) outbox.new.items ≡ map (bytes_of identity.now) (due_frames address counter due.now relation.now) }
 {
     send_farewells(identity, due.farewell, outbox);
-    send_alarm(identity, due.is_alarm, relation, outbox);
+    send_alarm_again(identity, due.is_alarm, relation, outbox);
     send_ready_again(identity, address, due.is_ready, relation, outbox);
     send_inputs(identity, counter, due.is_cyclic, relation, outbox);
 }

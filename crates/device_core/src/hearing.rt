@@ -73,6 +73,7 @@ pub(crate) enum Heard<'a> {
 
 /// Reads a frame, and then looks at its destination.
 #[tactic(auto, unfolding(crate::specs::Heard::heard_of))]
+#[inline(always)]
 pub(crate) fn hear<'a>(identity: &Identity, bytes: &'a Bytes) -> Heard<'a>
     ensures { heard_of identity.now (Frame bytes.now) ≡ meaning_of result }
 {
@@ -83,6 +84,7 @@ pub(crate) fn hear<'a>(identity: &Identity, bytes: &'a Bytes) -> Heard<'a>
 }
 
 // A frame by its layers.
+#[inline(always)]
 fn hear_frame<'a>(identity: &Identity, layered: Layered<'a>) -> Heard<'a>
     ensures { heard_content identity.now layered.entry.destination layered.entry.source (content_of layered.entry.payload) ≡ meaning_of result }
 {
@@ -117,6 +119,7 @@ fn hear_frame<'a>(identity: &Identity, layered: Layered<'a>) -> Heard<'a>
 }
 
 // A frame of EtherType 0x8892, by its FrameID.
+#[inline(always)]
 fn hear_real_time<'a>(
     identity: &Identity,
     destination: Mac,

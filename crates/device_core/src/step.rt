@@ -82,6 +82,7 @@ impl<F: Flash<S>, const S: usize> Device<F, S> {
     }
 
     // What comes of a frame.
+    #[inline(always)]
     fn respond_to(&mut self, heard: Heard<'_>, outbox: &mut Outbox) -> Note
         requires stored { Holds (F.image self.old.flash) self.old.live.values }
         requires empty { outbox.old.items ≡ [] }
@@ -144,6 +145,7 @@ impl<F: Flash<S>, const S: usize> Device<F, S> {
     }
 
     // A cyclic frame: its outputs are taken, or it changes nothing.
+    #[inline(always)]
     fn hear_cyclic(&mut self, source: Mac, frame_id: u16, body: &[u8]) -> Note
         ensures state { self.new ≡ with_rest self.old (end_of self.old.station self.old.live (judged_cyclic self.old.live source frame_id body.now)).rest }
         ensures note { result ≡ (end_of self.old.station self.old.live (judged_cyclic self.old.live source frame_id body.now)).note }
@@ -153,6 +155,7 @@ impl<F: Flash<S>, const S: usize> Device<F, S> {
     }
 
     // An input that the application gives.
+    #[inline(never)]
     fn give(&mut self, slot: u16, subslot: u16, value: &[u8]) -> Note
         ensures state { self.new ≡ with_rest self.old (end_of self.old.station self.old.live (judged_given self.old.live slot subslot value.now)).rest }
         ensures note { result ≡ (end_of self.old.station self.old.live (judged_given self.old.live slot subslot value.now)).note }
@@ -180,7 +183,7 @@ impl<F: Flash<S>, const S: usize> Device<F, S> {
         if !self.relation.raise(&self.real, slot, subslot, octets) {
             return Note::Refused;
         }
-        send_alarm(&self.identity, true, &self.relation, outbox);
+        send_alarm(&self.identity, &self.relation, outbox);
         Note::Done
     }
 

@@ -34,6 +34,7 @@ pub(crate) fn longest_of(tag: Option<u16>) -> usize
 
 /// An address.
 #[tactic(auto, unfolding(crate::specs::Frame::mac))]
+#[inline(always)]
 fn mac_at(bytes: &[u8]) -> Result<(Mac, &[u8]), FrameFault>
     ensures { Gives (λ x. (x.0, x.1.now)) result (mac.read bytes.now) }
 {
@@ -43,6 +44,7 @@ fn mac_at(bytes: &[u8]) -> Result<(Mac, &[u8]), FrameFault>
 
 /// The word of the tag, if there is one, and the EtherType.
 #[tactic(auto, unfolding(crate::specs::Frame::tag_and_type))]
+#[inline(always)]
 fn tag_and_type_at(bytes: &[u8]) -> Result<(Option<u16>, u16, &[u8]), FrameFault>
     ensures { Gives (λ x. ((x.0, x.1), x.2.now)) result (tag_and_type.read bytes.now) }
 {
@@ -57,6 +59,7 @@ fn tag_and_type_at(bytes: &[u8]) -> Result<(Option<u16>, u16, &[u8]), FrameFault
 
 /// The link header, and the octets behind it.
 #[tactic(auto, unfolding(crate::specs::Frame::link))]
+#[inline(always)]
 pub(crate) fn link_at(bytes: &[u8]) -> Result<(Link, &[u8]), FrameFault>
     ensures { Gives (λ x. (x.0, x.1.now)) result (link.read bytes.now) }
 {

@@ -86,6 +86,7 @@ impl Outbox {
 
     /// Writes a frame of EtherType 0x8892 behind the others, its body in two pieces, and behind it zeros up to 60 octets, the tag
     /// counted.
+    #[inline]
     pub fn put_pieces(&mut self, pieces: &Pieces)
         requires room { array_vec_len self.old < 4 }
         requires fits { FitsFrame (meaning_in pieces.now) }

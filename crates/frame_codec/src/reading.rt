@@ -14,6 +14,7 @@ use wire::{front, split, u16_at};
 
 /// The FrameID, and all that is behind it.
 #[tactic(auto, unfolding(crate::specs::Frame::real_time))]
+#[inline(always)]
 fn real_time_at(bytes: &[u8]) -> Result<Payload<'_>, FrameFault>
     ensures { Gives content_of result (real_time.read bytes.now) }
 {
@@ -23,6 +24,7 @@ fn real_time_at(bytes: &[u8]) -> Result<Payload<'_>, FrameFault>
 
 /// A packet of ARP. What is behind it is not looked at.
 #[tactic(auto, unfolding(crate::specs::Frame::arp))]
+#[inline(never)]
 fn address_resolution_at(bytes: &[u8]) -> Result<Payload<'_>, FrameFault>
     ensures { Gives content_of result (arp.read bytes.now) }
 {
@@ -33,6 +35,7 @@ fn address_resolution_at(bytes: &[u8]) -> Result<Payload<'_>, FrameFault>
 /// A datagram of UDP in a packet of IPv4. What is behind the packet is not looked at. First the header is judged, then
 /// whether all that it counts is there, then its checksum, and then what it carries.
 #[tactic(auto, unfolding(crate::specs::Frame::datagram, crate::specs::Internet::packet))]
+#[inline(never)]
 fn datagram_at(bytes: &[u8]) -> Result<Payload<'_>, FrameFault>
     ensures { Gives content_of result (datagram.read bytes.now) }
 {
@@ -56,6 +59,7 @@ fn datagram_at(bytes: &[u8]) -> Result<Payload<'_>, FrameFault>
 }
 
 /// The content that stands behind this EtherType.
+#[inline(always)]
 fn content_at(ether_type: u16, bytes: &[u8]) -> Result<Payload<'_>, FrameFault>
     ensures { Gives content_of result ((content_under ether_type).read bytes.now) }
 {
@@ -76,6 +80,7 @@ fn content_at(ether_type: u16, bytes: &[u8]) -> Result<Payload<'_>, FrameFault>
 
 /// The layers, or the first fault.
 #[tactic(auto, unfolding(crate::specs::Frame::frame_of, crate::specs::Frame::layers))]
+#[inline(always)]
 fn layers_at(bytes: &[u8]) -> Result<Layered<'_>, FrameFault>
     ensures { Gives meaning_of result (frame_of bytes.now) }
 {
@@ -94,6 +99,7 @@ fn layers_at(bytes: &[u8]) -> Result<Layered<'_>, FrameFault>
 
 /// Reads a frame. What is behind the innermost length is padding, and is no part of the meaning, except under EtherType
 /// 0x8892, where all is. A frame may be shorter than 60 octets.
+#[inline(always)]
 pub fn read(bytes: &[u8]) -> Result<Layered<'_>, FrameFault>
     // What is read is spelled so.
     ensures found { IfOk result (λ layered. IsFrame bytes.now (meaning_of layered)) }

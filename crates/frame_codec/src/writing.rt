@@ -26,6 +26,7 @@ fn ether_type_of(payload: &Payload) -> u16
 
 /// Appends the tag, if there is one, and the EtherType.
 #[tactic(auto, unfolding(crate::specs::Frame::tag_and_type))]
+#[inline(always)]
 fn put_tag_and_type(frame: &mut Frame, tag: Option<u16>, ether_type: u16)
     requires room { array_vec_len frame.old + 6 ≤ 1518 }
     requires kind { ether_type ≢ vlan }
@@ -45,6 +46,7 @@ fn put_tag_and_type(frame: &mut Frame, tag: Option<u16>, ether_type: u16)
 
 /// Appends the link header to an empty frame.
 #[tactic(auto, unfolding(crate::specs::Frame::link, crate::specs::Frame::mac))]
+#[inline(always)]
 fn put_link(frame: &mut Frame, header: &Link)
     requires empty { array_vec_len frame.old ≡ 0 }
     requires kind { header.now.ether_type ≢ vlan }
@@ -121,11 +123,12 @@ fn put_layers(frame: &mut Frame, layered: &Layered)
 }
 
 /// Appends zeros up to 60 octets.
+#[inline(always)]
 fn pad(frame: &mut Frame)
     ensures { frame.new.items ≡ frame.old.items ++ replicate (60 - length frame.old.items) 0 }
 {
-    let zeros = [0; 60];
-    if frame.len() < zeros.len() {
+    if frame.len() < 60 {
+        let zeros = [0; 60];
         append(frame, &zeros[frame.len()..]);
     }
 }
@@ -144,6 +147,7 @@ pub(crate) fn fill(frame: &mut Frame, layered: &Layered)
 
 /// Appends a FrameID and a body in two pieces.
 #[tactic(auto, unfolding(crate::specs::Frame::real_time))]
+#[inline(always)]
 fn put_body(frame: &mut Frame, pieces: &Pieces)
     requires room { array_vec_len frame.old + content_size (meaning_in pieces.now).content ≤ 1518 }
     ensures items { frame.new.items ≡ frame.old.items ++ real_time.write (meaning_in pieces.now).content }
@@ -154,6 +158,7 @@ fn put_body(frame: &mut Frame, pieces: &Pieces)
 }
 
 /// Appends the layers of a frame of EtherType 0x8892, its body in two pieces, and zeros up to 60 octets, to an empty frame.
+#[inline(always)]
 pub(crate) fn fill_pieces(frame: &mut Frame, pieces: &Pieces)
     requires empty { array_vec_len frame.old ≡ 0 }
     requires room { FitsFrame (meaning_in pieces.now) }
