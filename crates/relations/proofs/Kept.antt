@@ -48,36 +48,38 @@ ends_where link timed h = rw timed (rw (le_true (limit_of link) (link.quiet + 1)
 stays_where : (link : Link) → is_timed link.phase ≡ true → link.quiet + 1 < limit_of link → ending_of link ≡ None
 stays_where link timed h = rw timed (rw (le_false (limit_of link) (link.quiet + 1) h) refl)
 
-moved_on : (ending : Option Abort) (link : Link) → ending ≡ None → moved (passing_by ending) (Some link) ≡ Some (unit_later link)
+pub moved_on : (ending : Option Abort) (link : Link) → ending ≡ None → moved (passing_by ending) (Some link) ≡ Some (unit_later link)
 moved_on (Some reason) link h = cc
 moved_on None link h = refl
 
-moved_off : (ending : Option Abort) (link : Link) → ending ≡ Some Activity → moved (passing_by ending) (Some link) ≡ None
-moved_off (Some reason) link h = refl
-moved_off None link h = cc
+pub moved_off : (ending : Option Abort) (reason : Abort) (link : Link) → ending ≡ Some reason → moved (passing_by ending) (Some link) ≡ None
+moved_off (Some other) reason link h = refl
+moved_off None reason link h = cc
 
 due_on : (ending : Option Abort) (link : Link) → ending ≡ None → (due_by link ending).is_ready ≡ is_again link
 due_on ending link h = ap (λ (e : Option Abort). (due_by link e).is_ready) h
 
-due_off : (ending : Option Abort) (link : Link) → ending ≡ Some Activity → (due_by link ending).farewell ≡ Some (farewell_of Activity link)
-due_off ending link h = ap (λ (e : Option Abort). (due_by link e).farewell) h
+pub due_off : (ending : Option Abort) (reason : Abort) (link : Link) → ending ≡ Some reason → (due_by link ending).farewell ≡ Some (farewell_of reason link)
+due_off ending reason link h = ap (λ (e : Option Abort). (due_by link e).farewell) h
 
 -- the ERR hangs on what was asked for, and on the last data that was sent and that was taken
-abbrev farewell_at : Request → Option ℕ → Option ℕ → Farewell
-farewell_at request last seen = record {
+abbrev farewell_at : Abort → Request → Option ℕ → Option ℕ → Farewell
+farewell_at reason request last seen = record {
   initiator = request.ar.initiator;
   tag = request.alarm.tag_low;
   reference = request.alarm.reference;
   send_number = send_number last;
   ack_number = ack_number seen;
-  reason = Activity;
+  reason = reason;
 }
 
-same_farewell : (link later : Link) (units : ℕ) → IsLater link units later → farewell_of Activity later ≡ farewell_of Activity link
-same_farewell link later units same =
-    ap (λ (r : Request). farewell_at r later.flow.alarms.sender.sending.last later.flow.alarms.seen) same.request
-    ∙ (ap (λ (n : Option ℕ). farewell_at link.request n later.flow.alarms.seen) same.last
-    ∙ ap (λ (n : Option ℕ). farewell_at link.request link.flow.alarms.sender.sending.last n) same.seen)
+pub same_farewell : (reason : Abort) (link later : Link) → later.request ≡ link.request
+    → later.flow.alarms.sender.sending.last ≡ link.flow.alarms.sender.sending.last → later.flow.alarms.seen ≡ link.flow.alarms.seen
+    → farewell_of reason later ≡ farewell_of reason link
+same_farewell reason link later request last seen =
+    ap (λ (r : Request). farewell_at reason r later.flow.alarms.sender.sending.last later.flow.alarms.seen) request
+    ∙ (ap (λ (n : Option ℕ). farewell_at reason link.request n later.flow.alarms.seen) last
+    ∙ ap (λ (n : Option ℕ). farewell_at reason link.request link.flow.alarms.sender.sending.last n) seen)
 
 -- ApplicationReady was waited for so many units
 wraps : (waited units : ℕ) → waited ≡ units % 32000 → (if (waited + 1 == 32000) then 0 else waited + 1) ≡ (units + 1) % 32000
@@ -131,9 +133,9 @@ ends_at link units timed fresh last =
     let limit = limit_same link so.later so.same.request in
     let end : limit_of so.later ≤ so.later.quiet + 1 = omega (arith, limit, so.same.quiet, last) in
     let over = ends_where so.later (ap is_timed so.same.phase ∙ timed) end in (
-      ap unit_over so.is ∙ moved_off (ending_of so.later) so.later over,
+      ap unit_over so.is ∙ moved_off (ending_of so.later) Activity so.later over,
       ap (λ (l : Option Link). (due_of l).farewell) so.is
-          ∙ (due_off (ending_of so.later) so.later over ∙ ap (λ (f : Farewell). Some f) (same_farewell link so.later units so.same)),
+          ∙ (due_off (ending_of so.later) Activity so.later over ∙ ap (λ (f : Farewell). Some f) (same_farewell Activity link so.later so.same.request so.same.last so.same.seen)),
     )
 
 pub is_due_each_second : IsDueEachSecond

@@ -1,6 +1,9 @@
 -- Relations over many units of time.
 use Rattle.std.specs.Prelude.{◌≡◌, ◌+◌, ◌%◌, ◌==◌, ◌<◌, ℕ, zero, suc, true, Option, Some, None}
-use Rattle.pn_alarms.specs.declared.abort.Abort.TheVariants.{Activity}
+use Rattle.pn_alarms.specs.declared.abort.Abort.{Abort}
+use Rattle.pn_alarms.specs.declared.abort.Abort.TheVariants.{Activity, DataHold, Other}
+use Rattle.pn_alarms.specs.Sending.{Sending}
+use Rattle.relations.specs.declared.phase.Phase.TheVariants.{Exchanging}
 use Rattle.relations.specs.Link.{Link, phase_of, is_awaiting}
 use Rattle.relations.specs.Farewells.{farewell_of}
 use Rattle.relations.specs.Timers.{due_of, is_timed, limit_of}
@@ -28,3 +31,26 @@ EndsAt = (link : Link) (units : ℕ) → is_timed link.phase ≡ true → link.q
 abbrev pub IsDueEachSecond : Type 0
 IsDueEachSecond = (link : Link) (units : ℕ) → is_awaiting link.phase ≡ true → link.quiet ≡ 0 → link.waited ≡ 0 → units + 1 < limit_of link
     → (due_of (units_over units (Some link))).is_ready ≡ ((units + 1) % 32000 == 0)
+
+-- ---- while data is exchanged
+
+-- a relation stands for so many units, in the phase in which it is, and the next one ends it, with the ERR that says why
+abbrev pub EndsBehind : ℕ → Abort → Link → Type 0
+EndsBehind units reason link =
+    (phase_of (units_over units (Some link)) ≡ Some link.phase)
+    × ((units_over (suc units) (Some link) ≡ None) × ((due_of (units_over units (Some link))).farewell ≡ Some (farewell_of reason link)))
+
+-- an alarm that waits for its ACK, if one does, is not given up within so many units
+abbrev pub IsPatientFor : ℕ → Sending → Type 0
+IsPatientFor units sending = (waited : ℕ) → sending.waiting ≡ Some waited → waited + units < sending.limit
+
+-- Where data is exchanged and nothing comes, a relation ends with the last unit of its data hold time, unless an alarm is given up
+-- before; this also where one would be with that unit.
+abbrev pub IsHeldFor : Type 0
+IsHeldFor = (link : Link) (units : ℕ) → link.phase ≡ Exchanging → link.flow.begun ≡ true → link.flow.hearing.held + (units + 1) ≡ link.flow.hearing.limit
+    → IsPatientFor units link.flow.alarms.sender.sending → EndsBehind units DataHold link
+
+-- And it ends with the unit with which an alarm that waits is given up, unless the data hold time is over by then.
+abbrev pub IsGivenUp : Type 0
+IsGivenUp = (link : Link) (units waited : ℕ) → link.phase ≡ Exchanging → link.flow.begun ≡ true → link.flow.hearing.held + (units + 1) < link.flow.hearing.limit
+    → link.flow.alarms.sender.sending.waiting ≡ Some waited → waited + (units + 1) ≡ link.flow.alarms.sender.sending.limit → EndsBehind units Other link

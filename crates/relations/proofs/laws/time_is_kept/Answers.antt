@@ -1,4 +1,5 @@
 use Rattle.relations.proofs.Kept.{stands_until, ends_at, is_due_each_second}
+use Rattle.relations.proofs.Held.{is_held_for, is_given_up}
 use Rattle.relations.proofs.laws.time_is_kept.Goals as goal
 
 pub returns-clause-stands : goal.returns-clause-stands
@@ -9,3 +10,9 @@ returns-clause-ends c = ends_at
 
 pub returns-clause-again : goal.returns-clause-again
 returns-clause-again c = is_due_each_second
+
+pub returns-clause-hold : goal.returns-clause-hold
+returns-clause-hold c = is_held_for
+
+pub returns-clause-spent : goal.returns-clause-spent
+returns-clause-spent c = is_given_up
