@@ -1,13 +1,13 @@
 // What crates/exchange_bench does, in plain Rust: a device in a relation that takes cyclic frames and alarms and sends its own. It has
 // no calls: an exchange begins with the first line that is a cyclic frame, an alarm, an input or a unit of time. The octets of data,
-// the units of an interval and the intervals of data hold come from the command line. It prints what that crate prints.
+// the units of an interval and the intervals of data hold come from the command line; what else a Connect would have said stands in the
+// relation, as it does in a device. It prints what that crate prints.
 use std::env::args;
 use std::io::{self, Read};
 
 const DEVICE: [u8; 6] = [2, 0, 0, 0, 0, 1];
 const CONTROLLER: [u8; 6] = [2, 0, 0, 0, 0, 2];
-const INPUT_ID: u16 = 0xC001;
-const OUTPUT_ID: u16 = 0xC000;
+const OWN_REFERENCE: u16 = 1;
 const ALARM_HIGH: u16 = 0xFC01;
 const ALARM_LOW: u16 = 0xFE01;
 
@@ -64,12 +64,12 @@ struct Outbox {
 }
 
 impl Outbox {
-    /// A frame to the controller with this tag, filled up to 60 octets.
-    fn send(&mut self, tag: u16, frame_id: u16, parts: &[&[u8]]) {
+    /// A frame to the partner with this tag, filled up to 60 octets.
+    fn send(&mut self, mac: &[u8; 6], partner: &[u8; 6], tag: u16, frame_id: u16, parts: &[&[u8]]) {
         let frame = &mut self.frames[self.len];
         frame.clear();
-        frame.put(&CONTROLLER);
-        frame.put(&DEVICE);
+        frame.put(partner);
+        frame.put(mac);
         frame.put(&[0x81, 0]);
         frame.put(&tag.to_be_bytes());
         frame.put(&[0x88, 0x92]);
@@ -96,15 +96,39 @@ struct Alarm {
     repeats: u16,
 }
 
+/// What the relation waits for.
+#[derive(Clone, Copy, PartialEq, Eq)]
+enum Phase {
+    Started,
+    Exchanging,
+}
+
+/// What a Connect asked for.
+struct Route {
+    partner: [u8; 6],
+    input_id: u16,
+    input_tag: u16,
+    output_id: u16,
+    alarm_tag: u16,
+    farewell_tag: u16,
+    reference: u16,
+    activity: u32,
+    alarm_interval: u32,
+    alarm_retries: u16,
+}
+
 struct Station {
+    mac: [u8; 6],
     lamp: u32,
     units: u16,
+    phase: Option<Phase>,
+    route: Route,
+    quiet: u32,
     data_length: usize,
     interval: u32,
     until_sent: u32,
     hold: u32,
     until_held: u32,
-    exchanges: bool,
     inputs: [u8; 1440],
     outputs: [u8; 1440],
     counter: Option<u16>,
@@ -136,14 +160,28 @@ impl Station {
         inputs[data_length - 1] = 0x80;
         let hold = intervals * interval;
         Station {
+            mac: DEVICE,
             lamp: 0,
             units: 0,
+            phase: Some(Phase::Started),
+            route: Route {
+                partner: CONTROLLER,
+                input_id: 0xC001,
+                input_tag: 0xC000,
+                output_id: 0xC000,
+                alarm_tag: 0xC000,
+                farewell_tag: 0xA000,
+                reference: 1,
+                activity: 200 * 3200,
+                alarm_interval: 3200,
+                alarm_retries: 3,
+            },
+            quiet: 0,
             data_length,
             interval,
             until_sent: interval,
             hold,
             until_held: hold,
-            exchanges: true,
             inputs,
             outputs: [0; 1440],
             counter: None,
@@ -152,6 +190,11 @@ impl Station {
             sent: 0xFFFF,
             taken: 0xFFFE,
         }
+    }
+
+    /// Data is exchanged from now on.
+    fn begin(&mut self) {
+        self.phase = Some(Phase::Exchanging);
     }
 
     fn step(&mut self, event: &Event, outbox: &mut Outbox) -> Note {
@@ -167,22 +210,28 @@ impl Station {
     fn tick(&mut self, outbox: &mut Outbox) -> Note {
         self.lamp = self.lamp.saturating_sub(1);
         self.units = self.units.wrapping_add(1);
-        if !self.exchanges {
-            return Note::Done;
-        }
-        self.until_held -= 1;
-        if self.until_held == 0 {
-            self.end(5, outbox);
-            return Note::Done;
+        let Some(phase) = self.phase else { return Note::Done };
+        if phase == Phase::Exchanging {
+            self.until_held -= 1;
+            if self.until_held == 0 {
+                self.end(5, outbox);
+                return Note::Done;
+            }
+        } else {
+            self.quiet += 1;
+            if self.quiet == self.route.activity {
+                self.end(6, outbox);
+                return Note::Done;
+            }
         }
         if let Some(alarm) = &mut self.alarm {
             if alarm.waits {
                 alarm.since += 1;
-                if alarm.since == 3200 && alarm.repeats == 3 {
+                if alarm.since == self.route.alarm_interval && alarm.repeats == self.route.alarm_retries {
                     self.end(13, outbox);
                     return Note::Done;
                 }
-                if alarm.since == 3200 {
+                if alarm.since == self.route.alarm_interval {
                     alarm.since = 0;
                     alarm.repeats += 1;
                     self.send_alarm(outbox);
@@ -194,20 +243,23 @@ impl Station {
             self.until_sent = self.interval;
             let [high, low] = self.units.to_be_bytes();
             let data = &self.inputs[..self.data_length];
-            outbox.send(0xC000, INPUT_ID, &[data, &[high, low, 0x35, 0]]);
+            let route = &self.route;
+            outbox.send(&self.mac, &route.partner, route.input_tag, route.input_id, &[data, &[high, low, 0x35, 0]]);
         }
         Note::Done
     }
 
     fn end(&mut self, reason: u8, outbox: &mut Outbox) {
-        self.exchanges = false;
+        self.phase = None;
         let header = self.header(0x14, 1, 4);
-        outbox.send(0xA000, ALARM_LOW, &[&header, &[0xCF, 0x81, 0xFD, reason]]);
+        let (mac, route) = (&self.mac, &self.route);
+        outbox.send(mac, &route.partner, route.farewell_tag, ALARM_LOW, &[&header, &[0xCF, 0x81, 0xFD, reason]]);
     }
 
     fn header(&self, kind: u8, flags: u8, len: u16) -> [u8; 12] {
         let (sent, taken, len) = (self.sent.to_be_bytes(), self.taken.to_be_bytes(), len.to_be_bytes());
-        [0, 1, 0, 1, kind, flags, sent[0], sent[1], taken[0], taken[1], len[0], len[1]]
+        let (to, from) = (self.route.reference.to_be_bytes(), OWN_REFERENCE.to_be_bytes());
+        [to[0], to[1], from[0], from[1], kind, flags, sent[0], sent[1], taken[0], taken[1], len[0], len[1]]
     }
 
     fn send_alarm(&self, outbox: &mut Outbox) {
@@ -223,11 +275,12 @@ impl Station {
         block[24..26].copy_from_slice(&alarm.specifier.to_be_bytes());
         block[26..28].copy_from_slice(&1u16.to_be_bytes());
         let header = self.header(0x11, 0x11, 28 + value.len() as u16);
-        outbox.send(0xC000, ALARM_HIGH, &[&header, &block, value]);
+        let route = &self.route;
+        outbox.send(&self.mac, &route.partner, route.alarm_tag, ALARM_HIGH, &[&header, &block, value]);
     }
 
     fn give(&mut self, slot: u16, subslot: u16, value: &[u8]) -> Note {
-        if !self.exchanges || (slot, subslot) != (1, 1) || value.len() != self.data_length - 3 {
+        if self.phase.is_none() || (slot, subslot) != (1, 1) || value.len() != self.data_length - 3 {
             return Note::Refused;
         }
         self.inputs[1..1 + value.len()].copy_from_slice(value);
@@ -241,7 +294,7 @@ impl Station {
             (2, 1) => 32,
             _ => return Note::Refused,
         };
-        if !self.exchanges || self.alarm.is_some() || value.len() > 32 {
+        if self.phase != Some(Phase::Exchanging) || self.alarm.is_some() || value.len() > 32 {
             return Note::Refused;
         }
         let mut kept = Octets::new();
@@ -273,20 +326,20 @@ impl Station {
         if octets[head - 2..head] != [0x88, 0x92] {
             return Note::Fault;
         }
-        if octets[..6] != DEVICE {
+        if octets[..6] != self.mac {
             return Note::NotMine;
         }
-        let is_partner = octets[6..12] == CONTROLLER;
+        let is_partner = octets[6..12] == self.route.partner;
         let body = &octets[head + 2..];
         match word(octets, head) {
             ALARM_HIGH | ALARM_LOW => self.hear_alarm(is_partner, body, outbox),
-            OUTPUT_ID => self.hear_cyclic(is_partner, body),
-            _ => Note::NoRelation,
+            frame_id @ (0x8000..=0xBBFF | 0xC000..=0xF7FF) => self.hear_cyclic(is_partner && frame_id == self.route.output_id, body),
+            _ => Note::NotMine,
         }
     }
 
     fn hear_cyclic(&mut self, is_partner: bool, body: &[u8]) -> Note {
-        if !self.exchanges || !is_partner {
+        if self.phase.is_none() || !is_partner {
             return Note::NoRelation;
         }
         if body.len() < self.data_length + 4 {
@@ -322,7 +375,7 @@ impl Station {
             0x14 if part.len() >= 4 => {}
             _ => return Note::Fault,
         }
-        if !self.exchanges || !is_partner || word(header, 0) != 1 || word(header, 2) != 1 {
+        if self.phase.is_none() || !is_partner || word(header, 0) != OWN_REFERENCE || word(header, 2) != self.route.reference {
             return Note::NoRelation;
         }
         match header[4] {
@@ -334,7 +387,7 @@ impl Station {
                 Note::Done
             }
             0x14 => {
-                self.exchanges = false;
+                self.phase = None;
                 Note::Done
             }
             _ => Note::Filter,
@@ -357,7 +410,8 @@ impl Station {
         }
         let kind = if number == self.taken { 0x13 } else { 0x12 };
         let header = self.header(kind, 1, 0);
-        outbox.send(0xC000, ALARM_HIGH, &[&header]);
+        let route = &self.route;
+        outbox.send(&self.mac, &route.partner, route.alarm_tag, ALARM_HIGH, &[&header]);
         Note::Done
     }
 }
@@ -414,6 +468,7 @@ fn main() -> io::Result<()> {
     io::stdin().read_to_string(&mut text)?;
     let numbers: Vec<usize> = args().skip(1).filter_map(|number| number.parse().ok()).collect();
     let mut device = Station::new(numbers[0], numbers[1] as u32, numbers[2] as u32);
+    device.begin();
     let mut outbox = Outbox { frames: [const { Octets::new() }; 4], len: 0 };
     let mut count = Count::default();
     for (times, event) in text.lines().filter_map(event_of) {
