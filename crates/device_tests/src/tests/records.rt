@@ -4,9 +4,9 @@ use crate::tests::connects::{Blocks, THREE, connect};
 use crate::tests::exchange::{is_interval_sent, outputs};
 use crate::tests::full::write_last;
 use crate::tests::requests::{
-    CONNECT, WRITE, call, exchanging, plugged, related, sent_in, served, station, write,
+    CONNECT, WRITE, call, exchanging, plugged, related, served, station, write,
 };
-use crate::tests::stations::{Station, frame, identity, no_modules, restart, set_pump};
+use crate::tests::stations::{Station, frame, identity, no_modules, restart};
 use device_core::{Device, Note};
 use flash_model::{MemoryFlash, Order};
 use frame_codec::Outbox;
