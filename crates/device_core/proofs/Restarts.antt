@@ -10,11 +10,13 @@ use Rattle.settings_journal.specs.Image.{StartsWith, IsForeign, LeftByDevice}
 use Rattle.settings_store.specs.Legal.{CrashSafe, LegalEnd}
 use Rattle.settings_store.specs.Machine.{Accepted}
 use Rattle.settings_store.specs.Carries.{IsCaused}
+use Rattle.relations.specs.Exchanged.{output_in}
 use Rattle.device_core.specs.declared.event.Event.{Event}
 use Rattle.device_core.specs.State.{Station, State, Live}
 use Rattle.device_core.specs.Steps.{AnswersBy, IsIdentified, Runs}
 use Rattle.device_core.specs.Cycle.{started, cycle_of, Cycled, IsMadeOf, IsStarted, Restarts, Refuses, IsRefused}
 use Rattle.device_core.specs.Heard.{heard_of}
+use Rattle.device_core.specs.Outputs.{output_of}
 use Rattle.device_core.specs.Machine.{step_of}
 use Rattle.device_core.proofs.Steps.{same_state, identify_heard}
 
@@ -33,6 +35,7 @@ is_started_from image station flash device station_is fresh starts image_is = re
   nothing_else = fresh;
   starts = subst (λ i. StartsWith i device.live.values.stored device.live.values.room) (sym image_is) starts;
   answers = answers_by station device.live (ap (λ l. l.values.running) fresh);
+  shows = λ slot subslot. ap (λ (live : Live). output_of station.real slot subslot (output_in slot subslot live.rest.link)) fresh;
 }
 
 -- the same where the start may be refused

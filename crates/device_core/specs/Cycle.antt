@@ -10,9 +10,11 @@ use Rattle.settings_journal.specs.Image.{StartsWith, IsForeign, LeftByDevice}
 use Rattle.settings_store.specs.Machine.{Outcome, Accepted}
 use Rattle.settings_store.specs.Legal.{CrashSafe, made_of}
 use Rattle.settings_store.specs.Carries.{IsCaused}
+use Rattle.relations.specs.Exchanged.{output_in}
 use Rattle.device_core.specs.declared.event.Event.{Event}
 use Rattle.device_core.specs.State.{Station, State, Live}
 use Rattle.device_core.specs.Machine.{Ran, run_of}
+use Rattle.device_core.specs.Outputs.{output_of, zero_output}
 use Rattle.device_core.specs.Steps.{EventByEvent, AnswersBy}
 
 -- a device as it starts: what is stored runs, no commit failed, power is there, and of the rest nothing: the lamp is off, no
@@ -47,12 +49,13 @@ pub record Cycled {F : Type 0} (image : F → Image) (failures : F → ℕ) (ask
   pub untouched : (cycle_of outcomes station first room events).accepted ≡ [] → lost ≡ begun
 
 -- A device that has just started, on whatever image: it is what it was told to be, what the image is read as runs and nothing
--- else, and Identify is answered by that alone.
+-- else, Identify is answered by that alone, and each output that it shows is zeros.
 pub record IsStarted {F : Type 0} (image : F → Image) (station : Station) (device : State F) : Type 0 where
   pub station_is : device.station ≡ station
   pub nothing_else : device.live ≡ started device.live.values.stored device.live.values.room
   pub starts : StartsWith (image device.flash) device.live.values.stored device.live.values.room
   pub answers : AnswersBy station device.live.values.stored device.live
+  pub shows : (slot subslot : ℕ) → output_of station.real slot subslot (output_in slot subslot device.live.rest.link) ≡ zero_output station.real slot subslot
 
 -- The headline. The cycle went through the events, with whatever outcomes its flash chose for the calls that store. The
 -- restarted device has, running and stored, what all accepted commands of the cycle, or all but a last one that was not
