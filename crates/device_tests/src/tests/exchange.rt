@@ -1,6 +1,6 @@
 //! What a relation exchanges: cyclic frames each way, and an alarm. The octets were worked out by hand from IEC 61158-6-10.
 use crate::tests::connects::{THREE, connect};
-use crate::tests::requests::{exchanging, exchanging_by, related, sent_in};
+use crate::tests::requests::{exchanging, exchanging_by, related, sent_in, set};
 use crate::tests::stations::{Station, frame, is_filled, is_padded};
 use device_core::{Event, Note};
 use frame_codec::{Bytes, Outbox};
@@ -158,11 +158,13 @@ fn an_alarm_that_nobody_acknowledges(rt: HostRuntime) -> Result<(), Fail> {
 }
 
 /// A cyclic frame with this CycleCounter and this output.
-pub(crate) fn outputs(counter: u16, value: [u8; 2]) -> Event {
-    let mut bytes = OUTPUTS;
-    bytes[20..22].copy_from_slice(&value);
-    bytes[60..62].copy_from_slice(&counter.to_be_bytes());
-    frame(&bytes)
+pub(crate) fn outputs(counter: u16, [first, second]: [u8; 2]) -> Event {
+    let [high, low] = counter.to_be_bytes();
+    let mut bytes = octets(&OUTPUTS);
+    for (place, octet) in [(20, first), (21, second), (60, high), (61, low)] {
+        set(&mut bytes, place, octet);
+    }
+    Event::Frame(bytes)
 }
 
 fn is_output<R: Abort>(rt: &R, device: &Station, value: [u8; 2]) {

@@ -1,5 +1,5 @@
 // PDUs of alarms with other lengths, with another block, and under the other of the two FrameIDs.
-use super::frames::{ACK, ALARM_ACK, ERR, NACK, NUMBERS, bent, elsewhere, frame, octets};
+use super::frames::{ACK, ALARM_ACK, ERR, NACK, NUMBERS, bent, elsewhere, frame, octets, set};
 use super::stations::{PHASES, alarm, at, is_noted, is_untouched};
 use device_core::Note;
 use frame_codec::Outbox;
@@ -43,16 +43,16 @@ const NOTIFICATION: [u8; 62] =
 // Data of a controller is an AlarmAck, and nothing else; what follows the block in VarPartLen is none either.
 #[test]
 fn data_that_is_no_alarm_ack(rt: HostRuntime) -> Result<(), Fail> {
-    let mut version = ALARM_ACK;
-    version[36] = 2;
-    let mut kind = ALARM_ACK;
-    kind[33] = 2;
-    let frames: [&[u8]; 3] = [&NOTIFICATION, &version, &kind];
+    let mut version = octets(&ALARM_ACK);
+    set(&mut version, 36, 2);
+    let mut kind = octets(&ALARM_ACK);
+    set(&mut kind, 33, 2);
+    let frames = [octets(&NOTIFICATION), version, kind];
     for phase in PHASES {
         let mut device = at(phase).ok_or("starts")?;
-        for bytes in frames {
-            is_noted(&rt, &mut device, &octets(bytes), Note::Fault);
-            is_noted(&rt, &mut device, &elsewhere(bytes), Note::Fault);
+        for bytes in &frames {
+            is_noted(&rt, &mut device, bytes, Note::Fault);
+            is_noted(&rt, &mut device, &elsewhere(bytes.as_slice()), Note::Fault);
         }
         is_untouched(&rt, device, phase)?;
     }

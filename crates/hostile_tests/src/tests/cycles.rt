@@ -62,11 +62,11 @@ fn other_frame_ids(rt: HostRuntime) -> Result<(), Fail> {
 // In a relation of RT class 2 the device chooses the FrameID 0x8000.
 #[test]
 fn frames_of_class_2(rt: HostRuntime) -> Result<(), Fail> {
-    let mut blocks = BLOCKS;
+    let mut blocks = octets(&BLOCKS);
     // IOCRProperties
-    blocks[76] = 2;
-    blocks[160] = 2;
-    let mut device = asked_for(&blocks, Some(Phase::Exchanging)).ok_or("starts")?;
+    set(&mut blocks, 76, 2);
+    set(&mut blocks, 160, 2);
+    let mut device = asked_for(blocks.as_slice(), Some(Phase::Exchanging)).ok_or("starts")?;
     is_noted(&rt, &mut device, &octets(&OUTPUTS), Note::NoRelation);
     let whole = named(0x80, 0);
     for length in 20..64 {
