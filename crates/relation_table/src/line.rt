@@ -3,7 +3,7 @@ use crate::device::Device;
 use pn_values::Command;
 use pnio_status::{CallFault, Operation};
 use record_reads::Blocks;
-use relations::{Abort, Farewell, Heard, Phase, Relation};
+use relations::{Abort, Due, Farewell, Heard, Phase, Relation};
 use rpc_core::{Header, Response, Status};
 use std::alloc::{AllocError, Global};
 use std::io::{self, ErrorKind};
@@ -72,18 +72,25 @@ fn put_ticks(device: &mut Device, units: u32, text: &mut String) -> Result<(), A
     let mut gap = "";
     for _ in 0..units {
         let due = device.relation.tick();
-        if due.is_ready {
-            text.push_str(gap)?;
-            text.push_str("ready")?;
-            gap = " ";
-        }
-        if due.farewell.is_some() {
-            text.push_str(gap)?;
-            put_reason(due.farewell, text)?;
-            gap = " ";
-        }
+        gap = put_due(due, gap, text)?;
     }
     text.push_str(if gap.is_empty() { "-" } else { "" })
+}
+
+/// Appends what is due with a unit, with this in front of it. Answers what comes in front of the next.
+fn put_due(due: Due, gap: &'static str, text: &mut String) -> Result<&'static str, AllocError> {
+    let mut gap = gap;
+    if due.is_ready {
+        text.push_str(gap)?;
+        text.push_str("ready")?;
+        gap = " ";
+    }
+    if due.farewell.is_some() {
+        text.push_str(gap)?;
+        put_reason(due.farewell, text)?;
+        gap = " ";
+    }
+    Ok(gap)
 }
 
 /// Appends the reason that an ERR gives, if there is one.
