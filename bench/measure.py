@@ -51,7 +51,6 @@ STEPS = (
     ("a Read Implicit of I&M0", calls.SET_SUITE, calls.read_implicit, 1, 12000),
     ("the same call again", calls.SET_SUITE + calls.read_implicit(0), lambda _: calls.read_implicit(0), 1, 6000),
     ("a datagram of 172 octets for another port", calls.SET_SUITE, lambda number: calls.read_implicit(number, 161), 1, 3500),
-    ("a tick in a relation", calls.SET_SUITE + CONNECT(0), lambda _: TICK, 100, 200),
     ("a Connect of 3 modules and its Release", calls.SET_SUITE, lambda number: CONNECT(number) + RELEASE(number), 1, 150_000),
     ("a Connect of 64 modules and its Release", calls.SET_SUITE,
      lambda number: CONNECT(number, calls.SIXTY_FOUR) + RELEASE(number), 1, 400_000),
