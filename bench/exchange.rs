@@ -11,6 +11,9 @@ const OWN_REFERENCE: u16 = 1;
 const ALARM_HIGH: u16 = 0xFC01;
 const ALARM_LOW: u16 = 0xFE01;
 
+/// Slot and ident number of each module; its one submodule has the same ident number.
+const MODULES: [(u16, u32); 3] = [(0, 1), (1, 16), (2, 32)];
+
 /// Octets in a place of their own.
 struct Octets<const N: usize> {
     octets: [u8; N],
@@ -88,7 +91,8 @@ impl Outbox {
 struct Alarm {
     slot: u16,
     subslot: u16,
-    ident: u32,
+    module: u32,
+    submodule: u32,
     specifier: u16,
     value: Octets<32>,
     waits: bool,
@@ -117,8 +121,22 @@ struct Route {
     alarm_retries: u16,
 }
 
+/// What is plugged in a subslot.
+struct Submodule {
+    subslot: u16,
+    ident: u32,
+}
+
+/// What is plugged in a slot.
+struct Module {
+    slot: u16,
+    ident: u32,
+    submodules: Vec<Submodule>,
+}
+
 struct Station {
     mac: [u8; 6],
+    modules: Vec<Module>,
     lamp: u32,
     units: u16,
     phase: Option<Phase>,
@@ -161,6 +179,7 @@ impl Station {
         let hold = intervals * interval;
         Station {
             mac: DEVICE,
+            modules: MODULES.map(|(slot, ident)| Module { slot, ident, submodules: vec![Submodule { subslot: 1, ident }] }).into(),
             lamp: 0,
             units: 0,
             phase: Some(Phase::Started),
@@ -270,8 +289,8 @@ impl Station {
         block[6..8].copy_from_slice(&2u16.to_be_bytes());
         block[12..14].copy_from_slice(&alarm.slot.to_be_bytes());
         block[14..16].copy_from_slice(&alarm.subslot.to_be_bytes());
-        block[16..20].copy_from_slice(&alarm.ident.to_be_bytes());
-        block[20..24].copy_from_slice(&alarm.ident.to_be_bytes());
+        block[16..20].copy_from_slice(&alarm.module.to_be_bytes());
+        block[20..24].copy_from_slice(&alarm.submodule.to_be_bytes());
         block[24..26].copy_from_slice(&alarm.specifier.to_be_bytes());
         block[26..28].copy_from_slice(&1u16.to_be_bytes());
         let header = self.header(0x11, 0x11, 28 + value.len() as u16);
@@ -288,12 +307,8 @@ impl Station {
     }
 
     fn raise(&mut self, slot: u16, subslot: u16, value: &[u8], outbox: &mut Outbox) -> Note {
-        let ident = match (slot, subslot) {
-            (0, 1) => 1,
-            (1, 1) => 16,
-            (2, 1) => 32,
-            _ => return Note::Refused,
-        };
+        let Some(module) = self.modules.iter().find(|module| module.slot == slot) else { return Note::Refused };
+        let Some(submodule) = module.submodules.iter().find(|submodule| submodule.subslot == subslot) else { return Note::Refused };
         if self.phase != Some(Phase::Exchanging) || self.alarm.is_some() || value.len() > 32 {
             return Note::Refused;
         }
@@ -303,7 +318,8 @@ impl Station {
         self.alarm = Some(Alarm {
             slot,
             subslot,
-            ident,
+            module: module.ident,
+            submodule: submodule.ident,
             specifier: self.raised % 2048,
             value: kept,
             waits: true,

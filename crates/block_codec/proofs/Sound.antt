@@ -1,5 +1,5 @@
 -- The formats of blocks are sound.
-use Rattle.std.proofs.Common.{◌≡◌, ℕ, Bool, true, false, cond, List, ◌++◌, length, drop, nat_lt, Option, Some, None, Ok, Err, ◌<◌, ◌^◌, lit<, refl, sym, ap, subst}
+use Rattle.std.proofs.Common.{◌≡◌, ℕ, Bool, true, false, cond, List, ◌++◌, length, drop, nat_lt, Option, Some, None, Ok, Err, ◌<◌, ◌^◌, lit<, refl, sym, ap, subst, ◌∙◌, append_assoc}
 use Rattle.std.proofs.lemmas.List.{append-nil}
 use Rattle.wire.specs.Codec.{IsSound, IsSoundWhole, IsOnward}
 use Rattle.wire.specs.Formats.{big_bytes, big_number, number}
@@ -306,3 +306,9 @@ front_number bytes value rest e = let same = front_is (nat_lt (length bytes) 2) 
     front_is : (short : Bool) (one other : ℕ × List ℕ) → cond short (Err Truncated) (Ok one) ≡ Ok other → one ≡ other
     front_is true one other h = absurd cc
     front_is false one other h = cc
+
+-- one behind the other
+pub joined : (old a b new header lengths inside : List ℕ) → a ≡ old ++ header → b ≡ a ++ lengths → new ≡ b ++ inside → new ≡ old ++ (header ++ (lengths ++ inside))
+joined old a b new header lengths inside x y z =
+    z ∙ ap (λ (xs : List ℕ). xs ++ inside) (y ∙ ap (λ (xs : List ℕ). xs ++ lengths) x)
+    ∙ append_assoc (old ++ header) lengths inside ∙ append_assoc old header (lengths ++ inside)

@@ -34,9 +34,9 @@ pub use module_blocks::{
     DiffModule, DiffModules, DiffSubmodule, ExpectedModule, ExpectedModules, ExpectedSubmodule,
     ExpectedSubmoduleBlockReq, ModuleDiffBlock, SubmoduleData,
 };
-pub use reading::{read_block, read_expected};
+pub use reading::{read_alarm_ack, read_block, read_expected};
 pub use record_blocks::{
     AlarmAck, AlarmData, AlarmNotification, FilterModule, FilterModules, FilterSubmodule, Im0, Im1,
     Im2, Im3, Im4, ImFilterData, IodReadReq, IodReadRes, IodWriteReq, IodWriteRes,
 };
-pub use writing::{block_len, write_block};
+pub use writing::{block_len, write_block, write_notification_front};

@@ -2,12 +2,13 @@
 ghost use Rattle.std.specs.Prelude.{◌≡◌, ◌≤◌, ◌++◌, ℕ, List, [], length, IfOk};
 ghost use Rattle.wire.specs.Codec.{Gives};
 ghost use Rattle.wire.specs.Formats.{big_number};
-ghost use Rattle.block_codec.specs.declared.block_type.BlockType.TheVariants.{ExpectedSubmoduleBlockReq as expected_req};
+ghost use Rattle.block_codec.specs.declared.block_type.BlockType.TheVariants.{AlarmAck as alarm_ack, ExpectedSubmoduleBlockReq as expected_req};
 ghost use Rattle.block_codec.specs.Kinds.{number_of, type_of};
 ghost use Rattle.block_codec.specs.Block.{IsAccepted, IsBlock, block, block_of, body_of, fields_of, front};
 
 use crate::{
-    Block, BlockFault, BlockType, ExpectedModule, ExpectedSubmodule, ExpectedSubmoduleBlockReq,
+    AlarmAck, Block, BlockFault, BlockType, ExpectedModule, ExpectedSubmodule,
+    ExpectedSubmoduleBlockReq,
 };
 use arrayvec::ArrayVec;
 use connect_blocks::{
@@ -58,6 +59,43 @@ pub fn read_expected<'a>(
     let (inside, others) = split(rest, size as usize, BlockFault::Truncated)?;
     let block = expected_body(number, inside, modules, submodules)?;
     Ok((block, others))
+}
+
+/// Reads the AlarmAck at the front, as `read_block` does: alone, since each alarm brings one.
+pub fn read_alarm_ack(bytes: &[u8]) -> Result<(AlarmAck, &[u8]), BlockFault>
+    // It is of this type.
+    requires { big_number 2 bytes.now ≡ number_of alarm_ack }
+    // What is read is spelled so.
+    ensures found { IfOk result (λ x. IsBlock bytes.now (Block.AlarmAck x.0) x.1.now) }
+    // What is spelled so is read, and as nothing else.
+    ensures only { (value : Block) (rest : List ℕ) → IsBlock bytes.now value rest → Gives (λ x. (Block.AlarmAck x.0, x.1.now)) result (front value rest) }
+    // Which fault it is.
+    ensures exact { Gives (λ x. (Block.AlarmAck x.0, x.1.now)) result (block_of bytes.now) }
+{
+    alarm_ack_in_front(bytes)
+}
+
+/// The AlarmAck at the front, and what is behind it.
+#[tactic(auto, using(crate::proofs::Sound::front_number), unfolding(crate::specs::Block::block_of, crate::specs::Block::block))]
+fn alarm_ack_in_front(bytes: &[u8]) -> Result<(AlarmAck, &[u8]), BlockFault>
+    requires { big_number 2 bytes.now ≡ number_of alarm_ack }
+    ensures { Gives (λ x. (Block.AlarmAck x.0, x.1.now)) result (block_of bytes.now) }
+{
+    let (number, rest) = u16_at(bytes, BlockFault::Truncated)?;
+    let (size, rest) = u16_at(rest, BlockFault::Truncated)?;
+    let (inside, others) = split(rest, size as usize, BlockFault::Truncated)?;
+    let block = alarm_ack_body(number, inside)?;
+    Ok((block, others))
+}
+
+/// What BlockLength counts of an AlarmAck.
+#[tactic(auto, unfolding(crate::specs::Block::body_of, crate::specs::Block::fields_of, crate::specs::Kinds::type_of, crate::specs::Kinds::number_of))]
+fn alarm_ack_body(number: u16, body: &[u8]) -> Result<AlarmAck, BlockFault>
+    requires { number ≡ number_of alarm_ack }
+    ensures { Gives (λ x. Block.AlarmAck x) result ((body_of (type_of number)).read body.now) }
+{
+    let _number = number;
+    alarm_ack_at(body)
 }
 
 /// What BlockLength counts of an ExpectedSubmoduleBlockReq, judged in these lists.

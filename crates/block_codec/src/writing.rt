@@ -3,7 +3,7 @@ ghost use Rattle.std.specs.Prelude.{◌≡◌, ◌+◌, ◌≤◌, ◌<◌, ◌+
 ghost use Rattle.arrayvec.specs.ArrayVec.{array_vec_len};
 ghost use Rattle.block_codec.specs.Block.{IsAccepted, IsBlock, block, block_of, block_bytes, block_size, fields_of, front, kind_of};
 
-use crate::Block;
+use crate::{AlarmNotification, Block, BlockType};
 use arrayvec::ArrayVec;
 use block_fields::put_version;
 use connect_blocks::{
@@ -16,8 +16,9 @@ use module_blocks::{expected_len, module_diff_len, put_expected, put_module_diff
 use record_blocks::{
     alarm_ack_len, alarm_notification_len, filter_data_len, im0_len, im1_len, im2_len, im3_len,
     im4_len, iod_read_req_len, iod_read_res_len, iod_write_req_len, iod_write_res_len,
-    put_alarm_ack, put_alarm_notification, put_filter_data, put_im0, put_im1, put_im2, put_im3,
-    put_im4, put_iod_read_req, put_iod_read_res, put_iod_write_req, put_iod_write_res,
+    put_alarm_ack, put_alarm_front, put_alarm_notification, put_filter_data, put_im0, put_im1,
+    put_im2, put_im3, put_im4, put_iod_read_req, put_iod_read_res, put_iod_write_req,
+    put_iod_write_res,
 };
 use wire::append_u16;
 
@@ -122,4 +123,23 @@ pub fn write_block<const N: usize>(out: &mut ArrayVec<u8, N>, block: &Block)
     append_u16(out, block.block_type().number());
     append_u16(out, body_len(block) as u16);
     put_body(out, block);
+}
+
+/// Appends the block of an alarm up to its data, 28 octets: who has room for the data elsewhere puts them behind. There must be room.
+#[inline(always)]
+pub fn write_notification_front<const N: usize>(
+    out: &mut ArrayVec<u8, N>,
+    alarm: &AlarmNotification,
+)
+    requires { array_vec_len out.old + 28 ≤ N }
+    // With the data behind them they are the block.
+    ensures exact { out.new.items ++ alarm.now.alarm_data ≡ out.old.items ++ block_bytes (Block.AlarmNotification alarm.now) }
+    ensures len { array_vec_len out.new ≡ array_vec_len out.old + 28 }
+    // They are read as it.
+    ensures behind { (rest : List ℕ) → block_of (block_bytes (Block.AlarmNotification alarm.now) ++ rest) ≡ front (Block.AlarmNotification alarm.now) rest }
+{
+    append_u16(out, BlockType::AlarmNotification.number());
+    append_u16(out, (2 + alarm_notification_len(alarm)) as u16);
+    put_version(out);
+    put_alarm_front(out, alarm);
 }

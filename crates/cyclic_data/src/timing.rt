@@ -136,9 +136,12 @@ impl Consumer {
         // For one who waits since so many units it is over exactly where with this one they are the limit or more.
         ensures exactly { (units : ℕ) → HasWaited self.old units → HasWaited self.new (units + 1) × (result ≡ nat_le self.old.limit (units + 1)) }
     {
-        if self.held < self.limit {
-            self.held += 1;
+        let held = self.held + 1;
+        if held < self.limit {
+            self.held = held;
+            return false;
         }
-        self.held == self.limit
+        self.held = self.limit;
+        true
     }
 }

@@ -8,33 +8,10 @@ ghost use Rattle.relations.specs.Link.{flow_of};
 
 use crate::relation::{send_farewell, send_ready};
 use arrayvec::ArrayVec;
-use frame_codec::{Layered, Outbox, Payload, Pieces};
+use frame_codec::{Outbox, Pieces};
 use pn_alarms::{PduType, Taken};
-use pn_values::{Identity, Mac};
+use pn_values::Identity;
 use relations::{Due, Farewell, Relation};
-
-/// Puts a frame with this tag and FrameID to the partner into the box, behind what is in it.
-fn send_tagged(
-    identity: &Identity,
-    partner: Mac,
-    tag: u16,
-    frame_id: u16,
-    body: &[u8],
-    outbox: &mut Outbox,
-)
-    requires room { array_vec_len outbox.old < 4 }
-    requires short { length body.now ≤ 1444 }
-    ensures frames { map (λ frame. frame.items) outbox.new.items
-        ≡ map (λ frame. frame.items) outbox.old.items ++ tagged_frame identity.now partner tag (RealTime frame_id body.now) ∷ [] }
-    ensures len { array_vec_len outbox.new ≡ array_vec_len outbox.old + 1 }
-{
-    outbox.put(&Layered {
-        destination: partner,
-        source: identity.mac,
-        tag: Some(tag),
-        payload: Payload::RealTime { frame_id, body },
-    });
-}
 
 /// Puts the inputs of the relation at this CycleCounter into the box, behind what is in it: if they are due, and there is one.
 fn send_inputs(
@@ -68,7 +45,7 @@ fn send_inputs(
 }
 
 /// Puts the alarm that stands in the relation into the box, behind what is in it, if there is one.
-#[inline(never)]
+#[inline(always)]
 pub(crate) fn send_alarm(identity: &Identity, relation: &Relation, outbox: &mut Outbox)
     requires room { array_vec_len outbox.old < 4 }
     ensures frames { map (λ frame. frame.items) outbox.new.items
@@ -78,22 +55,22 @@ pub(crate) fn send_alarm(identity: &Identity, relation: &Relation, outbox: &mut 
     let Some(exchange) = relation.exchange() else {
         return;
     };
-    let route = exchange.route();
-    let mut body: ArrayVec<u8, 72> = ArrayVec::new();
-    if !exchange.put_alarm(&mut body) {
+    let Some((front, octets)) = exchange.alarm() else {
         return;
-    }
-    send_tagged(
-        identity,
-        route.partner,
-        route.alarm_tag,
-        PduType::Data.frame_id(),
-        body.as_slice(),
-        outbox,
-    );
+    };
+    let route = exchange.route();
+    outbox.put_pieces(&Pieces {
+        destination: route.partner,
+        source: identity.mac,
+        tag: Some(route.alarm_tag),
+        frame_id: PduType::Data.frame_id(),
+        front: front.as_slice(),
+        behind: octets,
+    });
 }
 
 /// Puts the alarm that stands in the relation into the box, behind what is in it: if it is due, and there is one.
+#[inline(never)]
 fn send_alarm_again(identity: &Identity, is_due: bool, relation: &Relation, outbox: &mut Outbox)
     requires room { array_vec_len outbox.old < 4 }
     ensures frames { map (λ frame. frame.items) outbox.new.items
@@ -122,14 +99,14 @@ pub(crate) fn send_reply(
     let route = exchange.route();
     let mut body: ArrayVec<u8, 12> = ArrayVec::new();
     exchange.put_reply(taken, &mut body);
-    send_tagged(
-        identity,
-        route.partner,
-        route.alarm_tag,
-        taken.answer().frame_id(),
-        body.as_slice(),
-        outbox,
-    );
+    outbox.put_pieces(&Pieces {
+        destination: route.partner,
+        source: identity.mac,
+        tag: Some(route.alarm_tag),
+        frame_id: taken.answer().frame_id(),
+        front: body.as_slice(),
+        behind: &[],
+    });
 }
 
 /// Puts the ERR of a relation that a timeout ended into the box, behind what is in it, if one did.

@@ -1,14 +1,15 @@
-//! What an event is to a device.
-ghost use Rattle.std.specs.Prelude.{◌≡◌, ◌==◌, ◌&&◌};
-ghost use Rattle.device_core.specs.Heard.{is_own as is_own_by, is_taken as is_taken_by, heard_of, heard_content};
-ghost use Rattle.device_core.specs.Hearing.{meaning_of};
+//! What a frame is to a device.
+ghost use Rattle.std.specs.Prelude.{◌≡◌, ◌==◌, ◌&&◌, ◌||◌, IfSome, List, ℕ, nat_eq, option_map};
+ghost use Rattle.std.specs.Cmp.Lexicographic.{pointwise};
+ghost use Rattle.device_core.specs.Heard.{broadcast, heard_content, heard_of, is_own as is_own_by, is_taken as is_taken_by};
+ghost use Rattle.device_core.specs.Hearing.{heard_as, heard_in};
 ghost use Rattle.device_core.specs.declared.event.Event.TheVariants.{Frame};
-ghost use Rattle.frame_codec.specs.Meaning.{RealTime, content_of};
+ghost use Rattle.frame_codec.specs.Meaning.{RealTime, meaning_of};
 
 use frame_codec::{
-    Arp, Bytes, DCP_GET_SET, DCP_IDENTIFY_REQUEST, Endpoint, Layered, Payload, RPC_PORT, read,
+    Bytes, DCP_GET_SET, DCP_IDENTIFY_REQUEST, Endpoint, Layered, RPC_PORT, RealTimeFrame, read,
+    read_real_time,
 };
-use pn_alarms::{Header, Message, read_message};
 use pn_values::{Identity, Mac};
 
 /// The address of all stations for Identify requests (IEC 61158-6-10, 4.3.1.3.1).
@@ -33,128 +34,66 @@ pub(crate) struct Caller {
     pub(crate) endpoint: Endpoint,
 }
 
-/// What a frame is to a device.
-#[derive(Drop)]
-pub(crate) enum Heard<'a> {
-    /// A frame that cannot be read.
-    Unreadable,
+/// Reads a frame of EtherType 0x8892, if it is one.
+#[inline(always)]
+#[tactic(auto, unfolding(crate::specs::Heard::heard_of))]
+pub(crate) fn real_time_in(bytes: &Bytes) -> Option<RealTimeFrame<'_>>
+    ensures { IfSome result (λ frame. (identity : Identity) → heard_of identity (Frame bytes.now) ≡ heard_content identity frame.destination frame.source (RealTime frame.frame_id frame.body.now)) }
+{
+    read_real_time(bytes.as_slice())
+}
+
+/// Reads a frame, if it can be read.
+#[tactic(auto, unfolding(crate::specs::Heard::heard_of))]
+pub(crate) fn read_layers(bytes: &Bytes) -> Option<Layered<'_>>
+    ensures { (identity : Identity) → heard_of identity (Frame bytes.now) ≡ heard_in identity (option_map meaning_of result) }
+{
+    read(bytes.as_slice()).ok()
+}
+
+/// What a frame of EtherType 0x8892 is to a device.
+#[derive(Clone, Copy)]
+pub(crate) enum Kind {
+    /// A request of DCP that the device takes.
+    Request,
+    /// An alarm frame to this station.
+    Alarm,
+    /// A cyclic frame to this station.
+    Cyclic,
     /// A frame for another station, or of a kind that a device does not take.
     Elsewhere,
-    /// What a station asks: what follows a FrameID that the device takes. It is read where it lies.
-    Asked {
-        source: Mac,
-        frame_id: u16,
-        body: &'a [u8],
-    },
-    /// A cyclic frame to this station.
-    Cyclic {
-        source: Mac,
-        frame_id: u16,
-        body: &'a [u8],
-    },
-    /// An alarm frame to this station: its header, and what it says.
-    Alarm {
-        source: Mac,
-        header: Header,
-        message: Message,
-    },
-    /// A packet of ARP to this station or to all.
-    Arp {
-        asker: Mac,
-        packet: Arp,
-    },
-    /// A datagram to this station, at whatever IP address, and to the port of calls. It is read where it lies.
-    Datagram {
-        caller: Caller,
-        address: [u8; 4],
-        body: &'a [u8],
-    },
 }
 
-/// Reads a frame, and then looks at its destination.
-#[tactic(auto, unfolding(crate::specs::Heard::heard_of))]
+/// What a frame with this destination and FrameID is.
 #[inline(always)]
-pub(crate) fn hear<'a>(identity: &Identity, bytes: &'a Bytes) -> Heard<'a>
-    ensures { heard_of identity.now (Frame bytes.now) ≡ meaning_of result }
-{
-    match read(bytes.as_slice()) {
-        Ok(layered) => hear_frame(identity, layered),
-        Err(_) => Heard::Unreadable,
-    }
-}
-
-// A frame by its layers.
-#[inline(always)]
-fn hear_frame<'a>(identity: &Identity, layered: Layered<'a>) -> Heard<'a>
-    ensures { heard_content identity.now layered.entry.destination layered.entry.source (content_of layered.entry.payload) ≡ meaning_of result }
-{
-    let (destination, source) = (layered.destination, layered.source);
-    match layered.payload {
-        Payload::RealTime { frame_id, body } => {
-            hear_real_time(identity, destination, source, frame_id, body)
-        }
-        Payload::Arp(packet) => {
-            if !is_own(identity, destination) && destination != BROADCAST {
-                return Heard::Elsewhere;
-            }
-            Heard::Arp {
-                asker: source,
-                packet,
-            }
-        }
-        Payload::Udp(datagram) => {
-            if !is_own(identity, destination) || datagram.destination.port != RPC_PORT {
-                return Heard::Elsewhere;
-            }
-            Heard::Datagram {
-                caller: Caller {
-                    mac: source,
-                    endpoint: datagram.source,
-                },
-                address: datagram.destination.address,
-                body: datagram.body,
-            }
-        }
-    }
-}
-
-// A frame of EtherType 0x8892, by its FrameID.
-#[inline(always)]
-fn hear_real_time<'a>(
-    identity: &Identity,
-    destination: Mac,
-    source: Mac,
-    frame_id: u16,
-    body: &'a [u8],
-) -> Heard<'a>
-    ensures { heard_content identity.now destination source (RealTime frame_id body.now) ≡ meaning_of result }
+pub(crate) fn kind_of(identity: &Identity, destination: Mac, frame_id: u16) -> Kind
+    ensures { (source : Mac) (body : List ℕ) → heard_content identity.now destination source (RealTime frame_id body) ≡ heard_as result source frame_id body }
 {
     if is_taken(identity, destination, frame_id) {
-        return Heard::Asked {
-            source,
-            frame_id,
-            body,
-        };
+        return Kind::Request;
     }
     if !is_own(identity, destination) {
-        return Heard::Elsewhere;
+        return Kind::Elsewhere;
     }
     match frame_id {
-        ALARM_HIGH | ALARM_LOW => match read_message(body) {
-            Ok((header, message)) => Heard::Alarm {
-                source,
-                header,
-                message,
-            },
-            Err(_) => Heard::Unreadable,
-        },
-        0x8000..=0xBBFF | 0xC000..=0xF7FF => Heard::Cyclic {
-            source,
-            frame_id,
-            body,
-        },
-        _ => Heard::Elsewhere,
+        ALARM_HIGH | ALARM_LOW => Kind::Alarm,
+        0x8000..=0xBBFF | 0xC000..=0xF7FF => Kind::Cyclic,
+        _ => Kind::Elsewhere,
     }
+}
+
+/// Whether a packet of ARP with this destination is for the device: to it, or to all stations.
+pub(crate) fn is_asked(identity: &Identity, destination: Mac) -> bool
+    ensures { result ≡ (is_own_by identity.now destination || pointwise nat_eq destination.octets broadcast) }
+{
+    is_own(identity, destination) || destination == BROADCAST
+}
+
+/// Whether a datagram with this destination and port is for the device: to it, and to the port of calls.
+pub(crate) fn is_called(identity: &Identity, destination: Mac, port: u16) -> bool
+    ensures { result ≡ (is_own_by identity.now destination && port == 34964) }
+{
+    is_own(identity, destination) && port == RPC_PORT
 }
 
 // Whether a frame with this destination is for the device alone.

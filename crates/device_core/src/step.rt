@@ -2,8 +2,9 @@
 ghost use Rattle.std.specs.Prelude.{◌≡◌, ◌≢◌, ◌<◌, ◌-◌, ◌^◌, [], true, false, List, ℕ, Option, map};
 ghost use Rattle.settings_store.specs.Carries.{Holds};
 ghost use Rattle.dcp_core.specs.Request.{Asked};
-ghost use Rattle.device_core.specs.Heard.{Asks, heard_of};
-ghost use Rattle.device_core.specs.Hearing.{meaning_of};
+ghost use Rattle.device_core.specs.Heard.{Asks, heard_alarm, heard_content, heard_of};
+ghost use Rattle.frame_codec.specs.Meaning.{ArpPacket, RealTime, UdpDatagram, content_of};
+ghost use Rattle.pn_alarms.specs.Message.{message_of};
 ghost use Rattle.device_core.specs.declared.event.Event.TheVariants.{Frame};
 ghost use Rattle.relations.specs.Link.{Link};
 ghost use Rattle.device_core.specs.State.{Live, Station, with_rest};
@@ -16,12 +17,12 @@ ghost use Rattle.device_core.specs.Faults.{StepGoesOn};
 ghost use Rattle.device_core.specs.Steps.{Steps, Identifies, IsServed, IsAgain, IsExactStep};
 
 use crate::exchange::{send_alarm, send_due, send_reply};
-use crate::hearing::{Heard, hear};
+use crate::hearing::{Caller, Kind, is_asked, is_called, kind_of, read_layers, real_time_in};
 use crate::{Device, Event, Note};
 use dcp_core::Service;
 use flash_model::Flash;
-use frame_codec::{Bytes, Outbox};
-use pn_alarms::{Header, Heard as Fate, Message};
+use frame_codec::{Arp, Bytes, Layered, Outbox, Payload, Udp};
+use pn_alarms::{Header, Heard as Fate, Message, read_message};
 use pn_values::Mac;
 use relations::Received;
 
@@ -70,49 +71,138 @@ impl<F: Flash<S>, const S: usize> Device<F, S> {
         }
     }
 
-    // A frame.
+    // A frame: it is read first, and then its destination is looked at. What comes each interval is read by itself.
     #[inline(never)]
     fn hear(&mut self, bytes: &Bytes, outbox: &mut Outbox) -> Note
         requires empty { outbox.old.items ≡ [] }
         ensures steps { Steps F.image F.failures F.asked self.old (heard_of self.old.station.identity (Frame bytes.now)) (map (λ frame. frame.items) outbox.new.items) result self.new }
         ensures reliable { F.is_reliable self.old.flash → F.is_reliable self.new.flash × (self.new.live.values.has_failed ≡ self.old.live.values.has_failed) }
     {
-        let heard = hear(&self.identity, bytes);
-        self.respond_to(heard, outbox)
+        // The invariant is known where a field is used.
+        let _ = &self.identity;
+        match real_time_in(bytes) {
+            Some(frame) => self.hear_real_time(
+                frame.destination,
+                frame.source,
+                frame.frame_id,
+                frame.body,
+                outbox,
+            ),
+            None => self.hear_other(bytes, outbox),
+        }
     }
 
-    // What comes of a frame.
-    #[inline(always)]
-    fn respond_to(&mut self, heard: Heard<'_>, outbox: &mut Outbox) -> Note
-        requires stored { Holds (F.image self.old.flash) self.old.live.values }
+    // A frame that is no real-time frame, or none.
+    #[inline(never)]
+    fn hear_other(&mut self, bytes: &Bytes, outbox: &mut Outbox) -> Note
         requires empty { outbox.old.items ≡ [] }
-        ensures steps { Steps F.image F.failures F.asked self.old (meaning_of heard.entry) (map (λ frame. frame.items) outbox.new.items) result self.new }
+        ensures steps { Steps F.image F.failures F.asked self.old (heard_of self.old.station.identity (Frame bytes.now)) (map (λ frame. frame.items) outbox.new.items) result self.new }
         ensures reliable { F.is_reliable self.old.flash → F.is_reliable self.new.flash × (self.new.live.values.has_failed ≡ self.old.live.values.has_failed) }
     {
-        match heard {
-            Heard::Cyclic {
-                source,
-                frame_id,
-                body,
-            } => self.hear_cyclic(source, frame_id, body),
-            Heard::Alarm {
-                source,
-                header,
-                message,
-            } => self.hear_alarm(source, &header, &message, outbox),
-            Heard::Asked {
-                source,
-                frame_id,
-                body,
-            } => self.read_and_serve(source, frame_id, body, outbox),
-            Heard::Arp { asker, packet } => self.resolve(asker, &packet, outbox),
-            Heard::Datagram {
-                caller,
-                address,
-                body,
-            } => self.hear_datagram(&caller, address, body, outbox),
-            Heard::Unreadable => Note::Fault,
-            Heard::Elsewhere => Note::NotMine,
+        // The invariant is known where a field is used.
+        let _ = &self.identity;
+        match read_layers(bytes) {
+            Some(layered) => self.hear_layers(&layered, outbox),
+            None => Note::Fault,
+        }
+    }
+
+    // A frame by its layers.
+    #[inline(always)]
+    fn hear_layers(&mut self, layered: &Layered, outbox: &mut Outbox) -> Note
+        requires stored { Holds (F.image self.old.flash) self.old.live.values }
+        requires empty { outbox.old.items ≡ [] }
+        ensures steps { Steps F.image F.failures F.asked self.old (heard_content self.old.station.identity layered.now.destination layered.now.source (content_of layered.now.payload)) (map (λ frame. frame.items) outbox.new.items) result self.new }
+        ensures reliable { F.is_reliable self.old.flash → F.is_reliable self.new.flash × (self.new.live.values.has_failed ≡ self.old.live.values.has_failed) }
+    {
+        let (destination, source) = (layered.destination, layered.source);
+        match &layered.payload {
+            Payload::RealTime { frame_id, body } => {
+                self.hear_real_time(destination, source, *frame_id, body, outbox)
+            }
+            Payload::Arp(packet) => self.hear_packet(destination, source, packet, outbox),
+            Payload::Udp(datagram) => self.hear_udp(destination, source, datagram, outbox),
+        }
+    }
+
+    // A frame of EtherType 0x8892.
+    #[inline(always)]
+    fn hear_real_time(
+        &mut self,
+        destination: Mac,
+        source: Mac,
+        frame_id: u16,
+        body: &[u8],
+        outbox: &mut Outbox,
+    ) -> Note
+        requires stored { Holds (F.image self.old.flash) self.old.live.values }
+        requires empty { outbox.old.items ≡ [] }
+        ensures steps { Steps F.image F.failures F.asked self.old (heard_content self.old.station.identity destination source (RealTime frame_id body.now)) (map (λ frame. frame.items) outbox.new.items) result self.new }
+        ensures reliable { F.is_reliable self.old.flash → F.is_reliable self.new.flash × (self.new.live.values.has_failed ≡ self.old.live.values.has_failed) }
+    {
+        match kind_of(&self.identity, destination, frame_id) {
+            Kind::Cyclic => self.hear_cyclic(source, frame_id, body),
+            Kind::Alarm => self.read_alarm(source, body, outbox),
+            Kind::Request => self.read_and_serve(source, frame_id, body, outbox),
+            Kind::Elsewhere => Note::NotMine,
+        }
+    }
+
+    // A packet of ARP.
+    #[inline(never)]
+    fn hear_packet(
+        &mut self,
+        destination: Mac,
+        asker: Mac,
+        packet: &Arp,
+        outbox: &mut Outbox,
+    ) -> Note
+        requires stored { Holds (F.image self.old.flash) self.old.live.values }
+        requires empty { outbox.old.items ≡ [] }
+        ensures steps { Steps F.image F.failures F.asked self.old (heard_content self.old.station.identity destination asker (ArpPacket packet.now)) (map (λ frame. frame.items) outbox.new.items) result self.new }
+        ensures reliable { F.is_reliable self.old.flash → F.is_reliable self.new.flash × (self.new.live.values.has_failed ≡ self.old.live.values.has_failed) }
+    {
+        if !is_asked(&self.identity, destination) {
+            return Note::NotMine;
+        }
+        self.resolve(asker, packet, outbox)
+    }
+
+    // A datagram, to whatever IP address.
+    #[inline(never)]
+    fn hear_udp(
+        &mut self,
+        destination: Mac,
+        source: Mac,
+        datagram: &Udp,
+        outbox: &mut Outbox,
+    ) -> Note
+        requires stored { Holds (F.image self.old.flash) self.old.live.values }
+        requires empty { outbox.old.items ≡ [] }
+        ensures steps { Steps F.image F.failures F.asked self.old (heard_content self.old.station.identity destination source (UdpDatagram datagram.now.source datagram.now.destination datagram.now.body.now)) (map (λ frame. frame.items) outbox.new.items) result self.new }
+        ensures reliable { F.is_reliable self.old.flash → F.is_reliable self.new.flash × (self.new.live.values.has_failed ≡ self.old.live.values.has_failed) }
+    {
+        if !is_called(&self.identity, destination, datagram.destination.port) {
+            return Note::NotMine;
+        }
+        let caller = Caller {
+            mac: source,
+            endpoint: datagram.source,
+        };
+        self.hear_datagram(&caller, datagram.destination.address, datagram.body, outbox)
+    }
+
+    // What follows the FrameID of an alarm frame.
+    #[inline(never)]
+    fn read_alarm(&mut self, source: Mac, body: &[u8], outbox: &mut Outbox) -> Note
+        requires stored { Holds (F.image self.old.flash) self.old.live.values }
+        requires empty { outbox.old.items ≡ [] }
+        ensures steps { Steps F.image F.failures F.asked self.old (heard_alarm source (message_of body.now)) (map (λ frame. frame.items) outbox.new.items) result self.new }
+        ensures reliable { F.is_reliable self.old.flash → F.is_reliable self.new.flash × (self.new.live.values.has_failed ≡ self.old.live.values.has_failed) }
+    {
+        match read_message(body) {
+            Ok((header, message)) => self.hear_alarm(source, &header, &message, outbox),
+            Err(_) => Note::Fault,
         }
     }
 
@@ -188,7 +278,7 @@ impl<F: Flash<S>, const S: usize> Device<F, S> {
     }
 
     // An alarm frame: it belongs to the relation, or not. Data is answered, and the ERR of the controller ends the relation.
-    #[inline(never)]
+    #[inline(always)]
     fn hear_alarm(
         &mut self,
         source: Mac,

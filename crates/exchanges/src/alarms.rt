@@ -1,5 +1,5 @@
 //! Alarms.
-ghost use Rattle.std.specs.Prelude.{◌≡◌, ◌+◌, ◌≤◌, ◌++◌, is_some, unwrap_or};
+ghost use Rattle.std.specs.Prelude.{◌≡◌, ◌+◌, ◌≤◌, ◌++◌, IfSome, is_some, length, unwrap_or};
 ghost use Rattle.arrayvec.specs.ArrayVec.{array_vec_len};
 ghost use Rattle.pn_alarms.specs.Device.{heard_as};
 ghost use Rattle.exchanges.specs.Frames.{alarm_frame, body_in, body_of, reply_frame};
@@ -8,7 +8,7 @@ ghost use Rattle.exchanges.specs.Notices.{behind_message, header_of, raised_at};
 use crate::DataExchange;
 use arrayvec::ArrayVec;
 use module_diff::{module_ident, submodule_ident};
-use pn_alarms::{Alarm, Header, Heard, Message, Pdu, PduType, Taken, write_alarm, write_pdu};
+use pn_alarms::{Alarm, Header, Heard, Message, Pdu, PduType, Taken, write_alarm_front, write_pdu};
 use pn_values::Real;
 
 /// The endpoint of the device: the LocalAlarmReference that it answers in AlarmCRBlockRes.
@@ -59,18 +59,20 @@ impl DataExchange {
             .header(kind, self.route.reference, OWN_REFERENCE)
     }
 
-    /// Appends what follows the FrameID of the alarm that stands, at most 72 octets, if one does. There must be room. Answers whether
-    /// one does.
-    pub fn put_alarm<const N: usize>(&self, out: &mut ArrayVec<u8, N>) -> bool
-        requires { array_vec_len out.old + 72 ≤ N }
-        ensures stands { result ≡ is_some (alarm_frame self.now) }
-        ensures items { out.new.items ≡ out.old.items ++ body_in (alarm_frame self.now) }
+    /// What follows the FrameID of the alarm that stands, if one does: 40 octets, and behind them its data, at most 32.
+    #[inline(always)]
+    pub fn alarm(&self) -> Option<(ArrayVec<u8, 40>, &[u8])>
+        ensures stands { is_some result ≡ is_some (alarm_frame self.now) }
+        ensures exact { IfSome result (λ octets. octets.0.items ++ octets.1.now ≡ body_in (alarm_frame self.now)) }
+        ensures len { IfSome result (λ octets. array_vec_len octets.0 ≡ 40) }
+        ensures few { IfSome result (λ octets. length octets.1.now ≤ 32) }
     {
         let Some(alarm) = self.alarms.standing() else {
-            return false;
+            return None;
         };
-        write_alarm(out, &self.header(PduType::Data), alarm);
-        true
+        let mut front = ArrayVec::new();
+        write_alarm_front(&mut front, &self.header(PduType::Data), &alarm);
+        Some((front, alarm.alarm_data.octets()))
     }
 
     /// Appends what follows the FrameID of the answer to data that was taken so, 12 octets. There must be room.

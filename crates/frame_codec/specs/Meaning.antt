@@ -1,11 +1,12 @@
 -- What a frame means.
-use Rattle.std.specs.Prelude.{ℕ, List, Option, ◌++◌}
+use Rattle.std.specs.Prelude.{ℕ, List, Option, Result, Ok, Err, ◌++◌, ⊤}
 use Rattle.pn_values.specs.declared.mac.Mac.{Mac}
 use Rattle.frame_codec.specs.declared.arp.Arp.{Arp}
 use Rattle.frame_codec.specs.declared.udp.Endpoint.{Endpoint}
 use Rattle.frame_codec.specs.declared.layered.Layered.{Layered}
 use Rattle.frame_codec.specs.declared.layered.Payload.{Payload}
 use Rattle.frame_codec.specs.declared.layered.Pieces.{Pieces}
+use Rattle.frame_codec.specs.declared.layered.RealTimeFrame.{RealTimeFrame}
 use Rattle.frame_codec.specs.declared.layered.Payload.TheVariants as payload
 
 -- What a frame carries: under EtherType 0x8892 a FrameID and all bytes behind it, padding too; under 0x0806 a packet of
@@ -35,3 +36,23 @@ meaning_of layered = record { destination = layered.destination; source = layere
 -- what pieces mean: their body is the one behind the other
 abbrev pub meaning_in : Pieces → Meaning
 meaning_in pieces = record { destination = pieces.destination; source = pieces.source; tag = pieces.tag; content = RealTime pieces.frame_id (pieces.front.now ++ pieces.behind.now) }
+
+-- what a real-time frame means
+abbrev pub meaning_as : RealTimeFrame → Meaning
+meaning_as frame = record { destination = frame.destination; source = frame.source; tag = frame.tag; content = RealTime frame.frame_id frame.body.now }
+
+-- no real-time data
+abbrev pub IsOther : Content → Type 0
+IsOther (RealTime frame_id body) = ⊥
+IsOther (ArpPacket arp) = ⊤
+IsOther (UdpDatagram source destination body) = ⊤
+
+-- no content that is real-time data: another one, or none
+abbrev pub IsOtherOrNone : {F : Type 0} → Result Content F → Type 0
+IsOtherOrNone (Ok content) = IsOther content
+IsOtherOrNone (Err fault) = ⊤
+
+-- no frame of real-time data: one that carries other things, or none
+abbrev pub IsNoRealTime : {F : Type 0} → Result Meaning F → Type 0
+IsNoRealTime (Ok meaning) = IsOther meaning.content
+IsNoRealTime (Err fault) = ⊤

@@ -7,7 +7,7 @@ ghost use Rattle.frame_codec.specs.Arp.{operation, arp_head, holder, arp_packet}
 use crate::fields::{fixed_u8_at, fixed_u16_at};
 use crate::{Frame, FrameFault};
 use pn_values::Mac;
-use wire::{append, append_u8, append_u16, octets_at, u16_at};
+use wire::{octets_at, u16_at};
 
 /// The EtherType of ARP.
 pub(crate) const ADDRESS_RESOLUTION: u16 = 0x0806;
@@ -109,10 +109,10 @@ fn put_head(frame: &mut Frame)
     ensures len { array_vec_len frame.new ≡ array_vec_len frame.old + 6 }
     ensures fits { arp_head.Fits tt }
 {
-    append_u16(frame, ETHERNET);
-    append_u16(frame, INTERNET);
-    append_u8(frame, 6);
-    append_u8(frame, 4);
+    frame.append_u16(ETHERNET);
+    frame.append_u16(INTERNET);
+    frame.append_u8(6);
+    frame.append_u8(4);
 }
 
 /// Appends an operation.
@@ -123,7 +123,7 @@ fn put_operation(frame: &mut Frame, value: ArpOperation)
     ensures len { array_vec_len frame.new ≡ array_vec_len frame.old + 2 }
     ensures fits { operation.Fits value }
 {
-    append_u16(frame, value as u16);
+    frame.append_u16(value as u16);
 }
 
 /// Appends a station and its address.
@@ -134,8 +134,8 @@ fn put_holder(frame: &mut Frame, value: &Holder)
     ensures len { array_vec_len frame.new ≡ array_vec_len frame.old + 10 }
     ensures fits { holder.Fits value.now }
 {
-    append(frame, &value.mac.octets);
-    append(frame, &value.address);
+    frame.append(&value.mac.octets);
+    frame.append(&value.address);
 }
 
 /// Appends a packet.

@@ -25,6 +25,21 @@ pub enum Payload<'a> {
     Udp(Udp<'a>),
 }
 
+/// A frame of EtherType 0x8892 by its layers.
+#[derive(Clone, Copy, Debug, PartialEq, Eq)]
+pub struct RealTimeFrame<'a> {
+    /// To whom it goes.
+    pub destination: Mac,
+    /// From whom it comes.
+    pub source: Mac,
+    /// The tag control information of its VLAN tag (IEEE 802.1Q, 9.6), if it has one.
+    pub tag: Option<u16>,
+    /// The FrameID.
+    pub frame_id: u16,
+    /// All octets behind it, padding too.
+    pub body: &'a [u8],
+}
+
 /// A frame of EtherType 0x8892 that is written of a body in two pieces, so that neither is copied before.
 #[derive(Clone, Copy, Debug, PartialEq, Eq)]
 pub struct Pieces<'a> {

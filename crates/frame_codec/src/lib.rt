@@ -5,6 +5,7 @@
 mod arp;
 mod fault;
 mod fields;
+mod frame;
 mod frame_id;
 mod internet;
 mod layered;
@@ -18,13 +19,14 @@ mod writing;
 
 pub use arp::{Arp, ArpOperation, Holder};
 pub use fault::FrameFault;
+pub use frame::Frame;
 pub use frame_id::{
     ALARM_HIGH, ALARM_LOW, DCP_GET_SET, DCP_IDENTIFY_REQUEST, DCP_IDENTIFY_RESPONSE,
 };
-pub use layered::{Layered, Payload, Pieces};
-pub use limits::{Bytes, Frame};
+pub use layered::{Layered, Payload, Pieces, RealTimeFrame};
+pub use limits::Bytes;
 pub use outbox::Outbox;
-pub use reading::read;
+pub use reading::{read, read_real_time};
 pub use sum::ones_sum;
 pub use udp::{Endpoint, RPC_PORT, Udp};
 pub use writing::write;

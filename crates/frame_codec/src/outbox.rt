@@ -7,7 +7,6 @@ ghost use Rattle.frame_codec.specs.Frame.{FitsFrame, frame_bytes};
 use crate::writing::{fill, fill_pieces};
 use crate::{Frame, Layered, Pieces};
 use std::marker::Model;
-use wire::append;
 
 /// The frames that one event sends, at most four, in their order. They are written where they lie, and their room is used
 /// again. A clause sees them as it sees the frames of an `ArrayVec`.
@@ -107,9 +106,8 @@ impl Outbox {
         ensures items { self.new.items ≡ self.old.items ++ frame.now ∷ [] }
         ensures len { array_vec_len self.new ≡ array_vec_len self.old + 1 }
     {
-        let copy = &mut self.frames[self.used];
-        copy.clear();
-        append(copy, frame.as_slice());
+        let place = &mut self.frames[self.used];
+        place.copy(frame);
         self.used += 1;
     }
 }

@@ -1,7 +1,7 @@
 //! From octets to layers.
-ghost use Rattle.std.specs.Prelude.{IfOk, Ok};
+ghost use Rattle.std.specs.Prelude.{◌≡◌, IfNone, IfOk, IfSome, Ok};
 ghost use Rattle.wire.specs.Codec.{Gives};
-ghost use Rattle.frame_codec.specs.Meaning.{Meaning, content_of, meaning_of};
+ghost use Rattle.frame_codec.specs.Meaning.{IsNoRealTime, Meaning, content_of, meaning_as, meaning_of};
 ghost use Rattle.frame_codec.specs.Frame.{IsFrame, arp, content_under, datagram, real_time, frame_of};
 
 use crate::arp::{ADDRESS_RESOLUTION, arp_at};
@@ -9,7 +9,7 @@ use crate::internet::{INTERNET, internet_header_at};
 use crate::link::{PROFINET, VLAN, link_at, longest_of};
 use crate::sum::ones_sum;
 use crate::udp::segment_at;
-use crate::{Endpoint, FrameFault, Layered, Payload, Udp};
+use crate::{Endpoint, FrameFault, Layered, Payload, RealTimeFrame, Udp};
 use wire::{front, split, u16_at};
 
 /// The FrameID, and all that is behind it.
@@ -109,4 +109,34 @@ pub fn read(bytes: &[u8]) -> Result<Layered<'_>, FrameFault>
     ensures exact { Gives meaning_of result (frame_of bytes.now) }
 {
     layers_at(bytes)
+}
+
+/// Reads a frame of EtherType 0x8892: what cyclic data, alarms and DCP come in. None is any other frame, or none: `read` tells which.
+#[inline(always)]
+#[tactic(auto, unfolding(crate::specs::Frame::frame_of, crate::specs::Frame::layers, crate::specs::Frame::real_time))]
+pub fn read_real_time(bytes: &[u8]) -> Option<RealTimeFrame<'_>>
+    // It is the frame that these octets are.
+    ensures found { IfSome result (λ frame. frame_of bytes.now ≡ Ok (meaning_as frame)) }
+    // One that is there is found.
+    ensures none { IfNone result (IsNoRealTime (frame_of bytes.now)) }
+{
+    let Ok((link, rest)) = link_at(bytes) else {
+        return None;
+    };
+    if link.ether_type != PROFINET {
+        return None;
+    }
+    if bytes.len() > longest_of(link.tag) {
+        return None;
+    }
+    let Ok((frame_id, body)) = u16_at(rest, FrameFault::TooShort) else {
+        return None;
+    };
+    Some(RealTimeFrame {
+        destination: link.destination,
+        source: link.source,
+        tag: link.tag,
+        frame_id,
+        body,
+    })
 }

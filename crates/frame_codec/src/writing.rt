@@ -10,7 +10,6 @@ use crate::link::{Link, PROFINET, VLAN};
 use crate::udp::{UdpHeader, put_udp_header};
 use crate::{Frame, Layered, Payload, Pieces, Udp};
 use arrayvec::ArrayVec;
-use wire::{append, append_u16};
 
 /// The EtherType under which a payload is sent.
 fn ether_type_of(payload: &Payload) -> u16
@@ -35,11 +34,11 @@ fn put_tag_and_type(frame: &mut Frame, tag: Option<u16>, ether_type: u16)
     ensures fits { tag_and_type.Fits (tag, ether_type) }
 {
     match tag {
-        None => append_u16(frame, ether_type),
+        None => frame.append_u16(ether_type),
         Some(tag) => {
-            append_u16(frame, VLAN);
-            append_u16(frame, tag);
-            append_u16(frame, ether_type);
+            frame.append_u16(VLAN);
+            frame.append_u16(tag);
+            frame.append_u16(ether_type);
         }
     }
 }
@@ -54,8 +53,8 @@ fn put_link(frame: &mut Frame, header: &Link)
     ensures len { array_vec_len frame.new ≤ 18 }
     ensures fits { link.Fits header.now }
 {
-    append(frame, &header.destination.octets);
-    append(frame, &header.source.octets);
+    frame.append(&header.destination.octets);
+    frame.append(&header.source.octets);
     put_tag_and_type(frame, header.tag, header.ether_type);
 }
 
@@ -82,9 +81,11 @@ fn put_datagram(frame: &mut Frame, udp: &Udp)
         checksum: 0,
     }
     .seal(&internet, udp.body);
-    put_internet_header(frame, &internet);
-    put_udp_header(frame, &header);
-    append(frame, udp.body);
+    let mut front: ArrayVec<u8, 28> = ArrayVec::new();
+    put_internet_header(&mut front, &internet);
+    put_udp_header(&mut front, &header);
+    frame.append(front.as_slice());
+    frame.append(udp.body);
 }
 
 /// Appends the content.
@@ -97,8 +98,8 @@ fn put_content(frame: &mut Frame, payload: &Payload)
 {
     match *payload {
         Payload::RealTime { frame_id, body } => {
-            append_u16(frame, frame_id);
-            append(frame, body);
+            frame.append_u16(frame_id);
+            frame.append(body);
         }
         Payload::Arp(ref arp) => put_arp(frame, arp),
         Payload::Udp(ref udp) => put_datagram(frame, udp),
@@ -129,7 +130,7 @@ fn pad(frame: &mut Frame)
 {
     if frame.len() < 60 {
         let zeros = [0; 60];
-        append(frame, &zeros[frame.len()..]);
+        frame.append(&zeros[frame.len()..]);
     }
 }
 
@@ -152,9 +153,9 @@ fn put_body(frame: &mut Frame, pieces: &Pieces)
     requires room { array_vec_len frame.old + content_size (meaning_in pieces.now).content ≤ 1518 }
     ensures items { frame.new.items ≡ frame.old.items ++ real_time.write (meaning_in pieces.now).content }
 {
-    append_u16(frame, pieces.frame_id);
-    append(frame, pieces.front);
-    append(frame, pieces.behind);
+    frame.append_u16(pieces.frame_id);
+    frame.append(pieces.front);
+    frame.append(pieces.behind);
 }
 
 /// Appends the layers of a frame of EtherType 0x8892, its body in two pieces, and zeros up to 60 octets, to an empty frame.
@@ -189,7 +190,7 @@ pub fn write(layered: &Layered) -> Frame
     ensures least { 60 ≤ length result.items }
     ensures most { length result.items ≤ longest layered.now.tag }
 {
-    let mut frame = ArrayVec::new();
+    let mut frame = Frame::new();
     fill(&mut frame, layered);
     frame
 }

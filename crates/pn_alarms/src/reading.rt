@@ -8,7 +8,7 @@ ghost use Rattle.pn_alarms.specs.Format.{Said, said, kind, header, pdu, IsPdu, p
 ghost use Rattle.pn_alarms.specs.Carried.{IsAck, ack_of, IsNotification, notification_of, wanted};
 
 use crate::{AlarmFault, Header, Pdu, PduType};
-use block_codec::{AlarmAck, AlarmNotification, Block, BlockFault, read_block};
+use block_codec::{AlarmAck, AlarmNotification, Block, BlockFault, read_alarm_ack, read_block};
 use wire::{split, u8_at, u16_at};
 
 /// PDUType, and what is behind it.
@@ -102,6 +102,27 @@ fn notification_in<'a>(
     }
 }
 
+/// The AlarmAck in front of these octets, which do not begin like one.
+#[inline(never)]
+fn other_ack(body: &[u8]) -> Result<AlarmAck, AlarmFault>
+    ensures { result ≡ ack_of body.now }
+{
+    ack_in(read_block(body))
+}
+
+/// The AlarmAck in front, which is read by itself, since each alarm brings one.
+fn ack_at(body: &[u8]) -> Result<AlarmAck, AlarmFault>
+    ensures { result ≡ ack_of body.now }
+{
+    let Ok((0x8001, _)) = u16_at(body, BlockFault::Truncated) else {
+        return other_ack(body);
+    };
+    match read_alarm_ack(body) {
+        Ok((ack, _)) => Ok(ack),
+        Err(_) => Err(AlarmFault::Block),
+    }
+}
+
 /// Reads the AlarmAck that data carries at a device. What is behind the block is not looked at.
 pub fn read_ack(body: &[u8]) -> Result<AlarmAck, AlarmFault>
     // What is read is spelled so.
@@ -111,7 +132,7 @@ pub fn read_ack(body: &[u8]) -> Result<AlarmAck, AlarmFault>
     // Which it is.
     ensures exact { result ≡ ack_of body.now }
 {
-    ack_in(read_block(body))
+    ack_at(body)
 }
 
 /// Reads the AlarmNotification that data carries at a controller. What is behind the block is not looked at.

@@ -9,12 +9,12 @@ ghost use Rattle.pn_alarms.specs.Format.{said, is_long, header, IsPdu, pdu_of, p
 
 use crate::{Header, Pdu};
 use arrayvec::ArrayVec;
-use block_codec::{AlarmNotification, Block, write_block};
-use record_blocks::alarm_notification_len;
+use block_codec::{AlarmNotification, write_notification_front};
 use wire::{append, append_u8, append_u16};
 
 /// Appends from AlarmDstEndpoint to AckSeqNum. There must be room.
 #[tactic(auto, unfolding(crate::specs::Format::header, crate::specs::Format::kind))]
+#[inline(always)]
 fn put_header<const N: usize>(out: &mut ArrayVec<u8, N>, value: &Header)
     requires { array_vec_len out.old + 10 ≤ N }
     ensures items { out.new.items ≡ out.old.items ++ header.write value.now [] }
@@ -50,17 +50,28 @@ pub fn write_pdu<const N: usize>(out: &mut ArrayVec<u8, N>, pdu: &Pdu)
     append(out, pdu.body);
 }
 
-/// Appends the block of an alarm, at most 60 octets.
-#[tactic(auto, unfolding(block_codec::specs::Block::block_size, block_codec::specs::Block::fields_of, block_fields::specs::Fields::open_body, block_fields::specs::Fields::version, record_blocks::specs::AlarmNotification::alarm_notification, record_blocks::specs::AlarmNotification::alarm_place, record_blocks::specs::AlarmNotification::alarm_subject))]
-fn put_alarm(out: &mut ArrayVec<u8, 60>, alarm: AlarmNotification)
-    requires empty { out.old.items ≡ [] }
-    requires few { length alarm.alarm_data ≤ 32 }
-    ensures exact { out.new.items ≡ block_bytes (notification alarm.entry) }
-    ensures read { notification_of out.new.items ≡ Ok alarm.entry }
+/// Appends data that carries an alarm, which follows the FrameID of a frame, up to the alarm's own data: 40 octets, behind which
+/// these are to be put. There must be room.
+#[inline(always)]
+pub fn write_alarm_front<const N: usize>(
+    out: &mut ArrayVec<u8, N>,
+    header: &Header,
+    alarm: &AlarmNotification,
+)
+    requires room { array_vec_len out.old + 40 ≤ N }
+    requires kind { header.now.kind ≡ Data }
+    requires few { length alarm.now.alarm_data ≤ 32 }
+    // With the alarm's data behind them they are all octets.
+    ensures exact { out.new.items ++ alarm.now.alarm_data ≡ out.old.items ++ pdu_bytes (alarm_pdu header.now alarm.now) }
+    ensures len { array_vec_len out.new ≡ array_vec_len out.old + 40 }
+    // With anything behind it, it is read as that, and what it carries as the alarm.
+    ensures behind { (more : List ℕ) → pdu_of (pdu_bytes (alarm_pdu header.now alarm.now) ++ more) ≡ Ok (alarm_pdu header.now alarm.now) }
+    ensures carried { notification_of (alarm_pdu header.now alarm.now).body ≡ Ok alarm.now }
 {
-    // what counts its octets says that there is room for them
-    let _size = alarm_notification_len(&alarm);
-    write_block(out, &Block::AlarmNotification(alarm));
+    let size = alarm.alarm_data.octets().len() as u16;
+    put_header(out, header);
+    append_u16(out, 28 + size);
+    write_notification_front(out, alarm);
 }
 
 /// Appends data that carries an alarm, which follows the FrameID of a frame: at most 72 octets. There must be room.
@@ -78,11 +89,6 @@ pub fn write_alarm<const N: usize>(
     ensures behind { (more : List ℕ) → pdu_of (pdu_bytes (alarm_pdu header.now alarm.entry) ++ more) ≡ Ok (alarm_pdu header.now alarm.entry) }
     ensures carried { notification_of (alarm_pdu header.now alarm.entry).body ≡ Ok alarm.entry }
 {
-    let mut body = ArrayVec::new();
-    put_alarm(&mut body, alarm);
-    let pdu = Pdu {
-        header: *header,
-        body: body.as_slice(),
-    };
-    write_pdu(out, &pdu);
+    write_alarm_front(out, header, &alarm);
+    append(out, alarm.alarm_data.octets());
 }

@@ -109,6 +109,20 @@ pub fn alarm_notification_at(bytes: &[u8]) -> Result<AlarmNotification<'_>, Bloc
     })
 }
 
+/// Appends the fields of an AlarmNotification that are in front of its data, 22 octets. There must be room.
+#[tactic(auto, unfolding(crate::specs::AlarmNotification::alarm_notification, crate::specs::AlarmNotification::alarm_place, crate::specs::AlarmNotification::alarm_subject))]
+#[inline(always)]
+pub fn put_alarm_front<const N: usize>(out: &mut ArrayVec<u8, N>, value: &AlarmNotification)
+    requires { array_vec_len out.old + 22 ≤ N }
+    // With the data behind them they are all fields.
+    ensures items { out.new.items ++ value.now.alarm_data ≡ out.old.items ++ alarm_notification.write value.now }
+    ensures len { array_vec_len out.new ≡ array_vec_len out.old + 22 }
+    ensures fits { alarm_notification.Fits value.now }
+{
+    alarm_place_fields!(put_fields [out, value]);
+    alarm_subject_fields!(put_fields [out, value]);
+}
+
 /// Appends the fields of an AlarmNotification. There must be room.
 #[tactic(auto, unfolding(crate::specs::AlarmNotification::alarm_notification, crate::specs::AlarmNotification::alarm_place, crate::specs::AlarmNotification::alarm_subject))]
 pub fn put_alarm_notification<const N: usize>(out: &mut ArrayVec<u8, N>, value: &AlarmNotification)
@@ -117,8 +131,7 @@ pub fn put_alarm_notification<const N: usize>(out: &mut ArrayVec<u8, N>, value: 
     ensures len { array_vec_len out.new ≡ array_vec_len out.old + alarm_notification.size value.now }
     ensures fits { alarm_notification.Fits value.now }
 {
-    alarm_place_fields!(put_fields [out, value]);
-    alarm_subject_fields!(put_fields [out, value]);
+    put_alarm_front(out, value);
     put_alarm_data(out, &value.alarm_data);
 }
 

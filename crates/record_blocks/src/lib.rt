@@ -17,7 +17,8 @@ mod write_record;
 pub use alarm_ack::{AlarmAck, alarm_ack_at, alarm_ack_len, put_alarm_ack};
 pub use alarm_data::AlarmData;
 pub use alarm_notification::{
-    AlarmNotification, alarm_notification_at, alarm_notification_len, put_alarm_notification,
+    AlarmNotification, alarm_notification_at, alarm_notification_len, put_alarm_front,
+    put_alarm_notification,
 };
 pub use filter_data::{
     FilterModule, FilterModules, FilterSubmodule, ImFilterData, filter_data_at, filter_data_len,

@@ -37,7 +37,7 @@ impl Slot {
         Slot {
             activity: [0; 16],
             sequence: 0,
-            frame: ArrayVec::new(),
+            frame: Frame::new(),
         }
     }
 
@@ -47,8 +47,7 @@ impl Slot {
     {
         self.activity = *activity;
         self.sequence = sequence;
-        self.frame.clear();
-        let _ = self.frame.try_extend_from_slice(frame.as_slice());
+        self.frame.copy(frame);
     }
 }
 

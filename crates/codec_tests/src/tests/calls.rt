@@ -86,8 +86,8 @@ fn response_fault(bytes: &[u8]) -> u8 {
 
 /// A frame of these octets.
 fn frame_of(octets: &[u8; 4]) -> Frame {
-    let mut frame = ArrayVec::new();
-    let _ = frame.try_extend_from_slice(octets);
+    let mut frame = Frame::new();
+    frame.append(octets);
     frame
 }
 

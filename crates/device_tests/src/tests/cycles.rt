@@ -20,7 +20,7 @@ impl<R: Abort> Sink for Taken<'_, R> {
 
     fn take(&mut self, frame: &Frame) {
         let mut copy = Frame::new();
-        let _ = copy.try_extend_from_slice(frame.as_slice());
+        copy.copy(frame);
         self.frames.push(copy).expect(self.rt, "memory");
     }
 }

@@ -152,7 +152,10 @@ fn without_room_the_relation_stays(rt: HostRuntime) -> Result<(), Fail> {
         \x05\x06\x00\x02\x00\x04";
     assert_eq!(rt; device.step(&frame(&reset), &mut outbox), Note::Done);
     assert_eq!(rt; outbox.len(), 1);
-    let sent = outbox.as_slice().first().and_then(|sent| sent.get(32));
+    let sent = outbox
+        .as_slice()
+        .first()
+        .and_then(|sent| sent.as_slice().get(32));
     assert_eq!(rt; sent.copied(), Some(4));
     assert_eq!(rt;
         status_of(&mut device, 1, (0, 1, 0xAFF2), &DATE),

@@ -235,8 +235,8 @@ fn room_for_the_answer(rt: HostRuntime) -> Result<(), Fail> {
                 assert_eq!(rt; note, Note::Done);
                 let sent = outbox.as_slice().first().ok_or("is answered")?;
                 assert_eq!(rt; sent.len(), length);
-                assert_eq!(rt; sent.get(122..126), Some([0; 4].as_slice()));
-                assert_eq!(rt; sent.get(130..134), other.get(122..126));
+                assert_eq!(rt; sent.as_slice().get(122..126), Some([0; 4].as_slice()));
+                assert_eq!(rt; sent.as_slice().get(130..134), other.get(122..126));
             }
         }
     }

@@ -1,17 +1,11 @@
 -- The header and the fields are the block, which is spelled by them.
-use Rattle.std.proofs.Common.{◌≡◌, ℕ, List, ◌++◌, sym, ap, ◌∙◌, append_assoc}
+use Rattle.std.proofs.Common.{◌≡◌, ℕ, List, ◌++◌, sym, ap, ◌∙◌}
 use Rattle.std.proofs.lemmas.List.{append-nil}
 use Rattle.wire.specs.Formats.{big_bytes}
 use Rattle.block_codec.specs.Kinds.{number_of}
 use Rattle.block_codec.specs.Block.{kind_of, fields_of, block_bytes}
-use Rattle.block_codec.proofs.Sound.{block_written, block_again, block_parts}
+use Rattle.block_codec.proofs.Sound.{block_written, block_again, block_parts, joined}
 use Rattle.block_codec.proofs.writing.write_block.Goals as goal
-
--- one behind the other
-joined : (old a b new header lengths inside : List ℕ) → a ≡ old ++ header → b ≡ a ++ lengths → new ≡ b ++ inside → new ≡ old ++ (header ++ (lengths ++ inside))
-joined old a b new header lengths inside x y z =
-    z ∙ ap (λ (xs : List ℕ). xs ++ inside) (y ∙ ap (λ (xs : List ℕ). xs ++ lengths) x)
-    ∙ append_assoc (old ++ header) lengths inside ∙ append_assoc old header (lengths ++ inside)
 
 pub returns-clause-exact : goal.returns-clause-exact
 returns-clause-exact g c =

@@ -1,19 +1,16 @@
--- What is read is spelled, and what is spelled is read.
-use Rattle.std.proofs.Common.{ℕ, List, sym, ◌∙◌}
-use Rattle.block_codec.specs.declared.block.Block.{Block}
+-- What is read is what octets say, which is spelled by them.
+use Rattle.std.proofs.Common.{ap, sym, ◌∙◌}
 use Rattle.block_codec.specs.declared.block.Block.TheVariants as is
-use Rattle.block_codec.specs.Block.{IsBlock, block_of, front, in_alarm_ack}
-use Rattle.pn_alarms.proofs.Carried.{same_wanted, ack_found, of_ok}
+use Rattle.block_codec.specs.Block.{block_of, in_alarm_ack}
+use Rattle.block_codec.proofs.Sound.{block_again, block_takes}
+use Rattle.pn_alarms.specs.Carried.{wanted}
+use Rattle.pn_alarms.proofs.Carried.{ack_in_front, of_ok}
 use Rattle.pn_alarms.proofs.reading.read_ack.Goals as goal
 
 pub returns-clause-found : goal.returns-clause-found
 returns-clause-found c =
-    of_ok _ c.ack_in.result
-    (λ value e. ack_found (λ (block : Block) (rest : List ℕ). IsBlock c.args.body.now block rest) c.read_block.result value c.read_block.ensures.found (sym c.ack_in.ensures ∙ e))
+    of_ok _ c.ack_at.result
+    (λ value e. let there = ack_in_front (block_of c.args.body.now) value (sym c.ack_at.ensures ∙ e) in (there.0, block_takes c.args.body.now (is.AlarmAck value) there.0 there.1))
 
 pub returns-clause-only : goal.returns-clause-only
-returns-clause-only c = λ meaning s.
-    c.ack_in.ensures ∙ same_wanted in_alarm_ack c.read_block.result (front (is.AlarmAck meaning) s.0) (c.read_block.ensures.only (is.AlarmAck meaning) s.0 s.1)
-
-pub returns-clause-exact : goal.returns-clause-exact
-returns-clause-exact c = c.ack_in.ensures ∙ same_wanted in_alarm_ack c.read_block.result (block_of c.args.body.now) c.read_block.ensures.exact
+returns-clause-only c = λ meaning s. c.ack_at.ensures ∙ ap (wanted in_alarm_ack) (block_again c.args.body.now (is.AlarmAck meaning) s.0 s.1)

@@ -1,13 +1,7 @@
-use Rattle.std.proofs.Common.{◌≡◌, ℕ, List, ◌++◌, sym, ap, ◌∙◌, append_assoc}
+use Rattle.std.proofs.Common.{ℕ, List, ◌++◌, sym, ap, ◌∙◌}
 use Rattle.pn_alarms.specs.Format.{said, pdu_bytes}
-use Rattle.pn_alarms.proofs.Sound.{pdu_parts, pdu_spelled, pdu_again, pdu_behind}
+use Rattle.pn_alarms.proofs.Sound.{joined, pdu_parts, pdu_spelled, pdu_again, pdu_behind}
 use Rattle.pn_alarms.proofs.writing.write_pdu.Goals as goal
-
--- one behind the other
-joined : (old a b new header lengths inside : List ℕ) → a ≡ old ++ header → b ≡ a ++ lengths → new ≡ b ++ inside → new ≡ old ++ (header ++ (lengths ++ inside))
-joined old a b new header lengths inside x y z =
-    z ∙ ap (λ (xs : List ℕ). xs ++ inside) (y ∙ ap (λ (xs : List ℕ). xs ++ lengths) x)
-    ∙ append_assoc (old ++ header) lengths inside ∙ append_assoc old header (lengths ++ inside)
 
 pub returns-clause-exact : goal.returns-clause-exact
 returns-clause-exact g c =
