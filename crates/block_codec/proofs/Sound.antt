@@ -3,7 +3,7 @@ use Rattle.std.proofs.Common.{◌≡◌, ℕ, Bool, true, false, cond, List, ◌
 use Rattle.std.proofs.lemmas.List.{append-nil}
 use Rattle.wire.specs.Codec.{IsSound, IsSoundWhole, IsOnward}
 use Rattle.wire.specs.Formats.{big_bytes, big_number, number}
-use Rattle.wire.proofs.Fields.{number_sound, number_onward}
+use Rattle.wire.proofs.Fields.{number_in_front, number_sound, number_onward}
 use Rattle.wire.proofs.Joined.{then_by_sound, then_by_onward, seen_sound, seen_onward, framed_sound, framed_onward}
 use Rattle.wire.proofs.Wholes.{refused_sound}
 use Rattle.wire.proofs.Judged.{variant_sound}
@@ -301,11 +301,7 @@ block_parts value =
 
 -- the number that is read at the front is the number at the front
 pub front_number : (bytes : List ℕ) (value : ℕ) (rest : List ℕ) → (number Truncated 2).read bytes ≡ Ok (value, rest) → value ≡ big_number 2 bytes
-front_number bytes value rest e = let same = front_is (nat_lt (length bytes) 2) (big_number 2 bytes, drop 2 bytes) (value, rest) e in sym (ap (λ (x : ℕ × List ℕ). x.0) same)
-  where
-    front_is : (short : Bool) (one other : ℕ × List ℕ) → cond short (Err Truncated) (Ok one) ≡ Ok other → one ≡ other
-    front_is true one other h = absurd cc
-    front_is false one other h = cc
+front_number bytes value rest e = number_in_front Truncated 2 bytes value rest e
 
 -- one behind the other
 pub joined : (old a b new header lengths inside : List ℕ) → a ≡ old ++ header → b ≡ a ++ lengths → new ≡ b ++ inside → new ≡ old ++ (header ++ (lengths ++ inside))

@@ -39,4 +39,4 @@ pub use record_blocks::{
     AlarmAck, AlarmData, AlarmNotification, FilterModule, FilterModules, FilterSubmodule, Im0, Im1,
     Im2, Im3, Im4, ImFilterData, IodReadReq, IodReadRes, IodWriteReq, IodWriteRes,
 };
-pub use writing::{block_len, write_block, write_notification_front};
+pub use writing::{block_len, notification_front, write_block};

@@ -1,5 +1,5 @@
 //! From a block to octets.
-ghost use Rattle.std.specs.Prelude.{◌≡◌, ◌+◌, ◌≤◌, ◌<◌, ◌++◌, ℕ, List, []};
+ghost use Rattle.std.specs.Prelude.{◌≡◌, ◌+◌, ◌≤◌, ◌<◌, ◌++◌, ℕ, List, [], length};
 ghost use Rattle.arrayvec.specs.ArrayVec.{array_vec_len};
 ghost use Rattle.block_codec.specs.Block.{IsAccepted, IsBlock, block, block_of, block_bytes, block_size, fields_of, front, kind_of};
 
@@ -14,13 +14,12 @@ use connect_blocks::{
 };
 use module_blocks::{expected_len, module_diff_len, put_expected, put_module_diff};
 use record_blocks::{
-    alarm_ack_len, alarm_notification_len, filter_data_len, im0_len, im1_len, im2_len, im3_len,
-    im4_len, iod_read_req_len, iod_read_res_len, iod_write_req_len, iod_write_res_len,
-    put_alarm_ack, put_alarm_front, put_alarm_notification, put_filter_data, put_im0, put_im1,
-    put_im2, put_im3, put_im4, put_iod_read_req, put_iod_read_res, put_iod_write_req,
-    put_iod_write_res,
+    alarm_ack_len, alarm_front, alarm_notification_len, filter_data_len, im0_len, im1_len, im2_len,
+    im3_len, im4_len, iod_read_req_len, iod_read_res_len, iod_write_req_len, iod_write_res_len,
+    put_alarm_ack, put_alarm_notification, put_filter_data, put_im0, put_im1, put_im2, put_im3,
+    put_im4, put_iod_read_req, put_iod_read_res, put_iod_write_req, put_iod_write_res,
 };
-use wire::append_u16;
+use wire::{append_u16, join};
 
 /// What BlockLength counts: the version and the fields.
 #[tactic(auto, unfolding(crate::specs::Block::fields_of, block_fields::specs::Fields::body, block_fields::specs::Fields::open_body, block_fields::specs::Fields::version))]
@@ -125,21 +124,19 @@ pub fn write_block<const N: usize>(out: &mut ArrayVec<u8, N>, block: &Block)
     put_body(out, block);
 }
 
-/// Appends the block of an alarm up to its data, 28 octets: who has room for the data elsewhere puts them behind. There must be room.
+/// The octets of a block AlarmNotification up to its data.
 #[inline(always)]
-pub fn write_notification_front<const N: usize>(
-    out: &mut ArrayVec<u8, N>,
-    alarm: &AlarmNotification,
-)
-    requires { array_vec_len out.old + 28 ≤ N }
+pub fn notification_front(alarm: &AlarmNotification) -> [u8; 28]
     // With the data behind them they are the block.
-    ensures exact { out.new.items ++ alarm.now.alarm_data ≡ out.old.items ++ block_bytes (Block.AlarmNotification alarm.now) }
-    ensures len { array_vec_len out.new ≡ array_vec_len out.old + 28 }
+    ensures exact { result ++ alarm.now.alarm_data ≡ block_bytes (Block.AlarmNotification alarm.now) }
+    ensures len { length result ≡ 28 }
     // They are read as it.
     ensures behind { (rest : List ℕ) → block_of (block_bytes (Block.AlarmNotification alarm.now) ++ rest) ≡ front (Block.AlarmNotification alarm.now) rest }
 {
-    append_u16(out, BlockType::AlarmNotification.number());
-    append_u16(out, (2 + alarm_notification_len(alarm)) as u16);
-    put_version(out);
-    put_alarm_front(out, alarm);
+    let kind = BlockType::AlarmNotification.number().to_be_bytes();
+    let size = ((2 + alarm_notification_len(alarm)) as u16).to_be_bytes();
+    join(
+        &[kind[0], kind[1], size[0], size[1], 1, 0],
+        &alarm_front(alarm),
+    )
 }

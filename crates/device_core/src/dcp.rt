@@ -19,6 +19,7 @@ use dcp_core::{
 };
 use flash_model::Flash;
 use frame_codec::{DCP_GET_SET, DCP_IDENTIFY_RESPONSE, Layered, Outbox, Payload};
+use pn_alarms::Abort;
 use pn_values::{BlockError, Command, Identity, Mac, SetItem};
 use relations::Relation;
 
@@ -158,7 +159,7 @@ fn end_if(is_ended: bool, identity: &Identity, relation: &mut Relation, outbox: 
     if !is_ended {
         return;
     }
-    if let Some(farewell) = relation.end() {
+    if let Some(farewell) = relation.end(Abort::Other) {
         send_farewell(identity, &farewell, outbox);
     }
 }

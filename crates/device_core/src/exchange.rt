@@ -55,17 +55,18 @@ pub(crate) fn send_alarm(identity: &Identity, relation: &Relation, outbox: &mut 
     let Some(exchange) = relation.exchange() else {
         return;
     };
-    let Some((front, octets)) = exchange.alarm() else {
+    let Some(alarm) = exchange.alarm() else {
         return;
     };
+    let front = alarm.0;
     let route = exchange.route();
     outbox.put_pieces(&Pieces {
         destination: route.partner,
         source: identity.mac,
         tag: Some(route.alarm_tag),
         frame_id: PduType::Data.frame_id(),
-        front: front.as_slice(),
-        behind: octets,
+        front: &front,
+        behind: alarm.1,
     });
 }
 
@@ -142,6 +143,7 @@ fn send_ready_again(
 
 /// Puts what is due at this CycleCounter into the empty box: the ERR of a relation that a timeout ended; or the alarm that stands again,
 /// ApplicationReady again, and inputs.
+#[inline(always)]
 pub(crate) fn send_due(
     identity: &Identity,
     address: [u8; 4],

@@ -86,7 +86,7 @@ pub(crate) fn kind_of(identity: &Identity, destination: Mac, frame_id: u16) -> K
 pub(crate) fn is_asked(identity: &Identity, destination: Mac) -> bool
     ensures { result ≡ (is_own_by identity.now destination || pointwise nat_eq destination.octets broadcast) }
 {
-    is_own(identity, destination) || destination == BROADCAST
+    is_own(identity, destination) || destination.is(&BROADCAST)
 }
 
 /// Whether a datagram with this destination and port is for the device: to it, and to the port of calls.
@@ -100,7 +100,7 @@ pub(crate) fn is_called(identity: &Identity, destination: Mac, port: u16) -> boo
 fn is_own(identity: &Identity, destination: Mac) -> bool
     ensures { result ≡ is_own_by identity.now destination }
 {
-    destination == identity.mac
+    destination.is(&identity.mac)
 }
 
 // Whether a frame with this destination and FrameID is for the device.
@@ -110,7 +110,7 @@ fn is_taken(identity: &Identity, destination: Mac, frame_id: u16) -> bool
     let is_own = is_own(identity, destination);
     match frame_id {
         DCP_GET_SET => is_own,
-        DCP_IDENTIFY_REQUEST => is_own || destination == IDENTIFY_MULTICAST,
+        DCP_IDENTIFY_REQUEST => is_own || destination.is(&IDENTIFY_MULTICAST),
         _ => false,
     }
 }

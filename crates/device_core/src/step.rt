@@ -1,15 +1,16 @@
 // One step: what an event is, and what comes of it.
-ghost use Rattle.std.specs.Prelude.{◌≡◌, ◌≢◌, ◌<◌, ◌-◌, ◌^◌, [], true, false, List, ℕ, Option, map};
+ghost use Rattle.std.specs.Prelude.{◌≡◌, ◌≢◌, ◌<◌, ◌-◌, ◌^◌, [], true, false, List, ℕ, None, Option, map, option_map};
 ghost use Rattle.settings_store.specs.Carries.{Holds};
 ghost use Rattle.dcp_core.specs.Request.{Asked};
 ghost use Rattle.device_core.specs.Heard.{Asks, heard_alarm, heard_content, heard_of};
 ghost use Rattle.frame_codec.specs.Meaning.{ArpPacket, RealTime, UdpDatagram, content_of};
 ghost use Rattle.pn_alarms.specs.Message.{message_of};
 ghost use Rattle.device_core.specs.declared.event.Event.TheVariants.{Frame};
+ghost use Rattle.relations.specs.Farewells.{farewell_of};
 ghost use Rattle.relations.specs.Link.{Link};
 ghost use Rattle.device_core.specs.State.{Live, Station, with_rest};
 ghost use Rattle.device_core.specs.Sent.{bytes_of};
-ghost use Rattle.device_core.specs.Judged.{judged_alarm, judged_message, judged_cyclic, judged_given, judged_raised, judged_received, ticked};
+ghost use Rattle.device_core.specs.Judged.{due_frames, farewells_in, judged_alarm, judged_message, judged_cyclic, judged_given, judged_raised, judged_received, ticked};
 ghost use Rattle.device_core.specs.Machine.{end_of};
 ghost use Rattle.rpc_core.specs.Call.{Asked as Called};
 ghost use Rattle.rpc_core.specs.Cache.{looked, again};
@@ -18,13 +19,14 @@ ghost use Rattle.device_core.specs.Steps.{Steps, Identifies, IsServed, IsAgain, 
 
 use crate::exchange::{send_alarm, send_due, send_reply};
 use crate::hearing::{Caller, Kind, is_asked, is_called, kind_of, read_layers, real_time_in};
+use crate::relation::send_farewell;
 use crate::{Device, Event, Note};
 use dcp_core::Service;
 use flash_model::Flash;
 use frame_codec::{Arp, Bytes, Layered, Outbox, Payload, Udp};
-use pn_alarms::{Header, Heard as Fate, Message, read_message};
+use pn_alarms::{Abort, Header, Heard as Fate, Message, read_message};
 use pn_values::Mac;
-use relations::Received;
+use relations::{Due, Received};
 
 impl<F: Flash<S>, const S: usize> Device<F, S> {
     /// Takes an event, and puts the frames to be sent into the box, which holds nothing else then.
@@ -218,11 +220,51 @@ impl<F: Flash<S>, const S: usize> Device<F, S> {
     {
         self.lamp = self.lamp.saturating_sub(1);
         self.units = self.units.wrapping_add(1);
-        let due = self.relation.tick();
-        if due.is_nothing() {
+        let elapsed = self.relation.elapse();
+        if elapsed.is_nothing() {
             return Note::Done;
         }
+        match elapsed.ending {
+            Some(reason) => self.end(reason, outbox),
+            None => self.send_due(
+                elapsed.is_alarm,
+                elapsed.is_ready,
+                elapsed.is_cyclic,
+                outbox,
+            ),
+        }
+        Note::Done
+    }
+
+    // A timeout is over: the relation ends, and its ERR is sent.
+    #[inline(never)]
+    fn end(&mut self, reason: Abort, outbox: &mut Outbox)
+        requires empty { outbox.old.items ≡ [] }
+        ensures state { self.new ≡ with_rest self.old (record self.old.live.rest { link = None }) }
+        ensures frames { map (λ frame. frame.items) outbox.new.items
+            ≡ map (bytes_of self.old.station.identity) (farewells_in (option_map (farewell_of reason) self.old.live.rest.link)) }
+    {
+        match self.relation.end(reason) {
+            Some(farewell) => send_farewell(&self.identity, &farewell, outbox),
+            None => {}
+        }
+    }
+
+    // What is due with a unit of time is sent.
+    #[inline(never)]
+    fn send_due(&self, is_alarm: bool, is_ready: bool, is_cyclic: bool, outbox: &mut Outbox)
+        requires { outbox.old.items ≡ [] }
+        ensures { map (λ frame. frame.items) outbox.new.items
+            ≡ map (bytes_of self.now.station.identity) (due_frames self.now.live.values.running.suite.address self.now.live.rest.units
+            (record { farewell = None; is_alarm = is_alarm; is_ready = is_ready; is_cyclic = is_cyclic }) self.now.live.rest.link) }
+    {
         let address = self.store.running().suite.address();
+        let due = Due {
+            farewell: None,
+            is_alarm,
+            is_ready,
+            is_cyclic,
+        };
         send_due(
             &self.identity,
             address,
@@ -231,7 +273,6 @@ impl<F: Flash<S>, const S: usize> Device<F, S> {
             &self.relation,
             outbox,
         );
-        Note::Done
     }
 
     // A cyclic frame: its outputs are taken, or it changes nothing.

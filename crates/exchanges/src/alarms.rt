@@ -8,7 +8,7 @@ ghost use Rattle.exchanges.specs.Notices.{behind_message, header_of, raised_at};
 use crate::DataExchange;
 use arrayvec::ArrayVec;
 use module_diff::{module_ident, submodule_ident};
-use pn_alarms::{Alarm, Header, Heard, Message, Pdu, PduType, Taken, write_alarm_front, write_pdu};
+use pn_alarms::{Alarm, Header, Heard, Message, Pdu, PduType, Taken, alarm_front, write_pdu};
 use pn_values::Real;
 
 /// The endpoint of the device: the LocalAlarmReference that it answers in AlarmCRBlockRes.
@@ -61,17 +61,16 @@ impl DataExchange {
 
     /// What follows the FrameID of the alarm that stands, if one does: 40 octets, and behind them its data, at most 32.
     #[inline(always)]
-    pub fn alarm(&self) -> Option<(ArrayVec<u8, 40>, &[u8])>
+    pub fn alarm(&self) -> Option<([u8; 40], &[u8])>
         ensures stands { is_some result ≡ is_some (alarm_frame self.now) }
-        ensures exact { IfSome result (λ octets. octets.0.items ++ octets.1.now ≡ body_in (alarm_frame self.now)) }
-        ensures len { IfSome result (λ octets. array_vec_len octets.0 ≡ 40) }
+        ensures exact { IfSome result (λ octets. octets.0 ++ octets.1.now ≡ body_in (alarm_frame self.now)) }
+        ensures len { IfSome result (λ octets. length octets.0 ≡ 40) }
         ensures few { IfSome result (λ octets. length octets.1.now ≤ 32) }
     {
         let Some(alarm) = self.alarms.standing() else {
             return None;
         };
-        let mut front = ArrayVec::new();
-        write_alarm_front(&mut front, &self.header(PduType::Data), &alarm);
+        let front = alarm_front(&self.header(PduType::Data), &alarm);
         Some((front, alarm.alarm_data.octets()))
     }
 

@@ -55,6 +55,6 @@ impl Route {
     pub(crate) fn is_of_outputs(&self, source: Mac, frame_id: u16) -> bool
         ensures { result ≡ is_of_outputs self.now source frame_id }
     {
-        source == self.partner && frame_id == self.output_id
+        source.is(&self.partner) && frame_id == self.output_id
     }
 }

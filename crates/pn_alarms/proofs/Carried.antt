@@ -45,10 +45,9 @@ notification_is : (block : Block) (alarm : AlarmNotification) → in_alarm_notif
 notification_is (is.AlarmNotification value) alarm e = cc
 notification_is _ alarm e = absurd cc
 
--- the AlarmAck that is wanted is the block in front
-pub ack_in_front : (read : Result (Block × List ℕ) BlockFault) (ack : AlarmAck) → wanted in_alarm_ack read ≡ Ok ack → (rest : List ℕ) × (read ≡ Ok (is.AlarmAck ack, rest))
-ack_in_front (Ok x) ack e = (x.1, ap (λ (block : Block). Ok (block, x.1)) (ack_is x.0 ack (of_or_fault (in_alarm_ack x.0) ack e)))
-ack_in_front (Err reason) ack e = absurd cc
+pub ack_found : (P : Block → List ℕ → Type 0) (r : Read) (ack : AlarmAck) → IfOk r (λ x. P x.0 x.1.now) → wanted in_alarm_ack r ≡ Ok ack
+    → (rest : List ℕ) × P (is.AlarmAck ack) rest
+ack_found P r ack holds e = found_in in_alarm_ack P r ack (is.AlarmAck ack) (λ b. ack_is b ack) holds e
 
 pub notification_found : (P : Block → List ℕ → Type 0) (r : Read) (alarm : AlarmNotification) → IfOk r (λ x. P x.0 x.1.now) → wanted in_alarm_notification r ≡ Ok alarm
     → (rest : List ℕ) × P (is.AlarmNotification alarm) rest

@@ -105,25 +105,15 @@ fn notification_in<'a>(
 /// The AlarmAck in front of these octets, which do not begin like one.
 #[inline(never)]
 fn other_ack(body: &[u8]) -> Result<AlarmAck, AlarmFault>
-    ensures { result ≡ ack_of body.now }
+    ensures found { IfOk result (λ found. IsAck body.now found) }
+    ensures only { (meaning : Ack) → IsAck body.now meaning → result ≡ Ok meaning }
+    ensures exact { result ≡ ack_of body.now }
 {
     ack_in(read_block(body))
 }
 
-/// The AlarmAck in front, which is read by itself, since each alarm brings one.
-fn ack_at(body: &[u8]) -> Result<AlarmAck, AlarmFault>
-    ensures { result ≡ ack_of body.now }
-{
-    let Ok((0x8001, _)) = u16_at(body, BlockFault::Truncated) else {
-        return other_ack(body);
-    };
-    match read_alarm_ack(body) {
-        Ok((ack, _)) => Ok(ack),
-        Err(_) => Err(AlarmFault::Block),
-    }
-}
-
-/// Reads the AlarmAck that data carries at a device. What is behind the block is not looked at.
+/// Reads the AlarmAck that data carries at a device. What is behind the block is not looked at. It is read by itself, since each
+/// alarm brings one.
 pub fn read_ack(body: &[u8]) -> Result<AlarmAck, AlarmFault>
     // What is read is spelled so.
     ensures found { IfOk result (λ found. IsAck body.now found) }
@@ -132,7 +122,13 @@ pub fn read_ack(body: &[u8]) -> Result<AlarmAck, AlarmFault>
     // Which it is.
     ensures exact { result ≡ ack_of body.now }
 {
-    ack_at(body)
+    let Ok((0x8001, _)) = u16_at(body, BlockFault::Truncated) else {
+        return other_ack(body);
+    };
+    match read_alarm_ack(body) {
+        Ok((ack, _)) => Ok(ack),
+        Err(_) => Err(AlarmFault::Block),
+    }
 }
 
 /// Reads the AlarmNotification that data carries at a controller. What is behind the block is not looked at.

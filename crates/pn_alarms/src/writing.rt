@@ -9,24 +9,34 @@ ghost use Rattle.pn_alarms.specs.Format.{said, is_long, header, IsPdu, pdu_of, p
 
 use crate::{Header, Pdu};
 use arrayvec::ArrayVec;
-use block_codec::{AlarmNotification, write_notification_front};
-use wire::{append, append_u8, append_u16};
+use block_codec::{AlarmNotification, notification_front};
+use wire::{append, append_u16, join};
 
-/// Appends from AlarmDstEndpoint to AckSeqNum. There must be room.
+/// The octets from AlarmDstEndpoint to AckSeqNum.
 #[tactic(auto, unfolding(crate::specs::Format::header, crate::specs::Format::kind))]
 #[inline(always)]
-fn put_header<const N: usize>(out: &mut ArrayVec<u8, N>, value: &Header)
-    requires { array_vec_len out.old + 10 ≤ N }
-    ensures items { out.new.items ≡ out.old.items ++ header.write value.now [] }
-    ensures len { array_vec_len out.new ≡ array_vec_len out.old + 10 }
+fn header_octets(value: &Header) -> [u8; 10]
+    ensures items { result ≡ header.write value.now [] }
     ensures fits { header.Fits value.now }
 {
-    append_u16(out, value.destination);
-    append_u16(out, value.source);
-    append_u8(out, value.kind.octet());
-    append_u8(out, value.kind.flags());
-    append_u16(out, value.send_number);
-    append_u16(out, value.ack_number);
+    let destination = value.destination.to_be_bytes();
+    let source = value.source.to_be_bytes();
+    let kind = value.kind.octet();
+    let flags = value.kind.flags();
+    let send_number = value.send_number.to_be_bytes();
+    let ack_number = value.ack_number.to_be_bytes();
+    [
+        destination[0],
+        destination[1],
+        source[0],
+        source[1],
+        kind,
+        flags,
+        send_number[0],
+        send_number[1],
+        ack_number[0],
+        ack_number[1],
+    ]
 }
 
 /// Appends a PDU, which follows the FrameID of a frame. There must be room.
@@ -45,33 +55,26 @@ pub fn write_pdu<const N: usize>(out: &mut ArrayVec<u8, N>, pdu: &Pdu)
     // With anything behind it, it is read as that.
     ensures behind { (more : List ℕ) → pdu_of (pdu_bytes (said pdu.now) ++ more) ≡ Ok (said pdu.now) }
 {
-    put_header(out, &pdu.header);
+    append(out, &header_octets(&pdu.header));
     append_u16(out, pdu.body.len() as u16);
     append(out, pdu.body);
 }
 
-/// Appends data that carries an alarm, which follows the FrameID of a frame, up to the alarm's own data: 40 octets, behind which
-/// these are to be put. There must be room.
+/// Data that carries an alarm, which follows the FrameID of a frame, up to the alarm's own data, which are to follow.
 #[inline(always)]
-pub fn write_alarm_front<const N: usize>(
-    out: &mut ArrayVec<u8, N>,
-    header: &Header,
-    alarm: &AlarmNotification,
-)
-    requires room { array_vec_len out.old + 40 ≤ N }
+pub fn alarm_front(header: &Header, alarm: &AlarmNotification) -> [u8; 40]
     requires kind { header.now.kind ≡ Data }
     requires few { length alarm.now.alarm_data ≤ 32 }
     // With the alarm's data behind them they are all octets.
-    ensures exact { out.new.items ++ alarm.now.alarm_data ≡ out.old.items ++ pdu_bytes (alarm_pdu header.now alarm.now) }
-    ensures len { array_vec_len out.new ≡ array_vec_len out.old + 40 }
+    ensures exact { result ++ alarm.now.alarm_data ≡ pdu_bytes (alarm_pdu header.now alarm.now) }
+    ensures len { length result ≡ 40 }
     // With anything behind it, it is read as that, and what it carries as the alarm.
     ensures behind { (more : List ℕ) → pdu_of (pdu_bytes (alarm_pdu header.now alarm.now) ++ more) ≡ Ok (alarm_pdu header.now alarm.now) }
     ensures carried { notification_of (alarm_pdu header.now alarm.now).body ≡ Ok alarm.now }
 {
-    let size = alarm.alarm_data.octets().len() as u16;
-    put_header(out, header);
-    append_u16(out, 28 + size);
-    write_notification_front(out, alarm);
+    let size = (28 + alarm.alarm_data.octets().len() as u16).to_be_bytes();
+    let front: [u8; 12] = join(&header_octets(header), &size);
+    join(&front, &notification_front(alarm))
 }
 
 /// Appends data that carries an alarm, which follows the FrameID of a frame: at most 72 octets. There must be room.
@@ -89,6 +92,6 @@ pub fn write_alarm<const N: usize>(
     ensures behind { (more : List ℕ) → pdu_of (pdu_bytes (alarm_pdu header.now alarm.entry) ++ more) ≡ Ok (alarm_pdu header.now alarm.entry) }
     ensures carried { notification_of (alarm_pdu header.now alarm.entry).body ≡ Ok alarm.entry }
 {
-    write_alarm_front(out, header, &alarm);
+    append(out, &alarm_front(header, &alarm));
     append(out, alarm.alarm_data.octets());
 }

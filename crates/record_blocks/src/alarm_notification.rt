@@ -1,5 +1,5 @@
 //! An alarm.
-ghost use Rattle.std.specs.Prelude.{◌≡◌, ◌+◌, ◌≤◌, ◌++◌, List, ℕ, length, IfOk};
+ghost use Rattle.std.specs.Prelude.{◌≡◌, ◌+◌, ◌≤◌, ◌++◌, [], List, ℕ, length, IfOk};
 ghost use Rattle.arrayvec.specs.ArrayVec.{array_vec_len};
 ghost use Rattle.wire.specs.Codec.{Gives};
 ghost use Rattle.block_fields.specs.Fields.{open_body};
@@ -8,7 +8,8 @@ ghost use Rattle.record_blocks.specs.AlarmNotification.{alarm_notification, alar
 use crate::AlarmData;
 use crate::alarm_data::{alarm_data_len, put_alarm_data};
 use arrayvec::ArrayVec;
-use block_fields::{BlockFault, len_fields, put_fields, read_fields, version_at};
+use block_fields::{BlockFault, len_fields, read_fields, version_at};
+use wire::{append, join};
 
 /// 0x0001: AlarmNotification (IEC 61158-6-10, 5.2.5): what happened in a submodule. UserStructureIdentifier is 1.
 #[derive(Drop)]
@@ -109,18 +110,67 @@ pub fn alarm_notification_at(bytes: &[u8]) -> Result<AlarmNotification<'_>, Bloc
     })
 }
 
-/// Appends the fields of an AlarmNotification that are in front of its data, 22 octets. There must be room.
-#[tactic(auto, unfolding(crate::specs::AlarmNotification::alarm_notification, crate::specs::AlarmNotification::alarm_place, crate::specs::AlarmNotification::alarm_subject))]
+/// The octets from AlarmType to SubslotNumber.
+#[tactic(auto, unfolding(block_fields::specs::Fields::number_bytes, crate::specs::AlarmNotification::alarm_place))]
 #[inline(always)]
-pub fn put_alarm_front<const N: usize>(out: &mut ArrayVec<u8, N>, value: &AlarmNotification)
-    requires { array_vec_len out.old + 22 ≤ N }
+fn place_octets(place: &AlarmPlace) -> [u8; 10]
+    ensures items { result ≡ alarm_place.write place.now [] }
+    ensures fits { alarm_place.Fits place.now }
+{
+    let kind = place.alarm_type.to_be_bytes();
+    let api = place.api.to_be_bytes();
+    let slot = place.slot_number.to_be_bytes();
+    let subslot = place.subslot_number.to_be_bytes();
+    [
+        kind[0], kind[1], api[0], api[1], api[2], api[3], slot[0], slot[1], subslot[0], subslot[1],
+    ]
+}
+
+/// The octets from ModuleIdentNumber to UserStructureIdentifier.
+#[tactic(auto, unfolding(block_fields::specs::Fields::number_bytes, crate::specs::AlarmNotification::alarm_subject))]
+#[inline(always)]
+fn subject_octets(subject: &AlarmSubject) -> [u8; 12]
+    ensures items { result ≡ alarm_subject.write subject.now [] }
+    ensures fits { alarm_subject.Fits subject.now }
+{
+    let module = subject.module_ident_number.to_be_bytes();
+    let submodule = subject.submodule_ident_number.to_be_bytes();
+    let specifier = subject.alarm_specifier.to_be_bytes();
+    [
+        module[0],
+        module[1],
+        module[2],
+        module[3],
+        submodule[0],
+        submodule[1],
+        submodule[2],
+        submodule[3],
+        specifier[0],
+        specifier[1],
+        0,
+        1,
+    ]
+}
+
+/// The octets of the fields of an AlarmNotification that are in front of its data.
+#[inline(always)]
+pub fn alarm_front(value: &AlarmNotification) -> [u8; 22]
     // With the data behind them they are all fields.
-    ensures items { out.new.items ++ value.now.alarm_data ≡ out.old.items ++ alarm_notification.write value.now }
-    ensures len { array_vec_len out.new ≡ array_vec_len out.old + 22 }
+    ensures items { result ++ value.now.alarm_data ≡ alarm_notification.write value.now }
     ensures fits { alarm_notification.Fits value.now }
 {
-    alarm_place_fields!(put_fields [out, value]);
-    alarm_subject_fields!(put_fields [out, value]);
+    let place = AlarmPlace {
+        alarm_type: value.alarm_type,
+        api: value.api,
+        slot_number: value.slot_number,
+        subslot_number: value.subslot_number,
+    };
+    let subject = AlarmSubject {
+        module_ident_number: value.module_ident_number,
+        submodule_ident_number: value.submodule_ident_number,
+        alarm_specifier: value.alarm_specifier,
+    };
+    join(&place_octets(&place), &subject_octets(&subject))
 }
 
 /// Appends the fields of an AlarmNotification. There must be room.
@@ -131,7 +181,7 @@ pub fn put_alarm_notification<const N: usize>(out: &mut ArrayVec<u8, N>, value: 
     ensures len { array_vec_len out.new ≡ array_vec_len out.old + alarm_notification.size value.now }
     ensures fits { alarm_notification.Fits value.now }
 {
-    put_alarm_front(out, value);
+    append(out, &alarm_front(value));
     put_alarm_data(out, &value.alarm_data);
 }
 

@@ -17,7 +17,7 @@ mod write_record;
 pub use alarm_ack::{AlarmAck, alarm_ack_at, alarm_ack_len, put_alarm_ack};
 pub use alarm_data::AlarmData;
 pub use alarm_notification::{
-    AlarmNotification, alarm_notification_at, alarm_notification_len, put_alarm_front,
+    AlarmNotification, alarm_front, alarm_notification_at, alarm_notification_len,
     put_alarm_notification,
 };
 pub use filter_data::{

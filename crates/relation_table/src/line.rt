@@ -22,7 +22,7 @@ pub(crate) fn put_line(
         "call" => return put_call(alloc, device, rest, text),
         "answer" => return put_answer(alloc, device, rest, text),
         "tick" => put_ticks(device, number(rest)?, text)?,
-        "end" => put_reason(device.relation.end(), text)?,
+        "end" => put_reason(device.relation.end(Abort::Other), text)?,
         "phase" => text.push_str(phase_word(device.relation.phase()))?,
         "abort" => {
             device.relation.hear_abort();

@@ -1,12 +1,14 @@
 -- What a unit of time, 31.25 microseconds, does to a relation.
-use Rattle.std.specs.Prelude.{◌≡◌, ◌⊎◌, ◌==◌, ◌+◌, ◌*◌, ◌&&◌, ℕ, Bool, true, false, nat_le, Option, Some, None, if◌then◌else◌}
+use Rattle.std.specs.Prelude.{◌≡◌, ◌⊎◌, ◌==◌, ◌+◌, ◌*◌, ◌&&◌, ℕ, Bool, true, false, nat_le, Option, Some, None, option_map, if◌then◌else◌}
 use Rattle.relations.specs.declared.phase.Phase.{Phase}
 use Rattle.relations.specs.declared.phase.Phase.TheVariants.{Started, Awaiting, Exchanging}
 use Rattle.exchanges.specs.Units.{flow_later, tick_of}
 use Rattle.pn_alarms.specs.declared.abort.Abort.{Abort}
 use Rattle.pn_alarms.specs.declared.abort.Abort.TheVariants.{Activity, DataHold, Other}
 use Rattle.cyclic_data.specs.Timing.{held_on}
+use Rattle.relations.specs.declared.farewell.Farewell.{Farewell}
 use Rattle.relations.specs.declared.time.Due.{Due}
+use Rattle.relations.specs.declared.time.Elapsed.{Elapsed}
 use Rattle.relations.specs.Link.{Link, is_awaiting}
 use Rattle.relations.specs.Farewells.{farewell_of}
 
@@ -68,3 +70,17 @@ nothing = record { farewell = None; is_alarm = false; is_ready = false; is_cycli
 abbrev pub due_of : Option Link → Due
 due_of None = nothing
 due_of (Some link) = due_in link
+
+-- the ERR of a relation that is to end for this reason, if it is
+abbrev pub farewell_for : Option Abort → Option Link → Option Farewell
+farewell_for (Some reason) link = option_map (farewell_of reason) link
+farewell_for None link = None
+
+-- what is due behind a unit that brought this, of the relation that stands then
+abbrev pub due_behind : Elapsed → Option Link → Due
+due_behind elapsed link = record { farewell = farewell_for elapsed.ending link; is_alarm = elapsed.is_alarm; is_ready = elapsed.is_ready; is_cyclic = elapsed.is_cyclic }
+
+-- the relation once it has ended for this reason, if it is to end
+abbrev pub left_behind : Option Abort → Option Link → Option Link
+left_behind (Some reason) link = None
+left_behind None link = link

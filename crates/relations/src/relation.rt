@@ -1,6 +1,5 @@
 //! The relation.
 ghost use Rattle.std.specs.Prelude.{◌≡◌, ◌≤◌, Err, IfErr, IsOk, None, OnOk, length, option_map};
-ghost use Rattle.pn_alarms.specs.declared.abort.Abort.TheVariants.{Other};
 ghost use Rattle.relations.specs.Phases.{Ended, Named, keeping, moved, naming, taking};
 ghost use Rattle.relations.specs.Farewells.{farewell_of};
 ghost use Rattle.relations.specs.Link.{IsInStep, differing_in, is_alarm_of, is_named, phase_of, taken_of, uuid_of};
@@ -145,7 +144,7 @@ impl Relation {
         ensures { result ≡ is_alarm_of source destination endpoint self.now }
     {
         self.phase.is_some()
-            && source == self.request.ar().initiator
+            && source.is(&self.request.ar().initiator)
             && destination == OWN_REFERENCE
             && endpoint == self.request.alarm().reference
     }
@@ -166,15 +165,15 @@ impl Relation {
         self.quiet = 0;
     }
 
-    /// The device ends the relation, as at a reset. Answers the ERR that is sent, if there was one.
-    pub fn end(&mut self) -> Option<Farewell>
-        ensures farewell { result ≡ option_map (farewell_of Other) self.old }
+    /// The device ends the relation for this reason, as at a reset. Answers the ERR that is sent, if there was one.
+    pub fn end(&mut self, reason: Abort) -> Option<Farewell>
+        ensures farewell { result ≡ option_map (farewell_of reason) self.old }
         ensures state { self.new ≡ moved Ended self.old }
     {
         let farewell = match self.phase {
             Some(_) => {
                 let header = self.exchange.header(PduType::Error);
-                Some(Farewell::of(&self.request, &header, Abort::Other))
+                Some(Farewell::of(&self.request, &header, reason))
             }
             None => None,
         };
@@ -186,6 +185,6 @@ impl Relation {
     pub fn hear_abort(&mut self)
         ensures { self.new ≡ moved Ended self.old }
     {
-        let _unsent = self.end();
+        let _unsent = self.end(Abort::Other);
     }
 }

@@ -1,15 +1,15 @@
 //! The units of time.
-ghost use Rattle.std.specs.Prelude.{◌≡◌, ◌≢◌, ◌==◌, ◌+◌, ◌<◌, ◌⊎◌, IfSome, None, Some, false, nat_le, true, if◌then◌else◌};
+ghost use Rattle.std.specs.Prelude.{◌≡◌, ◌==◌, ◌+◌, ◌<◌, ◌⊎◌, IfSome, None, Option, Some, false, nat_le, true, if◌then◌else◌};
 ghost use Rattle.pn_alarms.specs.declared.abort.Abort.TheVariants.{Activity, DataHold};
 ghost use Rattle.relations.specs.declared.phase.Phase.TheVariants.{Exchanging};
 ghost use Rattle.relations.specs.Farewells.{farewell_of};
 ghost use Rattle.relations.specs.Link.{Link, is_awaiting, phase_of};
-ghost use Rattle.relations.specs.Timers.{EndsIn, due_of, is_timed, is_unheard, nothing};
+ghost use Rattle.relations.specs.Timers.{EndsIn, due_behind, due_of, farewell_for, is_timed, is_unheard, left_behind, nothing};
 ghost use Rattle.relations.specs.Phases.{moved, passing};
 ghost use Rattle.relations.specs.Ready.{ready_of};
 
 use crate::{Farewell, Phase, Relation};
-use pn_alarms::{Abort, PduType};
+use pn_alarms::Abort;
 
 /// 100 ms, in units of 31.25 microseconds: what CMInitiatorActivityTimeoutFactor counts.
 const TENTH_OF_A_SECOND: u32 = 3_200;
@@ -30,21 +30,36 @@ pub struct Due {
     pub is_cyclic: bool,
 }
 
-impl Due {
+/// What a unit of time brings, before it is sent: few bits, so that most units, which bring nothing, cost little.
+#[derive(Clone, Copy, Debug, PartialEq, Eq)]
+pub struct Elapsed {
+    /// A timeout is over: why the relation is to end, and nothing else is sent.
+    pub ending: Option<Abort>,
+    /// The alarm that stands is sent again.
+    pub is_alarm: bool,
+    /// ApplicationReady is sent again.
+    pub is_ready: bool,
+    /// A frame of inputs is sent.
+    pub is_cyclic: bool,
+}
+
+impl Elapsed {
     /// Whether nothing is to be sent.
+    #[inline(always)]
     pub fn is_nothing(&self) -> bool
-        ensures nothing { result ≡ true → self.now ≡ nothing }
-        ensures something { result ≡ false → self.now ≢ nothing }
+        ensures nothing { (link : Option Link) → result ≡ true → due_behind self.now link ≡ nothing }
+        ensures left { (link : Option Link) → result ≡ true → left_behind self.now.ending link ≡ link }
     {
-        self.farewell.is_none() && !self.is_alarm && !self.is_ready && !self.is_cyclic
+        self.ending.is_none() && !self.is_alarm && !self.is_ready && !self.is_cyclic
     }
 
-    /// A timeout has ended the relation, or there is none.
-    fn ended(farewell: Option<Farewell>) -> Due
-        ensures { result ≡ record { farewell = farewell; is_alarm = false; is_ready = false; is_cyclic = false } }
+    /// There is no relation, or a timeout is over.
+    #[inline(always)]
+    fn ending(ending: Option<Abort>) -> Elapsed
+        ensures { result ≡ record { ending = ending; is_alarm = false; is_ready = false; is_cyclic = false } }
     {
-        Due {
-            farewell,
+        Elapsed {
+            ending,
             is_alarm: false,
             is_ready: false,
             is_cyclic: false,
@@ -88,8 +103,30 @@ impl Relation {
         // ApplicationReady is sent again as it was.
         ensures same { (old new : Link) → self.old ≡ Some old → self.new ≡ Some new → ready_of new ≡ ready_of old }
     {
+        let elapsed = self.elapse();
+        let farewell = match elapsed.ending {
+            Some(reason) => self.end(reason),
+            None => None,
+        };
+        Due {
+            farewell,
+            is_alarm: elapsed.is_alarm,
+            is_ready: elapsed.is_ready,
+            is_cyclic: elapsed.is_cyclic,
+        }
+    }
+
+    /// A unit of 31.25 microseconds passes, as `tick` says, but a relation that a timeout ends still stands: who calls it has it end
+    /// for this reason.
+    #[inline(always)]
+    pub fn elapse(&mut self) -> Elapsed
+        ensures due { due_of self.old ≡ due_behind result self.new }
+        ensures state { moved (passing self.old) self.old ≡ left_behind result.ending self.new }
+        // Once data is exchanged data hold always ends it where it is over.
+        ensures hold { (old : Link) → self.old ≡ Some old → old.phase ≡ Exchanging → is_unheard old ≡ true → farewell_for result.ending self.new ≡ Some (farewell_of DataHold old) }
+    {
         let Some(phase) = self.phase else {
-            return Due::ended(None);
+            return Elapsed::ending(None);
         };
         let tick = self.exchange.tick();
         let ending = if is_timed(phase) {
@@ -98,13 +135,11 @@ impl Relation {
         } else {
             tick.ending
         };
-        if let Some(reason) = ending {
-            self.phase = None;
-            let header = self.exchange.header(PduType::Error);
-            return Due::ended(Some(Farewell::of(&self.request, &header, reason)));
+        if ending.is_some() {
+            return Elapsed::ending(ending);
         }
-        Due {
-            farewell: None,
+        Elapsed {
+            ending: None,
             is_alarm: tick.is_alarm,
             is_ready: is_awaiting(phase) && unit_waited(&mut self.waited),
             is_cyclic: tick.is_cyclic,

@@ -68,6 +68,10 @@ number_sound short size = record {
   sized = λ value rest. omega (arith, length-bytes_high_first size value, length-append (big_bytes size value) rest);
 }
 
+-- the number that is read is the one in front
+pub number_in_front : {F : Type 0} (short : F) (size : ℕ) (bytes : List ℕ) (value : ℕ) (rest : List ℕ) → (number short size).read bytes ≡ Ok (value, rest) → value ≡ big_number size bytes
+number_in_front short size bytes value rest e = let cut = cut_of short size bytes rest (big_number size bytes) value e in sym cut.1
+
 pub padding_sound : {F : Type 0} (size : ℕ) → IsSound (padding {F = F} size)
 padding_sound {F = F} size = record {
   takes = λ bytes value rest e. sym (ap (λ p. p.1) (ok_is {F = F} (tt {0}, drop size bytes) (value, rest) e));

@@ -103,11 +103,12 @@
 //!
 //! A writer appends field by field (`append`, `append_u16` and so on) and ensures `out.new.items ≡ out.old.items ++
 //! codec.write value []`, and `codec.Fits value`, which the appenders' clauses give. `local` of `IsSound` joins what two
-//! writers appended, and `written` says that it is spelled.
+//! writers appended, and `written` says that it is spelled. What is sent often is made of arrays instead, by `join`: their sizes
+//! are known, so that no room is asked for and nothing is counted.
 #![tactic(auto)]
 
 mod reading;
 mod writing;
 
 pub use reading::{front, octets_at, skip, split, u8_at, u16_at, u32_at};
-pub use writing::{append, append_u8, append_u16, append_u32};
+pub use writing::{append, append_u8, append_u16, append_u32, join};

@@ -52,3 +52,19 @@ pub fn append_u32<const N: usize>(out: &mut ArrayVec<u8, N>, number: u32)
     BigEndian::write_u32(&mut octets, number);
     append(out, &octets);
 }
+
+/// Octets, and behind them others, where each is of a known size: nothing is left to count.
+#[inline(always)]
+pub fn join<const A: usize, const B: usize, const N: usize>(
+    front: &[u8; A],
+    behind: &[u8; B],
+) -> [u8; N]
+    requires { A + B ≡ N }
+    ensures { result ≡ front.now ++ behind.now }
+{
+    let mut whole = [0; N];
+    let (first, rest) = whole.split_at_mut(A);
+    first.copy_from_slice(front);
+    rest.copy_from_slice(behind);
+    whole
+}

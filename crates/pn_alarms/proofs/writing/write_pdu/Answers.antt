@@ -6,13 +6,13 @@ use Rattle.pn_alarms.proofs.writing.write_pdu.Goals as goal
 pub returns-clause-exact : goal.returns-clause-exact
 returns-clause-exact g c =
     let meaning = said c.args.pdu.now in
-    joined _ _ _ _ _ _ _ c.put_header.ensures.items c.append_u16.ensures.items c.append.ensures.items
+    joined _ _ _ _ _ _ _ (c.append.ensures.items ∙ ap (λ (xs : List ℕ). c.args.out.now.items ++ xs) c.header_octets.ensures.items) c.append_u16.ensures.items c.append-2.ensures.items
     ∙ ap (λ (xs : List ℕ). c.args.out.now.items ++ xs) (sym (pdu_parts meaning))
 
 pub returns-clause-spelled : goal.returns-clause-spelled
-returns-clause-spelled g c = pdu_spelled (said c.args.pdu.now) c.requires.long c.put_header.ensures.fits c.requires.few
+returns-clause-spelled g c = pdu_spelled (said c.args.pdu.now) c.requires.long c.header_octets.ensures.fits c.requires.few
 
 pub returns-clause-behind : goal.returns-clause-behind
 returns-clause-behind g c = λ more.
     let meaning = said c.args.pdu.now in
-    pdu_again _ meaning (pdu_behind (pdu_bytes meaning) more meaning (pdu_spelled meaning c.requires.long c.put_header.ensures.fits c.requires.few))
+    pdu_again _ meaning (pdu_behind (pdu_bytes meaning) more meaning (pdu_spelled meaning c.requires.long c.header_octets.ensures.fits c.requires.few))

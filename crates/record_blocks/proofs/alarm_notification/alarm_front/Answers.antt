@@ -1,0 +1,13 @@
+-- The two parts, with the data behind them, are what is written.
+use Rattle.std.proofs.Common.{◌≡◌, refl}
+use Rattle.block_fields.specs.Fields.{number_bytes}
+use Rattle.record_blocks.specs.AlarmNotification.{alarm_notification, alarm_place, alarm_subject}
+use Rattle.record_blocks.proofs.alarm_notification.alarm_front.Goals as goal
+
+pub returns-clause-items : goal.returns-clause-items
+unfolding alarm_notification alarm_place alarm_subject number_bytes
+returns-clause-items c = rw c.join.ensures (rw c.place_octets.ensures.items (rw c.subject_octets.ensures.items refl))
+
+pub returns-clause-fits : goal.returns-clause-fits
+unfolding alarm_notification
+returns-clause-fits c = ((c.place_octets.ensures.fits, c.subject_octets.ensures.fits), tt)
