@@ -14,7 +14,7 @@ use pn_values::Identity;
 use relations::{Due, Farewell, Relation};
 
 /// Puts the inputs of the relation at this CycleCounter into the box, behind what is in it: if they are due, and there is one.
-fn send_inputs(
+pub(crate) fn send_inputs(
     identity: &Identity,
     counter: u16,
     is_due: bool,

@@ -7,17 +7,17 @@ ghost use Rattle.frame_codec.specs.Meaning.{ArpPacket, RealTime, UdpDatagram, co
 ghost use Rattle.pn_alarms.specs.Message.{message_of};
 ghost use Rattle.device_core.specs.declared.event.Event.TheVariants.{Frame};
 ghost use Rattle.relations.specs.Farewells.{farewell_of};
-ghost use Rattle.relations.specs.Link.{Link};
+ghost use Rattle.relations.specs.Link.{Link, flow_of};
 ghost use Rattle.device_core.specs.State.{Live, Station, with_rest};
 ghost use Rattle.device_core.specs.Sent.{bytes_of};
-ghost use Rattle.device_core.specs.Judged.{due_frames, farewells_in, judged_alarm, judged_message, judged_cyclic, judged_given, judged_raised, judged_received, ticked};
+ghost use Rattle.device_core.specs.Judged.{due_frames, farewells_in, inputs_of, judged_alarm, judged_message, judged_cyclic, judged_given, judged_raised, judged_received, ticked};
 ghost use Rattle.device_core.specs.Machine.{end_of};
 ghost use Rattle.rpc_core.specs.Call.{Asked as Called};
 ghost use Rattle.rpc_core.specs.Cache.{looked, again};
 ghost use Rattle.device_core.specs.Faults.{StepGoesOn};
 ghost use Rattle.device_core.specs.Steps.{Steps, Identifies, IsServed, IsAgain, IsExactStep};
 
-use crate::exchange::{send_alarm, send_due, send_reply};
+use crate::exchange::{send_alarm, send_due, send_inputs, send_reply};
 use crate::hearing::{Caller, Kind, is_asked, is_called, kind_of, read_layers, real_time_in};
 use crate::relation::send_farewell;
 use crate::{Device, Event, Note};
@@ -250,9 +250,33 @@ impl<F: Flash<S>, const S: usize> Device<F, S> {
         }
     }
 
-    // What is due with a unit of time is sent.
-    #[inline(never)]
+    // What is due with a unit of time is sent: mostly inputs alone, which have a way of their own.
+    #[inline(always)]
     fn send_due(&self, is_alarm: bool, is_ready: bool, is_cyclic: bool, outbox: &mut Outbox)
+        requires { outbox.old.items ≡ [] }
+        ensures { map (λ frame. frame.items) outbox.new.items
+            ≡ map (bytes_of self.now.station.identity) (due_frames self.now.live.values.running.suite.address self.now.live.rest.units
+            (record { farewell = None; is_alarm = is_alarm; is_ready = is_ready; is_cyclic = is_cyclic }) self.now.live.rest.link) }
+    {
+        match (is_alarm, is_ready, is_cyclic) {
+            (false, false, true) => self.send_inputs(outbox),
+            _ => self.send_each(is_alarm, is_ready, is_cyclic, outbox),
+        }
+    }
+
+    // Inputs are due, and nothing else.
+    #[inline(never)]
+    fn send_inputs(&self, outbox: &mut Outbox)
+        requires { outbox.old.items ≡ [] }
+        ensures { map (λ frame. frame.items) outbox.new.items
+            ≡ map (bytes_of self.now.station.identity) (inputs_of self.now.live.rest.units (flow_of self.now.live.rest.link)) }
+    {
+        send_inputs(&self.identity, self.units, true, &self.relation, outbox);
+    }
+
+    // An alarm, ApplicationReady and inputs, as far as each is due.
+    #[inline(never)]
+    fn send_each(&self, is_alarm: bool, is_ready: bool, is_cyclic: bool, outbox: &mut Outbox)
         requires { outbox.old.items ≡ [] }
         ensures { map (λ frame. frame.items) outbox.new.items
             ≡ map (bytes_of self.now.station.identity) (due_frames self.now.live.values.running.suite.address self.now.live.rest.units
