@@ -7,8 +7,8 @@ ghost use Rattle.device_core.specs.declared.event.Event.TheVariants.{Frame};
 ghost use Rattle.frame_codec.specs.Meaning.{RealTime, meaning_of};
 
 use frame_codec::{
-    Bytes, DCP_GET_SET, DCP_IDENTIFY_REQUEST, Endpoint, Layered, RPC_PORT, RealTimeFrame, read,
-    read_real_time,
+    ALARM_HIGH, ALARM_LOW, Bytes, DCP_GET_SET, DCP_IDENTIFY_REQUEST, Endpoint, Layered, RPC_PORT,
+    RealTimeFrame, read, read_real_time,
 };
 use pn_values::{Identity, Mac};
 
@@ -19,11 +19,6 @@ const IDENTIFY_MULTICAST: Mac = Mac {
 
 /// The address of all stations (IEEE 802, 8.2.2).
 const BROADCAST: Mac = Mac { octets: [0xFF; 6] };
-
-/// FrameID of alarms of high priority, and of low (IEC 61158-6-10, 4.7).
-const ALARM_HIGH: u16 = 0xFC01;
-
-const ALARM_LOW: u16 = 0xFE01;
 
 /// Who sent a datagram.
 #[derive(Clone, Copy)]
