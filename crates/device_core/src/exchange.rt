@@ -3,15 +3,15 @@ ghost use Rattle.std.specs.Prelude.{◌≡◌, ◌<◌, ◌≤◌, ◌+◌, ◌+
 ghost use Rattle.arrayvec.specs.ArrayVec.{array_vec_len};
 ghost use Rattle.frame_codec.specs.Meaning.{RealTime};
 ghost use Rattle.device_core.specs.Sent.{bytes_of, tagged_frame};
-ghost use Rattle.device_core.specs.Judged.{alarms_of, due_frames, farewells_in, inputs_of, ready_calls, replies_of, where_due};
+ghost use Rattle.device_core.specs.Judged.{alarms_of, inputs_of, ready_calls, replies_of, where_due};
 ghost use Rattle.relations.specs.Link.{flow_of};
 
-use crate::relation::{send_farewell, send_ready};
+use crate::relation::send_ready;
 use arrayvec::ArrayVec;
 use frame_codec::{Outbox, Pieces};
 use pn_alarms::{PduType, Taken};
 use pn_values::Identity;
-use relations::{Due, Farewell, Relation};
+use relations::Relation;
 
 /// Puts the inputs of the relation at this CycleCounter into the box, behind what is in it: if they are due, and there is one.
 pub(crate) fn send_inputs(
@@ -72,7 +72,12 @@ pub(crate) fn send_alarm(identity: &Identity, relation: &Relation, outbox: &mut 
 
 /// Puts the alarm that stands in the relation into the box, behind what is in it: if it is due, and there is one.
 #[inline(never)]
-fn send_alarm_again(identity: &Identity, is_due: bool, relation: &Relation, outbox: &mut Outbox)
+pub(crate) fn send_alarm_again(
+    identity: &Identity,
+    is_due: bool,
+    relation: &Relation,
+    outbox: &mut Outbox,
+)
     requires room { array_vec_len outbox.old < 4 }
     ensures frames { map (λ frame. frame.items) outbox.new.items
         ≡ map (λ frame. frame.items) outbox.old.items ++ map (bytes_of identity.now) (where_due is_due (alarms_of (flow_of relation.now))) }
@@ -110,21 +115,8 @@ pub(crate) fn send_reply(
     });
 }
 
-/// Puts the ERR of a relation that a timeout ended into the box, behind what is in it, if one did.
-fn send_farewells(identity: &Identity, farewell: Option<Farewell>, outbox: &mut Outbox)
-    requires room { array_vec_len outbox.old < 4 }
-    ensures frames { map (λ frame. frame.items) outbox.new.items
-        ≡ map (λ frame. frame.items) outbox.old.items ++ map (bytes_of identity.now) (farewells_in farewell) }
-    ensures few { array_vec_len outbox.new ≤ array_vec_len outbox.old + 1 }
-{
-    match farewell {
-        Some(farewell) => send_farewell(identity, &farewell, outbox),
-        None => {}
-    }
-}
-
 /// Puts ApplicationReady into the box, behind what is in it: if it is due, and there is a relation.
-fn send_ready_again(
+pub(crate) fn send_ready_again(
     identity: &Identity,
     address: [u8; 4],
     is_due: bool,
@@ -139,24 +131,4 @@ fn send_ready_again(
     if is_due {
         send_ready(identity, address, relation, outbox);
     }
-}
-
-/// Puts what is due at this CycleCounter into the empty box: the ERR of a relation that a timeout ended; or the alarm that stands again,
-/// ApplicationReady again, and inputs.
-#[inline(always)]
-pub(crate) fn send_due(
-    identity: &Identity,
-    address: [u8; 4],
-    counter: u16,
-    due: &Due,
-    relation: &Relation,
-    outbox: &mut Outbox,
-)
-    requires { outbox.old.items ≡ [] }
-    ensures { map (λ frame. frame.items) outbox.new.items ≡ map (bytes_of identity.now) (due_frames address counter due.now relation.now) }
-{
-    send_farewells(identity, due.farewell, outbox);
-    send_alarm_again(identity, due.is_alarm, relation, outbox);
-    send_ready_again(identity, address, due.is_ready, relation, outbox);
-    send_inputs(identity, counter, due.is_cyclic, relation, outbox);
 }

@@ -17,7 +17,7 @@ ghost use Rattle.rpc_core.specs.Cache.{looked, again};
 ghost use Rattle.device_core.specs.Faults.{StepGoesOn};
 ghost use Rattle.device_core.specs.Steps.{Steps, Identifies, IsServed, IsAgain, IsExactStep};
 
-use crate::exchange::{send_alarm, send_due, send_inputs, send_reply};
+use crate::exchange::{send_alarm, send_alarm_again, send_inputs, send_ready_again, send_reply};
 use crate::hearing::{Caller, Kind, is_asked, is_called, kind_of, read_layers, real_time_in};
 use crate::relation::send_farewell;
 use crate::{Device, Event, Note};
@@ -26,7 +26,7 @@ use flash_model::Flash;
 use frame_codec::{Arp, Bytes, Layered, Outbox, Payload, Udp};
 use pn_alarms::{Abort, Header, Heard as Fate, Message, read_message};
 use pn_values::Mac;
-use relations::{Due, Received};
+use relations::Received;
 
 impl<F: Flash<S>, const S: usize> Device<F, S> {
     /// Takes an event, and puts the frames to be sent into the box, which holds nothing else then.
@@ -283,17 +283,12 @@ impl<F: Flash<S>, const S: usize> Device<F, S> {
             (record { farewell = None; is_alarm = is_alarm; is_ready = is_ready; is_cyclic = is_cyclic }) self.now.live.rest.link) }
     {
         let address = self.store.running().suite.address();
-        let due = Due {
-            farewell: None,
-            is_alarm,
-            is_ready,
-            is_cyclic,
-        };
-        send_due(
+        send_alarm_again(&self.identity, is_alarm, &self.relation, outbox);
+        send_ready_again(&self.identity, address, is_ready, &self.relation, outbox);
+        send_inputs(
             &self.identity,
-            address,
             self.units,
-            &due,
+            is_cyclic,
             &self.relation,
             outbox,
         );
