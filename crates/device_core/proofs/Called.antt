@@ -34,11 +34,11 @@ use Rattle.relations.specs.Phases.{keeping, moved}
 use Rattle.relations.specs.Calls.{prm_end_answer, release_answer}
 use Rattle.relations.specs.Connect.{connect_answer}
 use Rattle.relations.specs.Ready.{answer_of as ready_answer}
-use Rattle.device_core.specs.declared.event.Event.{Event}
-use Rattle.device_core.specs.declared.hearing.Caller.{Caller}
+use Rattle.device_frames.specs.declared.event.Event.{Event}
+use Rattle.device_frames.specs.declared.hearing.Caller.{Caller}
 use Rattle.device_core.specs.State.{Station, Live}
-use Rattle.device_core.specs.Sent.{Sent}
-use Rattle.device_core.specs.Heard.{Heard, Ticks, Unreadable, Elsewhere, Asks, Resolves, Told, Cyclic, Alarms, Given, Raised, Said, Calls, Responds, Garbled, heard_of}
+use Rattle.device_frames.specs.Sent.{Sent}
+use Rattle.device_frames.specs.Heard.{Heard, Ticks, Unreadable, Elsewhere, Asks, Resolves, Told, Cyclic, Alarms, Given, Raised, Said, Calls, Responds, Garbled, heard_of}
 use Rattle.device_core.specs.Judged.{Judged, is_running, is_request, answer_from, kept_for, kept_answer, judged_request, judged_effect, judged_write, judged_new, judged_looked, judged_blocks, judged_call, judged_answer, judged_said, judged_pdu, judged_received, judged_input, judged_notice, judged}
 use Rattle.device_core.specs.Machine.{items_in, first_answer, written_as, finished, heard_step, judged_step, step_of, first_step, later_steps, run_of}
 use Rattle.device_core.specs.Steps.{IsBehindCalls}

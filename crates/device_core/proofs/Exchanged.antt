@@ -10,9 +10,10 @@ use Rattle.exchanges.specs.Received.{behind_frame, received_as}
 use Rattle.relations.specs.Link.{Link, flow_of}
 use Rattle.relations.specs.Phases.{moved}
 use Rattle.relations.specs.Exchanged.{becoming, heard_by, hearing, received_by, receiving, receiving_as}
-use Rattle.device_core.specs.declared.event.Note.TheVariants.{Done, Refused}
+use Rattle.device_core.specs.declared.note.Note.TheVariants.{Done, Refused}
 use Rattle.device_core.specs.State.{Station, Live}
-use Rattle.device_core.specs.Judged.{alarms_of, judged_cyclic, judged_notice, judged_received}
+use Rattle.device_core.specs.Judged.{judged_cyclic, judged_notice, judged_received}
+use Rattle.device_frames.specs.Relation.{alarms_of}
 use Rattle.device_core.specs.Machine.{Finished, end_of}
 
 -- a cyclic frame that is not taken changes nothing

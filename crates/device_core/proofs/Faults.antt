@@ -11,11 +11,11 @@ use Rattle.pn_values.specs.declared.set_item.BlockError.TheVariants.{Done}
 use Rattle.settings_store.specs.State.{Values}
 use Rattle.settings_store.specs.Machine.{Outcome, rest_of, carried}
 use Rattle.settings_store.specs.Faults.{answer_after_fault, GoesOn}
-use Rattle.device_core.specs.declared.event.Event.{Event}
-use Rattle.device_core.specs.declared.event.Note.{Note}
+use Rattle.device_frames.specs.declared.event.Event.{Event}
+use Rattle.device_core.specs.declared.note.Note.{Note}
 use Rattle.device_core.specs.State.{Station, State, Live}
-use Rattle.device_core.specs.Sent.{bytes_of}
-use Rattle.device_core.specs.Heard.{Heard, heard_of}
+use Rattle.device_frames.specs.Sent.{bytes_of}
+use Rattle.device_frames.specs.Heard.{Heard, heard_of}
 use Rattle.device_core.specs.Judged.{Judged, judged}
 use Rattle.device_core.specs.Machine.{items_in, items_of, finished, judged_step, heard_step}
 use Rattle.device_core.specs.Faults.{asks_nothing, IsAsIn, StepGoesOn, EachGoesOn, RunGoesOn}

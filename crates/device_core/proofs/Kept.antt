@@ -4,7 +4,7 @@ use Rattle.arrayvec.specs.ArrayVec.{ArrayVec as Items}
 use Rattle.rpc_core.specs.Call.{Asked as Call}
 use Rattle.rpc_core.specs.Cache.{Kept, kept_more}
 use Rattle.device_core.specs.State.{State, with_rest}
-use Rattle.device_core.specs.Sent.{Sent, bytes_of}
+use Rattle.device_frames.specs.Sent.{Sent, bytes_of}
 use Rattle.device_core.specs.Judged.{kept_for}
 
 -- the frame in a box with one frame

@@ -2,10 +2,10 @@
 use Rattle.std.proofs.Common.{◌≡◌, Bool, true, false, List, [], ◌∷◌, ◌++◌, map, refl, ap, ◌∙◌, append_assoc}
 use Rattle.std.proofs.lemmas.List.{append-nil}
 use Rattle.settings_store.specs.Machine.{Outcome}
-use Rattle.device_core.specs.declared.event.Event.{Event}
+use Rattle.device_frames.specs.declared.event.Event.{Event}
 use Rattle.device_core.specs.State.{Station, Live}
-use Rattle.device_core.specs.Heard.{Heard}
-use Rattle.device_core.specs.Sent.{bytes_of}
+use Rattle.device_frames.specs.Heard.{Heard}
+use Rattle.device_frames.specs.Sent.{bytes_of}
 use Rattle.device_core.specs.Judged.{Judged, Refuses, Sets, Writes, Moves, judged}
 use Rattle.device_core.specs.Machine.{Stepped, Ran, items_in, items_of, finished, judged_step, heard_step, step_of, handed, first_step, later_steps, then_run, run_of}
 

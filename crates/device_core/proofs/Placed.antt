@@ -4,9 +4,9 @@ use Rattle.flash_model.specs.Calls.{Call}
 use Rattle.flash_model.specs.Image.{Image}
 use Rattle.settings_store.specs.Machine.{Outcome}
 use Rattle.settings_store.specs.Carries.{OneByOne}
-use Rattle.device_core.specs.declared.event.Event.{Event}
+use Rattle.device_frames.specs.declared.event.Event.{Event}
 use Rattle.device_core.specs.State.{Station, Live}
-use Rattle.device_core.specs.Heard.{heard_of}
+use Rattle.device_frames.specs.Heard.{heard_of}
 use Rattle.device_core.specs.Machine.{items_of, first_step, later_steps, step_of, run_of}
 use Rattle.device_core.specs.Steps.{EventByEvent}
 use Rattle.device_core.proofs.Machine.{snoc, joined}

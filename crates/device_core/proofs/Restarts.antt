@@ -11,12 +11,12 @@ use Rattle.settings_store.specs.Legal.{CrashSafe, LegalEnd}
 use Rattle.settings_store.specs.Machine.{Accepted}
 use Rattle.settings_store.specs.Carries.{IsCaused}
 use Rattle.relations.specs.Exchanged.{output_in}
-use Rattle.device_core.specs.declared.event.Event.{Event}
+use Rattle.device_frames.specs.declared.event.Event.{Event}
 use Rattle.device_core.specs.State.{Station, State, Live}
 use Rattle.device_core.specs.Steps.{AnswersBy, IsIdentified, Runs}
 use Rattle.device_core.specs.Cycle.{started, cycle_of, Cycled, IsMadeOf, IsStarted, Restarts, Refuses, IsRefused}
-use Rattle.device_core.specs.Heard.{heard_of}
-use Rattle.device_core.specs.Outputs.{output_of}
+use Rattle.device_frames.specs.Heard.{heard_of}
+use Rattle.relations.specs.Outputs.{output_of}
 use Rattle.device_core.specs.Machine.{step_of}
 use Rattle.device_core.proofs.Steps.{same_state, identify_heard}
 

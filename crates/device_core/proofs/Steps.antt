@@ -18,12 +18,12 @@ use Rattle.dcp_core.specs.declared.request.Service.TheVariants as service
 use Rattle.dcp_core.specs.Request.{Asked}
 use Rattle.dcp_core.specs.Identify.{matches}
 use Rattle.dcp_core.specs.Set.{plan_of}
-use Rattle.device_core.specs.declared.event.Note.{Note}
-use Rattle.device_core.specs.declared.event.Note.TheVariants as note
+use Rattle.device_core.specs.declared.note.Note.{Note}
+use Rattle.device_core.specs.declared.note.Note.TheVariants as note
 use Rattle.device_core.specs.Cycle.{started}
 use Rattle.device_core.specs.State.{Station, State, Rest, Live, store_of, with_rest}
-use Rattle.device_core.specs.Heard.{Heard, Asks}
-use Rattle.device_core.specs.Sent.{Sent, GetAnswer, SetAnswer, Again, bytes_of}
+use Rattle.device_frames.specs.Heard.{Heard, Asks}
+use Rattle.device_frames.specs.Sent.{Sent, GetAnswer, SetAnswer, Again, bytes_of}
 use Rattle.device_core.specs.Judged.{Judged, Refuses, Sets, Writes, Moves, identified, judged_request, judged_looked, judged_blocks, judged_call, judged}
 use Rattle.device_core.specs.Machine.{Stepped, items_in, items_of, farewells_at, resets, finished, end_of, judged_step, heard_step}
 use Rattle.device_core.specs.Steps.{Steps, Identifies, IsIdentified, IsServed, IsAgain}

@@ -11,10 +11,10 @@ use Rattle.settings_store.specs.Machine.{Outcome, Accepted}
 use Rattle.settings_store.specs.Legal.{CrashSafe, made_of}
 use Rattle.settings_store.specs.Carries.{IsCaused}
 use Rattle.relations.specs.Exchanged.{output_in}
-use Rattle.device_core.specs.declared.event.Event.{Event}
+use Rattle.device_frames.specs.declared.event.Event.{Event}
 use Rattle.device_core.specs.State.{Station, State, Live}
 use Rattle.device_core.specs.Machine.{Ran, run_of}
-use Rattle.device_core.specs.Outputs.{output_of, zero_output}
+use Rattle.relations.specs.Outputs.{output_of, zero_output}
 use Rattle.device_core.specs.Steps.{EventByEvent, AnswersBy}
 
 -- a device as it starts: what is stored runs, no commit failed, power is there, and of the rest nothing: the lamp is off, no

@@ -4,11 +4,11 @@ use Rattle.pn_values.specs.declared.set_item.SetItem.{SetItem}
 use Rattle.pn_values.specs.declared.set_item.SetItem.TheVariants.{Ask, Signal, Answer}
 use Rattle.pn_values.specs.declared.set_item.BlockError.{BlockError}
 use Rattle.settings_store.specs.Faults.{GoesOn}
-use Rattle.device_core.specs.declared.event.Event.{Event}
-use Rattle.device_core.specs.declared.event.Note.{Note}
+use Rattle.device_frames.specs.declared.event.Event.{Event}
+use Rattle.device_core.specs.declared.note.Note.{Note}
 use Rattle.device_core.specs.State.{Station, State, Live}
-use Rattle.device_core.specs.Sent.{bytes_of}
-use Rattle.device_core.specs.Heard.{Heard, heard_of}
+use Rattle.device_frames.specs.Sent.{bytes_of}
+use Rattle.device_frames.specs.Heard.{Heard, heard_of}
 use Rattle.device_core.specs.Judged.{judged}
 use Rattle.device_core.specs.Machine.{Stepped, items_of, finished, heard_step}
 

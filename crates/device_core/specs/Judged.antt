@@ -1,5 +1,5 @@
 -- What an event comes to, judged on the state before it.
-use Rattle.std.specs.Prelude.{◌+◌, ◌%◌, ◌-◌, ◌&&◌, ℕ, Bool, true, false, not, nat_eq, List, [], ◌∷◌, ◌++◌, if◌then◌else◌, Option, Some, None, is_some, Result, Ok, Err}
+use Rattle.std.specs.Prelude.{◌+◌, ◌%◌, ◌-◌, ◌&&◌, ℕ, Bool, true, false, not, nat_eq, List, [], ◌∷◌, if◌then◌else◌, Option, Some, None, is_some, Result, Ok, Err}
 use Rattle.std.specs.Cmp.Lexicographic.{pointwise}
 use Rattle.pn_values.specs.declared.mac.Mac.{Mac}
 use Rattle.pn_values.specs.declared.identity.Identity.{Identity}
@@ -36,15 +36,10 @@ use Rattle.record_writes.specs.Judged.{write_of}
 use Rattle.pn_alarms.specs.declared.message.Message.{Message}
 use Rattle.pn_alarms.specs.declared.device.Heard.{Heard as Fate}
 use Rattle.pn_alarms.specs.declared.device.Heard.TheVariants as fate
-use Rattle.pn_alarms.specs.declared.receiver.Taken.{Taken as Take}
 use Rattle.pn_alarms.specs.declared.pdu.Header.{Header}
 use Rattle.exchanges.specs.declared.cyclic.Received.{Received}
 use Rattle.exchanges.specs.declared.cyclic.Received.TheVariants as received
-use Rattle.exchanges.specs.declared.route.Route.{Route}
 use Rattle.exchanges.specs.Flow.{Flow}
-use Rattle.exchanges.specs.Frames.{Frame, alarm_frame, inputs_frame, reply_frame}
-use Rattle.relations.specs.declared.farewell.Farewell.{Farewell}
-use Rattle.relations.specs.declared.time.Due.{Due}
 use Rattle.relations.specs.Exchanged.{given_to, heard_by, hearing, raised_to, received_by, receiving}
 use Rattle.relations.specs.declared.hearing.Heard.{Heard as Answer}
 use Rattle.relations.specs.declared.hearing.Heard.TheVariants as to_ready
@@ -52,15 +47,16 @@ use Rattle.relations.specs.declared.phase.Partner.{Partner}
 use Rattle.relations.specs.Link.{Link, uuid_of, differing_in, flow_of, is_alarm_of}
 use Rattle.relations.specs.Calls.{prm_end_of, release_of, prm_end_answer, release_answer}
 use Rattle.relations.specs.Connect.{connect_of, connect_answer, making}
-use Rattle.relations.specs.Ready.{ready_of, answer_of as ready_answer, judged_by}
+use Rattle.relations.specs.Ready.{answer_of as ready_answer, judged_by}
 use Rattle.relations.specs.Timers.{due_of}
 use Rattle.relations.specs.Phases.{Judged as Moving, Parameterized, Named, Ended, Exchanged, Unmoved, answered, keeping, moved, passing, taking}
-use Rattle.device_core.specs.declared.event.Note.{Note}
-use Rattle.device_core.specs.declared.event.Note.TheVariants as note
-use Rattle.device_core.specs.declared.hearing.Caller.{Caller}
+use Rattle.device_core.specs.declared.note.Note.{Note}
+use Rattle.device_core.specs.declared.note.Note.TheVariants as note
+use Rattle.device_frames.specs.declared.hearing.Caller.{Caller}
 use Rattle.device_core.specs.State.{Station, Rest, Live}
-use Rattle.device_core.specs.Sent.{Sent, IdentifyAnswer, GetAnswer, ArpReply, CallAnswer, Again, ReadyCall, Ends, Exchanges, bytes_of}
-use Rattle.device_core.specs.Heard.{Heard, Ticks, Unreadable, Elsewhere, Asks, Resolves, Told, Cyclic, Alarms, Given, Raised, Said, Calls, Responds, Garbled}
+use Rattle.device_frames.specs.Relation.{alarms_of, due_frames, ready_calls, replies_of}
+use Rattle.device_frames.specs.Sent.{Sent, IdentifyAnswer, GetAnswer, ArpReply, CallAnswer, Again, Ends, bytes_of}
+use Rattle.device_frames.specs.Heard.{Heard, Ticks, Unreadable, Elsewhere, Asks, Resolves, Told, Cyclic, Alarms, Given, Raised, Said, Calls, Responds, Garbled}
 
 -- What an event comes to: refused, with the note that says why; a Set, whose blocks are asked of the settings; a Write of an I&M
 -- text, which is asked of them, by whom and to which address it was called, the call, its header and the text; or a move, after
@@ -135,11 +131,6 @@ abbrev pub served : Station → Live → Caller → Call → Operation → Resul
 served station live caller call operation outcome link behind =
     let answer = answer_from live.values.running.suite.address caller call operation outcome in
     Moves (kept_behind station.identity live.rest call answer link) (answer ∷ behind)
-
--- ApplicationReady of a relation, if there is one, from this address
-abbrev pub ready_calls : List ℕ → Option Link → List Sent
-ready_calls address None = []
-ready_calls address (Some link) = ReadyCall address (ready_of link) ∷ []
 
 -- what follows PrmEnd that is accepted
 abbrev pub ready_behind : List ℕ → Option Link → Result ControlBlock CallFault → List Sent
@@ -226,24 +217,6 @@ judged_datagram station live caller address said =
 
 -- ---- what is exchanged
 
--- the frames of it that there are: of a relation, the alarm that stands, the inputs at this CycleCounter, and the answer to data that was
--- taken so
-abbrev pub frames_in : Route → Option Frame → List Sent
-frames_in route (Some frame) = Exchanges route frame ∷ []
-frames_in route None = []
-
-abbrev pub alarms_of : Option Flow → List Sent
-alarms_of None = []
-alarms_of (Some flow) = frames_in flow.route (alarm_frame flow)
-
-abbrev pub inputs_of : ℕ → Option Flow → List Sent
-inputs_of counter None = []
-inputs_of counter (Some flow) = Exchanges flow.route (inputs_frame flow counter) ∷ []
-
-abbrev pub replies_of : Take → Option Flow → List Sent
-replies_of taken None = []
-replies_of taken (Some flow) = Exchanges flow.route (reply_frame flow taken) ∷ []
-
 -- the relation became this, and these frames are sent
 abbrev pub goes_on_with : Live → Option Link → List Sent → Judged
 goes_on_with live link sent = Moves (record live.rest { link = link }) sent
@@ -292,19 +265,6 @@ judged_alarm live source header message =
     if is_alarm_of source header.destination header.source live.rest.link then judged_message live message else Refuses note.NoRelation
 
 -- ---- events
-
-abbrev pub farewells_in : Option Farewell → List Sent
-farewells_in None = []
-farewells_in (Some farewell) = Ends farewell ∷ []
-
-abbrev pub where_due : Bool → List Sent → List Sent
-where_due is_due sent = if is_due then sent else []
-
--- what is sent with a unit: the ERR of a timeout, and nothing else; or the alarm that stands again, ApplicationReady again, and inputs
-abbrev pub due_frames : List ℕ → ℕ → Due → Option Link → List Sent
-due_frames address units due link =
-    farewells_in due.farewell
-    ++ (where_due due.is_alarm (alarms_of (flow_of link)) ++ (where_due due.is_ready (ready_calls address link) ++ where_due due.is_cyclic (inputs_of units (flow_of link))))
 
 -- a unit of time later
 abbrev pub ticked : Live → Judged

@@ -1,10 +1,6 @@
 pub mod State
-pub mod Heard
-pub mod Hearing
-pub mod Sent
 pub mod Judged
 pub mod Machine
 pub mod Faults
 pub mod Steps
 pub mod Cycle
-pub mod Outputs

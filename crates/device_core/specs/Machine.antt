@@ -18,12 +18,12 @@ use Rattle.relations.specs.Phases.{Ended, Named, answered, moved}
 use Rattle.pn_values.specs.declared.identity.Identity.{Identity}
 use Rattle.settings_store.specs.Machine.{Outcome, Accepted, carried}
 use Rattle.dcp_core.specs.Set.{plan_of}
-use Rattle.device_core.specs.declared.event.Event.{Event}
-use Rattle.device_core.specs.declared.event.Note.{Note}
-use Rattle.device_core.specs.declared.event.Note.TheVariants as note
+use Rattle.device_frames.specs.declared.event.Event.{Event}
+use Rattle.device_core.specs.declared.note.Note.{Note}
+use Rattle.device_core.specs.declared.note.Note.TheVariants as note
 use Rattle.device_core.specs.State.{Station, Rest, Live}
-use Rattle.device_core.specs.Sent.{Sent, SetAnswer, Ends, bytes_of}
-use Rattle.device_core.specs.Heard.{Heard, heard_of}
+use Rattle.device_frames.specs.Sent.{Sent, SetAnswer, Ends, bytes_of}
+use Rattle.device_frames.specs.Heard.{Heard, heard_of}
 use Rattle.device_core.specs.Judged.{Judged, Refuses, Sets, Writes, Moves, answer_from, kept_behind, judged}
 
 -- what the settings are asked for: the blocks of a Set, in order, or the one I&M text of a Write

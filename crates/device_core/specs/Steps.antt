@@ -14,13 +14,13 @@ use Rattle.rpc_core.specs.Cache.{Kept, behind_calls}
 use Rattle.pnio_status.specs.declared.operation.Operation.{Operation}
 use Rattle.pnio_status.specs.Operation.{operation_of}
 use Rattle.dcp_core.specs.Identify.{matches, identify_bytes}
-use Rattle.device_core.specs.declared.event.Event.{Event}
-use Rattle.device_core.specs.declared.event.Note.{Note}
-use Rattle.device_core.specs.declared.event.Note.TheVariants.{Done, Filter}
-use Rattle.device_core.specs.declared.hearing.Caller.{Caller}
+use Rattle.device_frames.specs.declared.event.Event.{Event}
+use Rattle.device_core.specs.declared.note.Note.{Note}
+use Rattle.device_core.specs.declared.note.Note.TheVariants.{Done, Filter}
+use Rattle.device_frames.specs.declared.hearing.Caller.{Caller}
 use Rattle.device_core.specs.State.{Station, State, Live, store_of}
-use Rattle.device_core.specs.Sent.{answer_frame}
-use Rattle.device_core.specs.Heard.{Heard, Asks, Told, Calls, heard_of}
+use Rattle.device_frames.specs.Sent.{answer_frame}
+use Rattle.device_frames.specs.Heard.{Heard, Asks, Told, Calls, heard_of}
 use Rattle.device_core.specs.Judged.{is_running}
 use Rattle.device_core.specs.Machine.{Stepped, items_of, heard_step, step_of, first_step, later_steps, run_of}
 use Rattle.device_core.specs.Faults.{StepGoesOn}

@@ -1,14 +1,14 @@
 // Address resolution (RFC 826).
-ghost use Rattle.std.specs.Prelude.{◌≡◌, ◌<◌, [], ◌∷◌, ◌++◌, map};
-ghost use Rattle.arrayvec.specs.ArrayVec.{array_vec_len};
-ghost use Rattle.device_core.specs.Sent.{bytes_of, reply_frame};
+ghost use Rattle.std.specs.Prelude.{◌≡◌, ◌<◌, [], ◌∷◌, map};
+ghost use Rattle.device_frames.specs.Sent.{bytes_of};
 ghost use Rattle.device_core.specs.Judged.{is_running as runs, is_request as requests, judged_arp};
 ghost use Rattle.device_core.specs.Machine.{end_of};
 
 use crate::{Device, Note};
+use device_frames::send_arp_reply;
 use flash_model::Flash;
-use frame_codec::{Arp, ArpOperation, Holder, Layered, Outbox, Payload};
-use pn_values::{Identity, Mac, Settings};
+use frame_codec::{Arp, ArpOperation, Outbox};
+use pn_values::{Mac, Settings};
 
 impl<F: Flash<S>, const S: usize> Device<F, S> {
     // A packet of ARP: a request for the running address is answered.
@@ -24,7 +24,7 @@ impl<F: Flash<S>, const S: usize> Device<F, S> {
             return Note::NotMine;
         }
         let address = running.suite.address();
-        send_reply(&self.identity, asker, address, packet.sender, outbox);
+        send_arp_reply(&self.identity, asker, address, packet.sender, outbox);
         Note::Done
     }
 }
@@ -44,31 +44,4 @@ pub(crate) fn is_running(running: &Settings, address: [u8; 4]) -> bool
     ensures { result ≡ runs running.now address }
 {
     address == running.suite.address() && address != [0; 4]
-}
-
-// Puts the reply that the device holds this address into the box, behind what is in it.
-fn send_reply(
-    identity: &Identity,
-    asker: Mac,
-    address: [u8; 4],
-    target: Holder,
-    outbox: &mut Outbox,
-)
-    requires room { array_vec_len outbox.old < 4 }
-    ensures { map (λ frame. frame.items) outbox.new.items ≡ map (λ frame. frame.items) outbox.old.items ++ reply_frame identity.now asker address target ∷ [] }
-{
-    let sender = Holder {
-        mac: identity.mac,
-        address,
-    };
-    outbox.put(&Layered {
-        destination: asker,
-        source: identity.mac,
-        tag: None,
-        payload: Payload::Arp(Arp {
-            operation: ArpOperation::Reply,
-            sender,
-            target,
-        }),
-    });
 }

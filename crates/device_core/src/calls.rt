@@ -1,5 +1,5 @@
 // Calls, and the answers that are kept of them (IEC 61158-6-10, 4.10; C706, 9.5).
-ghost use Rattle.std.specs.Prelude.{◌≡◌, ◌<◌, ◌≤◌, ◌+◌, [], ◌∷◌, ◌++◌, length, map, Err};
+ghost use Rattle.std.specs.Prelude.{◌≡◌, ◌<◌, ◌≤◌, [], ◌∷◌, length, map, Err};
 ghost use Rattle.arrayvec.specs.ArrayVec.{array_vec_len};
 ghost use Rattle.settings_store.specs.Carries.{Holds};
 ghost use Rattle.rpc_core.specs.Call.{asked};
@@ -13,32 +13,28 @@ ghost use Rattle.record_blocks.specs.declared.write_record.IodWriteReq.{IodWrite
 ghost use Rattle.record_writes.specs.Answer.{answer_of};
 ghost use Rattle.record_writes.specs.declared.write.Effect.TheVariants.{Keeps};
 ghost use Rattle.pnio_status.specs.Operation.{operation_of};
-ghost use Rattle.device_core.specs.Heard.{Heard as Hears, Told, said_by};
-ghost use Rattle.device_core.specs.Sent.{bytes_of, response_frame};
+ghost use Rattle.device_frames.specs.Heard.{Heard as Hears, Told, said_by};
+ghost use Rattle.device_frames.specs.Sent.{bytes_of};
 ghost use Rattle.device_core.specs.Judged.{Writes, answer_from, came_with, kept_for, judged, judged_new, judged_answer, judged_call, judged_effect, judged_write};
 ghost use Rattle.device_core.specs.Machine.{end_of, written_as as comes_out};
 ghost use Rattle.device_core.specs.Steps.{Steps};
 
 use crate::arp::is_running;
-use crate::hearing::Caller;
-use crate::relation::{hear_controller, send_farewell, send_ready};
 use crate::{Device, Note};
 use block_codec::IodWriteReq;
+use device_frames::{Caller, send_farewell, send_ready, send_response};
 use flash_model::Flash;
-use frame_codec::{Endpoint, Layered, Outbox, Payload, RPC_PORT, Udp};
+use frame_codec::Outbox;
 use pn_values::{BlockError, Command, Identity, ImValue, SetItem};
 use pnio_status::{CallFault, Operation, done};
 use record_reads::{Blocks, names_relation, read_implicit, read_within};
 use record_writes::{Effect, Taken, Write, judge_write, put_write_answer};
 use relations::{Heard, Partner};
-use rpc_core::{
-    Call, CallCache, Datagram, Interface, Looked, Response, read_call, read_response,
-    write_response,
-};
+use rpc_core::{Call, CallCache, Interface, Looked, Response, read_call, read_response};
 
 impl<F: Flash<S>, const S: usize> Device<F, S> {
     // A datagram to the device's MAC address and the port of calls. Its IP address is looked at before it is read.
-    #[tactic(auto, unfolding(crate::specs::Heard::said_by))]
+    #[tactic(auto, unfolding(device_frames::specs::Heard::said_by))]
     #[inline(never)]
     pub(crate) fn hear_datagram(
         &mut self,
@@ -121,7 +117,7 @@ impl<F: Flash<S>, const S: usize> Device<F, S> {
         ensures note { result ≡ Note.Done }
     {
         let status = CallFault::Arguments.number(operation);
-        send(
+        send_response(
             &self.identity,
             self.store.running().suite.address(),
             caller,
@@ -283,7 +279,7 @@ impl<F: Flash<S>, const S: usize> Device<F, S> {
             blocks,
             &mut self.blocks,
         );
-        hear_controller(&mut self.relation, true, came);
+        self.relation.hear_controller(true, came);
         answer(
             &self.identity,
             running.suite.address(),
@@ -324,7 +320,7 @@ impl<F: Flash<S>, const S: usize> Device<F, S> {
             &mut self.blocks,
         );
         let is_named = names_relation(self.relation.uuid(), blocks);
-        hear_controller(&mut self.relation, is_named, came);
+        self.relation.hear_controller(is_named, came);
         answer(
             &self.identity,
             running.suite.address(),
@@ -413,7 +409,7 @@ impl<F: Flash<S>, const S: usize> Device<F, S> {
         let address = self.store.running().suite.address();
         let came = written_as(self.store.carry(&SetItem::Ask(Command::SetIm(value))));
         put_written(&mut self.blocks, header, came);
-        hear_controller(&mut self.relation, true, came);
+        self.relation.hear_controller(true, came);
         answer(
             &self.identity,
             address,
@@ -447,7 +443,7 @@ impl<F: Flash<S>, const S: usize> Device<F, S> {
     {
         let came = self.relation.keep(parameter);
         put_written(&mut self.blocks, header, came);
-        hear_controller(&mut self.relation, true, came);
+        self.relation.hear_controller(true, came);
         answer(
             &self.identity,
             self.store.running().suite.address(),
@@ -494,7 +490,7 @@ fn answer(
         Ok(()) => call.response(done(), blocks),
         Err(fault) => call.response(fault.number(serving.operation), &[]),
     };
-    send(identity, address, serving.caller, &response, outbox);
+    send_response(identity, address, serving.caller, &response, outbox);
     cache.keep(
         &call.header.activity,
         call.header.sequence,
@@ -521,35 +517,4 @@ fn put_written(blocks: &mut Blocks, header: &IodWriteReq, came: Result<(), CallF
     if came.is_ok() {
         put_write_answer(blocks, header);
     }
-}
-
-// Puts the response to a call into the box, behind what is in it.
-fn send(
-    identity: &Identity,
-    address: [u8; 4],
-    caller: &Caller,
-    response: &Response<'_>,
-    outbox: &mut Outbox,
-)
-    requires room { array_vec_len outbox.old < 4 }
-    requires blocks { length response.now.blocks.now ≤ 1372 }
-    ensures one { array_vec_len outbox.new ≡ array_vec_len outbox.old + 1 }
-    ensures frames { map (λ frame. frame.items) outbox.new.items
-        ≡ map (λ frame. frame.items) outbox.old.items ++ response_frame identity.now caller.now address (answered response.now) ∷ [] }
-{
-    let mut datagram = Datagram::new();
-    write_response(response, &mut datagram);
-    outbox.put(&Layered {
-        destination: caller.mac,
-        source: identity.mac,
-        tag: None,
-        payload: Payload::Udp(Udp {
-            source: Endpoint {
-                address,
-                port: RPC_PORT,
-            },
-            destination: caller.endpoint,
-            body: datagram.as_slice(),
-        }),
-    });
 }

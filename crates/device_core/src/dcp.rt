@@ -1,24 +1,24 @@
 // The requests of DCP: Identify, Get and Set (IEC 61158-6-10, 4.3).
-ghost use Rattle.std.specs.Prelude.{◌≡◌, ◌<◌, ◌≤◌, ◌+◌, true, [], ◌∷◌, ◌++◌, is_some, map};
+ghost use Rattle.std.specs.Prelude.{◌≡◌, ◌<◌, ◌≤◌, ◌+◌, [], ◌∷◌, ◌++◌, is_some, map};
 ghost use Rattle.std.specs.List.{list_any};
 ghost use Rattle.arrayvec.specs.ArrayVec.{array_vec_len};
 ghost use Rattle.settings_store.specs.Carries.{Holds};
 ghost use Rattle.dcp_core.specs.Reading.{request_of};
 ghost use Rattle.dcp_core.specs.Request.{asked};
-ghost use Rattle.device_core.specs.Heard.{Asks, heard_request};
-ghost use Rattle.device_core.specs.Sent.{GetAnswer, answer_frame, bytes_of};
+ghost use Rattle.device_frames.specs.Heard.{Asks, heard_request};
+ghost use Rattle.device_frames.specs.Sent.{GetAnswer, bytes_of};
 ghost use Rattle.device_core.specs.Judged.{identified};
 ghost use Rattle.device_core.specs.Machine.{farewells_at, finished, is_done as is_done_by, is_reset as is_reset_by, is_signal, lamp_after as lamp_of, link_after, resets};
 ghost use Rattle.device_core.specs.Steps.{Steps};
 
-use crate::relation::send_farewell;
 use crate::{Device, Note};
 use dcp_core::{
-    Answer, Request, Service, fill_plan, get_answer, identify_answer, identify_matches,
-    read_request, set_answer,
+    Request, Service, fill_plan, get_answer, identify_answer, identify_matches, read_request,
+    set_answer,
 };
+use device_frames::{send_dcp_answer, send_farewell};
 use flash_model::Flash;
-use frame_codec::{DCP_GET_SET, DCP_IDENTIFY_RESPONSE, Layered, Outbox, Payload};
+use frame_codec::{DCP_GET_SET, DCP_IDENTIFY_RESPONSE, Outbox};
 use pn_alarms::Abort;
 use pn_values::{BlockError, Command, Identity, Mac, SetItem};
 use relations::Relation;
@@ -73,7 +73,7 @@ impl<F: Flash<S>, const S: usize> Device<F, S> {
             return Note::Filter;
         }
         let answer = identify_answer(&self.identity, running, request.xid);
-        send(
+        send_dcp_answer(
             &self.identity,
             asker,
             DCP_IDENTIFY_RESPONSE,
@@ -91,7 +91,7 @@ impl<F: Flash<S>, const S: usize> Device<F, S> {
         ensures note { result ≡ Note.Done }
     {
         let answer = get_answer(&self.identity, self.store.running(), request);
-        send(&self.identity, asker, DCP_GET_SET, &answer, outbox);
+        send_dcp_answer(&self.identity, asker, DCP_GET_SET, &answer, outbox);
         Note::Done
     }
 
@@ -109,7 +109,7 @@ impl<F: Flash<S>, const S: usize> Device<F, S> {
         let is_ended = is_ended(self.plan.as_slice(), answers.as_slice());
         end_if(is_ended, &self.identity, &mut self.relation, outbox);
         let answer = set_answer(request, &answers);
-        send(&self.identity, asker, DCP_GET_SET, &answer, outbox);
+        send_dcp_answer(&self.identity, asker, DCP_GET_SET, &answer, outbox);
         Note::Done
     }
 }
@@ -176,21 +176,4 @@ fn has_signal(items: &[SetItem]) -> bool
     ensures { result ≡ list_any is_signal items.now }
 {
     items.iter().any(|item| matches!(item, SetItem::Signal))
-}
-
-// Puts a DCP answer to the station that asked into the box, behind what is in it.
-fn send(identity: &Identity, asker: Mac, frame_id: u16, answer: &Answer, outbox: &mut Outbox)
-    requires { array_vec_len outbox.old < 4 }
-    ensures { map (λ frame. frame.items) outbox.new.items ≡ map (λ frame. frame.items) outbox.old.items ++ answer_frame identity.now asker frame_id answer.now.items ∷ [] }
-{
-    let layered = Layered {
-        destination: asker,
-        source: identity.mac,
-        tag: None,
-        payload: Payload::RealTime {
-            frame_id,
-            body: answer.as_slice(),
-        },
-    };
-    outbox.put(&layered);
 }

@@ -8,10 +8,9 @@ ghost use Rattle.settings_journal.specs.Commit.{HasBootCause};
 ghost use Rattle.settings_journal.specs.Image.{StartsWith, IsAmple, capacity, IsForeign, LeftByDevice};
 ghost use Rattle.relations.specs.Exchanged.{output_in};
 ghost use Rattle.relations.specs.Link.{phase_of, taken_of};
-ghost use Rattle.device_core.specs.Outputs.{output_of};
+ghost use Rattle.relations.specs.Outputs.{output_of};
 ghost use Rattle.device_core.specs.Cycle.{started};
 
-use crate::output::zero_output;
 use arrayvec::ArrayVec;
 use flash_model::{Flash, Order};
 use pn_values::{Identity, Real, SetItem, Settings};
@@ -140,10 +139,7 @@ impl<F: Flash<S>, const S: usize> Device<F, S> {
         ensures value { option_map (λ value. value.now) result ≡ output_of self.now.station.real slot subslot (output_in slot subslot self.now.live.rest.link) }
         ensures short { IfSome result (λ value. length value.now ≤ 1440) }
     {
-        match self.relation.output(slot, subslot) {
-            Some(value) => Some(value),
-            None => zero_output(&self.real, slot, subslot),
-        }
+        self.relation.output(&self.real, slot, subslot)
     }
 
     /// What is plugged in.

@@ -1,6 +1,6 @@
 // Runs of steps.
 ghost use Rattle.std.specs.Prelude.{◌≡◌, ◌<◌, ◌-◌, ◌^◌, ◌++◌, true, false, map};
-ghost use Rattle.device_core.specs.Heard.{heard_of};
+ghost use Rattle.device_frames.specs.Heard.{heard_of};
 ghost use Rattle.device_core.specs.Faults.{RunGoesOn};
 ghost use Rattle.device_core.specs.Steps.{HandsOn, Runs, IsExactRun, IsBehindCalls, TakesRoom};
 

@@ -2,26 +2,28 @@
 ghost use Rattle.std.specs.Prelude.{◌≡◌, ◌≢◌, ◌<◌, ◌-◌, ◌^◌, [], true, false, List, ℕ, None, Option, map, option_map};
 ghost use Rattle.settings_store.specs.Carries.{Holds};
 ghost use Rattle.dcp_core.specs.Request.{Asked};
-ghost use Rattle.device_core.specs.Heard.{Asks, heard_alarm, heard_content, heard_of};
+ghost use Rattle.device_frames.specs.Heard.{Asks, heard_alarm, heard_content, heard_of};
 ghost use Rattle.frame_codec.specs.Meaning.{ArpPacket, RealTime, UdpDatagram, content_of};
 ghost use Rattle.pn_alarms.specs.Message.{message_of};
-ghost use Rattle.device_core.specs.declared.event.Event.TheVariants.{Frame};
+ghost use Rattle.device_frames.specs.declared.event.Event.TheVariants.{Frame};
 ghost use Rattle.relations.specs.Farewells.{farewell_of};
 ghost use Rattle.relations.specs.Link.{Link, flow_of};
 ghost use Rattle.device_core.specs.State.{Live, Station, with_rest};
-ghost use Rattle.device_core.specs.Sent.{bytes_of};
-ghost use Rattle.device_core.specs.Judged.{due_frames, farewells_in, inputs_of, judged_alarm, judged_message, judged_cyclic, judged_given, judged_raised, judged_received, ticked};
+ghost use Rattle.device_frames.specs.Sent.{bytes_of};
+ghost use Rattle.device_core.specs.Judged.{judged_alarm, judged_message, judged_cyclic, judged_given, judged_raised, judged_received, ticked};
+ghost use Rattle.device_frames.specs.Relation.{due_frames, farewells_in, inputs_of};
 ghost use Rattle.device_core.specs.Machine.{end_of};
 ghost use Rattle.rpc_core.specs.Call.{Asked as Called};
 ghost use Rattle.rpc_core.specs.Cache.{looked, again};
 ghost use Rattle.device_core.specs.Faults.{StepGoesOn};
 ghost use Rattle.device_core.specs.Steps.{Steps, Identifies, IsServed, IsAgain, IsExactStep};
 
-use crate::exchange::{send_alarm, send_alarm_again, send_inputs, send_ready_again, send_reply};
-use crate::hearing::{Caller, Kind, is_asked, is_called, kind_of, read_layers, real_time_in};
-use crate::relation::send_farewell;
 use crate::{Device, Event, Note};
 use dcp_core::Service;
+use device_frames::{
+    Caller, Kind, is_asked, is_called, kind_of, read_layers, real_time_in, send_alarm,
+    send_alarm_again, send_alarm_reply, send_farewell, send_inputs, send_ready_again,
+};
 use flash_model::Flash;
 use frame_codec::{Arp, Bytes, Layered, Outbox, Payload, Udp};
 use pn_alarms::{Abort, Header, Heard as Fate, Message, read_message};
@@ -372,7 +374,7 @@ impl<F: Flash<S>, const S: usize> Device<F, S> {
     {
         match self.relation.hear(message) {
             Fate::Data(taken) => {
-                send_reply(&self.identity, taken, &self.relation, outbox);
+                send_alarm_reply(&self.identity, taken, &self.relation, outbox);
                 Note::Done
             }
             Fate::Done | Fate::Aborted => Note::Done,

@@ -1,4 +1,4 @@
-//! Tests of broken frames of a relation: none is taken, and each leaves the device as it was, in each phase.
+//! Tests of broken frames: requests of DCP, and what a relation knows. None is taken, and each leaves the device as it was.
 #![tactic(auto)]
 
 #[cfg(test)]

@@ -5,7 +5,6 @@ use std::process::Abort;
 use std::test::Fail;
 
 mod calls;
-mod cuts;
 mod exchange;
 mod faults;
 mod input;
@@ -14,7 +13,6 @@ mod losses;
 mod off;
 mod relation;
 mod rows;
-mod samples;
 mod struck;
 mod vectors;
 mod whole;

@@ -8,7 +8,6 @@ use record_reads::{Blocks, names_relation, read_implicit, read_within};
 use record_writes::{Effect, Write, judge_write, put_write_answer};
 use relations::{Partner, Relation};
 use std::mem;
-use uuid::Uuid;
 
 /// The station with its texts and its relation.
 #[derive(Drop)]
@@ -110,10 +109,6 @@ impl Device {
 
     /// A call that names the relation was answered positively.
     fn restart_timer(&mut self) {
-        let uuid = match self.relation.uuid() {
-            Some(uuid) => *uuid,
-            None => Uuid::nil(),
-        };
-        self.relation.restart(&uuid);
+        self.relation.hear_controller(true, Ok(()));
     }
 }

@@ -25,7 +25,7 @@ pub(crate) fn put_line(
         "end" => put_reason(device.relation.end(Abort::Other), text)?,
         "phase" => text.push_str(phase_word(device.relation.phase()))?,
         "abort" => {
-            device.relation.hear_abort();
+            let _unsent = device.relation.end(Abort::Other);
             text.push_str("-")?;
         }
         "start" => {

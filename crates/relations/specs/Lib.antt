@@ -7,3 +7,4 @@ pub mod Connect
 pub mod Ready
 pub mod Runs
 pub mod Exchanged
+pub mod Outputs

@@ -15,7 +15,7 @@ use Rattle.exchanges.specs.Flow.{Flow}
 use Rattle.exchanges.specs.Opening.{begun_of, opened}
 use Rattle.relations.specs.declared.phase.Phase.TheVariants.{Started, Awaiting, Exchanging}
 use Rattle.relations.specs.declared.phase.Partner.{Partner}
-use Rattle.relations.specs.Link.{Link, is_named}
+use Rattle.relations.specs.Link.{Link}
 use Rattle.relations.specs.Timers.{ending_of, unit_later}
 
 -- What was judged of an event: a Connect is accepted; PrmEnd is; ApplicationReady was confirmed; another call that names the
@@ -82,8 +82,7 @@ moved Passed link = option_map unit_later link
 moved Ended link = None
 moved Unmoved link = link
 
--- ---- what was judged of a unit of time, of a call that names an ARUUID, of a call that is answered positively or not, and of a
--- parameter record that is written
+-- ---- what was judged of a unit of time, of a call that is answered positively or not, and of a parameter record that is written
 
 abbrev pub passing_by : Option Abort → Judged
 passing_by (Some reason) = Ended
@@ -92,9 +91,6 @@ passing_by None = Passed
 abbrev pub passing : Option Link → Judged
 passing None = Unmoved
 passing (Some link) = passing_by (ending_of link)
-
-abbrev pub naming : List ℕ → Option Link → Judged
-naming uuid link = if is_named uuid link then Named else Unmoved
 
 abbrev pub answered : {A : Type 0} → Judged → Result A CallFault → Judged
 answered judged (Ok answer) = judged

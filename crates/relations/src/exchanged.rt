@@ -44,8 +44,8 @@ impl Relation {
         }
     }
 
-    /// The output of a submodule, if there is a relation in which it has one.
-    pub fn output(&self, slot: u16, subslot: u16) -> Option<&[u8]>
+    /// The output of a submodule, if there is a relation in which it has a place.
+    pub(crate) fn placed_output(&self, slot: u16, subslot: u16) -> Option<&[u8]>
         ensures value { option_map (λ value. value.now) result ≡ output_in slot subslot self.now }
         ensures short { IfSome result (λ value. length value.now ≤ 1440) }
     {

@@ -11,6 +11,7 @@ mod exchanged;
 mod farewell;
 mod hearing;
 mod laws;
+mod output;
 mod phase;
 mod ready;
 mod relation;

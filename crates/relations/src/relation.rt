@@ -1,6 +1,6 @@
 //! The relation.
-ghost use Rattle.std.specs.Prelude.{◌≡◌, ◌≤◌, Err, IfErr, IsOk, None, OnOk, length, option_map};
-ghost use Rattle.relations.specs.Phases.{Ended, Named, keeping, moved, naming, taking};
+ghost use Rattle.std.specs.Prelude.{◌≡◌, ◌≤◌, Err, IfErr, IsOk, None, OnOk, if◌then◌else◌, length, option_map};
+ghost use Rattle.relations.specs.Phases.{Ended, Named, Unmoved, answered, keeping, moved, taking};
 ghost use Rattle.relations.specs.Farewells.{farewell_of};
 ghost use Rattle.relations.specs.Link.{IsInStep, differing_in, is_alarm_of, is_named, phase_of, taken_of, uuid_of};
 
@@ -149,20 +149,14 @@ impl Relation {
             && endpoint == self.request.alarm().reference
     }
 
-    /// A new call that names this ARUUID was answered positively: the activity timer starts again, if it is that of the relation.
-    pub fn restart(&mut self, uuid: &Uuid)
-        ensures { self.new ≡ moved (naming uuid.now self.old) self.old }
+    /// A call was answered. Where it names the relation, and the answer is positive, the controller is there: the activity timer
+    /// starts again.
+    pub fn hear_controller(&mut self, is_named: bool, came: Result<(), CallFault>)
+        ensures { self.new ≡ moved (answered (if is_named then Named else Unmoved) came) self.old }
     {
-        if self.is_named(uuid) {
+        if is_named && came.is_ok() {
             self.quiet = 0;
         }
-    }
-
-    /// A new call that names the relation was answered positively, as whoever served it has judged: the activity timer starts again.
-    pub fn heard(&mut self)
-        ensures { self.new ≡ moved Named self.old }
-    {
-        self.quiet = 0;
     }
 
     /// The device ends the relation for this reason, as at a reset. Answers the ERR that is sent, if there was one.
@@ -179,12 +173,5 @@ impl Relation {
         };
         self.phase = None;
         farewell
-    }
-
-    /// The ERR of the controller came: the relation ends, and nothing is sent.
-    pub fn hear_abort(&mut self)
-        ensures { self.new ≡ moved Ended self.old }
-    {
-        let _unsent = self.end(Abort::Other);
     }
 }

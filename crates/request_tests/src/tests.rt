@@ -1,4 +1,5 @@
-// What is read of the octets of a Connect, and the first fault of others.
+// What is read of the octets of a Connect, and the first fault of others; and the PDUs of alarms.
+mod alarms;
 mod blocks;
 mod faults;
 mod opening;

@@ -6,7 +6,7 @@ use Rattle.pn_values.specs.declared.settings.Settings.{Settings}
 use Rattle.pn_values.specs.declared.real.Real.{Real}
 use Rattle.pn_values.specs.declared.real.RealModule.{RealModule}
 use Rattle.pn_values.specs.declared.real.RealSubmodule.{RealSubmodule}
-use Rattle.device_core.specs.Outputs.{output_of}
+use Rattle.relations.specs.Outputs.{output_of}
 use Rattle.relations.specs.Exchanged.{output_in}
 use Rattle.relations.specs.Link.{Link}
 use Rattle.relations.specs.declared.phase.Phase.{Phase}

@@ -4,7 +4,7 @@ ghost use Rattle.pn_values.specs.declared.settings.Settings.{Settings};
 ghost use Rattle.flash_model.specs.Image.{erased};
 ghost use Rattle.flash_model.specs.Memory.{image_of, IsReliable};
 ghost use Rattle.settings_journal.specs.Image.{StartsWith, LeftByDevice};
-ghost use Rattle.device_core.specs.declared.event.Event.TheVariants as event;
+ghost use Rattle.device_frames.specs.declared.event.Event.TheVariants as event;
 ghost use Rattle.device_core.specs.Machine.{step_of};
 ghost use Rattle.script_runner.specs.Read.{line_read};
 ghost use Rattle.script_runner.specs.Script.{Station, demo_started, step_answer, ticked};

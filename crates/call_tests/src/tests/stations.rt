@@ -2,73 +2,13 @@
 use super::fates::{Fate, fate_of};
 use super::numbers::{Order, mend, number_at, ones_sum, put, u32_at, udp_sum};
 use super::samples::{CALL, frame};
-use arrayvec::ArrayVec;
-use device_core::{Device, Event, Note};
+use device_core::{Event, Note};
 use flash_model::MemoryFlash;
-use frame_codec::{Bytes, Outbox};
-use pn_values::{Identity, Mac, Real, RealModule, RealSubmodule};
+use frame_codec::Outbox;
 use std::alloc::{AllocError, Global};
 use std::process::Abort;
 use std::test::Fail;
-
-type Station = Device<MemoryFlash<768>, 768>;
-
-/// A permanent Set of the suite 192.168.0.2 255.255.255.0 without a gateway.
-const SET_SUITE: &[u8] =
-    b"\x02\0\0\0\0\x01\x02\0\0\0\0\x02\x88\x92\xfe\xfd\x04\0\0\0\0\x02\0\0\0\x12\
-    \x01\x02\0\x0e\0\x01\xc0\xa8\0\x02\xff\xff\xff\0\0\0\0\0";
-
-/// What is plugged: slot, subslot and ident number of each submodule, that of its module being the first one's.
-const PLUGGED: [(u16, &[(u16, u32)]); 3] = [
-    (0, &[(1, 1), (0x8000, 2), (0x8001, 3)]),
-    (1, &[(1, 16)]),
-    (2, &[(1, 32)]),
-];
-
-fn identity() -> Identity {
-    Identity {
-        mac: Mac {
-            octets: [2, 0, 0, 0, 0, 1],
-        },
-        station_type: ArrayVec::new(),
-        vendor_id: 0x0123,
-        device_id: 0x0456,
-        instance: 1,
-        order_id: [b' '; 20],
-        serial_number: [b' '; 16],
-        hardware_revision: 0,
-        software_revision: *b"V\0\0\0",
-        profile_id: 0,
-        profile_specific_type: 0,
-    }
-}
-
-fn real() -> Real {
-    let mut modules = ArrayVec::new();
-    for (slot, plugged) in PLUGGED {
-        let mut module = RealModule {
-            slot,
-            ident: 1,
-            submodules: ArrayVec::new(),
-        };
-        for (subslot, ident) in plugged {
-            let submodule = RealSubmodule {
-                subslot: *subslot,
-                ident: *ident,
-                ..RealSubmodule::default()
-            };
-            let _ = module.submodules.try_push(submodule);
-        }
-        let _ = modules.try_push(module);
-    }
-    Real { modules }
-}
-
-fn event(octets: &[u8]) -> Event {
-    let mut bytes = Bytes::new();
-    let _ = bytes.try_extend_from_slice(octets);
-    Event::Frame(bytes)
-}
+use test_stations::{Station, plugged, station};
 
 /// A Read Implicit of I&M0 by the activity whose octets are all this number.
 fn call(alloc: Global, activity: u8, sequence: u32) -> Result<Event, Fail> {
@@ -80,7 +20,7 @@ fn call(alloc: Global, activity: u8, sequence: u32) -> Result<Event, Fail> {
     put(Order::Big, packet, 92, 4, sequence);
     put(Order::Big, packet, 162, 2, 0xAFF0);
     mend(packet);
-    Ok(event(octets.as_slice()))
+    Ok(test_stations::frame(octets.as_slice()))
 }
 
 /// Calls by activity and sequence number at a station that has answered the activities 1 to 4 under 5: each of those again;
@@ -130,9 +70,10 @@ impl Trial {
         let wanted = fate_of(octets);
         let is_answered = matches!(wanted, Fate::Answered { .. });
         let note = if is_answered {
-            called(self.alloc)?.step(&event(octets), &mut outbox)
+            called(self.alloc)?.step(&test_stations::frame(octets), &mut outbox)
         } else {
-            self.station.step(&event(octets), &mut outbox)
+            self.station
+                .step(&test_stations::frame(octets), &mut outbox)
         };
         let came = outcome(note, &outbox);
         assert!(rt;
@@ -176,9 +117,7 @@ impl Trial {
 /// A station with an address that has answered calls of the activities 1 to 4, each under the sequence number 5.
 fn called(alloc: Global) -> Result<Station, Fail> {
     let mut outbox = Outbox::new();
-    let started = Device::boot(identity(), real(), MemoryFlash::blank());
-    let mut station = started.ok().ok_or("starts")?;
-    let _ = station.step(&event(SET_SUITE), &mut outbox);
+    let mut station = station(plugged(), MemoryFlash::blank()).ok_or("starts")?;
     for activity in 1..5 {
         let _ = station.step(&call(alloc, activity, 5)?, &mut outbox);
     }

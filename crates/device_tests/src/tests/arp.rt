@@ -1,9 +1,9 @@
 //! Who holds the device's address.
-use crate::tests::stations::{addressed, frame, is_padded, start};
 use device_core::Note;
 use flash_model::MemoryFlash;
 use frame_codec::Outbox;
 use std::test::Fail;
+use test_stations::{addressed, frame, is_padded, start};
 
 // The station 02-00-00-00-00-02 at 192.168.0.1 asks all stations who holds 192.168.0.2.
 const REQUEST: [u8; 42] = *b"\xff\xff\xff\xff\xff\xff\x02\x00\x00\x00\x00\x02\x08\x06\

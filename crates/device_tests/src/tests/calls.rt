@@ -1,10 +1,10 @@
 //! Calls, answered, answered again, and not answered. Their octets and those of the answers were made by another program from
 //! RFC 768 and 791, C706 and IEC 61158-6-10.
-use crate::tests::stations::{Station, addressed, frame, start};
 use device_core::Note;
 use flash_model::MemoryFlash;
 use frame_codec::Outbox;
 use std::test::Fail;
+use test_stations::{Station, addressed, frame, start};
 
 // A Read Implicit of I&M0 at slot 0, subslot 1, asked for from 192.168.0.1, its sequence number 7.
 const CALL: [u8; 206] = *b"\x02\x00\x00\x00\x00\x01\x02\x00\x00\x00\x00\x02\x08\x00\

@@ -1,12 +1,10 @@
 //! Frames that are answered, and frames that are not taken.
-use crate::tests::stations::{
-    DONE, IDENTIFY, PUMP_1, SET, UNNAMED, frame, is_padded, restart, start,
-};
 use device_core::Note;
 use flash_model::MemoryFlash;
 use frame_codec::{Bytes, Outbox};
 use std::process::Abort;
 use std::test::Fail;
+use test_stations::{DONE, IDENTIFY, PUMP_1, SET, UNNAMED, frame, is_padded, restart, start};
 
 #[test]
 fn a_name_is_set_kept_and_found(rt: HostRuntime) -> Result<(), Fail> {

@@ -1,12 +1,12 @@
 //! A station whose flash has no room for one more commit, and a flash that another layout was written to.
-use crate::tests::stations::{
-    IDENTIFY, PUMP_1, Station, frame, identity, is_padded, no_modules, set_pump, start,
-};
 use device_core::{Device, Note};
-use flash_model::{Flash, FlashFault, MemoryFlash, Sector};
+use flash_model::{Flash, MemoryFlash, Sector};
 use frame_codec::Outbox;
 use settings_journal::BootFault;
 use std::test::Fail;
+use test_stations::{
+    IDENTIFY, PUMP_1, Station, frame, identity, is_padded, no_modules, set_pump, start, write_last,
+};
 
 // A reset of DCP without its block, and the answer without how the block came out.
 const RESET: [u8; 26] =
@@ -19,23 +19,6 @@ const ANSWERED: [u8; 26] =
 const FULL: [u8; 34] =
     *b"\x02\x00\x00\x00\x00\x02\x02\x00\x00\x00\x00\x01\x88\x92\xfe\xfd\x04\x01\x00\x00\x00\x02\x00\x00\x00\x08\
     \x05\x04\x00\x03\x02\x02\x04\x00";
-
-// The last generation in the first sector, in a version of the layout: a base with the name "pump-1" and an IP suite, and its
-// slot open with a reset of the texts.
-pub(crate) fn write_last(
-    flash: &mut MemoryFlash<768>,
-    version: u8,
-    suite: [u8; 12],
-) -> Result<(), FlashFault> {
-    let mut base = [0; 437];
-    base[..13].copy_from_slice(b"PNJ\x02\x00\x00\x06pump-1");
-    base[3] = version;
-    base[247..259].copy_from_slice(&suite);
-    flash.program(Sector::First, 0, &base)?;
-    flash.program(Sector::First, 511, &[0])?;
-    flash.program(Sector::First, 512, &[8, 0])?;
-    flash.program(Sector::First, 767, &[0])
-}
 
 // The request of a reset, and its answer with BlockError 4.
 fn reset(block: [u8; 6]) -> ([u8; 32], [u8; 34]) {

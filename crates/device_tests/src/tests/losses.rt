@@ -1,10 +1,10 @@
 //! Where names lie in the flash, and what is left of them where power is lost in a commit.
-use crate::tests::stations::{Station, restart, set_pump, start};
 use device_core::Note;
 use flash_model::{MemoryFlash, Order, Sector};
 use frame_codec::Outbox;
 use std::process::Abort;
 use std::test::Fail;
+use test_stations::{Station, restart, set_pump, start};
 
 // A station that was named "pump-1", and then "pump-2".
 fn named_twice(outbox: &mut Outbox) -> Option<Station> {

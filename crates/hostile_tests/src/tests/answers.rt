@@ -1,11 +1,12 @@
 // Broken answers to ApplicationReady. Behind each the right one still counts.
-use super::frames::{NUMBERS, bent, frame, mend, response, shortened};
+use super::frames::{NUMBERS, bent};
 use super::stations::{at, is_noted, is_untouched};
 use device_core::Note;
 use frame_codec::{Bytes, Outbox};
 use relations::Phase;
 use std::process::Abort;
 use std::test::Fail;
+use test_stations::{frame, mend, response, shortened};
 
 // A broken answer, and then the right one.
 fn are_heard(rt: &impl Abort, broken: &Bytes) -> Result<(), Fail> {

@@ -1,10 +1,11 @@
 // PDUs of alarms with other lengths, with another block, and under the other of the two FrameIDs.
-use super::frames::{ACK, ALARM_ACK, ERR, NACK, NUMBERS, bent, elsewhere, frame, octets, set};
+use super::frames::{ACK, ALARM_ACK, ERR, NACK, NUMBERS, bent, elsewhere};
 use super::stations::{PHASES, alarm, at, is_noted, is_untouched};
 use device_core::Note;
 use frame_codec::Outbox;
 use relations::Phase;
 use std::test::Fail;
+use test_stations::{frame, octets, set};
 
 // VarPartLen, and BlockLength of the AlarmAck.
 const LENGTHS: [(&[u8], usize); 5] = [

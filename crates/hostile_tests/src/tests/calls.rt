@@ -1,14 +1,14 @@
 // Broken calls of each operation.
-use super::frames::{
-    ASKED, BLOCKS, CALLS, CONNECT, CONTROL, GIVEN, NUMBERS, PRM_END, READ, WRITE, bent, call,
-    frame, mend, octets, shortened,
-};
-use super::stations::{Station, at, is_noted, is_untouched, served};
+use super::frames::{ASKED, BLOCKS, CALLS, GIVEN, NUMBERS, bent, call};
+use super::stations::{at, is_noted, is_untouched, served};
 use device_core::Note;
 use frame_codec::Outbox;
 use relations::Phase;
 use std::process::Abort;
 use std::test::Fail;
+use test_stations::{
+    CONNECT, CONTROL, PRM_END, READ, Station, WRITE, frame, mend, octets, shortened,
+};
 
 // Cut at each length, with all lengths as they were; and cut within the headers, with the lengths lowered to what is there.
 #[test]

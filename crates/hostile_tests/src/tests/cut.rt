@@ -1,11 +1,12 @@
 // Frames that are no calls, cut at each length.
-use super::frames::{OUTPUTS, PDUS, elsewhere, octets, set, untagged};
-use super::stations::{PHASES, Station, at, is_noted, is_untouched};
+use super::frames::{OUTPUTS, PDUS, elsewhere, untagged};
+use super::stations::{PHASES, at, is_noted, is_untouched};
 use device_core::Note;
 use frame_codec::Bytes;
 use relations::Phase;
 use std::process::Abort;
 use std::test::Fail;
+use test_stations::{Station, octets, set};
 
 // None of the parts in front of the end of a frame is taken: from this length on this becomes of each, and shorter ones are faults.
 fn are_cut(

@@ -1,11 +1,12 @@
 // Cyclic frames whose FrameID, CycleCounter or statuses are others, and what stands behind them.
-use super::frames::{BLOCKS, OUTPUTS, octets, set};
-use super::stations::{PHASES, Station, asked_for, at, is_noted, is_untouched};
+use super::frames::{BLOCKS, OUTPUTS};
+use super::stations::{PHASES, asked_for, at, is_noted, is_untouched};
 use device_core::Note;
 use frame_codec::Bytes;
 use relations::Phase;
 use std::process::Abort;
 use std::test::Fail;
+use test_stations::{Station, octets, set};
 
 // DataStatus without its bit 'valid', and TransferStatus.
 #[test]

@@ -1,27 +1,6 @@
 //! Frames of a controller, worked out by hand from IEC 61158-6-10, and the ways in which they are broken.
-use device_core::Event;
-use frame_codec::{Bytes, ones_sum};
-
-/// The number of each operation.
-pub(crate) const CONNECT: u8 = 0;
-
-pub(crate) const RELEASE: u8 = 1;
-
-pub(crate) const READ: u8 = 2;
-
-pub(crate) const WRITE: u8 = 3;
-
-pub(crate) const CONTROL: u8 = 4;
-
-/// The headers of a call from 192.168.0.1, up to its blocks; what each call sets is zero here, and so is the UDP checksum:
-/// there is none.
-const HEADERS: [u8; 142] = *b"\x02\x00\x00\x00\x00\x01\x02\x00\x00\x00\x00\x02\x08\x00\
-    \x45\x00\x00\x00\x00\x00\x40\x00\x40\x11\x00\x00\xc0\xa8\x00\x01\xc0\xa8\x00\x02\
-    \x88\x94\x88\x94\x00\x00\x00\x00\
-    \x04\x00\x20\x00\x00\x00\x00\x00\xde\xa0\x00\x00\x6c\x97\x11\xd1\x82\x71\x00\x01\x04\x56\x01\x23\
-    \xde\xa0\x00\x01\x6c\x97\x11\xd1\x82\x71\x00\xa0\x24\x42\xdf\x7d\x00\x00\x00\x00\x00\x00\x00\x00\x00\x00\x00\x00\x00\x00\x00\x00\
-    \x00\x00\x00\x00\x00\x00\x00\x01\x00\x00\x00\x00\x00\x00\xff\xff\xff\xff\x00\x00\x00\x00\x00\x00\
-    \x00\x00\x05\x5c\x00\x00\x00\x00\x00\x00\x05\x5c\x00\x00\x00\x00\x00\x00\x00\x00";
+use frame_codec::Bytes;
+use test_stations::{CONNECT, CONTROL, END, PRM_END, READ, RELEASE, WRITE, octets, set};
 
 /// The blocks of the Connect of the relation whose ARUUID is 1111..11, its SessionKey 1: an access point with two ports, two octets of
 /// input in slot 1, and two of output in slot 2. They begin at 0 (AR), 61 and 145 (IOCR), 229 (AlarmCR), 255, 319 and 355 (expected).
@@ -43,17 +22,6 @@ pub(crate) const BLOCKS: [u8; 391] =
     \x00\x01\x00\x02\x01\x01\
     \x01\x04\x00\x20\x01\x00\x00\x01\x00\x00\x00\x00\x00\x02\x00\x00\x00\x20\x00\x00\x00\x01\x00\x01\x00\x00\x00\x20\x00\x02\
     \x00\x02\x00\x02\x01\x01";
-
-/// PrmEnd and Release of it.
-pub(crate) const PRM_END: [u8; 32] = *b"\x01\x10\x00\x1c\x01\x00\x00\x00\
-    \x11\x11\x11\x11\x11\x11\x11\x11\x11\x11\x11\x11\x11\x11\x11\x11\x00\x01\x00\x00\x00\x01\x00\x00";
-
-pub(crate) const END: [u8; 32] = *b"\x01\x14\x00\x1c\x01\x00\x00\x00\
-    \x11\x11\x11\x11\x11\x11\x11\x11\x11\x11\x11\x11\x11\x11\x11\x11\x00\x01\x00\x00\x00\x04\x00\x00";
-
-/// The positive answer to its ApplicationReady.
-const READY: [u8; 32] = *b"\x81\x12\x00\x1c\x01\x00\x00\x00\
-    \x11\x11\x11\x11\x11\x11\x11\x11\x11\x11\x11\x11\x11\x11\x11\x11\x00\x01\x00\x00\x00\x08\x00\x00";
 
 /// A Read of I&M2, the date of installation, and a Write of a date.
 pub(crate) const ASKED: [u8; 64] = *b"\x00\x09\x00\x3c\x01\x00\x00\x00\
@@ -105,68 +73,14 @@ pub(crate) const PDUS: [&[u8]; 4] = [&ALARM_ACK, &ACK, &NACK, &ERR];
 /// 0, 1 and the greatest number: the last octet, and those in front of it.
 pub(crate) const NUMBERS: [(u8, u8); 3] = [(0, 0), (0, 1), (0xFF, 0xFF)];
 
-/// Puts an octet at a place of a frame that has one there.
-pub(crate) fn set(bytes: &mut Bytes, place: usize, octet: u8) {
-    if let Some(there) = bytes.as_mut_slice().get_mut(place) {
-        *there = octet;
-    }
-}
-
-/// Puts a number at a place.
-fn set_number(bytes: &mut Bytes, place: usize, number: u16) {
-    let [high, low] = number.to_be_bytes();
-    set(bytes, place, high);
-    set(bytes, place.wrapping_add(1), low);
-}
-
-/// Makes the checksum of the IPv4 header right.
-pub(crate) fn mend(bytes: &mut Bytes) {
-    set_number(bytes, 24, 0);
-    let sum = ones_sum(bytes.get(14..34).unwrap_or(&[]));
-    set_number(bytes, 24, !sum);
-}
-
-/// The first octets of a call, with what IPv4, UDP and RPC count, ArgsLength and ActualCount lowered to what is there.
-pub(crate) fn shortened(bytes: &[u8], length: usize) -> Bytes {
-    let mut part = Bytes::new();
-    let _ = part.try_extend_from_slice(bytes.get(..length).unwrap_or(&[]));
-    let length = part.len() as u16;
-    for (place, less) in [(16, 14), (38, 34), (116, 122), (128, 142), (140, 142)] {
-        set_number(&mut part, place, length.saturating_sub(less));
-    }
-    mend(&mut part);
-    part
-}
-
 /// A call of the activity 0707..07, with these blocks.
 pub(crate) fn call(operation: u8, sequence: u16, blocks: &[u8]) -> Bytes {
-    let mut bytes = Bytes::new();
-    let _ = bytes.try_extend_from_slice(&HEADERS);
-    let _ = bytes.try_extend_from_slice(blocks);
-    for place in 82..98 {
-        set(&mut bytes, place, 7);
-    }
-    set_number(&mut bytes, 108, sequence);
-    set(&mut bytes, 111, operation);
-    let length = bytes.len();
-    shortened(bytes.as_slice(), length)
-}
-
-/// The answer to ApplicationReady, which is of the activity of the ARUUID and of the sequence number 0.
-pub(crate) fn response() -> Bytes {
-    let mut bytes = call(CONTROL, 0, &READY);
-    for place in 82..98 {
-        set(&mut bytes, place, 0x11);
-    }
-    set(&mut bytes, 43, 2);
-    set_number(&mut bytes, 124, 0);
-    bytes
+    test_stations::call(operation, 7, sequence, blocks)
 }
 
 /// A frame with another number of so many octets at a place.
 pub(crate) fn bent(bytes: &[u8], place: usize, size: usize, (front, last): (u8, u8)) -> Bytes {
-    let mut bent = Bytes::new();
-    let _ = bent.try_extend_from_slice(bytes);
+    let mut bent = octets(bytes);
     let end = place.wrapping_add(size);
     for at in place..end {
         set(&mut bent, at, front);
@@ -177,30 +91,18 @@ pub(crate) fn bent(bytes: &[u8], place: usize, size: usize, (front, last): (u8, 
 
 /// A frame without its tag.
 pub(crate) fn untagged(bytes: &[u8]) -> Bytes {
-    let mut rest = Bytes::new();
-    let _ = rest.try_extend_from_slice(bytes.get(..12).unwrap_or(&[]));
+    let mut rest = octets(bytes.get(..12).unwrap_or(&[]));
     let _ = rest.try_extend_from_slice(bytes.get(16..).unwrap_or(&[]));
     rest
 }
 
 /// A PDU of alarms under the other FrameID of the two.
 pub(crate) fn elsewhere(bytes: &[u8]) -> Bytes {
-    let mut other = Bytes::new();
-    let _ = other.try_extend_from_slice(bytes);
+    let mut other = octets(bytes);
     let high = match bytes.get(18) {
         Some(0xFC) => 0xFE,
         _ => 0xFC,
     };
     set(&mut other, 18, high);
     other
-}
-
-pub(crate) fn octets(bytes: &[u8]) -> Bytes {
-    let mut octets = Bytes::new();
-    let _ = octets.try_extend_from_slice(bytes);
-    octets
-}
-
-pub(crate) fn frame(bytes: &[u8]) -> Event {
-    Event::Frame(octets(bytes))
 }

@@ -1,19 +1,14 @@
 //! The station of these tests in each phase, and whether frames left it as it was.
-use super::frames::{
-    ACK, ALARM_ACK, ASKED, BLOCKS, CONNECT, CONTROL, OUTPUTS, PRM_END, READ, call, frame, octets,
-    response,
-};
-use arrayvec::ArrayVec;
-use device_core::{Device, Event, Note};
+use super::frames::{ACK, ALARM_ACK, ASKED, BLOCKS, OUTPUTS, call};
+use device_core::{Event, Note};
 use flash_model::MemoryFlash;
 use frame_codec::{Bytes, Outbox};
-use pn_values::{Identity, Mac, Real, RealModule, RealSubmodule};
 use relations::Phase;
 use std::process::Abort;
 use std::test::Fail;
-
-/// Over the smallest flash.
-pub(crate) type Station = Device<MemoryFlash<768>, 768>;
+use test_stations::{
+    CONNECT, CONTROL, PRM_END, READ, Station, frame, octets, plugged, response, station,
+};
 
 /// Without a relation, and in each phase of one.
 pub(crate) const PHASES: [Option<Phase>; 4] = [
@@ -23,61 +18,10 @@ pub(crate) const PHASES: [Option<Phase>; 4] = [
     Some(Phase::Exchanging),
 ];
 
-/// A Set of the suite 192.168.0.2, 255.255.255.0, to be kept.
-const SET_ADDRESS: [u8; 44] =
-    *b"\x02\x00\x00\x00\x00\x01\x02\x00\x00\x00\x00\x02\x88\x92\xfe\xfd\x04\x00\x00\x00\x00\x02\x00\x00\x00\x12\
-    \x01\x02\x00\x0e\x00\x01\xc0\xa8\x00\x02\xff\xff\xff\x00\x00\x00\x00\x00";
-
-/// What is plugged in: slot and ident number of each module, and subslot and ident number of its submodules.
-const PLUGGED: [(u16, u32, &[(u16, u32)]); 3] = [
-    (0, 1, &[(1, 1), (0x8000, 2), (0x8001, 3)]),
-    (1, 16, &[(1, 16)]),
-    (2, 32, &[(1, 32)]),
-];
-
-fn identity() -> Identity {
-    Identity {
-        mac: Mac {
-            octets: [2, 0, 0, 0, 0, 1],
-        },
-        station_type: ArrayVec::new(),
-        vendor_id: 0x0123,
-        device_id: 0x0456,
-        instance: 1,
-        order_id: [b' '; 20],
-        serial_number: [b' '; 16],
-        hardware_revision: 0,
-        software_revision: *b"V\0\0\0",
-        profile_id: 0,
-        profile_specific_type: 0,
-    }
-}
-
-fn plugged() -> Real {
-    let mut modules = ArrayVec::new();
-    for (slot, ident, submodules) in PLUGGED {
-        let mut module = RealModule {
-            slot,
-            ident,
-            ..RealModule::default()
-        };
-        for (subslot, number) in submodules {
-            let _ = module.submodules.try_push(RealSubmodule {
-                subslot: *subslot,
-                ident: *number,
-                ..RealSubmodule::default()
-            });
-        }
-        let _ = modules.try_push(module);
-    }
-    Real { modules }
-}
-
 /// A station with an address, in this phase of a relation that these blocks of a Connect made.
 pub(crate) fn asked_for(blocks: &[u8], phase: Option<Phase>) -> Option<Station> {
-    let mut device = Device::boot(identity(), plugged(), MemoryFlash::blank()).ok()?;
+    let mut device = station(plugged(), MemoryFlash::blank())?;
     let mut outbox = Outbox::new();
-    let _ = device.step(&frame(&SET_ADDRESS), &mut outbox);
     let frames = [
         call(CONNECT, 0, blocks),
         call(CONTROL, 1, &PRM_END),

@@ -1,10 +1,10 @@
 -- What a frame of EtherType 0x8892 asks of the relation is carried out, and what is for nobody here is refused.
 use Rattle.std.proofs.Common.{ap, map, refl, subst, sym, ◌∙◌}
 use Rattle.frame_codec.specs.Meaning.{RealTime}
-use Rattle.device_core.specs.declared.event.Note.TheVariants.{NotMine}
-use Rattle.device_core.specs.Sent.{bytes_of}
-use Rattle.device_core.specs.Heard.{Elsewhere, Cyclic, heard_content}
-use Rattle.device_core.specs.Hearing.{heard_as}
+use Rattle.device_core.specs.declared.note.Note.TheVariants.{NotMine}
+use Rattle.device_frames.specs.Sent.{bytes_of}
+use Rattle.device_frames.specs.Heard.{Elsewhere, Cyclic, heard_content}
+use Rattle.device_frames.specs.Hearing.{heard_as}
 use Rattle.device_core.specs.Judged.{judged_cyclic}
 use Rattle.device_core.specs.Steps.{Steps}
 use Rattle.device_core.proofs.Judged.{cyclic_asks_nothing, cyclic_sends_nothing}

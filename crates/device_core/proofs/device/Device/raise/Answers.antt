@@ -4,8 +4,8 @@ use Rattle.relations.specs.Exchanged.{becoming, raised_to}
 use Rattle.relations.specs.Link.{flow_of}
 use Rattle.relations.specs.Phases.{moved}
 use Rattle.device_core.specs.State.{with_rest}
-use Rattle.device_core.specs.Sent.{bytes_of}
-use Rattle.device_core.specs.Judged.{alarms_of}
+use Rattle.device_frames.specs.Sent.{bytes_of}
+use Rattle.device_frames.specs.Relation.{alarms_of}
 use Rattle.device_core.proofs.Exchanged.{notice_refused, notice_raised}
 use Rattle.settings_store.specs.Carries.{Holds}
 use Rattle.device_core.proofs.device.Device.raise.Goals as goal

@@ -1,8 +1,8 @@
 -- A unit of time is a move, and so is what the application gives and raises.
 use Rattle.std.proofs.Common.{ap, map, refl, sym, ◌∙◌}
-use Rattle.device_core.specs.Sent.{bytes_of}
+use Rattle.device_frames.specs.Sent.{bytes_of}
 use Rattle.relations.specs.Exchanged.{given_to, raised_to}
-use Rattle.device_core.specs.Heard.{Ticks, Given, Raised, heard_of}
+use Rattle.device_frames.specs.Heard.{Ticks, Given, Raised, heard_of}
 use Rattle.device_core.specs.Judged.{judged_given, judged_raised}
 use Rattle.device_core.proofs.Judged.{input_asks_nothing, input_sends_nothing, notice_asks_nothing}
 use Rattle.device_core.proofs.Steps.{quiet_steps, moves_steps}

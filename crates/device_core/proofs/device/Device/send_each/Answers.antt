@@ -2,8 +2,8 @@
 use Rattle.std.proofs.Common.{◌≡◌, ℕ, List, ◌++◌, map, append_assoc, sym, ap, ◌∙◌}
 use Rattle.std.proofs.lemmas.List.{map-append}
 use Rattle.relations.specs.Link.{flow_of}
-use Rattle.device_core.specs.Sent.{Sent, bytes_of}
-use Rattle.device_core.specs.Judged.{alarms_of, inputs_of, ready_calls, where_due}
+use Rattle.device_frames.specs.Sent.{Sent, bytes_of}
+use Rattle.device_frames.specs.Relation.{alarms_of, inputs_of, ready_calls, where_due}
 use Rattle.device_core.proofs.device.Device.send_each.Goals as goal
 
 each : (f : Sent → List ℕ) (alarms ready inputs : List Sent) → (map f alarms ++ map f ready) ++ map f inputs ≡ map f (alarms ++ (ready ++ inputs))

@@ -4,7 +4,7 @@ use Rattle.std.specs.Prelude.{option_map}
 use Rattle.std.proofs.lemmas.List.{append-nil}
 use Rattle.settings_store.specs.Carries.{Holds}
 use Rattle.relations.specs.Farewells.{farewell_of}
-use Rattle.device_core.specs.Judged.{farewells_in, where_due}
+use Rattle.device_frames.specs.Relation.{farewells_in, where_due}
 use Rattle.device_core.proofs.device.Device.tick.Goals as goal
 
 -- of a relation that has ended nothing is due

@@ -1,0 +1,115 @@
+-- What an event is to a device.
+use Rattle.std.specs.Prelude.{◌==◌, ◌&&◌, ◌||◌, ℕ, Bool, nat_eq, nat_le, List, [], ◌∷◌, if◌then◌else◌, Result, Ok, Err}
+use Rattle.std.specs.Cmp.Lexicographic.{pointwise}
+use Rattle.pn_values.specs.declared.mac.Mac.{Mac}
+use Rattle.pn_values.specs.declared.identity.Identity.{Identity}
+use Rattle.frame_codec.specs.declared.arp.Arp.{Arp}
+use Rattle.frame_codec.specs.declared.fault.FrameFault.{FrameFault}
+use Rattle.frame_codec.specs.Meaning.{Meaning, Content, RealTime, ArpPacket, UdpDatagram}
+use Rattle.frame_codec.specs.Frame.{frame_of}
+use Rattle.dcp_core.specs.declared.request.DcpFault.{DcpFault}
+use Rattle.dcp_core.specs.Request.{Asked}
+use Rattle.dcp_core.specs.Reading.{request_of}
+use Rattle.rpc_core.specs.declared.fault.RpcFault.{RpcFault}
+use Rattle.rpc_core.specs.declared.interface.Interface.TheVariants.{Device}
+use Rattle.rpc_core.specs.Call.{Asked as Call, call_of}
+use Rattle.rpc_core.specs.Response.{Answered, response_of}
+use Rattle.pn_alarms.specs.declared.fault.AlarmFault.{AlarmFault}
+use Rattle.pn_alarms.specs.declared.message.Message.{Message}
+use Rattle.pn_alarms.specs.declared.pdu.Header.{Header}
+use Rattle.pn_alarms.specs.Message.{message_of}
+use Rattle.device_frames.specs.declared.event.Event.{Event}
+use Rattle.device_frames.specs.declared.event.Event.TheVariants.{Frame, Tick, Input, Alarm}
+use Rattle.device_frames.specs.declared.hearing.Caller.{Caller}
+
+-- what the body of a datagram says: a call to the device, else a response, else neither
+pub data Said : Type 0 where
+  Calls : (call : Call) → Said
+  Responds : (response : Answered) → Said
+  Garbled : Said
+
+-- What an event is: a unit of time, a frame that cannot be read, one for somebody else, a request of DCP and who asks it, a
+-- packet of ARP and who sends it, a datagram: who sends it, to which address, and what it says; a cyclic frame; an alarm frame: who
+-- sends it, between which endpoints, and what it says; or, from the application, the input of a submodule or an alarm of one.
+pub data Heard : Type 0 where
+  Ticks : Heard
+  Unreadable : Heard
+  Elsewhere : Heard
+  Asks : (source : Mac) → (request : Asked) → Heard
+  Resolves : (asker : Mac) → (arp : Arp) → Heard
+  Told : (caller : Caller) → (address : List ℕ) → (said : Said) → Heard
+  Cyclic : (source : Mac) → (frame_id : ℕ) → (body : List ℕ) → Heard
+  Alarms : (source : Mac) → (header : Header) → (message : Message) → Heard
+  Given : (slot : ℕ) → (subslot : ℕ) → (value : List ℕ) → Heard
+  Raised : (slot : ℕ) → (subslot : ℕ) → (octets : List ℕ) → Heard
+
+-- the address of all stations for Identify requests
+abbrev pub identify_multicast : List ℕ
+identify_multicast = 1 ∷ 14 ∷ 207 ∷ 0 ∷ 0 ∷ 0 ∷ []
+
+-- the address of all stations
+abbrev pub broadcast : List ℕ
+broadcast = 255 ∷ 255 ∷ 255 ∷ 255 ∷ 255 ∷ 255 ∷ []
+
+-- whether a frame is for this device alone
+abbrev pub is_own : Identity → Mac → Bool
+is_own identity destination = pointwise nat_eq destination.octets identity.mac.octets
+
+-- Whether a frame is for this device and of a kind that it takes: DCP Get and Set to its own address, an Identify request
+-- to its own or to that of all stations.
+abbrev pub is_taken : Identity → Mac → ℕ → Bool
+is_taken identity destination frame_id =
+    (frame_id == 65277 && is_own identity destination)
+    || (frame_id == 65278 && (is_own identity destination || pointwise nat_eq destination.octets identify_multicast))
+
+-- FrameIDs of cyclic frames, of class 2 and of class 1, and of alarms of high and of low priority (IEC 61158-6-10, 4.7)
+abbrev pub is_cyclic : ℕ → Bool
+is_cyclic frame_id = (nat_le 0x8000 frame_id && nat_le frame_id 0xBBFF) || (nat_le 0xC000 frame_id && nat_le frame_id 0xF7FF)
+
+abbrev pub is_alarm : ℕ → Bool
+is_alarm frame_id = frame_id == 0xFC01 || frame_id == 0xFE01
+
+-- data that carries no whole AlarmAck cannot be read either, whoever sends it
+abbrev pub heard_alarm : Mac → Result (Header × Message) AlarmFault → Heard
+heard_alarm source (Ok x) = Alarms source x.0 x.1
+heard_alarm source (Err fault) = Unreadable
+
+abbrev pub heard_request : Mac → Result Asked DcpFault → Heard
+heard_request source (Ok request) = Asks source request
+heard_request source (Err fault) = Unreadable
+
+-- a response, to whatever interface
+abbrev pub said_else : Result Answered RpcFault → Said
+said_else (Ok response) = Responds response
+said_else (Err fault) = Garbled
+
+abbrev pub said_first : Result Call RpcFault → Result Answered RpcFault → Said
+said_first (Ok call) response = Calls call
+said_first (Err fault) response = said_else response
+
+-- what the body of a datagram says
+unfoldable pub said_by : List ℕ → Said
+said_by body = said_first (call_of Device body) (response_of body)
+
+-- a packet of ARP is taken that goes to this device or to all stations, and a datagram to port 34964 of this device
+abbrev pub heard_content : Identity → Mac → Mac → Content → Heard
+heard_content identity destination source (RealTime frame_id body) =
+    if is_taken identity destination frame_id then heard_request source (request_of frame_id body)
+    else if is_own identity destination && is_alarm frame_id then heard_alarm source (message_of body)
+    else if is_own identity destination && is_cyclic frame_id then Cyclic source frame_id body
+    else Elsewhere
+heard_content identity destination source (ArpPacket arp) =
+    if is_own identity destination || pointwise nat_eq destination.octets broadcast then Resolves source arp else Elsewhere
+heard_content identity destination source (UdpDatagram from to body) =
+    if is_own identity destination && to.port == 34964 then Told (record { mac = source; endpoint = from }) to.address (said_by body) else Elsewhere
+
+-- a frame is read first, and then its destination is looked at
+abbrev pub heard_frame : Identity → Result Meaning FrameFault → Heard
+heard_frame identity (Ok meaning) = heard_content identity meaning.destination meaning.source meaning.content
+heard_frame identity (Err fault) = Unreadable
+
+unfoldable pub heard_of : Identity → Event → Heard
+heard_of identity (Frame bytes) = heard_frame identity (frame_of bytes.items)
+heard_of identity Tick = Ticks
+heard_of identity (Input slot subslot value) = Given slot subslot value.items
+heard_of identity (Alarm slot subslot octets) = Raised slot subslot octets.items

@@ -1,0 +1,4 @@
+pub mod Heard
+pub mod Hearing
+pub mod Sent
+pub mod Relation

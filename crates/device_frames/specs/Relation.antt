@@ -1,0 +1,49 @@
+-- What a device sends of its relation, and when.
+use Rattle.std.specs.Prelude.{◌++◌, ℕ, Bool, List, [], ◌∷◌, if◌then◌else◌, Option, Some, None}
+use Rattle.pn_alarms.specs.declared.receiver.Taken.{Taken}
+use Rattle.exchanges.specs.declared.route.Route.{Route}
+use Rattle.exchanges.specs.Flow.{Flow}
+use Rattle.exchanges.specs.Frames.{Frame, alarm_frame, inputs_frame, reply_frame}
+use Rattle.relations.specs.declared.farewell.Farewell.{Farewell}
+use Rattle.relations.specs.declared.time.Due.{Due}
+use Rattle.relations.specs.Link.{Link, flow_of}
+use Rattle.relations.specs.Ready.{ready_of}
+use Rattle.device_frames.specs.Sent.{Sent, ReadyCall, Ends, Exchanges}
+
+-- ApplicationReady of a relation, if there is one, from this address
+abbrev pub ready_calls : List ℕ → Option Link → List Sent
+ready_calls address None = []
+ready_calls address (Some link) = ReadyCall address (ready_of link) ∷ []
+
+-- the frames of it that there are: of a relation, the alarm that stands, the inputs at this CycleCounter, and the answer to data that was
+-- taken so
+abbrev pub frames_in : Route → Option Frame → List Sent
+frames_in route (Some frame) = Exchanges route frame ∷ []
+frames_in route None = []
+
+abbrev pub alarms_of : Option Flow → List Sent
+alarms_of None = []
+alarms_of (Some flow) = frames_in flow.route (alarm_frame flow)
+
+abbrev pub inputs_of : ℕ → Option Flow → List Sent
+inputs_of counter None = []
+inputs_of counter (Some flow) = Exchanges flow.route (inputs_frame flow counter) ∷ []
+
+abbrev pub replies_of : Taken → Option Flow → List Sent
+replies_of taken None = []
+replies_of taken (Some flow) = Exchanges flow.route (reply_frame flow taken) ∷ []
+
+-- the ERR that ends it, if there is one
+abbrev pub farewells_in : Option Farewell → List Sent
+farewells_in None = []
+farewells_in (Some farewell) = Ends farewell ∷ []
+
+-- what is sent where it is due
+abbrev pub where_due : Bool → List Sent → List Sent
+where_due is_due sent = if is_due then sent else []
+
+-- what is sent with a unit: the ERR of a timeout, and nothing else; or the alarm that stands again, ApplicationReady again, and inputs
+abbrev pub due_frames : List ℕ → ℕ → Due → Option Link → List Sent
+due_frames address units due link =
+    farewells_in due.farewell
+    ++ (where_due due.is_alarm (alarms_of (flow_of link)) ++ (where_due due.is_ready (ready_calls address link) ++ where_due due.is_cyclic (inputs_of units (flow_of link))))

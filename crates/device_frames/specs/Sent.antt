@@ -1,0 +1,89 @@
+-- What a device sends: messages by their meaning, and the one way from them to octets.
+use Rattle.std.specs.Prelude.{ℕ, List, Some, None}
+use Rattle.pn_values.specs.declared.mac.Mac.{Mac}
+use Rattle.pn_values.specs.declared.identity.Identity.{Identity}
+use Rattle.pn_values.specs.declared.settings.Settings.{Settings}
+use Rattle.pn_values.specs.declared.set_item.BlockError.{BlockError}
+use Rattle.frame_codec.specs.declared.arp.ArpOperation.TheVariants.{Reply}
+use Rattle.frame_codec.specs.declared.arp.Holder.{Holder}
+use Rattle.frame_codec.specs.Meaning.{Content, RealTime, ArpPacket, UdpDatagram}
+use Rattle.frame_codec.specs.Frame.{frame_bytes}
+use Rattle.dcp_core.specs.Request.{Asked}
+use Rattle.dcp_core.specs.Identify.{identify_bytes}
+use Rattle.dcp_core.specs.Get.{get_bytes}
+use Rattle.dcp_core.specs.Set.{set_bytes}
+use Rattle.rpc_core.specs.declared.interface.Interface.TheVariants.{Controller}
+use Rattle.rpc_core.specs.Call.{call_bytes}
+use Rattle.rpc_core.specs.Response.{Answered, response_bytes}
+use Rattle.block_codec.specs.declared.block.Block.TheVariants as is
+use Rattle.block_codec.specs.Block.{block_bytes}
+use Rattle.pn_alarms.specs.declared.pdu.PduType.TheVariants.{Error}
+use Rattle.pn_alarms.specs.Format.{frame_id_of, pdu_bytes}
+use Rattle.relations.specs.declared.farewell.Farewell.{Farewell}
+use Rattle.relations.specs.declared.ready.Ready.{Ready}
+use Rattle.relations.specs.Farewells.{said_by}
+use Rattle.exchanges.specs.declared.route.Route.{Route}
+use Rattle.exchanges.specs.Frames.{Frame, tag_of, id_of, body_of}
+use Rattle.device_frames.specs.declared.hearing.Caller.{Caller}
+
+-- A message, and to whom: the answer to an Identify request, to a Get, or to a Set and how each of its blocks came out; who
+-- holds an address, told to whom asked for it; the answer to a call, from this address; the frame of such an answer again; the
+-- call ApplicationReady, from this address; the ERR by which this device ends its relation; or a frame by which it exchanges.
+pub data Sent : Type 0 where
+  IdentifyAnswer : (asker : Mac) → (running : Settings) → (xid : ℕ) → Sent
+  GetAnswer : (asker : Mac) → (running : Settings) → (request : Asked) → Sent
+  SetAnswer : (asker : Mac) → (request : Asked) → (answers : List BlockError) → Sent
+  ArpReply : (asker : Mac) → (address : List ℕ) → (target : Holder) → Sent
+  CallAnswer : (caller : Caller) → (address : List ℕ) → (answer : Answered) → Sent
+  Again : (frame : List ℕ) → Sent
+  ReadyCall : (address : List ℕ) → (ready : Ready) → Sent
+  Ends : (farewell : Farewell) → Sent
+  Exchanges : (route : Route) → (frame : Frame) → Sent
+
+-- a frame of this device, which has no tag
+abbrev pub own_frame : Identity → Mac → Content → List ℕ
+own_frame identity destination content = frame_bytes (record { destination = destination; source = identity.mac; tag = None; content = content })
+
+-- one with a tag: of alarms
+abbrev pub tagged_frame : Identity → Mac → ℕ → Content → List ℕ
+tagged_frame identity destination tag content = frame_bytes (record { destination = destination; source = identity.mac; tag = Some tag; content = content })
+
+-- a DCP answer to whom asked: FrameID, and what follows it
+abbrev pub answer_frame : Identity → Mac → ℕ → List ℕ → List ℕ
+answer_frame identity asker frame_id answer = own_frame identity asker (RealTime frame_id answer)
+
+-- an ARP reply (RFC 826) to whom asked: this device holds the address
+abbrev pub reply_frame : Identity → Mac → List ℕ → Holder → List ℕ
+reply_frame identity asker address target =
+    own_frame identity asker (ArpPacket (record { operation = Reply; sender = record { mac = identity.mac; address = address }; target = target }))
+
+-- a response to whom called, to the port that the call came from
+abbrev pub response_frame : Identity → Caller → List ℕ → Answered → List ℕ
+response_frame identity caller address answer =
+    own_frame identity caller.mac (UdpDatagram (record { address = address; port = 34964 }) caller.endpoint (response_bytes answer))
+
+-- ApplicationReady, to the station that asked for the relation: its response may have 1,372 octets of blocks
+abbrev pub ready_frame : Identity → List ℕ → Ready → List ℕ
+ready_frame identity address ready =
+    own_frame identity ready.partner.mac (UdpDatagram (record { address = address; port = 34964 }) (record { address = ready.partner.address; port = 34964 })
+    (call_bytes Controller (record { header = ready.header; args_maximum = 1372; blocks = Some (block_bytes (is.ApplicationReady ready.block)) })))
+
+-- an ERR, to CMInitiatorMacAdd
+abbrev pub farewell_frame : Identity → Farewell → List ℕ
+farewell_frame identity farewell = tagged_frame identity farewell.initiator farewell.tag (RealTime (frame_id_of Error) (pdu_bytes (said_by farewell)))
+
+-- a frame of inputs, of an alarm, or of the answer to an AlarmAck, to the partner
+abbrev pub exchange_frame : Identity → Route → Frame → List ℕ
+exchange_frame identity route frame = tagged_frame identity route.partner (tag_of route frame) (RealTime (id_of route frame) (body_of frame))
+
+-- the octets of a message
+abbrev pub bytes_of : Identity → Sent → List ℕ
+bytes_of identity (IdentifyAnswer asker running xid) = answer_frame identity asker 65279 (identify_bytes identity running xid)
+bytes_of identity (GetAnswer asker running request) = answer_frame identity asker 65277 (get_bytes identity running request)
+bytes_of identity (SetAnswer asker request answers) = answer_frame identity asker 65277 (set_bytes request answers)
+bytes_of identity (ArpReply asker address target) = reply_frame identity asker address target
+bytes_of identity (CallAnswer caller address answer) = response_frame identity caller address answer
+bytes_of identity (Again frame) = frame
+bytes_of identity (ReadyCall address ready) = ready_frame identity address ready
+bytes_of identity (Ends farewell) = farewell_frame identity farewell
+bytes_of identity (Exchanges route frame) = exchange_frame identity route frame

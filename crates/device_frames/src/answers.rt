@@ -1,0 +1,92 @@
+//! The answers of a device: to a request of DCP, to a packet of ARP, and to a call.
+ghost use Rattle.std.specs.Prelude.{◌≡◌, ◌<◌, ◌≤◌, ◌+◌, [], ◌∷◌, ◌++◌, length, map};
+ghost use Rattle.arrayvec.specs.ArrayVec.{array_vec_len};
+ghost use Rattle.rpc_core.specs.Response.{answered};
+ghost use Rattle.device_frames.specs.Sent.{answer_frame, reply_frame, response_frame};
+
+use crate::Caller;
+use dcp_core::Answer;
+use frame_codec::{Arp, ArpOperation, Endpoint, Holder, Layered, Outbox, Payload, RPC_PORT, Udp};
+use pn_values::{Identity, Mac};
+use rpc_core::{Datagram, Response, write_response};
+
+/// Puts a DCP answer to the station that asked into the box, behind what is in it.
+pub fn send_dcp_answer(
+    identity: &Identity,
+    asker: Mac,
+    frame_id: u16,
+    answer: &Answer,
+    outbox: &mut Outbox,
+)
+    requires { array_vec_len outbox.old < 4 }
+    ensures { map (λ frame. frame.items) outbox.new.items ≡ map (λ frame. frame.items) outbox.old.items ++ answer_frame identity.now asker frame_id answer.now.items ∷ [] }
+{
+    let layered = Layered {
+        destination: asker,
+        source: identity.mac,
+        tag: None,
+        payload: Payload::RealTime {
+            frame_id,
+            body: answer.as_slice(),
+        },
+    };
+    outbox.put(&layered);
+}
+
+/// Puts the reply that the device holds this address into the box, behind what is in it.
+pub fn send_arp_reply(
+    identity: &Identity,
+    asker: Mac,
+    address: [u8; 4],
+    target: Holder,
+    outbox: &mut Outbox,
+)
+    requires room { array_vec_len outbox.old < 4 }
+    ensures { map (λ frame. frame.items) outbox.new.items ≡ map (λ frame. frame.items) outbox.old.items ++ reply_frame identity.now asker address target ∷ [] }
+{
+    let sender = Holder {
+        mac: identity.mac,
+        address,
+    };
+    outbox.put(&Layered {
+        destination: asker,
+        source: identity.mac,
+        tag: None,
+        payload: Payload::Arp(Arp {
+            operation: ArpOperation::Reply,
+            sender,
+            target,
+        }),
+    });
+}
+
+/// Puts the response to a call into the box, behind what is in it.
+pub fn send_response(
+    identity: &Identity,
+    address: [u8; 4],
+    caller: &Caller,
+    response: &Response<'_>,
+    outbox: &mut Outbox,
+)
+    requires room { array_vec_len outbox.old < 4 }
+    requires blocks { length response.now.blocks.now ≤ 1372 }
+    ensures one { array_vec_len outbox.new ≡ array_vec_len outbox.old + 1 }
+    ensures frames { map (λ frame. frame.items) outbox.new.items
+        ≡ map (λ frame. frame.items) outbox.old.items ++ response_frame identity.now caller.now address (answered response.now) ∷ [] }
+{
+    let mut datagram = Datagram::new();
+    write_response(response, &mut datagram);
+    outbox.put(&Layered {
+        destination: caller.mac,
+        source: identity.mac,
+        tag: None,
+        payload: Payload::Udp(Udp {
+            source: Endpoint {
+                address,
+                port: RPC_PORT,
+            },
+            destination: caller.endpoint,
+            body: datagram.as_slice(),
+        }),
+    });
+}

@@ -1,0 +1,123 @@
+// What a device sends of what its relation exchanges (IEC 61158-6-10, 4.7 and 4.8), and what is due with a unit of time.
+ghost use Rattle.std.specs.Prelude.{◌≡◌, ◌<◌, ◌≤◌, ◌+◌, ◌++◌, ◌∷◌, [], map};
+ghost use Rattle.arrayvec.specs.ArrayVec.{array_vec_len};
+ghost use Rattle.device_frames.specs.Sent.{bytes_of};
+ghost use Rattle.device_frames.specs.Relation.{alarms_of, inputs_of, ready_calls, replies_of, where_due};
+ghost use Rattle.relations.specs.Link.{flow_of};
+
+use crate::relation::send_ready;
+use arrayvec::ArrayVec;
+use frame_codec::{Outbox, Pieces};
+use pn_alarms::{PduType, Taken};
+use pn_values::Identity;
+use relations::Relation;
+
+/// Puts the inputs of the relation at this CycleCounter into the box, behind what is in it: if they are due, and there is one.
+pub fn send_inputs(
+    identity: &Identity,
+    counter: u16,
+    is_due: bool,
+    relation: &Relation,
+    outbox: &mut Outbox,
+)
+    requires room { array_vec_len outbox.old < 4 }
+    ensures frames { map (λ frame. frame.items) outbox.new.items
+        ≡ map (λ frame. frame.items) outbox.old.items ++ map (bytes_of identity.now) (where_due is_due (inputs_of counter (flow_of relation.now))) }
+    ensures few { array_vec_len outbox.new ≤ array_vec_len outbox.old + 1 }
+{
+    if !is_due {
+        return;
+    }
+    let Some(exchange) = relation.exchange() else {
+        return;
+    };
+    let route = exchange.route();
+    let (inputs, tail) = exchange.inputs(counter);
+    outbox.put_pieces(&Pieces {
+        destination: route.partner,
+        source: identity.mac,
+        tag: Some(route.input_tag),
+        frame_id: route.input_id,
+        front: inputs,
+        behind: tail.as_slice(),
+    });
+}
+
+/// Puts the alarm that stands in the relation into the box, behind what is in it, if there is one.
+#[inline(always)]
+pub fn send_alarm(identity: &Identity, relation: &Relation, outbox: &mut Outbox)
+    requires room { array_vec_len outbox.old < 4 }
+    ensures frames { map (λ frame. frame.items) outbox.new.items
+        ≡ map (λ frame. frame.items) outbox.old.items ++ map (bytes_of identity.now) (alarms_of (flow_of relation.now)) }
+    ensures few { array_vec_len outbox.new ≤ array_vec_len outbox.old + 1 }
+{
+    let Some(exchange) = relation.exchange() else {
+        return;
+    };
+    let Some(alarm) = exchange.alarm() else {
+        return;
+    };
+    let front = alarm.0;
+    let route = exchange.route();
+    outbox.put_pieces(&Pieces {
+        destination: route.partner,
+        source: identity.mac,
+        tag: Some(route.alarm_tag),
+        frame_id: PduType::Data.frame_id(),
+        front: &front,
+        behind: alarm.1,
+    });
+}
+
+/// Puts the alarm that stands in the relation into the box, behind what is in it: if it is due, and there is one.
+#[inline(never)]
+pub fn send_alarm_again(identity: &Identity, is_due: bool, relation: &Relation, outbox: &mut Outbox)
+    requires room { array_vec_len outbox.old < 4 }
+    ensures frames { map (λ frame. frame.items) outbox.new.items
+        ≡ map (λ frame. frame.items) outbox.old.items ++ map (bytes_of identity.now) (where_due is_due (alarms_of (flow_of relation.now))) }
+    ensures few { array_vec_len outbox.new ≤ array_vec_len outbox.old + 1 }
+{
+    if is_due {
+        send_alarm(identity, relation, outbox);
+    }
+}
+
+/// Puts the answer to the data of an alarm that was taken so into the box, behind what is in it, if there is a relation.
+pub fn send_alarm_reply(identity: &Identity, taken: Taken, relation: &Relation, outbox: &mut Outbox)
+    requires room { array_vec_len outbox.old < 4 }
+    ensures { map (λ frame. frame.items) outbox.new.items
+        ≡ map (λ frame. frame.items) outbox.old.items ++ map (bytes_of identity.now) (replies_of taken (flow_of relation.now)) }
+{
+    let Some(exchange) = relation.exchange() else {
+        return;
+    };
+    let route = exchange.route();
+    let mut body: ArrayVec<u8, 12> = ArrayVec::new();
+    exchange.put_reply(taken, &mut body);
+    outbox.put_pieces(&Pieces {
+        destination: route.partner,
+        source: identity.mac,
+        tag: Some(route.alarm_tag),
+        frame_id: taken.answer().frame_id(),
+        front: body.as_slice(),
+        behind: &[],
+    });
+}
+
+/// Puts ApplicationReady into the box, behind what is in it: if it is due, and there is a relation.
+pub fn send_ready_again(
+    identity: &Identity,
+    address: [u8; 4],
+    is_due: bool,
+    relation: &Relation,
+    outbox: &mut Outbox,
+)
+    requires room { array_vec_len outbox.old < 4 }
+    ensures frames { map (λ frame. frame.items) outbox.new.items
+        ≡ map (λ frame. frame.items) outbox.old.items ++ map (bytes_of identity.now) (where_due is_due (ready_calls address relation.now)) }
+    ensures few { array_vec_len outbox.new ≤ array_vec_len outbox.old + 1 }
+{
+    if is_due {
+        send_ready(identity, address, relation, outbox);
+    }
+}

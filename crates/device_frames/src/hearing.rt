@@ -1,0 +1,111 @@
+//! What a frame is to a device.
+ghost use Rattle.std.specs.Prelude.{◌≡◌, ◌==◌, ◌&&◌, ◌||◌, IfSome, List, ℕ, nat_eq, option_map};
+ghost use Rattle.std.specs.Cmp.Lexicographic.{pointwise};
+ghost use Rattle.device_frames.specs.Heard.{broadcast, heard_content, heard_of, is_own as is_own_by, is_taken as is_taken_by};
+ghost use Rattle.device_frames.specs.Hearing.{heard_as, heard_in};
+ghost use Rattle.device_frames.specs.declared.event.Event.TheVariants.{Frame};
+ghost use Rattle.frame_codec.specs.Meaning.{RealTime, meaning_of};
+
+use frame_codec::{
+    ALARM_HIGH, ALARM_LOW, Bytes, DCP_GET_SET, DCP_IDENTIFY_REQUEST, Endpoint, Layered, RPC_PORT,
+    RealTimeFrame, read, read_real_time,
+};
+use pn_values::{Identity, Mac};
+
+/// The address of all stations for Identify requests (IEC 61158-6-10, 4.3.1.3.1).
+const IDENTIFY_MULTICAST: Mac = Mac {
+    octets: [0x01, 0x0E, 0xCF, 0x00, 0x00, 0x00],
+};
+
+/// The address of all stations (IEEE 802, 8.2.2).
+const BROADCAST: Mac = Mac { octets: [0xFF; 6] };
+
+/// Who sent a datagram.
+#[derive(Clone, Copy)]
+pub struct Caller {
+    /// The station.
+    pub mac: Mac,
+    /// The address and the port there.
+    pub endpoint: Endpoint,
+}
+
+/// Reads a frame of EtherType 0x8892, if it is one.
+#[inline(always)]
+#[tactic(auto, unfolding(crate::specs::Heard::heard_of))]
+pub fn real_time_in(bytes: &Bytes) -> Option<RealTimeFrame<'_>>
+    ensures { IfSome result (λ frame. (identity : Identity) → heard_of identity (Frame bytes.now) ≡ heard_content identity frame.destination frame.source (RealTime frame.frame_id frame.body.now)) }
+{
+    read_real_time(bytes.as_slice())
+}
+
+/// Reads a frame, if it can be read.
+#[tactic(auto, unfolding(crate::specs::Heard::heard_of))]
+pub fn read_layers(bytes: &Bytes) -> Option<Layered<'_>>
+    ensures { (identity : Identity) → heard_of identity (Frame bytes.now) ≡ heard_in identity (option_map meaning_of result) }
+{
+    read(bytes.as_slice()).ok()
+}
+
+/// What a frame of EtherType 0x8892 is to a device.
+#[derive(Clone, Copy)]
+pub enum Kind {
+    /// A request of DCP that the device takes.
+    Request,
+    /// An alarm frame to this station.
+    Alarm,
+    /// A cyclic frame to this station.
+    Cyclic,
+    /// A frame for another station, or of a kind that a device does not take.
+    Elsewhere,
+}
+
+/// What a frame with this destination and FrameID is.
+#[inline(always)]
+pub fn kind_of(identity: &Identity, destination: Mac, frame_id: u16) -> Kind
+    ensures { (source : Mac) (body : List ℕ) → heard_content identity.now destination source (RealTime frame_id body) ≡ heard_as result source frame_id body }
+{
+    if is_taken(identity, destination, frame_id) {
+        return Kind::Request;
+    }
+    if !is_own(identity, destination) {
+        return Kind::Elsewhere;
+    }
+    match frame_id {
+        ALARM_HIGH | ALARM_LOW => Kind::Alarm,
+        0x8000..=0xBBFF | 0xC000..=0xF7FF => Kind::Cyclic,
+        _ => Kind::Elsewhere,
+    }
+}
+
+/// Whether a packet of ARP with this destination is for the device: to it, or to all stations.
+pub fn is_asked(identity: &Identity, destination: Mac) -> bool
+    ensures { result ≡ (is_own_by identity.now destination || pointwise nat_eq destination.octets broadcast) }
+{
+    is_own(identity, destination) || destination.is(&BROADCAST)
+}
+
+/// Whether a datagram with this destination and port is for the device: to it, and to the port of calls.
+pub fn is_called(identity: &Identity, destination: Mac, port: u16) -> bool
+    ensures { result ≡ (is_own_by identity.now destination && port == 34964) }
+{
+    is_own(identity, destination) && port == RPC_PORT
+}
+
+// Whether a frame with this destination is for the device alone.
+fn is_own(identity: &Identity, destination: Mac) -> bool
+    ensures { result ≡ is_own_by identity.now destination }
+{
+    destination.is(&identity.mac)
+}
+
+// Whether a frame with this destination and FrameID is for the device.
+fn is_taken(identity: &Identity, destination: Mac, frame_id: u16) -> bool
+    ensures { result ≡ is_taken_by identity.now destination frame_id }
+{
+    let is_own = is_own(identity, destination);
+    match frame_id {
+        DCP_GET_SET => is_own,
+        DCP_IDENTIFY_REQUEST => is_own || destination.is(&IDENTIFY_MULTICAST),
+        _ => false,
+    }
+}

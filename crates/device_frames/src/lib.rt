@@ -1,0 +1,16 @@
+//! What comes to a device, and what it sends: an event by what it says, and messages by their frames.
+//!
+//! Who holds the device's state judges what was heard, and says what is sent; between that and the octets of frames stands this crate.
+#![tactic(auto)]
+
+mod answers;
+mod event;
+mod exchange;
+mod hearing;
+mod relation;
+
+pub use answers::{send_arp_reply, send_dcp_answer, send_response};
+pub use event::Event;
+pub use exchange::{send_alarm, send_alarm_again, send_alarm_reply, send_inputs, send_ready_again};
+pub use hearing::{Caller, Kind, is_asked, is_called, kind_of, read_layers, real_time_in};
+pub use relation::{send_farewell, send_ready};

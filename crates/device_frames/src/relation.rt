@@ -1,0 +1,74 @@
+// What a device sends of its relation: ApplicationReady, and the ERR that ends it (IEC 61158-6-10, 5.2.4.5 and 5.2.6).
+ghost use Rattle.std.specs.Prelude.{◌≡◌, ◌<◌, ◌≤◌, ◌+◌, ◌++◌, ◌∷◌, [], map};
+ghost use Rattle.arrayvec.specs.ArrayVec.{array_vec_len};
+ghost use Rattle.device_frames.specs.Sent.{bytes_of, farewell_frame};
+ghost use Rattle.device_frames.specs.Relation.{ready_calls};
+
+use arrayvec::ArrayVec;
+use frame_codec::{Endpoint, Layered, Outbox, Payload, RPC_PORT, Udp};
+use pn_alarms::write_pdu;
+use pn_values::Identity;
+use relations::{Farewell, Relation};
+use rpc_core::{Call, Datagram, write_request};
+
+/// How many octets of blocks the answer to a call of this device may have.
+const ARGS_MAXIMUM: u32 = 1_372;
+
+/// Puts the ERR that ends the relation into the box, behind what is in it.
+pub fn send_farewell(identity: &Identity, farewell: &Farewell, outbox: &mut Outbox)
+    requires room { array_vec_len outbox.old < 4 }
+    ensures frames { map (λ frame. frame.items) outbox.new.items ≡ map (λ frame. frame.items) outbox.old.items ++ farewell_frame identity.now farewell.now ∷ [] }
+    ensures len { array_vec_len outbox.new ≡ array_vec_len outbox.old + 1 }
+{
+    let pdu = farewell.pdu();
+    let mut body: ArrayVec<u8, 16> = ArrayVec::new();
+    write_pdu(&mut body, &pdu);
+    outbox.put(&Layered {
+        destination: farewell.initiator,
+        source: identity.mac,
+        tag: Some(farewell.tag),
+        payload: Payload::RealTime {
+            frame_id: pdu.header.kind.frame_id(),
+            body: body.as_slice(),
+        },
+    });
+}
+
+/// Puts ApplicationReady of the relation, if there is one, into the box, behind what is in it.
+pub fn send_ready(identity: &Identity, address: [u8; 4], relation: &Relation, outbox: &mut Outbox)
+    requires room { array_vec_len outbox.old < 4 }
+    ensures frames { map (λ frame. frame.items) outbox.new.items
+        ≡ map (λ frame. frame.items) outbox.old.items ++ map (bytes_of identity.now) (ready_calls address relation.now) }
+    ensures few { array_vec_len outbox.new ≤ array_vec_len outbox.old + 1 }
+{
+    let Some(ready) = relation.ready() else {
+        return;
+    };
+    let mut blocks: ArrayVec<u8, 32> = ArrayVec::new();
+    ready.put_blocks(&mut blocks);
+    let mut datagram = Datagram::new();
+    write_request(
+        &Call {
+            header: ready.header,
+            args_maximum: ARGS_MAXIMUM,
+            blocks: Some(blocks.as_slice()),
+        },
+        &mut datagram,
+    );
+    outbox.put(&Layered {
+        destination: ready.partner.mac,
+        source: identity.mac,
+        tag: None,
+        payload: Payload::Udp(Udp {
+            source: Endpoint {
+                address,
+                port: RPC_PORT,
+            },
+            destination: Endpoint {
+                address: ready.partner.address,
+                port: RPC_PORT,
+            },
+            body: datagram.as_slice(),
+        }),
+    });
+}

@@ -1,0 +1,227 @@
+//! Records that are written in a relation: what is stored and kept, what is refused, and what a loss of power, a fault and a
+//! flash without room leave of it.
+use crate::tests::connects::{Blocks, THREE, connect};
+use crate::tests::exchange::{is_interval_sent, outputs};
+use crate::tests::requests::{exchanging, related, served, write};
+use device_core::{Device, Note};
+use flash_model::{MemoryFlash, Order};
+use frame_codec::Outbox;
+use pn_values::{ParameterRecord, Real, RealModule, RealSubmodule};
+use relations::Phase;
+use std::test::Fail;
+use test_stations::{
+    CONNECT, Station, WRITE, call, frame, identity, no_modules, plugged, restart, station,
+    write_last,
+};
+
+// I&M2, the date of installation.
+const DATE: [u8; 22] = *b"\x00\x22\x00\x12\x01\x002024-05-06 07:08";
+
+// A Write, and its status.
+fn status_of(device: &mut Station, sequence: u8, place: (u16, u16, u16), record: &[u8]) -> [u8; 4] {
+    let (slot, subslot, index) = place;
+    let blocks = write(sequence, slot, subslot, index, record);
+    served(
+        device,
+        &call(WRITE, 7, u16::from(sequence), blocks.as_slice()),
+    )
+    .2
+}
+
+#[test]
+fn a_write_that_is_repeated_is_one_command(rt: HostRuntime) -> Result<(), Fail> {
+    let mut device = related(600, THREE).ok_or("starts")?;
+    let written = call(WRITE, 7, 2, write(2, 0, 1, 0xAFF2, &DATE).as_slice());
+    assert_eq!(rt; served(&mut device, &written), (1, 206, [0; 4]));
+    assert_eq!(rt;
+        device.running().im2.as_bytes(),
+        b"2024-05-06 07:08".as_slice()
+    );
+    // A second commit would fail.
+    device.arm(Order::Fault {
+        after: 0,
+        mask: [0xFF; 8],
+    });
+    assert_eq!(rt; served(&mut device, &written), (1, 206, [0; 4]));
+    let mut outbox = Outbox::new();
+    let older = call(WRITE, 7, 1, write(1, 0, 1, 0xAFF2, &DATE).as_slice());
+    assert_eq!(rt;
+        device.step(&frame(older.as_slice()), &mut outbox),
+        Note::OldCall
+    );
+    assert_eq!(rt; outbox.len(), 0);
+    Ok(())
+}
+
+// A Write of a date in the relation of another ARUUID.
+fn write_elsewhere(sequence: u8) -> Blocks {
+    let mut blocks = write(sequence, 0, 1, 0xAFF2, &DATE);
+    if let Some(octet) = blocks.as_mut_slice().get_mut(8) {
+        *octet = 0x12;
+    }
+    blocks
+}
+
+#[test]
+fn what_is_not_written_is_refused(rt: HostRuntime) -> Result<(), Fail> {
+    let mut device = related(600, THREE).ok_or("starts")?;
+    assert_eq!(rt;
+        status_of(&mut device, 1, (1, 1, 0xAFF1), &[0; 60]),
+        [0xDF, 0x80, 0xB0, 0]
+    );
+    assert_eq!(rt;
+        status_of(&mut device, 2, (0, 1, 0xAFF0), &[0; 60]),
+        [0xDF, 0x80, 0xB6, 0]
+    );
+    // a date of fifteen octets
+    assert_eq!(rt;
+        status_of(&mut device, 3, (0, 1, 0xAFF2), &DATE[..21]),
+        [0xDF, 0x80, 0xB1, 0]
+    );
+    let other = write_elsewhere(4);
+    assert_eq!(rt;
+        served(&mut device, &call(WRITE, 7, 4, other.as_slice())),
+        (1, 142, [0xDF, 0x81, 0x40, 5])
+    );
+    assert_eq!(rt; device.running().im2.as_bytes(), [b' '; 16].as_slice());
+    Ok(())
+}
+
+// Power is lost in the last call of the commit, all of which reached the flash: there is no answer, and the date is kept.
+#[test]
+fn power_is_lost_as_a_date_is_stored(rt: HostRuntime) -> Result<(), Fail> {
+    let mut device = related(600, THREE).ok_or("starts")?;
+    device.arm(Order::Cut {
+        after: 1,
+        mask: [0xFF; 8],
+    });
+    let blocks = write(1, 0, 1, 0xAFF2, &DATE);
+    let _ = served(&mut device, &call(WRITE, 7, 1, blocks.as_slice()));
+    assert!(rt; device.is_lost());
+    let device = restart(device).ok_or("starts again")?;
+    assert_eq!(rt;
+        device.running().im2.as_bytes(),
+        b"2024-05-06 07:08".as_slice()
+    );
+    assert_eq!(rt; device.phase(), None);
+    Ok(())
+}
+
+#[test]
+fn a_date_is_refused_after_a_fault(rt: HostRuntime) -> Result<(), Fail> {
+    let mut device = exchanging().ok_or("starts")?;
+    device.arm(Order::Fault {
+        after: 0,
+        mask: [0xFF; 8],
+    });
+    let blocks = write(0, 0, 1, 0xAFF2, &DATE);
+    assert_eq!(rt;
+        served(&mut device, &call(WRITE, 8, 0, blocks.as_slice())),
+        (1, 142, [0xDF, 0x80, 0xB5, 5])
+    );
+    // cyclic frames go on, each way
+    let mut outbox = Outbox::new();
+    for (counter, note) in [
+        (65_520, Note::Done),
+        (16, Note::Done),
+        (65_520, Note::StaleCycle),
+    ] {
+        let event = outputs(counter, [0xAA, 0x55]);
+        assert_eq!(rt; device.step(&event, &mut outbox), note);
+        assert_eq!(rt; outbox.len(), 0);
+    }
+    assert!(rt; is_interval_sent(&mut device, [0, 0]));
+    assert_eq!(rt; device.phase(), Some(Phase::Exchanging));
+    Ok(())
+}
+
+// A flash without room for one more commit, over which a relation is made.
+fn full() -> Option<Station> {
+    let mut flash = MemoryFlash::blank();
+    let suite = [192, 168, 0, 2, 255, 255, 255, 0, 0, 0, 0, 0];
+    write_last(&mut flash, 2, suite).ok()?;
+    let mut device = Device::boot(identity(), plugged(), flash).ok()?;
+    let blocks = connect(0x11, 600, THREE);
+    let _ = served(&mut device, &call(CONNECT, 7, 0, blocks.as_slice()));
+    Some(device)
+}
+
+// A reset and a date are refused, the relation stays, and no ERR is sent.
+#[test]
+fn without_room_the_relation_stays(rt: HostRuntime) -> Result<(), Fail> {
+    let mut device = full().ok_or("starts")?;
+    let mut outbox = Outbox::new();
+    let reset =
+        *b"\x02\x00\x00\x00\x00\x01\x02\x00\x00\x00\x00\x02\x88\x92\xfe\xfd\x04\x00\x00\x00\x00\x03\x00\x00\x00\x06\
+        \x05\x06\x00\x02\x00\x04";
+    assert_eq!(rt; device.step(&frame(&reset), &mut outbox), Note::Done);
+    assert_eq!(rt; outbox.len(), 1);
+    let sent = outbox
+        .as_slice()
+        .first()
+        .and_then(|sent| sent.as_slice().get(32));
+    assert_eq!(rt; sent.copied(), Some(4));
+    assert_eq!(rt;
+        status_of(&mut device, 1, (0, 1, 0xAFF2), &DATE),
+        [0xDF, 0x80, 0xB5, 4]
+    );
+    assert_eq!(rt; device.phase(), Some(Phase::Started));
+    Ok(())
+}
+
+// A submodule that takes the parameter records 1 and 2, each of one octet.
+fn with_parameters(subslot: u16) -> RealSubmodule {
+    let mut submodule = RealSubmodule {
+        subslot,
+        ..RealSubmodule::default()
+    };
+    for index in [1, 2] {
+        let _ = submodule
+            .parameters
+            .try_push(ParameterRecord { index, length: 1 });
+    }
+    submodule
+}
+
+// 128 parameter records: two in each of four submodules of each of sixteen slots.
+fn many() -> Real {
+    let mut real = no_modules();
+    for slot in 0..16 {
+        let mut module = RealModule {
+            slot,
+            ..RealModule::default()
+        };
+        for subslot in 1..5 {
+            let _ = module.submodules.try_push(with_parameters(subslot));
+        }
+        let _ = real.modules.try_push(module);
+    }
+    real
+}
+
+#[test]
+fn sixty_four_parameter_records_are_kept(rt: HostRuntime) -> Result<(), Fail> {
+    let mut device = station(many(), MemoryFlash::blank()).ok_or("starts")?;
+    let blocks = connect(0x11, 600, THREE);
+    let _ = served(&mut device, &call(CONNECT, 7, 0, blocks.as_slice()));
+    for number in 0..65u8 {
+        let place = (
+            u16::from(number / 8),
+            u16::from(number / 2 % 4) + 1,
+            u16::from(number % 2) + 1,
+        );
+        let status = status_of(&mut device, number + 1, place, &[number]);
+        let wanted = if number < 64 {
+            [0; 4]
+        } else {
+            [0xDF, 0x80, 0xB5, 6]
+        };
+        assert_eq!(rt; status, wanted);
+    }
+    let kept = device.taken();
+    assert_eq!(rt; kept.len(), 64);
+    let last = kept.last().ok_or("is kept")?;
+    assert_eq!(rt; (last.slot, last.subslot, last.index), (7, 4, 2));
+    assert_eq!(rt; last.value.as_slice(), [63].as_slice());
+    Ok(())
+}

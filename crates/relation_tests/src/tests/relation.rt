@@ -1,0 +1,269 @@
+//! A relation: made by a Connect, or refused with a status, and ended. The octets that have to come were worked out by hand
+//! from IEC 61158-6-10 and checked with another program.
+use crate::tests::connects::{FOUR, THREE, connect};
+use crate::tests::requests::{exchanging, related, sent_in, served};
+use device_core::{Event, Note};
+use flash_model::MemoryFlash;
+use frame_codec::{Bytes, Outbox};
+use relations::Phase;
+use std::process::Abort;
+use std::test::Fail;
+use test_stations::{
+    CONNECT, CONTROL, DONE, END, PRM_END, RELEASE, Station, call, frame, is_filled, is_padded,
+    plugged, set, set_pump, station,
+};
+
+// The blocks of the answer to the Connect of three modules: ARBlockRes, an IOCRBlockRes each, AlarmCRBlockRes.
+const MADE: [u8; 70] =
+    *b"\x81\x01\x00\x1e\x01\x00\x00\x01\x11\x11\x11\x11\x11\x11\x11\x11\x11\x11\x11\x11\x11\x11\x11\x11\
+    \x00\x01\x02\x00\x00\x00\x00\x01\x88\x92\
+    \x81\x02\x00\x08\x01\x00\x00\x01\x00\x01\xc0\x01\x81\x02\x00\x08\x01\x00\x00\x02\x00\x02\xc0\x00\
+    \x81\x03\x00\x08\x01\x00\x00\x01\x00\x01\x00\xc8";
+
+// The ModuleDiffBlock where the module of slot 2 is another one and slot 3 is empty.
+const DIFFERENCE: [u8; 50] = *b"\x81\x04\x00\x2e\x01\x00\x00\x01\x00\x00\x00\x00\x00\x02\
+    \x00\x02\x00\x00\x00\x20\x00\x01\x00\x01\x00\x01\x00\x00\x00\x20\x90\x00\
+    \x00\x03\x00\x00\x00\x00\x00\x00\x00\x01\x00\x01\x00\x00\x00\x00\x98\x00";
+
+// The ERR that ends a relation, but for its last octet.
+const ABORT: [u8; 37] = *b"\x02\x00\x00\x00\x00\x02\x02\x00\x00\x00\x00\x01\x81\x00\xa0\x00\x88\x92\
+    \xfe\x01\x00\x01\x00\x01\x14\x01\xff\xff\xff\xfe\x00\x04\xcf\x81\xfd\x0d\x00";
+
+fn fresh() -> Option<Station> {
+    station(plugged(), MemoryFlash::blank())
+}
+
+// The Connect of three modules as the first call.
+fn three() -> Bytes {
+    call(CONNECT, 7, 0, connect(0x11, 600, THREE).as_slice())
+}
+
+// The one answer to a Connect is of so many octets and has these blocks.
+fn is_made<R: Abort>(rt: &R, bytes: &Bytes, length: usize, blocks: &[&[u8]]) -> Result<(), Fail> {
+    let mut device = fresh().ok_or("starts")?;
+    let mut outbox = Outbox::new();
+    let _ = device.step(&frame(bytes.as_slice()), &mut outbox);
+    assert_eq!(rt; outbox.len(), 1);
+    let sent = outbox.as_slice().first().ok_or("is answered")?;
+    assert_eq!(rt; sent.len(), length);
+    let mut place: usize = 142;
+    for block in blocks {
+        let rest = sent.as_slice().get(place..).unwrap_or(&[]);
+        assert!(rt; rest.starts_with(block));
+        place = place.wrapping_add(block.len());
+    }
+    assert_eq!(rt; device.phase(), Some(Phase::Started));
+    Ok(())
+}
+
+#[test]
+fn a_connect_makes_a_relation(rt: HostRuntime) -> Result<(), Fail> {
+    assert_eq!(rt; connect(0x11, 600, THREE).len(), 391);
+    assert_eq!(rt; three().len(), 533);
+    is_made(&rt, &three(), 212, &[&MADE])
+}
+
+// The same in little endian.
+#[test]
+fn a_connect_in_little_endian_gets_the_same_answer(rt: HostRuntime) -> Result<(), Fail> {
+    let mut bytes = three();
+    set(&mut bytes, 46, 0x10);
+    for (first, end) in [
+        (50, 54),
+        (54, 56),
+        (56, 58),
+        (66, 70),
+        (70, 72),
+        (72, 74),
+        (102, 106),
+        (116, 118),
+        (122, 126),
+        (126, 130),
+        (130, 134),
+        (138, 142),
+    ] {
+        if let Some(part) = bytes.as_mut_slice().get_mut(first..end) {
+            part.reverse();
+        }
+    }
+    is_made(&rt, &bytes, 212, &[&MADE])
+}
+
+#[test]
+fn other_modules_are_told(rt: HostRuntime) -> Result<(), Fail> {
+    let blocks = connect(0x11, 600, FOUR);
+    let bytes = call(CONNECT, 7, 0, blocks.as_slice());
+    is_made(&rt, &bytes, 262, &[&MADE, &DIFFERENCE])
+}
+
+#[test]
+fn a_connect_that_is_cut_is_none(rt: HostRuntime) -> Result<(), Fail> {
+    let mut device = fresh().ok_or("starts")?;
+    let mut outbox = Outbox::new();
+    let bytes = three();
+    for length in 0..533 {
+        let part = bytes.get(..length).ok_or("is longer")?;
+        assert_eq!(rt; device.step(&frame(part), &mut outbox), Note::Fault);
+        assert_eq!(rt; outbox.len(), 0);
+    }
+    assert_eq!(rt; device.phase(), None);
+    Ok(())
+}
+
+// The status by which a Connect with other octets at some places is refused, where the relation of this ARUUID stands.
+fn refused(device: &mut Station, octet: u8, changes: &[(usize, u8)]) -> (usize, usize, [u8; 4]) {
+    let mut bytes = call(CONNECT, 9, 5, connect(octet, 600, THREE).as_slice());
+    for (place, octet) in changes {
+        set(&mut bytes, *place, *octet);
+    }
+    served(device, &bytes)
+}
+
+// What is sent to such a Connect where there is no relation, and then is none.
+fn sent_to(changes: &[(usize, u8)]) -> Option<(usize, usize, [u8; 4])> {
+    let mut device = fresh()?;
+    let sent = refused(&mut device, 0x11, changes);
+    match device.phase() {
+        None => Some(sent),
+        Some(_) => None,
+    }
+}
+
+#[test]
+fn a_connect_with_a_fault_is_refused(rt: HostRuntime) {
+    // ArgsLength one less than ActualCount
+    assert_eq!(rt;
+        sent_to(&[(129, 0x86)]),
+        Some((1, 142, [0xDB, 0x81, 0x40, 0]))
+    );
+    // BlockLength of the ARBlockReq
+    assert_eq!(rt;
+        sent_to(&[(144, 0xFF), (145, 0xFF)]),
+        Some((1, 142, [0xDB, 0x81, 1, 1]))
+    );
+    // NumberOfIODataObjects of the input
+    assert_eq!(rt;
+        sent_to(&[(253, 0xFF), (254, 0xFF)]),
+        Some((1, 142, [0xDB, 0x81, 2, 1]))
+    );
+}
+
+// The checksum of UDP is the one that Scapy computes, and then one more; and a representation that there is not.
+#[test]
+fn a_connect_that_can_not_be_read_is_a_fault(rt: HostRuntime) -> Result<(), Fail> {
+    let mut device = fresh().ok_or("starts")?;
+    let mut outbox = Outbox::new();
+    let mut bytes = three();
+    set(&mut bytes, 40, CHECKSUM[0]);
+    set(&mut bytes, 41, CHECKSUM[1].wrapping_add(1));
+    assert_eq!(rt;
+        device.step(&frame(bytes.as_slice()), &mut outbox),
+        Note::Fault
+    );
+    set(&mut bytes, 41, CHECKSUM[1]);
+    set(&mut bytes, 46, 0x20);
+    assert_eq!(rt;
+        device.step(&frame(bytes.as_slice()), &mut outbox),
+        Note::Fault
+    );
+    set(&mut bytes, 46, 0);
+    assert_eq!(rt;
+        device.step(&frame(bytes.as_slice()), &mut outbox),
+        Note::Done
+    );
+    assert_eq!(rt; outbox.len(), 1);
+    Ok(())
+}
+
+const CHECKSUM: [u8; 2] = [0x30, 0x24];
+
+#[test]
+fn a_second_connect_is_refused(rt: HostRuntime) -> Result<(), Fail> {
+    let mut device = related(600, THREE).ok_or("starts")?;
+    assert_eq!(rt;
+        refused(&mut device, 0x12, &[]),
+        (1, 142, [0xDB, 0x81, 0x40, 4])
+    );
+    let mut device = related(600, THREE).ok_or("starts")?;
+    assert_eq!(rt;
+        refused(&mut device, 0x11, &[]),
+        (1, 142, [0xDB, 0x81, 0x40, 6])
+    );
+    assert_eq!(rt; device.phase(), Some(Phase::Started));
+    Ok(())
+}
+
+#[test]
+fn silence_ends_a_relation(rt: HostRuntime) -> Result<(), Fail> {
+    let mut device = related(1, THREE).ok_or("starts")?;
+    // a cyclic frame each interval of 32 units
+    assert_eq!(rt; sent_in(&mut device, 3199), 99);
+    assert_eq!(rt; device.phase(), Some(Phase::Started));
+    let mut outbox = Outbox::new();
+    assert_eq!(rt; device.step(&Event::Tick, &mut outbox), Note::Done);
+    let mut silent = ABORT;
+    silent[35] = 6;
+    assert!(rt; is_padded(&outbox, &silent));
+    assert_eq!(rt; device.phase(), None);
+    Ok(())
+}
+
+// ResetToFactory of the communication, and a Set of a name, which is judged as the frame comes.
+#[test]
+fn a_reset_ends_a_relation(rt: HostRuntime) -> Result<(), Fail> {
+    let mut device = related(600, THREE).ok_or("starts")?;
+    let mut outbox = Outbox::new();
+    let request =
+        *b"\x02\x00\x00\x00\x00\x01\x02\x00\x00\x00\x00\x02\x88\x92\xfe\xfd\x04\x00\x00\x00\x00\x02\x00\x00\x00\x12\
+        \x05\x06\x00\x02\x00\x04\x02\x02\x00\x08\x00\x01pump-9";
+    assert_eq!(rt; device.step(&frame(&request), &mut outbox), Note::Done);
+    let answer =
+        *b"\x02\x00\x00\x00\x00\x02\x02\x00\x00\x00\x00\x01\x88\x92\xfe\xfd\x04\x01\x00\x00\x00\x02\x00\x00\x00\x10\
+        \x05\x04\x00\x03\x05\x06\x00\x00\x05\x04\x00\x03\x02\x02\x06\x00";
+    match outbox.as_slice() {
+        [first, second] => {
+            assert!(rt; is_filled(first, &ABORT));
+            assert!(rt; is_filled(second, &answer));
+        }
+        _ => panic!(&rt; "an ERR, and an answer"),
+    }
+    assert_eq!(rt; device.running().name.as_bytes(), b"".as_slice());
+    assert_eq!(rt; device.phase(), None);
+    Ok(())
+}
+
+#[test]
+fn no_name_is_set_before_the_release(rt: HostRuntime) -> Result<(), Fail> {
+    let mut device = related(600, THREE).ok_or("starts")?;
+    let mut outbox = Outbox::new();
+    let mut refused = DONE;
+    refused[32] = 6;
+    assert_eq!(rt; device.step(&set_pump(b'9'), &mut outbox), Note::Done);
+    assert!(rt; is_padded(&outbox, &refused));
+    assert_eq!(rt;
+        served(&mut device, &call(RELEASE, 7, 1, &END)),
+        (1, 174, [0; 4])
+    );
+    assert_eq!(rt; device.phase(), None);
+    assert_eq!(rt; device.step(&set_pump(b'9'), &mut outbox), Note::Done);
+    assert!(rt; is_padded(&outbox, &DONE));
+    Ok(())
+}
+
+#[test]
+fn the_parameters_end_once(rt: HostRuntime) -> Result<(), Fail> {
+    let mut device = related(600, THREE).ok_or("starts")?;
+    let ends = call(CONTROL, 7, 1, &PRM_END);
+    assert_eq!(rt; served(&mut device, &ends), (2, 174, [0; 4]));
+    assert_eq!(rt; device.phase(), Some(Phase::Awaiting));
+    let again = call(CONTROL, 7, 2, &PRM_END);
+    assert_eq!(rt;
+        served(&mut device, &again),
+        (1, 142, [0xDD, 0x81, 0x40, 6])
+    );
+    // ApplicationReady again, beside a cyclic frame each interval
+    assert_eq!(rt; sent_in(&mut device, 32_000), 1001);
+    let device = exchanging().ok_or("starts")?;
+    assert_eq!(rt; device.phase(), Some(Phase::Exchanging));
+    Ok(())
+}

@@ -1,0 +1,29 @@
+-- The outputs of a device.
+use Rattle.std.specs.Prelude.{◌==◌, ◌&&◌, ℕ, List, Option, Some, None, min, not, option_map, replicate}
+use Rattle.std.specs.List.{find}
+use Rattle.pn_values.specs.declared.real.Real.{Real}
+use Rattle.pn_values.specs.declared.real.RealModule.{RealModule}
+use Rattle.pn_values.specs.declared.real.RealSubmodule.{RealSubmodule}
+
+-- the submodule in a subslot of a module that has an output, and the module in a slot
+abbrev pub output_part : ℕ → List RealSubmodule → Option RealSubmodule
+output_part subslot parts = find (λ part. part.subslot == subslot && not (part.output == 0)) parts
+
+abbrev pub module_at : ℕ → List RealModule → Option RealModule
+module_at slot modules = find (λ entry. entry.slot == slot) modules
+
+-- as many zeros as the output of what is plugged there has, at most 1,440
+abbrev pub zeros_of : RealSubmodule → List ℕ
+zeros_of part = replicate (min part.output 1440) 0
+
+abbrev pub zero_part : ℕ → Option RealModule → Option (List ℕ)
+zero_part subslot None = None
+zero_part subslot (Some entry) = option_map zeros_of (output_part subslot entry.submodules.items)
+
+abbrev pub zero_output : Real → ℕ → ℕ → Option (List ℕ)
+zero_output real slot subslot = zero_part subslot (module_at slot real.modules.items)
+
+-- the output of a submodule: what its relation has, or zeros where that has none
+abbrev pub output_of : Real → ℕ → ℕ → Option (List ℕ) → Option (List ℕ)
+output_of real slot subslot (Some value) = Some value
+output_of real slot subslot None = zero_output real slot subslot
