@@ -4,7 +4,7 @@ use Rattle.record_blocks.specs.declared.alarm_ack.AlarmAck.{AlarmAck}
 use Rattle.record_blocks.specs.declared.alarm_notification.AlarmNotification.{AlarmNotification}
 use Rattle.alarm_exchange.specs.declared.exchange.Move.{Move}
 use Rattle.alarm_exchange.specs.declared.exchange.Move.TheVariants.{Raise, Confirm, DeviceTick, ControllerTick, AlarmComes, ConfirmComes, AckComesToDevice, AckComesToController, NackComesToDevice, NackComesToController}
-use Rattle.pn_alarms.specs.declared.message.Message.TheVariants as message
+use Rattle.pn_alarms.specs.declared.message.Notice.TheVariants as message
 use Rattle.pn_alarms.specs.declared.repeats.Due.{Due}
 use Rattle.pn_alarms.specs.declared.repeats.Due.TheVariants as due_is
 use Rattle.pn_alarms.specs.declared.receiver.Taken.{Taken}

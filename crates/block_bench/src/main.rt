@@ -1,4 +1,4 @@
-//! What the benchmark of blocks runs (bench/blocks.py). `block_bench READ WRITE` reads the blocks on standard input READ
+//! What the benchmark of blocks runs (bench/figures/blocks.py). `block_bench READ WRITE` reads the blocks on standard input READ
 //! times and writes them WRITE times. It prints how many octets they are in all those readings, how many are written in
 //! the end and whether they are those that came, and how large a block is in memory.
 #![tactic(auto)]

@@ -64,7 +64,7 @@ pub(crate) fn block_at(number: u16, bytes: &[u8]) -> Result<(Block<'_>, &[u8]), 
     }
 }
 
-/// The same with room for an ExpectedSubmoduleBlockReq.
+/// The same with room for an ExpectedSubmoduleBlockReq, which is made once for all blocks: one for each costs ten times as much.
 fn block_within<'a>(
     number: u16,
     bytes: &'a [u8],

@@ -6,9 +6,11 @@
 
 mod draft;
 mod expected;
+mod laws;
 mod layouts;
 mod parts;
 mod request;
 
+pub use laws::layouts_are_taken;
 pub use parts::{AlarmCr, Ar, Iocr};
 pub use request::{ConnectRequest, refuse};

@@ -4,7 +4,7 @@
 //! last line of one word asks for, and where there is another. Each is `ok`, or PNIOStatus in hex.
 //!
 //! `stdin` has each field of each block set to 0, 1, its greatest value and past what is accepted, each block missing, twice and
-//! elsewhere, and each cut at each length. What `stdout` says of them is reckoned by `bench/connect_table.py`, from the rules alone
+//! elsewhere, and each cut at each length. What `stdout` says of them is reckoned by `bench/gate/connect_table.py`, from the rules alone
 //! and by offsets, and shares no line with this repository's crates.
 #![tactic(auto)]
 

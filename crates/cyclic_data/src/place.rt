@@ -71,6 +71,14 @@ impl ExpectedData {
     {
         self.slot < other.slot || (self.slot == other.slot && self.subslot < other.subslot)
     }
+
+    /// How many octets it takes in the frames of a direction, as data with its IOPS or as an IOCS, if it takes any there.
+    pub fn taken(&self, direction: IocrType, kind: PlaceKind) -> Option<u32>
+        ensures value { result ≡ taken direction kind self.now.io_data }
+        ensures few { IfSome result (λ size. size ≤ 65536) }
+    {
+        taken(direction, kind, self.io_data)
+    }
 }
 
 /// The other direction.

@@ -15,7 +15,8 @@ const GOOD: u8 = 0x80;
 /// As many zeros as the longest data has, and more.
 static ZEROS: [u8; 1440] = [0; 1440];
 
-/// What the last frame of a layout held that was taken: the data and the status at each place.
+/// What the last frame of a layout held that was taken: the data and the status at each place. It is kept apart from what is sent, so
+/// that no octet that came in is ever sent.
 #[derive(Drop)]
 pub struct ReceivedImage {
     data_length: u16,

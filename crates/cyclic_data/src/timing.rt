@@ -79,7 +79,8 @@ impl Model for Consumer {
     ghost invariant = { λ consumer. (consumer.held ≤ consumer.limit) × (consumer.limit ≤ 503316480) };
 }
 
-/// Whether a counter is newer than the last one: from 1 to 61,440 behind it, modulo 65,536. The first one is newer.
+/// Whether a counter is newer than the last one: from 1 to 61,440 behind it, modulo 65,536. The first one is newer,
+/// since a controller may begin with any counter.
 fn is_newer(last: Option<u16>, counter: u16) -> bool
     ensures { result ≡ is_newer last counter }
 {

@@ -4,3 +4,4 @@ pub mod Sound
 pub mod Every
 pub mod AnswerSound
 pub mod AnswerWritten
+pub mod Written

@@ -52,7 +52,7 @@ at_least_sound short size = record {
 
 -- ---- blocks
 
-kind_sound : IsSound kind
+pub kind_sound : IsSound kind
 unfolding kind
 kind_sound = viewed_sound _ _ _ (then_by_sound _ _ (number_sound fault.Block 1) (λ _. number_sound fault.Block 1))
 
@@ -66,7 +66,7 @@ block_sound contents sound = seen_sound _ _ _ (λ _. refl) (then_by_sound _ _
     (seen_sound _ _ _ (λ _. refl) (then_by_sound _ _ kind_sound (λ _. framed_sound _ _ _ (number_sound fault.Block 2) sound)))
     (λ (asked : AskedBlock). padding_sound (length asked.contents % 2)))
 
-block_of_sound : (service : Service) → IsSound (block_of service)
+pub block_of_sound : (service : Service) → IsSound (block_of service)
 unfolding block_of
 block_of_sound Get = pair_sound
 block_of_sound Set = block_sound (at_least fault.Block 2) (at_least_sound fault.Block 2)
@@ -79,7 +79,7 @@ some_of Get asked fits = omega arith
 some_of Set asked fits = omega arith
 some_of Identify asked fits = omega arith
 
-blocks_sound : (service : Service) → IsSoundWhole (blocks_of service)
+pub blocks_sound : (service : Service) → IsSoundWhole (blocks_of service)
 unfolding blocks_of
 blocks_sound service = filled_sound fault.Block (block_of service) 16 (block_of_sound service) (some_of service)
 
@@ -90,7 +90,7 @@ unfolding data_of
 data_sound (Ok service) = viewed_whole_sound _ _ _ (blocks_sound service)
 data_sound (Err why) = refused_sound why
 
-request_sound : (frame_id : ℕ) → IsSoundWhole (request frame_id)
+pub request_sound : (frame_id : ℕ) → IsSoundWhole (request frame_id)
 unfolding request header_and_data
 request_sound frame_id = loose_sound _ (seen_sound _ _ _ (λ _. refl) (then_by_sound _ _
     (then_by_sound _ _ (number_sound fault.Length 1) (λ _. then_by_sound _ _ (number_sound fault.Length 1)

@@ -12,3 +12,4 @@ pub mod Response
 pub mod Answer
 pub mod Answered
 pub mod Told
+pub mod Writing

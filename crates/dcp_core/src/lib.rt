@@ -11,6 +11,7 @@ mod reading;
 mod request;
 mod response;
 mod set;
+mod writing;
 
 pub use answers::read_answer;
 pub use bytes::Answer;
@@ -21,3 +22,4 @@ pub use reading::read_request;
 pub use request::{Block, DcpFault, Request, Service};
 pub use response::{Outcome, Response, ResponseBlock, ResponseBlocks};
 pub use set::{fill_plan, plan_block, set_answer, set_plan};
+pub use writing::write_request;

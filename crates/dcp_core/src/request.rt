@@ -41,6 +41,7 @@ pub struct Block<'a> {
     pub contents: &'a [u8],
 }
 
+// `ArrayVec` asks for a default of its elements; nothing else does.
 impl Default for Block<'_> {
     ghost use Rattle.std.specs.Prelude.{◌≡◌, []};
     ghost use Rattle.dcp_core.specs.declared.kind.Kind.TheVariants.{All};

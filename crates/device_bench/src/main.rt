@@ -1,5 +1,5 @@
 //! Says on standard error how large a device is in memory, over the flash of the scripts, and how large that flash
-//! (bench/measure.py). Standard output, which the gate compares, stays empty: the figures change with each part of a device.
+//! (bench/figures/measure.py). Standard output, which the gate compares, stays empty: the figures change with each part of a device.
 #![tactic(auto)]
 
 use device_core::Device;

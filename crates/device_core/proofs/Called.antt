@@ -23,8 +23,8 @@ use Rattle.record_writes.specs.declared.write.Write.{Write as Asking}
 use Rattle.record_writes.specs.Judged.{write_of}
 use Rattle.pn_alarms.specs.declared.device.Heard.{Heard as Fate}
 use Rattle.pn_alarms.specs.declared.device.Heard.TheVariants as fate
-use Rattle.exchanges.specs.declared.cyclic.Received.{Received}
-use Rattle.exchanges.specs.declared.cyclic.Received.TheVariants as received
+use Rattle.cyclic_exchange.specs.declared.received.Received.{Received}
+use Rattle.cyclic_exchange.specs.declared.received.Received.TheVariants as received
 use Rattle.exchanges.specs.Flow.{Flow}
 use Rattle.relations.specs.Exchanged.{given_to, heard_by, hearing, raised_to, received_by, receiving}
 use Rattle.relations.specs.declared.hearing.Heard.{Heard as Answer}
@@ -35,7 +35,7 @@ use Rattle.relations.specs.Calls.{prm_end_answer, release_answer}
 use Rattle.relations.specs.Connect.{connect_answer}
 use Rattle.relations.specs.Ready.{answer_of as ready_answer}
 use Rattle.device_frames.specs.declared.event.Event.{Event}
-use Rattle.device_frames.specs.declared.hearing.Caller.{Caller}
+use Rattle.frame_codec.specs.declared.udp.Caller.{Caller}
 use Rattle.device_core.specs.State.{Station, Live}
 use Rattle.device_frames.specs.Sent.{Sent}
 use Rattle.device_frames.specs.Heard.{Heard, Ticks, Unreadable, Elsewhere, Asks, Resolves, Told, Cyclic, Alarms, Given, Raised, Said, Calls, Responds, Garbled, heard_of}

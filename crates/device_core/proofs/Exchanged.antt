@@ -2,9 +2,9 @@
 use Rattle.std.proofs.Common.{◌≡◌, ◌≢◌, ℕ, true, false, List, [], Option, Some, None, is_some, refl, sym, ap, ◌∙◌}
 use Rattle.pn_values.specs.declared.mac.Mac.{Mac}
 use Rattle.pn_alarms.specs.declared.device.Heard.TheVariants as fate
-use Rattle.pn_alarms.specs.declared.message.Message.{Message}
-use Rattle.exchanges.specs.declared.cyclic.Received.{Received}
-use Rattle.exchanges.specs.declared.cyclic.Received.TheVariants.{Foreign, Short, Stale, Taken}
+use Rattle.pn_alarms.specs.Message.{ToDevice}
+use Rattle.cyclic_exchange.specs.declared.received.Received.{Received}
+use Rattle.cyclic_exchange.specs.declared.received.Received.TheVariants.{Foreign, Short, Stale, Taken}
 use Rattle.exchanges.specs.Flow.{Flow}
 use Rattle.exchanges.specs.Received.{behind_frame, received_as}
 use Rattle.relations.specs.Link.{Link, flow_of}
@@ -55,6 +55,6 @@ notice_raised station live (Some flow) some = refl
 notice_raised station live None some = cc
 
 -- a PDU that is ignored changes nothing
-pub stays_ignored : (message : Message) (link : Option Link) → heard_by message link ≡ fate.Ignored → moved (hearing message link) link ≡ link
+pub stays_ignored : (message : ToDevice) (link : Option Link) → heard_by message link ≡ fate.Ignored → moved (hearing message link) link ≡ link
 stays_ignored message None ignored = refl
 stays_ignored message (Some link) ignored = rw ignored refl

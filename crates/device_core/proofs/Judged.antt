@@ -4,11 +4,11 @@ use Rattle.std.proofs.Common.{◌≡◌, ◌&&◌, ℕ, false, List, [], Option,
 use Rattle.pn_values.specs.declared.mac.Mac.{Mac}
 use Rattle.frame_codec.specs.declared.arp.Arp.{Arp}
 use Rattle.pn_alarms.specs.declared.pdu.Header.{Header}
-use Rattle.pn_alarms.specs.declared.message.Message.{Message}
+use Rattle.pn_alarms.specs.Message.{ToDevice}
 use Rattle.pn_alarms.specs.declared.device.Heard.{Heard as Fate}
 use Rattle.pn_alarms.specs.declared.device.Heard.TheVariants as fate
-use Rattle.exchanges.specs.declared.cyclic.Received.{Received}
-use Rattle.exchanges.specs.declared.cyclic.Received.TheVariants as received
+use Rattle.cyclic_exchange.specs.declared.received.Received.{Received}
+use Rattle.cyclic_exchange.specs.declared.received.Received.TheVariants as received
 use Rattle.exchanges.specs.Flow.{Flow}
 use Rattle.relations.specs.Link.{Link, is_alarm_of}
 use Rattle.relations.specs.Phases.{moved}
@@ -36,7 +36,7 @@ pdu_asks_nothing live fate.Done link = refl
 pdu_asks_nothing live fate.Ignored link = refl
 pdu_asks_nothing live fate.Aborted link = refl
 
-pub alarm_asks_nothing : (live : Live) (source : Mac) (header : Header) (message : Message) → is_asking (judged_alarm live source header message) ≡ false
+pub alarm_asks_nothing : (live : Live) (source : Mac) (header : Header) (message : ToDevice) → is_asking (judged_alarm live source header message) ≡ false
 alarm_asks_nothing live source header message =
     cond_both (is_alarm_of source header.destination header.source live.rest.link) _ _ (λ what. is_asking what ≡ false)
     (λ _. pdu_asks_nothing live (heard_by message live.rest.link) (moved (hearing message live.rest.link) live.rest.link)) (λ _. refl)

@@ -8,7 +8,7 @@ use Rattle.record_writes.specs.declared.write.Effect.{Effect}
 use Rattle.record_writes.specs.declared.write.Write.{Write}
 use Rattle.rpc_core.specs.Call.{Asked as Call}
 use Rattle.relations.specs.Phases.{Judged as Moving, answered}
-use Rattle.device_frames.specs.declared.hearing.Caller.{Caller}
+use Rattle.frame_codec.specs.declared.udp.Caller.{Caller}
 use Rattle.device_core.specs.State.{Station, Live}
 use Rattle.device_core.specs.Judged.{came_with, judged_effect, judged_write, kept_answer}
 

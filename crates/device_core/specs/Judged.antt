@@ -33,12 +33,12 @@ use Rattle.record_writes.specs.declared.write.Effect.TheVariants.{Stores, Keeps}
 use Rattle.record_writes.specs.declared.write.Write.{Write as Asking}
 use Rattle.record_writes.specs.Answer.{answer_of}
 use Rattle.record_writes.specs.Judged.{write_of}
-use Rattle.pn_alarms.specs.declared.message.Message.{Message}
+use Rattle.pn_alarms.specs.Message.{ToDevice}
 use Rattle.pn_alarms.specs.declared.device.Heard.{Heard as Fate}
 use Rattle.pn_alarms.specs.declared.device.Heard.TheVariants as fate
 use Rattle.pn_alarms.specs.declared.pdu.Header.{Header}
-use Rattle.exchanges.specs.declared.cyclic.Received.{Received}
-use Rattle.exchanges.specs.declared.cyclic.Received.TheVariants as received
+use Rattle.cyclic_exchange.specs.declared.received.Received.{Received}
+use Rattle.cyclic_exchange.specs.declared.received.Received.TheVariants as received
 use Rattle.exchanges.specs.Flow.{Flow}
 use Rattle.relations.specs.Exchanged.{given_to, heard_by, hearing, raised_to, received_by, receiving}
 use Rattle.relations.specs.declared.hearing.Heard.{Heard as Answer}
@@ -52,7 +52,7 @@ use Rattle.relations.specs.Timers.{due_of}
 use Rattle.relations.specs.Phases.{Judged as Moving, Parameterized, Named, Ended, Exchanged, Unmoved, answered, keeping, moved, passing, taking}
 use Rattle.device_core.specs.declared.note.Note.{Note}
 use Rattle.device_core.specs.declared.note.Note.TheVariants as note
-use Rattle.device_frames.specs.declared.hearing.Caller.{Caller}
+use Rattle.frame_codec.specs.declared.udp.Caller.{Caller}
 use Rattle.device_core.specs.State.{Station, Rest, Live}
 use Rattle.device_frames.specs.Relation.{alarms_of, due_frames, ready_calls, replies_of}
 use Rattle.device_frames.specs.Sent.{Sent, IdentifyAnswer, GetAnswer, ArpReply, CallAnswer, Again, Ends, bytes_of}
@@ -257,10 +257,10 @@ judged_pdu live fate.Done link = goes_on_with live link []
 judged_pdu live fate.Ignored link = Refuses note.Filter
 judged_pdu live fate.Aborted link = goes_on_with live link []
 
-abbrev pub judged_message : Live → Message → Judged
+abbrev pub judged_message : Live → ToDevice → Judged
 judged_message live message = judged_pdu live (heard_by message live.rest.link) (moved (hearing message live.rest.link) live.rest.link)
 
-abbrev pub judged_alarm : Live → Mac → Header → Message → Judged
+abbrev pub judged_alarm : Live → Mac → Header → ToDevice → Judged
 judged_alarm live source header message =
     if is_alarm_of source header.destination header.source live.rest.link then judged_message live message else Refuses note.NoRelation
 

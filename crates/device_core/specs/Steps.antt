@@ -17,7 +17,7 @@ use Rattle.dcp_core.specs.Identify.{matches, identify_bytes}
 use Rattle.device_frames.specs.declared.event.Event.{Event}
 use Rattle.device_core.specs.declared.note.Note.{Note}
 use Rattle.device_core.specs.declared.note.Note.TheVariants.{Done, Filter}
-use Rattle.device_frames.specs.declared.hearing.Caller.{Caller}
+use Rattle.frame_codec.specs.declared.udp.Caller.{Caller}
 use Rattle.device_core.specs.State.{Station, State, Live, store_of}
 use Rattle.device_frames.specs.Sent.{answer_frame}
 use Rattle.device_frames.specs.Heard.{Heard, Asks, Told, Calls, heard_of}

@@ -10,7 +10,7 @@ use pn_values::{Identity, Real};
 use settings_journal::BootFault;
 
 /// A cycle and the start after it: boots a device, runs the events, and boots again from what they left of the flash,
-/// wherever its power was lost. `power_up` gives the flash its power back. A refused start hands the flash back.
+/// wherever its power was lost. `power_up` gives the flash its power back: a closure, since a flash as such has no such call. A refused start hands the flash back.
 pub fn cycle<F: Flash<S>, const S: usize, K: Sink, P: FnOnce(F) -> F>(
     identity: Identity,
     real: Real,

@@ -75,7 +75,7 @@ impl<F: Flash<S>, const S: usize> Device<F, S> {
         }
     }
 
-    // A frame: it is read first, and then its destination is looked at. What comes each interval is read by itself.
+    // A frame: it is read first, and then its destination is looked at. Real-time frames are read by themselves, since they come each interval.
     #[inline(never)]
     fn hear(&mut self, bytes: &Bytes, outbox: &mut Outbox) -> Note
         requires empty { outbox.old.items ≡ [] }

@@ -5,6 +5,8 @@ use Rattle.pn_values.specs.declared.mac.Mac.{Mac}
 use Rattle.pn_values.specs.declared.identity.Identity.{Identity}
 use Rattle.frame_codec.specs.declared.arp.Arp.{Arp}
 use Rattle.frame_codec.specs.declared.fault.FrameFault.{FrameFault}
+use Rattle.frame_codec.specs.declared.udp.Caller.{Caller}
+use Rattle.frame_codec.specs.FrameId.{is_alarm, is_cyclic}
 use Rattle.frame_codec.specs.Meaning.{Meaning, Content, RealTime, ArpPacket, UdpDatagram}
 use Rattle.frame_codec.specs.Frame.{frame_of}
 use Rattle.dcp_core.specs.declared.request.DcpFault.{DcpFault}
@@ -15,12 +17,10 @@ use Rattle.rpc_core.specs.declared.interface.Interface.TheVariants.{Device}
 use Rattle.rpc_core.specs.Call.{Asked as Call, call_of}
 use Rattle.rpc_core.specs.Response.{Answered, response_of}
 use Rattle.pn_alarms.specs.declared.fault.AlarmFault.{AlarmFault}
-use Rattle.pn_alarms.specs.declared.message.Message.{Message}
 use Rattle.pn_alarms.specs.declared.pdu.Header.{Header}
-use Rattle.pn_alarms.specs.Message.{message_of}
+use Rattle.pn_alarms.specs.Message.{ToDevice, message_of}
 use Rattle.device_frames.specs.declared.event.Event.{Event}
 use Rattle.device_frames.specs.declared.event.Event.TheVariants.{Frame, Tick, Input, Alarm}
-use Rattle.device_frames.specs.declared.hearing.Caller.{Caller}
 
 -- what the body of a datagram says: a call to the device, else a response, else neither
 pub data Said : Type 0 where
@@ -39,7 +39,7 @@ pub data Heard : Type 0 where
   Resolves : (asker : Mac) → (arp : Arp) → Heard
   Told : (caller : Caller) → (address : List ℕ) → (said : Said) → Heard
   Cyclic : (source : Mac) → (frame_id : ℕ) → (body : List ℕ) → Heard
-  Alarms : (source : Mac) → (header : Header) → (message : Message) → Heard
+  Alarms : (source : Mac) → (header : Header) → (message : ToDevice) → Heard
   Given : (slot : ℕ) → (subslot : ℕ) → (value : List ℕ) → Heard
   Raised : (slot : ℕ) → (subslot : ℕ) → (octets : List ℕ) → Heard
 
@@ -62,15 +62,8 @@ is_taken identity destination frame_id =
     (frame_id == 65277 && is_own identity destination)
     || (frame_id == 65278 && (is_own identity destination || pointwise nat_eq destination.octets identify_multicast))
 
--- FrameIDs of cyclic frames, of class 2 and of class 1, and of alarms of high and of low priority (IEC 61158-6-10, 4.7)
-abbrev pub is_cyclic : ℕ → Bool
-is_cyclic frame_id = (nat_le 0x8000 frame_id && nat_le frame_id 0xBBFF) || (nat_le 0xC000 frame_id && nat_le frame_id 0xF7FF)
-
-abbrev pub is_alarm : ℕ → Bool
-is_alarm frame_id = frame_id == 0xFC01 || frame_id == 0xFE01
-
 -- data that carries no whole AlarmAck cannot be read either, whoever sends it
-abbrev pub heard_alarm : Mac → Result (Header × Message) AlarmFault → Heard
+abbrev pub heard_alarm : Mac → Result (Header × ToDevice) AlarmFault → Heard
 heard_alarm source (Ok x) = Alarms source x.0 x.1
 heard_alarm source (Err fault) = Unreadable
 

@@ -1,7 +1,7 @@
 -- What a device sends of its relation, and when.
 use Rattle.std.specs.Prelude.{◌++◌, ℕ, Bool, List, [], ◌∷◌, if◌then◌else◌, Option, Some, None}
 use Rattle.pn_alarms.specs.declared.receiver.Taken.{Taken}
-use Rattle.exchanges.specs.declared.route.Route.{Route}
+use Rattle.cyclic_exchange.specs.declared.route.Route.{Route}
 use Rattle.exchanges.specs.Flow.{Flow}
 use Rattle.exchanges.specs.Frames.{Frame, alarm_frame, inputs_frame, reply_frame}
 use Rattle.relations.specs.declared.farewell.Farewell.{Farewell}
@@ -23,15 +23,15 @@ frames_in route None = []
 
 abbrev pub alarms_of : Option Flow → List Sent
 alarms_of None = []
-alarms_of (Some flow) = frames_in flow.route (alarm_frame flow)
+alarms_of (Some flow) = frames_in flow.cyclic.route (alarm_frame flow)
 
 abbrev pub inputs_of : ℕ → Option Flow → List Sent
 inputs_of counter None = []
-inputs_of counter (Some flow) = Exchanges flow.route (inputs_frame flow counter) ∷ []
+inputs_of counter (Some flow) = Exchanges flow.cyclic.route (inputs_frame flow counter) ∷ []
 
 abbrev pub replies_of : Taken → Option Flow → List Sent
 replies_of taken None = []
-replies_of taken (Some flow) = Exchanges flow.route (reply_frame flow taken) ∷ []
+replies_of taken (Some flow) = Exchanges flow.cyclic.route (reply_frame flow taken) ∷ []
 
 -- the ERR that ends it, if there is one
 abbrev pub farewells_in : Option Farewell → List Sent

@@ -7,7 +7,7 @@ use Rattle.pn_values.specs.declared.set_item.BlockError.{BlockError}
 use Rattle.frame_codec.specs.declared.arp.ArpOperation.TheVariants.{Reply}
 use Rattle.frame_codec.specs.declared.arp.Holder.{Holder}
 use Rattle.frame_codec.specs.Meaning.{Content, RealTime, ArpPacket, UdpDatagram}
-use Rattle.frame_codec.specs.Frame.{frame_bytes}
+use Rattle.cyclic_exchange.specs.Frames.{plain_frame, tagged_frame}
 use Rattle.dcp_core.specs.Request.{Asked}
 use Rattle.dcp_core.specs.Identify.{identify_bytes}
 use Rattle.dcp_core.specs.Get.{get_bytes}
@@ -22,9 +22,9 @@ use Rattle.pn_alarms.specs.Format.{frame_id_of, pdu_bytes}
 use Rattle.relations.specs.declared.farewell.Farewell.{Farewell}
 use Rattle.relations.specs.declared.ready.Ready.{Ready}
 use Rattle.relations.specs.Farewells.{said_by}
-use Rattle.exchanges.specs.declared.route.Route.{Route}
+use Rattle.cyclic_exchange.specs.declared.route.Route.{Route}
 use Rattle.exchanges.specs.Frames.{Frame, tag_of, id_of, body_of}
-use Rattle.device_frames.specs.declared.hearing.Caller.{Caller}
+use Rattle.frame_codec.specs.declared.udp.Caller.{Caller}
 
 -- A message, and to whom: the answer to an Identify request, to a Get, or to a Set and how each of its blocks came out; who
 -- holds an address, told to whom asked for it; the answer to a call, from this address; the frame of such an answer again; the
@@ -42,11 +42,11 @@ pub data Sent : Type 0 where
 
 -- a frame of this device, which has no tag
 abbrev pub own_frame : Identity → Mac → Content → List ℕ
-own_frame identity destination content = frame_bytes (record { destination = destination; source = identity.mac; tag = None; content = content })
+own_frame identity destination content = plain_frame identity.mac destination content
 
 -- one with a tag: of alarms
-abbrev pub tagged_frame : Identity → Mac → ℕ → Content → List ℕ
-tagged_frame identity destination tag content = frame_bytes (record { destination = destination; source = identity.mac; tag = Some tag; content = content })
+abbrev pub alarm_frame : Identity → Mac → ℕ → Content → List ℕ
+alarm_frame identity destination tag content = tagged_frame identity.mac destination tag content
 
 -- a DCP answer to whom asked: FrameID, and what follows it
 abbrev pub answer_frame : Identity → Mac → ℕ → List ℕ → List ℕ
@@ -70,11 +70,11 @@ ready_frame identity address ready =
 
 -- an ERR, to CMInitiatorMacAdd
 abbrev pub farewell_frame : Identity → Farewell → List ℕ
-farewell_frame identity farewell = tagged_frame identity farewell.initiator farewell.tag (RealTime (frame_id_of Error) (pdu_bytes (said_by farewell)))
+farewell_frame identity farewell = alarm_frame identity farewell.initiator farewell.tag (RealTime (frame_id_of Error) (pdu_bytes (said_by farewell)))
 
 -- a frame of inputs, of an alarm, or of the answer to an AlarmAck, to the partner
 abbrev pub exchange_frame : Identity → Route → Frame → List ℕ
-exchange_frame identity route frame = tagged_frame identity route.partner (tag_of route frame) (RealTime (id_of route frame) (body_of frame))
+exchange_frame identity route frame = alarm_frame identity route.partner (tag_of route frame) (RealTime (id_of route frame) (body_of frame))
 
 -- the octets of a message
 abbrev pub bytes_of : Identity → Sent → List ℕ

@@ -7,6 +7,7 @@ ghost use Rattle.relations.specs.Link.{flow_of};
 
 use crate::relation::send_ready;
 use arrayvec::ArrayVec;
+use cyclic_exchange::send_cyclic;
 use frame_codec::{Outbox, Pieces};
 use pn_alarms::{PduType, Taken};
 use pn_values::Identity;
@@ -31,16 +32,7 @@ pub fn send_inputs(
     let Some(exchange) = relation.exchange() else {
         return;
     };
-    let route = exchange.route();
-    let (inputs, tail) = exchange.inputs(counter);
-    outbox.put_pieces(&Pieces {
-        destination: route.partner,
-        source: identity.mac,
-        tag: Some(route.input_tag),
-        frame_id: route.input_id,
-        front: inputs,
-        behind: tail.as_slice(),
-    });
+    send_cyclic(identity.mac, counter, exchange.cyclic(), outbox);
 }
 
 /// Puts the alarm that stands in the relation into the box, behind what is in it, if there is one.

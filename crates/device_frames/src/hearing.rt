@@ -7,8 +7,8 @@ ghost use Rattle.device_frames.specs.declared.event.Event.TheVariants.{Frame};
 ghost use Rattle.frame_codec.specs.Meaning.{RealTime, meaning_of};
 
 use frame_codec::{
-    ALARM_HIGH, ALARM_LOW, Bytes, DCP_GET_SET, DCP_IDENTIFY_REQUEST, Endpoint, Layered, RPC_PORT,
-    RealTimeFrame, read, read_real_time,
+    Bytes, DCP_GET_SET, DCP_IDENTIFY_REQUEST, Layered, RPC_PORT, RealTimeFrame, is_alarm,
+    is_cyclic, read, read_real_time,
 };
 use pn_values::{Identity, Mac};
 
@@ -19,15 +19,6 @@ const IDENTIFY_MULTICAST: Mac = Mac {
 
 /// The address of all stations (IEEE 802, 8.2.2).
 const BROADCAST: Mac = Mac { octets: [0xFF; 6] };
-
-/// Who sent a datagram.
-#[derive(Clone, Copy)]
-pub struct Caller {
-    /// The station.
-    pub mac: Mac,
-    /// The address and the port there.
-    pub endpoint: Endpoint,
-}
 
 /// Reads a frame of EtherType 0x8892, if it is one.
 #[inline(always)]
@@ -70,11 +61,13 @@ pub fn kind_of(identity: &Identity, destination: Mac, frame_id: u16) -> Kind
     if !is_own(identity, destination) {
         return Kind::Elsewhere;
     }
-    match frame_id {
-        ALARM_HIGH | ALARM_LOW => Kind::Alarm,
-        0x8000..=0xBBFF | 0xC000..=0xF7FF => Kind::Cyclic,
-        _ => Kind::Elsewhere,
+    if is_alarm(frame_id) {
+        return Kind::Alarm;
     }
+    if is_cyclic(frame_id) {
+        return Kind::Cyclic;
+    }
+    Kind::Elsewhere
 }
 
 /// Whether a packet of ARP with this destination is for the device: to it, or to all stations.

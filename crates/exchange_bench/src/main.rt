@@ -1,4 +1,4 @@
-//! What the figures of an exchange come from (bench/exchange.py). The lines on standard input are those of a script's frames, units
+//! What the figures of an exchange come from (bench/figures/exchange.py). The lines on standard input are those of a script's frames, units
 //! of time, inputs and alarms of subslot 1:
 //!
 //! ```text
@@ -9,7 +9,7 @@
 //! ```
 //!
 //! Octets are in hex. It prints how many events were done, how many frames were sent since the last frame that was no cyclic one and
-//! no alarm, how many octets they had, and the sum of these: bench/exchange.rs, which does the same in plain Rust, has to print it too.
+//! no alarm, how many octets they had, and the sum of these: bench/figures/exchange.rs, which does the same in plain Rust, has to print it too.
 #![tactic(auto)]
 
 mod line;

@@ -9,14 +9,15 @@ use Rattle.cyclic_data.specs.declared.place.Place.{Place}
 use Rattle.cyclic_data.specs.declared.place.PlaceKind.{PlaceKind}
 use Rattle.cyclic_data.specs.declared.place.PlaceKind.TheVariants.{Data}
 use Rattle.cyclic_data.specs.Image.{Cell, Shown, cell_at, changed_in, has_size, place_at, with_value}
-use Rattle.cyclic_data.specs.Layout.{is_of}
+use Rattle.cyclic_data.specs.Layout.{is_of, is_same_kind}
+use Rattle.cyclic_exchange.specs.Cyclic.{Cyclic}
+use Rattle.cyclic_exchange.specs.Runs.{later_one}
 use Rattle.exchanges.specs.Flow.{Flow}
 use Rattle.exchanges.specs.Opening.{first_cell, opened, status_of}
 use Rattle.exchanges.specs.Process.{given_at}
-use Rattle.exchanges.specs.Notices.{may_raise, raised_by}
-use Rattle.exchanges.specs.Runs.{Event, Begins, Passes, Comes, Gives, Raises, Says, behind, behind_all, later_one, given_with, last_given, input_cell, AreTheLastGiven, AreStillTheStatuses}
-use Rattle.exchanges.proofs.Kept.{coming}
-use Rattle.exchanges.proofs.Statuses.{of_parts}
+use Rattle.exchanges.specs.Notices.{raised_by}
+use Rattle.exchanges.specs.Runs.{Event, Begins, Passes, Comes, Gives, Raises, Says, behind, behind_all, given_with, last_given, input_cell, AreTheLastGiven, AreStillTheStatuses}
+use Rattle.exchanges.proofs.Kept.{cyclic_raised, shown_behind}
 
 -- ---- cells of an image in which one is changed
 
@@ -30,12 +31,19 @@ changed_here slot subslot value (cell ∷ cells) =
       | inr t ↦ rw t (rw t (changed_here slot subslot value cells))
     ]
 
+-- the slot and subslot of a place of a submodule
+of_parts : (slot subslot : ℕ) (place : Place) → is_of Data slot subslot place ≡ true → (slot ≡ place.slot) × (subslot ≡ place.subslot)
+of_parts slot subslot place h =
+    let all = and_parts (is_same_kind Data place.kind) ((place.slot == slot) && (place.subslot == subslot)) h in
+    let two = and_parts (place.slot == slot) (place.subslot == subslot) all.1 in
+    (sym (eqb-true place.slot slot two.0), sym (eqb-true place.subslot subslot two.1))
+
 -- two submodules in one place are one
 same_submodule : (slot subslot to_slot to_subslot : ℕ) (place : Place) → is_of Data to_slot to_subslot place ≡ true → is_of Data slot subslot place ≡ true
     → ((to_slot == slot) && (to_subslot == subslot)) ≡ true
 same_submodule slot subslot to_slot to_subslot place one other =
-    let to = of_parts Data to_slot to_subslot place one in
-    let at = of_parts Data slot subslot place other in
+    let to = of_parts to_slot to_subslot place one in
+    let at = of_parts slot subslot place other in
     and_from _ _ (eq-eqb to_slot slot (to.0 ∙ sym at.0)) (eq-eqb to_subslot subslot (to.1 ∙ sym at.1))
 
 -- another
@@ -90,12 +98,12 @@ fits_not slot subslot value None h = refl
 fits_not slot subslot value (Some cell) h = rw (eq-eqb slot slot refl) (rw (eq-eqb subslot subslot refl) (rw h refl))
 
 given_here : (slot subslot : ℕ) (value : List ℕ) (flow : Flow)
-    → cell_at Data slot subslot (unwrap_or (given_at flow slot subslot value) flow).inputs.cells
-    ≡ option_map (given_to slot subslot (Gives slot subslot value)) (cell_at Data slot subslot flow.inputs.cells)
+    → cell_at Data slot subslot (unwrap_or (given_at flow slot subslot value) flow).cyclic.shown.cells
+    ≡ option_map (given_to slot subslot (Gives slot subslot value)) (cell_at Data slot subslot flow.cyclic.shown.cells)
 given_here slot subslot value flow =
-    elim (cases_Bool (has_size (length value) (cell_at Data slot subslot flow.inputs.cells))) [
-      | inl t ↦ rw t (changed_here slot subslot value flow.inputs.cells ∙ fits slot subslot value (cell_at Data slot subslot flow.inputs.cells) t)
-      | inr t ↦ rw t (fits_not slot subslot value (cell_at Data slot subslot flow.inputs.cells) t)
+    elim (cases_Bool (has_size (length value) (cell_at Data slot subslot flow.cyclic.shown.cells))) [
+      | inl t ↦ rw t (changed_here slot subslot value flow.cyclic.shown.cells ∙ fits slot subslot value (cell_at Data slot subslot flow.cyclic.shown.cells) t)
+      | inr t ↦ rw t (fits_not slot subslot value (cell_at Data slot subslot flow.cyclic.shown.cells) t)
     ]
 
 of_another : (slot subslot to_slot to_subslot : ℕ) (value : List ℕ) → ((to_slot == slot) && (to_subslot == subslot)) ≡ false → (found : Option Cell)
@@ -104,36 +112,33 @@ of_another slot subslot to_slot to_subslot value apart None = refl
 of_another slot subslot to_slot to_subslot value apart (Some cell) = rw apart refl
 
 given_elsewhere : (slot subslot to_slot to_subslot : ℕ) (value : List ℕ) (flow : Flow) → ((to_slot == slot) && (to_subslot == subslot)) ≡ false
-    → cell_at Data slot subslot (unwrap_or (given_at flow to_slot to_subslot value) flow).inputs.cells
-    ≡ option_map (given_to slot subslot (Gives to_slot to_subslot value)) (cell_at Data slot subslot flow.inputs.cells)
+    → cell_at Data slot subslot (unwrap_or (given_at flow to_slot to_subslot value) flow).cyclic.shown.cells
+    ≡ option_map (given_to slot subslot (Gives to_slot to_subslot value)) (cell_at Data slot subslot flow.cyclic.shown.cells)
 given_elsewhere slot subslot to_slot to_subslot value flow apart =
-    let still = of_another slot subslot to_slot to_subslot value apart (cell_at Data slot subslot flow.inputs.cells) in
-    elim (cases_Bool (has_size (length value) (cell_at Data to_slot to_subslot flow.inputs.cells))) [
-      | inl t ↦ rw t (changed_elsewhere slot subslot to_slot to_subslot value apart flow.inputs.cells ∙ still)
+    let still = of_another slot subslot to_slot to_subslot value apart (cell_at Data slot subslot flow.cyclic.shown.cells) in
+    elim (cases_Bool (has_size (length value) (cell_at Data to_slot to_subslot flow.cyclic.shown.cells))) [
+      | inl t ↦ rw t (changed_elsewhere slot subslot to_slot to_subslot value apart flow.cyclic.shown.cells ∙ still)
       | inr t ↦ rw t still
     ]
 
 given_step : (slot subslot to_slot to_subslot : ℕ) (value : List ℕ) (flow : Flow)
-    → cell_at Data slot subslot (unwrap_or (given_at flow to_slot to_subslot value) flow).inputs.cells
-    ≡ option_map (given_to slot subslot (Gives to_slot to_subslot value)) (cell_at Data slot subslot flow.inputs.cells)
+    → cell_at Data slot subslot (unwrap_or (given_at flow to_slot to_subslot value) flow).cyclic.shown.cells
+    ≡ option_map (given_to slot subslot (Gives to_slot to_subslot value)) (cell_at Data slot subslot flow.cyclic.shown.cells)
 given_step slot subslot to_slot to_subslot value flow =
     elim (cases_Bool ((to_slot == slot) && (to_subslot == subslot))) [
       | inl t ↦
           let two = and_parts (to_slot == slot) (to_subslot == subslot) t in
           let by_slot : (n : ℕ) → n ≡ slot → (m : ℕ) → m ≡ subslot
-          → cell_at Data slot subslot (unwrap_or (given_at flow n m value) flow).inputs.cells
-          ≡ option_map (given_to slot subslot (Gives n m value)) (cell_at Data slot subslot flow.inputs.cells) =
+          → cell_at Data slot subslot (unwrap_or (given_at flow n m value) flow).cyclic.shown.cells
+          ≡ option_map (given_to slot subslot (Gives n m value)) (cell_at Data slot subslot flow.cyclic.shown.cells) =
           λ n a m b. rw (a, b) (given_here slot subslot value flow) in
           by_slot to_slot (eqb-true to_slot slot two.0) to_subslot (eqb-true to_subslot subslot two.1)
       | inr t ↦ given_elsewhere slot subslot to_slot to_subslot value flow t
     ]
 
 inputs_beside : (flow : Flow) (slot subslot : ℕ) (octets : List ℕ) (ident part : Option ℕ)
-    → (unwrap_or (raised_by flow slot subslot octets ident part) flow).inputs ≡ flow.inputs
-inputs_beside flow slot subslot octets (Some ident) (Some part) =
-    elim (cases_Bool (may_raise flow octets)) [ inl t ↦ rw t refl | inr t ↦ rw t refl ]
-inputs_beside flow slot subslot octets (Some ident) None = refl
-inputs_beside flow slot subslot octets None part = refl
+    → (unwrap_or (raised_by flow slot subslot octets ident part) flow).cyclic.shown ≡ flow.cyclic.shown
+inputs_beside flow slot subslot octets ident part = ap (λ (cyclic : Cyclic). cyclic.shown) (cyclic_raised flow slot subslot octets ident part)
 
 -- where the inputs are the same
 unchanged : (slot subslot : ℕ) (old new : Shown) → new ≡ old
@@ -142,16 +147,16 @@ unchanged slot subslot old new same =
     ap (λ (shown : Shown). cell_at Data slot subslot shown.cells) same ∙ untouched (cell_at Data slot subslot old.cells)
 
 given_in : (event : Event) (slot subslot : ℕ) (flow : Flow)
-    → cell_at Data slot subslot (behind event flow).inputs.cells ≡ option_map (given_to slot subslot event) (cell_at Data slot subslot flow.inputs.cells)
-given_in Begins slot subslot flow = untouched (cell_at Data slot subslot flow.inputs.cells)
-given_in Passes slot subslot flow = untouched (cell_at Data slot subslot flow.inputs.cells)
+    → cell_at Data slot subslot (behind event flow).cyclic.shown.cells ≡ option_map (given_to slot subslot event) (cell_at Data slot subslot flow.cyclic.shown.cells)
+given_in Begins slot subslot flow = untouched (cell_at Data slot subslot flow.cyclic.shown.cells)
+given_in Passes slot subslot flow = untouched (cell_at Data slot subslot flow.cyclic.shown.cells)
 given_in (Comes source frame_id body) slot subslot flow =
-    unchanged slot subslot flow.inputs (behind (Comes source frame_id body) flow).inputs (coming flow source frame_id body).inputs
+    unchanged slot subslot flow.cyclic.shown (behind (Comes source frame_id body) flow).cyclic.shown (shown_behind flow.cyclic source frame_id body)
 given_in (Gives to_slot to_subslot value) slot subslot flow = given_step slot subslot to_slot to_subslot value flow
 given_in (Raises real of_slot of_subslot octets) slot subslot flow =
-    unchanged slot subslot flow.inputs (behind (Raises real of_slot of_subslot octets) flow).inputs
+    unchanged slot subslot flow.cyclic.shown (behind (Raises real of_slot of_subslot octets) flow).cyclic.shown
     (inputs_beside flow of_slot of_subslot octets (module_ident real of_slot) (submodule_ident real of_slot of_subslot))
-given_in (Says message) slot subslot flow = untouched (cell_at Data slot subslot flow.inputs.cells)
+given_in (Says message) slot subslot flow = untouched (cell_at Data slot subslot flow.cyclic.shown.cells)
 
 -- ---- several events
 
@@ -167,12 +172,12 @@ given_twice slot subslot event events (Some cell) =
     (later_value (last_given slot subslot cell.place.size events) (given_with slot subslot cell.place.size event) cell.value)
 
 given_all : (events : List Event) (slot subslot : ℕ) (flow : Flow)
-    → cell_at Data slot subslot (behind_all events flow).inputs.cells ≡ option_map (given_by slot subslot events) (cell_at Data slot subslot flow.inputs.cells)
-given_all [] slot subslot flow = untouched (cell_at Data slot subslot flow.inputs.cells)
+    → cell_at Data slot subslot (behind_all events flow).cyclic.shown.cells ≡ option_map (given_by slot subslot events) (cell_at Data slot subslot flow.cyclic.shown.cells)
+given_all [] slot subslot flow = untouched (cell_at Data slot subslot flow.cyclic.shown.cells)
 given_all (event ∷ events) slot subslot flow =
     given_all events slot subslot (behind event flow)
     ∙ (ap (option_map (given_by slot subslot events)) (given_in event slot subslot flow)
-    ∙ given_twice slot subslot event events (cell_at Data slot subslot flow.inputs.cells))
+    ∙ given_twice slot subslot event events (cell_at Data slot subslot flow.cyclic.shown.cells))
 
 -- ---- from the opening on
 
@@ -206,25 +211,25 @@ abbrev status_at : PlaceKind → ℕ → ℕ → Shown → Option ℕ
 status_at kind slot subslot shown = option_map (λ (cell : Cell). cell.status) (cell_at kind slot subslot shown.cells)
 
 status_given : (kind : PlaceKind) (slot subslot to_slot to_subslot : ℕ) (value : List ℕ) (flow : Flow)
-    → status_at kind slot subslot (unwrap_or (given_at flow to_slot to_subslot value) flow).inputs ≡ status_at kind slot subslot flow.inputs
+    → status_at kind slot subslot (unwrap_or (given_at flow to_slot to_subslot value) flow).cyclic.shown ≡ status_at kind slot subslot flow.cyclic.shown
 status_given kind slot subslot to_slot to_subslot value flow =
-    elim (cases_Bool (has_size (length value) (cell_at Data to_slot to_subslot flow.inputs.cells))) [
-      | inl t ↦ rw t (status_kept kind slot subslot to_slot to_subslot value flow.inputs.cells)
+    elim (cases_Bool (has_size (length value) (cell_at Data to_slot to_subslot flow.cyclic.shown.cells))) [
+      | inl t ↦ rw t (status_kept kind slot subslot to_slot to_subslot value flow.cyclic.shown.cells)
       | inr t ↦ rw t refl
     ]
 
 status_in : (event : Event) (kind : PlaceKind) (slot subslot : ℕ) (flow : Flow)
-    → status_at kind slot subslot (behind event flow).inputs ≡ status_at kind slot subslot flow.inputs
+    → status_at kind slot subslot (behind event flow).cyclic.shown ≡ status_at kind slot subslot flow.cyclic.shown
 status_in Begins kind slot subslot flow = refl
 status_in Passes kind slot subslot flow = refl
-status_in (Comes source frame_id body) kind slot subslot flow = ap (status_at kind slot subslot) (coming flow source frame_id body).inputs
+status_in (Comes source frame_id body) kind slot subslot flow = ap (status_at kind slot subslot) (shown_behind flow.cyclic source frame_id body)
 status_in (Gives to_slot to_subslot value) kind slot subslot flow = status_given kind slot subslot to_slot to_subslot value flow
 status_in (Raises real of_slot of_subslot octets) kind slot subslot flow =
     ap (status_at kind slot subslot) (inputs_beside flow of_slot of_subslot octets (module_ident real of_slot) (submodule_ident real of_slot of_subslot))
 status_in (Says message) kind slot subslot flow = refl
 
 status_all : (events : List Event) (kind : PlaceKind) (slot subslot : ℕ) (flow : Flow)
-    → status_at kind slot subslot (behind_all events flow).inputs ≡ status_at kind slot subslot flow.inputs
+    → status_at kind slot subslot (behind_all events flow).cyclic.shown ≡ status_at kind slot subslot flow.cyclic.shown
 status_all [] kind slot subslot flow = refl
 status_all (event ∷ events) kind slot subslot flow =
     status_all events kind slot subslot (behind event flow) ∙ status_in event kind slot subslot flow

@@ -1,3 +1,2 @@
-mod Statuses
-mod Kept
-mod Given
+pub mod Kept
+pub mod Given

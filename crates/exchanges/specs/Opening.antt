@@ -1,25 +1,26 @@
 -- The exchange of a relation that is made now, with the answer to its Connect (IEC 61158-6-10, 5.2.4).
-use Rattle.std.specs.Prelude.{◌*◌, ◌-◌, ℕ, false, true, map, replicate, None, if◌then◌else◌}
+use Rattle.std.specs.Prelude.{◌*◌, ◌-◌, ℕ, None, replicate, if◌then◌else◌}
 use Rattle.module_lists.specs.Lists.{Listed}
 use Rattle.module_blocks.specs.declared.module_diff.DiffModule.{DiffModule}
 use Rattle.module_blocks.specs.declared.module_diff.DiffSubmodule.{DiffSubmodule}
 use Rattle.module_diff.specs.Diff.{is_listed}
 use Rattle.cyclic_data.specs.declared.place.Place.{Place}
-use Rattle.cyclic_data.specs.Image.{Cell, Shown, good, zero_cell}
-use Rattle.cyclic_data.specs.Layout.{Table}
+use Rattle.cyclic_data.specs.Image.{Cell, good}
 use Rattle.connect_requests.specs.declared.parts.Iocr.{Iocr}
 use Rattle.connect_requests.specs.Request.{Request}
 use Rattle.pn_alarms.specs.Device.{idle}
-use Rattle.exchanges.specs.declared.route.Route.{Route}
+use Rattle.cyclic_exchange.specs.declared.route.Route.{Route}
+use Rattle.cyclic_exchange.specs.Opening.{StatusOf}
+use Rattle.cyclic_exchange.specs.Opening.{begun_of as cyclic_begun, first_cell as first_with, opened as cyclic_opened}
 use Rattle.exchanges.specs.Flow.{Flow}
 
 -- cyclic frames and alarms go to CMInitiatorMacAdd and come from there
 abbrev pub route_of : Request → Route
 route_of request = record {
   partner = request.ar.initiator;
-  input_id = request.input.frame_id;
-  input_tag = request.input.tag;
-  output_id = request.output.frame_id;
+  sent_id = request.input.frame_id;
+  sent_tag = request.input.tag;
+  taken_id = request.output.frame_id;
   alarm_tag = request.alarm.tag_high;
   reference = request.alarm.reference;
 }
@@ -32,30 +33,23 @@ interval_of iocr = iocr.send_clock_factor * iocr.reduction_ratio
 abbrev pub status_of : Listed DiffModule DiffSubmodule → ℕ → ℕ → ℕ
 status_of rows slot subslot = if is_listed slot subslot rows then 0 else good
 
+abbrev pub statuses_of : Listed DiffModule DiffSubmodule → StatusOf
+statuses_of rows kind slot subslot = status_of rows slot subslot
+
 -- a place of the inputs, of which none was given: zeros
 abbrev pub first_cell : Listed DiffModule DiffSubmodule → Place → Cell
-first_cell rows place = record { place = place; value = replicate (place.size - 1) 0; status = status_of rows place.slot place.subslot }
-
-abbrev pub first_inputs : Listed DiffModule DiffSubmodule → Table → Shown
-first_inputs rows layout = record { data_length = layout.data_length; cells = map (first_cell rows) layout.places }
-
--- the outputs before the first frame: zeros
-abbrev pub first_outputs : Table → Shown
-first_outputs layout = record { data_length = layout.data_length; cells = map zero_cell layout.places }
+first_cell rows place = first_with (statuses_of rows) place
 
 -- The exchange that a Connect asks for, where these modules and submodules differ. The interval of the inputs is counted from now; the
 -- data hold time is DataHoldFactor times the interval of the outputs.
 abbrev pub opened : Request → Listed DiffModule DiffSubmodule → Flow
 opened request rows = record {
-  route = route_of request;
-  begun = false;
-  sending = record { interval = interval_of request.input; elapsed = 0 };
-  inputs = first_inputs rows request.input.layout;
-  hearing = record { last = None; held = 0; limit = request.output.data_hold_factor * interval_of request.output };
-  outputs = first_outputs request.output.layout;
+  cyclic = cyclic_opened (route_of request) (record { interval = interval_of request.input; elapsed = 0 })
+      (record { last = None; held = 0; limit = request.output.data_hold_factor * interval_of request.output })
+      (statuses_of rows) request.input.layout request.output.layout;
   alarms = idle request.alarm.timeout_factor request.alarm.retries;
 }
 
 -- ApplicationReady was answered: data is exchanged, and the data hold time runs from now on
 abbrev pub begun_of : Flow → Flow
-begun_of flow = record flow { begun = true; hearing = record flow.hearing { held = 0 } }
+begun_of flow = record flow { cyclic = cyclic_begun flow.cyclic }

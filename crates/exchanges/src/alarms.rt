@@ -27,7 +27,7 @@ impl DataExchange {
         let Some(submodule_ident_number) = submodule_ident(real, slot, subslot) else {
             return false;
         };
-        if !self.begun || octets.len() > 32 {
+        if !self.cyclic.has_begun() || octets.len() > 32 {
             return false;
         }
         let alarm = Alarm {
@@ -56,7 +56,7 @@ impl DataExchange {
         ensures { result ≡ header_of self.now kind }
     {
         self.alarms
-            .header(kind, self.route.reference, OWN_REFERENCE)
+            .header(kind, self.cyclic.route().reference, OWN_REFERENCE)
     }
 
     /// What follows the FrameID of the alarm that stands, if one does: 40 octets, and behind them its data, at most 32.

@@ -3,25 +3,19 @@ ghost use Rattle.std.specs.Prelude.{◌≡◌, ◌≤◌, IfSome, None, [], fals
 ghost use Rattle.exchanges.specs.Opening.{begun_of, opened};
 ghost use Rattle.exchanges.specs.Process.{given_at, output_at};
 
-use crate::Route;
-use crate::opening::fill_inputs;
+use crate::opening::{Differing, route_of};
 use connect_requests::ConnectRequest;
-use cyclic_data::{Consumer, Image, Provider, ReceivedImage};
+use cyclic_data::{Consumer, Provider};
+use cyclic_exchange::{CyclicExchange, Route};
 use module_diff::DiffRows;
 use pn_alarms::DeviceAlarms;
 use std::marker::Model;
 
 /// What a relation exchanges with its partner. It is large, and stays in its place: what was exchanged is filled anew as the next
-/// relation opens it.
+/// relation opens it, so that no end of a relation has to clear it.
 #[derive(Drop)]
 pub struct DataExchange {
-    pub(crate) route: Route,
-    /// ApplicationReady was answered.
-    pub(crate) begun: bool,
-    pub(crate) provider: Provider,
-    pub(crate) inputs: Image,
-    pub(crate) consumer: Consumer,
-    pub(crate) outputs: ReceivedImage,
+    pub(crate) cyclic: CyclicExchange,
     pub(crate) alarms: DeviceAlarms,
 }
 
@@ -31,32 +25,19 @@ impl Model for DataExchange {
 
     ghost Value = { Flow };
 
-    ghost view = { λ exchange. record {
-      route = exchange.route;
-      begun = exchange.begun;
-      sending = exchange.provider;
-      inputs = exchange.inputs;
-      hearing = exchange.consumer;
-      outputs = exchange.outputs;
-      alarms = exchange.alarms;
-    } };
+    ghost view = { λ exchange. record { cyclic = exchange.cyclic; alarms = exchange.alarms } };
 }
 
 impl DataExchange {
     /// One of nobody, to be opened: no data is exchanged, no submodule has an input or an output, and no alarm stands.
     pub fn new() -> DataExchange
-        ensures begun { result.begun ≡ false }
-        ensures inputs { result.inputs.cells ≡ [] }
-        ensures outputs { result.outputs.cells ≡ [] }
+        ensures begun { result.cyclic.begun ≡ false }
+        ensures inputs { result.cyclic.shown.cells ≡ [] }
+        ensures outputs { result.cyclic.taken.cells ≡ [] }
         ensures alarms { result.alarms.sender.standing ≡ None }
     {
         DataExchange {
-            route: Route::blank(),
-            begun: false,
-            provider: Provider::start(1, 1),
-            inputs: Image::new(),
-            consumer: Consumer::new(1, 1),
-            outputs: ReceivedImage::new(),
+            cyclic: CyclicExchange::new(),
             alarms: DeviceAlarms::new(1, 1),
         }
     }
@@ -67,12 +48,14 @@ impl DataExchange {
         ensures { self.new ≡ opened request.now rows.now }
     {
         let (input, output, alarm) = (request.input(), request.output(), request.alarm());
-        self.route = Route::of(request);
-        self.begun = false;
-        self.provider = Provider::start(input.send_clock_factor, input.reduction_ratio);
-        fill_inputs(&mut self.inputs, &input.layout, rows);
-        self.consumer = Consumer::new(output.data_hold_factor, output.interval());
-        self.outputs.start(&output.layout);
+        self.cyclic.open(
+            route_of(request),
+            Provider::start(input.send_clock_factor, input.reduction_ratio),
+            Consumer::new(output.data_hold_factor, output.interval()),
+            &input.layout,
+            &output.layout,
+            &Differing(rows),
+        );
         self.alarms = DeviceAlarms::new(alarm.timeout_factor, alarm.retries);
     }
 
@@ -80,15 +63,22 @@ impl DataExchange {
     pub fn begin(&mut self)
         ensures { self.new ≡ begun_of self.old }
     {
-        self.begun = true;
-        self.consumer.restart();
+        self.cyclic.begin();
     }
 
     /// With whom, and the numbers of its frames.
     pub fn route(&self) -> &Route
-        ensures { result.now ≡ self.now.route }
+        ensures { result.now ≡ self.now.cyclic.route }
     {
-        &self.route
+        self.cyclic.route()
+    }
+
+    /// The end of cyclic data, of which the frames of inputs are made.
+    #[inline(always)]
+    pub fn cyclic(&self) -> &CyclicExchange
+        ensures { result.now ≡ self.now.cyclic }
+    {
+        &self.cyclic
     }
 
     /// Gives a submodule its input, which the frames have from now on. Answers whether it has an input of this length; if not,
@@ -97,7 +87,7 @@ impl DataExchange {
         ensures done { result ≡ is_some (given_at self.old slot subslot value.now) }
         ensures state { self.new ≡ unwrap_or (given_at self.old slot subslot value.now) self.old }
     {
-        self.inputs.put(slot, subslot, value)
+        self.cyclic.give(slot, subslot, value)
     }
 
     /// The output of a submodule, if it has one: what the last frame that was taken holds, and zeros where none was taken or its IOPS
@@ -106,6 +96,6 @@ impl DataExchange {
         ensures value { option_map (λ value. value.now) result ≡ output_at self.now slot subslot }
         ensures short { IfSome result (λ value. length value.now ≤ 1440) }
     {
-        self.outputs.output(slot, subslot)
+        self.cyclic.value(slot, subslot)
     }
 }

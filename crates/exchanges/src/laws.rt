@@ -1,6 +1,8 @@
 //! What holds of exchanges over many events.
 ghost use Rattle.exchanges.specs.Runs.{AreOfTheLast, AreStillTheStatuses, AreTheLastGiven, IsDueEachInterval, IsHeldSoLong};
 
+use cyclic_exchange::cyclic_data_is_kept;
+
 /// What is exchanged, over any list of events: laws of the definitions by which `DataExchange` is stated, and no code.
 pub fn exchange_is_kept()
     // A frame of inputs is due each interval, counted from the answer to the Connect, whatever happens meanwhile.
@@ -13,4 +15,6 @@ pub fn exchange_is_kept()
     ensures statuses { AreStillTheStatuses }
     // The data hold time is over with the unit that completes it, unless a frame is taken before.
     ensures hold { IsHeldSoLong }
-{}
+{
+    cyclic_data_is_kept();
+}

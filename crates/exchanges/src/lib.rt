@@ -10,11 +10,7 @@ mod cyclic;
 mod exchange;
 mod laws;
 mod opening;
-mod route;
-mod units;
 
-pub use cyclic::Received;
+pub use cyclic_exchange::{Received, Route, Tick};
 pub use exchange::DataExchange;
 pub use laws::exchange_is_kept;
-pub use route::Route;
-pub use units::Tick;

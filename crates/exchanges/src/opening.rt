@@ -1,8 +1,10 @@
 //! An exchange that is opened.
 ghost use Rattle.std.specs.Prelude.{◌≡◌};
-ghost use Rattle.exchanges.specs.Opening.{first_inputs, status_of};
+ghost use Rattle.exchanges.specs.Opening.{route_of, status_of};
 
-use cyclic_data::{Image, Layout};
+use connect_requests::ConnectRequest;
+use cyclic_data::PlaceKind;
+use cyclic_exchange::{Route, Statuses};
 use module_diff::DiffRows;
 
 /// The status of good data (IEC 61158-6-10, 4.7.2.1.1).
@@ -19,13 +21,31 @@ fn status_of(rows: &DiffRows, slot: u16, subslot: u16) -> u8
     }
 }
 
-/// Becomes the image of a layout in which nothing was given, and IOPS and IOCS are those of its submodules.
-pub(crate) fn fill_inputs(image: &mut Image, layout: &Layout, rows: &DiffRows)
-    ensures { image.new ≡ first_inputs rows.now layout.now }
+/// The statuses of a device of which these modules and submodules differ.
+#[derive(Drop)]
+pub(crate) struct Differing<'a>(pub(crate) &'a DiffRows);
+
+impl Statuses for Differing<'_> {
+    ghost use Rattle.exchanges.specs.Opening.{statuses_of};
+
+    ghost status_of = { λ differing. statuses_of differing.0.now };
+
+    fn status(&self, _kind: PlaceKind, slot: u16, subslot: u16) -> u8 {
+        status_of(self.0, slot, subslot)
+    }
+}
+
+/// What a Connect asks for.
+pub(crate) fn route_of(request: &ConnectRequest) -> Route
+    ensures { result ≡ route_of request.now }
 {
-    image.start(layout);
-    for place in layout.places() {
-        let status = status_of(rows, place.slot, place.subslot);
-        image.set_status(place.kind, place.slot, place.subslot, status);
+    let alarm = request.alarm();
+    Route {
+        partner: request.ar().initiator,
+        sent_id: request.input().frame_id,
+        sent_tag: request.input().tag,
+        taken_id: request.output().frame_id,
+        alarm_tag: alarm.tag_high,
+        reference: alarm.reference,
     }
 }

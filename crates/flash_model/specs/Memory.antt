@@ -10,7 +10,7 @@ use Rattle.flash_model.specs.Fate.{fate_of, armed_after, is_readable, armed_afte
 abbrev pub image_of : {S : ℕ} → MemoryFlash S → Image
 image_of flash = record { first = flash.first; second = flash.second }
 
--- the order that was armed and has not struck
+-- the order that is pending, if there is one
 abbrev pub armed_in : {S : ℕ} → MemoryFlash S → Option Order
 armed_in flash = flash.armed
 

@@ -5,7 +5,8 @@ use crate::MemoryFlash;
 use crate::flash::{Flash, FlashFault, Order, Sector};
 use std::marker::Model;
 
-/// A flash that is lent: it stays where it is, and whoever takes a flash by value takes this in its place. A clause sees
+/// A flash that is lent: it stays where it is, since one that holds its sectors in memory is large, and whoever takes a flash by value
+/// takes this in its place. A clause sees
 /// the flash.
 #[derive(Drop)]
 pub struct Lent<'a, F> {
@@ -39,7 +40,7 @@ impl<'a, F> Lent<'a, F> {
 impl<'a, const S: usize> Lent<'a, MemoryFlash<S>> {
     ghost use Rattle.flash_model.specs.Memory.{image_of, armed_in, failures_of, is_powerless};
 
-    /// Gives power back, and changes nothing else: an order that has not struck stays armed.
+    /// Gives power back, and changes nothing else: a pending order stays armed.
     pub fn power_up(&mut self)
         ensures lost { is_powerless self.new ≡ false }
         ensures armed { armed_in self.new ≡ armed_in self.old }

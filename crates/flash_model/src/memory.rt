@@ -101,7 +101,7 @@ impl<const S: usize> MemoryFlash<S> {
         self.armed = Some(Order::ReadFault { after });
     }
 
-    /// Gives power back, and changes nothing else: an order that has not struck stays armed.
+    /// Gives power back, and changes nothing else: a pending order stays armed.
     pub fn power_up(&mut self)
         ensures lost { is_powerless self.new ≡ false }
         ensures armed { armed_in self.new ≡ armed_in self.old }

@@ -4,3 +4,4 @@ pub mod Arp
 pub mod Internet
 pub mod Frame
 pub mod FrameFault
+pub mod FrameId

@@ -21,12 +21,13 @@ pub use arp::{Arp, ArpOperation, Holder};
 pub use fault::FrameFault;
 pub use frame::Frame;
 pub use frame_id::{
-    ALARM_HIGH, ALARM_LOW, DCP_GET_SET, DCP_IDENTIFY_REQUEST, DCP_IDENTIFY_RESPONSE,
+    ALARM_HIGH, ALARM_LOW, DCP_GET_SET, DCP_IDENTIFY_REQUEST, DCP_IDENTIFY_RESPONSE, is_alarm,
+    is_cyclic,
 };
 pub use layered::{Layered, Payload, Pieces, RealTimeFrame};
 pub use limits::Bytes;
 pub use outbox::Outbox;
 pub use reading::{read, read_real_time};
 pub use sum::ones_sum;
-pub use udp::{Endpoint, RPC_PORT, Udp};
+pub use udp::{Caller, Endpoint, RPC_PORT, Udp};
 pub use writing::write;

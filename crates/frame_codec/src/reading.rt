@@ -1,4 +1,7 @@
 //! From octets to layers.
+//!
+//! `inline(always)` stands where instructions were counted (`bench/figures/exchange.py`): what each frame of an exchange takes is one
+//! piece, and what is rare, `inline(never)`, stands outside of it.
 ghost use Rattle.std.specs.Prelude.{◌≡◌, IfNone, IfOk, IfSome, Ok};
 ghost use Rattle.wire.specs.Codec.{Gives};
 ghost use Rattle.frame_codec.specs.Meaning.{IsNoRealTime, Meaning, content_of, meaning_as, meaning_of};
@@ -112,6 +115,7 @@ pub fn read(bytes: &[u8]) -> Result<Layered<'_>, FrameFault>
 }
 
 /// Reads a frame of EtherType 0x8892: what cyclic data, alarms and DCP come in. None is any other frame, or none: `read` tells which.
+/// It is a call of its own because a `Layered` has room for each kind of content, and would be moved through memory.
 #[inline(always)]
 #[tactic(auto, unfolding(crate::specs::Frame::frame_of, crate::specs::Frame::layers, crate::specs::Frame::real_time))]
 pub fn read_real_time(bytes: &[u8]) -> Option<RealTimeFrame<'_>>

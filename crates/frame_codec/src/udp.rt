@@ -11,6 +11,7 @@ use crate::fields::size_behind_at;
 use crate::internet::{InternetHeader, UDP};
 use crate::sum::{ones_sum, sum_on};
 use arrayvec::ArrayVec;
+use pn_values::Mac;
 use wire::{append, append_u8, append_u16, front, split, u16_at};
 
 /// The port of UDP at which the calls of PROFINET are heard, of device and controller alike.
@@ -34,6 +35,15 @@ pub struct Endpoint {
     pub address: [u8; 4],
     /// The port.
     pub port: u16,
+}
+
+/// Who sent a datagram.
+#[derive(Clone, Copy, Debug, PartialEq, Eq)]
+pub struct Caller {
+    /// The station.
+    pub mac: Mac,
+    /// The address and the port there.
+    pub endpoint: Endpoint,
 }
 
 /// What stands in front of a datagram.

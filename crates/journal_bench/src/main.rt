@@ -1,4 +1,4 @@
-//! What the figures of the journal come from (bench/measure.py). `journal_bench COMMITS STARTS` makes so many commits of a
+//! What the figures of the journal come from (bench/figures/measure.py). `journal_bench COMMITS STARTS` makes so many commits of a
 //! name over a blank flash in memory, and then starts on it so many times. It prints how many of the commits were done,
 //! and how long the name is that the last start read.
 #![tactic(auto)]

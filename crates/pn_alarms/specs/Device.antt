@@ -4,8 +4,8 @@ use Rattle.record_blocks.specs.declared.alarm_ack.AlarmAck.{AlarmAck}
 use Rattle.record_blocks.specs.declared.alarm_notification.AlarmNotification.{AlarmNotification}
 use Rattle.pn_alarms.specs.declared.device.Heard.{Heard}
 use Rattle.pn_alarms.specs.declared.device.Heard.TheVariants.{Data, Done, Ignored, Aborted}
-use Rattle.pn_alarms.specs.declared.message.Message.{Message}
-use Rattle.pn_alarms.specs.declared.message.Message.TheVariants as message
+use Rattle.pn_alarms.specs.Message.{ToDevice}
+use Rattle.pn_alarms.specs.declared.message.Notice.TheVariants as message
 use Rattle.pn_alarms.specs.declared.pdu.Header.{Header}
 use Rattle.pn_alarms.specs.declared.pdu.PduType.{PduType}
 use Rattle.pn_alarms.specs.declared.receiver.Taken.{Taken}
@@ -24,7 +24,7 @@ idle factor retries = record { sender = quiet factor retries; seen = None }
 
 -- what becomes of a PDU: data is taken, or not; an ACK counts if it is of the last alarm that was sent; a NACK does not; an ERR ends the
 -- relation
-abbrev pub heard_as : DeviceEnd → Message → Heard
+abbrev pub heard_as : DeviceEnd → ToDevice → Heard
 heard_as e (message.Data number ack) = Data (taken_as e.seen number)
 heard_as e (message.Ack number) = if is_last e.sender.sending.last number then Done else Ignored
 heard_as e message.Nack = Ignored
@@ -37,7 +37,7 @@ sender_after sender ack Again = sender
 sender_after sender ack Refused = sender
 
 -- behind it
-abbrev pub end_behind : DeviceEnd → Message → DeviceEnd
+abbrev pub end_behind : DeviceEnd → ToDevice → DeviceEnd
 end_behind e (message.Data number ack) = record { sender = sender_after e.sender ack (taken_as e.seen number); seen = last_behind e.seen number }
 end_behind e (message.Ack number) = record { sender = answered e.sender (reply.Ack number); seen = e.seen }
 end_behind e message.Nack = e

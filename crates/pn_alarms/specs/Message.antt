@@ -1,22 +1,44 @@
--- What a PDU says to a device.
+-- What a PDU says to the station that gets it: data is an AlarmAck at a device, and an alarm at a controller.
 use Rattle.std.specs.Prelude.{ℕ, List, Result, Ok}
 use Rattle.wire.specs.Codec.{◌>>=◌}
+use Rattle.record_blocks.specs.declared.alarm_ack.AlarmAck.{AlarmAck}
+use Rattle.record_blocks.specs.declared.alarm_notification.AlarmNotification.{AlarmNotification}
 use Rattle.pn_alarms.specs.declared.fault.AlarmFault.{AlarmFault}
 use Rattle.pn_alarms.specs.declared.pdu.Header.{Header}
 use Rattle.pn_alarms.specs.declared.pdu.PduType.{PduType}
 use Rattle.pn_alarms.specs.declared.pdu.PduType.TheVariants as pdu
-use Rattle.pn_alarms.specs.declared.message.Message.{Message}
-use Rattle.pn_alarms.specs.declared.message.Message.TheVariants.{Data, Nack, Ack, Abort}
+use Rattle.pn_alarms.specs.declared.message.Notice.{Notice}
+use Rattle.pn_alarms.specs.declared.message.Notice.TheVariants.{Data, Nack, Ack, Abort}
 use Rattle.pn_alarms.specs.Format.{Said, pdu_of}
-use Rattle.pn_alarms.specs.Carried.{ack_of}
+use Rattle.pn_alarms.specs.Carried.{ack_of, notification_of}
 
--- of a PDU of this type: data counts with its SendSeqNum and its AlarmAck, an ACK with its AckSeqNum alone
-abbrev pub message_in : PduType → Said → Result Message AlarmFault
-message_in pdu.Data said = ack_of said.body >>= λ ack. Ok (Data said.header.send_number ack)
-message_in pdu.Nack said = Ok Nack
-message_in pdu.Ack said = Ok (Ack said.header.ack_number)
-message_in pdu.Error said = Ok Abort
+-- what is said to a device, and what to a controller
+abbrev pub ToDevice : Type 0
+ToDevice = Notice AlarmAck
+
+abbrev pub ToController : Type 0
+ToController = Notice AlarmNotification
+
+-- of a PDU of this type: data counts with its SendSeqNum and the block that it carries, an ACK with its AckSeqNum alone
+abbrev pub notice_in : {B : Type 0} → (List ℕ → Result B AlarmFault) → PduType → Said → Result (Notice B) AlarmFault
+notice_in block pdu.Data said = block said.body >>= λ carried. Ok (Data said.header.send_number carried)
+notice_in block pdu.Nack said = Ok Nack
+notice_in block pdu.Ack said = Ok (Ack said.header.ack_number)
+notice_in block pdu.Error said = Ok Abort
 
 -- the header, and what the PDU says; or the first fault
-abbrev pub message_of : List ℕ → Result (Header × Message) AlarmFault
-message_of bytes = pdu_of bytes >>= λ said. message_in said.header.kind said >>= λ message. Ok (said.header, message)
+abbrev pub notice_of : {B : Type 0} → (List ℕ → Result B AlarmFault) → List ℕ → Result (Header × Notice B) AlarmFault
+notice_of block bytes = pdu_of bytes >>= λ said. notice_in block said.header.kind said >>= λ notice. Ok (said.header, notice)
+
+-- the same at a device, and at a controller
+abbrev pub message_in : PduType → Said → Result ToDevice AlarmFault
+message_in kind said = notice_in ack_of kind said
+
+abbrev pub message_of : List ℕ → Result (Header × ToDevice) AlarmFault
+message_of bytes = notice_of ack_of bytes
+
+abbrev pub alarm_in : PduType → Said → Result ToController AlarmFault
+alarm_in kind said = notice_in notification_of kind said
+
+abbrev pub alarm_of : List ℕ → Result (Header × ToController) AlarmFault
+alarm_of bytes = notice_of notification_of bytes

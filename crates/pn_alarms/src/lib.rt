@@ -19,7 +19,7 @@ pub use abort::Abort;
 pub use controller::ControllerAlarms;
 pub use device::{DeviceAlarms, Heard};
 pub use fault::AlarmFault;
-pub use message::{Message, read_message};
+pub use message::{Message, Notice, read_alarm, read_message};
 pub use pdu::{Header, Pdu, PduType};
 pub use reading::{read_ack, read_notification, read_pdu};
 pub use receiver::{Receiver, Taken};

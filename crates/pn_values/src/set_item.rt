@@ -31,6 +31,7 @@ pub enum SetItem {
     Answer(BlockError),
 }
 
+// `ArrayVec` asks for a default of its elements; nothing else does.
 impl Default for SetItem {
     ghost use Rattle.std.specs.Prelude.{◌≡◌};
     ghost use Rattle.pn_values.specs.declared.set_item.SetItem.TheVariants.{Answer};

@@ -30,7 +30,7 @@ impl Settings {
         }
     }
 
-    /// The same settings.
+    /// The same settings. They are not `Clone`: a clone may fail for want of memory, and this cannot.
     pub fn copy(&self) -> Settings
         ensures { result ≡ self.now }
     {

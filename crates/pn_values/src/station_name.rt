@@ -52,7 +52,7 @@ impl StationName {
         self.text.as_slice()
     }
 
-    /// The same name.
+    /// The same name. It is not `Clone`: a clone may fail for want of memory, and this cannot.
     pub fn copy(&self) -> StationName
         ensures { result ≡ self.now }
     {

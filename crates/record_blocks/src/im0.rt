@@ -8,7 +8,7 @@ ghost use Rattle.record_blocks.specs.Im0.{im0, im0_order, im0_revision};
 use arrayvec::ArrayVec;
 use block_fields::{BlockFault, ended, len_fields, put_fields, read_fields, version_at};
 
-/// 0x0020: I&M0 (IEC 61158-6-10, 5.2.3.22), of IM_RevisionCounter 0, IM_Version 1.1 and an IM_Supported of I&M1 to I&M3.
+/// 0x0020: I&M0 (IEC 61158-6-10, 5.2.3.22), of IM_RevisionCounter 0, IM_Version 1.1 and an IM_Supported of I&M1 to I&M4.
 #[derive(Clone, Copy)]
 pub struct Im0 {
     /// VendorIDHigh and VendorIDLow.

@@ -7,7 +7,10 @@ use Rattle.pn_alarms.specs.declared.abort.Abort.{Abort}
 use Rattle.pn_alarms.specs.declared.abort.Abort.TheVariants.{DataHold, Other}
 use Rattle.pn_alarms.specs.Sending.{Sending, due_behind, waiting_behind}
 use Rattle.exchanges.specs.Flow.{Flow}
-use Rattle.exchanges.specs.Units.{alarm_due, ending_by, is_silent, tick_by}
+use Rattle.pn_alarms.specs.declared.repeats.Due.{Due}
+use Rattle.cyclic_exchange.specs.Cyclic.{Cyclic}
+use Rattle.cyclic_exchange.specs.Units.{ending_by, tick_by}
+use Rattle.exchanges.specs.Units.{alarm_due}
 use Rattle.exchanges.specs.Units.{ending_of as exchange_ending}
 use Rattle.relations.specs.declared.phase.Phase.TheVariants.{Exchanging}
 use Rattle.relations.specs.declared.farewell.Farewell.{Farewell}
@@ -22,9 +25,9 @@ use Rattle.relations.proofs.Kept.{moved_on, moved_off, due_off, same_farewell}
 record IsOn (link : Link) (units : ℕ) (later : Link) : Type 0 where
   phase : later.phase ≡ Exchanging
   request : later.request ≡ link.request
-  begun : later.flow.begun ≡ true
-  held : later.flow.hearing.held ≡ link.flow.hearing.held + units
-  limit : later.flow.hearing.limit ≡ link.flow.hearing.limit
+  begun : later.flow.cyclic.begun ≡ true
+  held : later.flow.cyclic.hearing.held ≡ link.flow.cyclic.hearing.held + units
+  limit : later.flow.cyclic.hearing.limit ≡ link.flow.cyclic.hearing.limit
   patience : later.flow.alarms.sender.sending.limit ≡ link.flow.alarms.sender.sending.limit
   waiting : later.flow.alarms.sender.sending.waiting ≡ option_map (λ waited. waited + units) link.flow.alarms.sender.sending.waiting
   last : later.flow.alarms.sender.sending.last ≡ link.flow.alarms.sender.sending.last
@@ -37,13 +40,13 @@ record StandsOn (link : Link) (units : ℕ) : Type 0 where
 
 -- ---- one unit
 
-tick_ending : (flow : Flow) (ending : Option Abort) → (tick_by flow ending).ending ≡ ending
-tick_ending flow (Some reason) = refl
-tick_ending flow None = refl
+tick_ending : (cyclic : Cyclic) (alarm : Due) (ending : Option Abort) → (tick_by cyclic alarm ending).ending ≡ ending
+tick_ending cyclic alarm (Some reason) = refl
+tick_ending cyclic alarm None = refl
 
 -- what is exchanged alone ends it
 ending_there : (link : Link) → link.phase ≡ Exchanging → ending_of link ≡ exchange_ending link.flow
-ending_there link at = rw at (tick_ending link.flow (exchange_ending link.flow))
+ending_there link at = rw at (tick_ending link.flow.cyclic (alarm_due link.flow) (exchange_ending link.flow))
 
 min_below : (limit held : ℕ) → held + 1 < limit → (min limit (held + 1) == limit) ≡ false
 min_below limit held h = grind (arith, nat_tests)
@@ -51,11 +54,11 @@ min_below limit held h = grind (arith, nat_tests)
 min_at : (limit held : ℕ) → held + 1 ≡ limit → (min limit (held + 1) == limit) ≡ true
 min_at limit held h = grind (arith, nat_tests)
 
-heard_still : (flow : Flow) → flow.begun ≡ true → flow.hearing.held + 1 < flow.hearing.limit → exchange_ending flow ≡ ending_by (alarm_due flow)
-heard_still flow begun h = rw begun (rw (min_below flow.hearing.limit flow.hearing.held h) refl)
+heard_still : (flow : Flow) → flow.cyclic.begun ≡ true → flow.cyclic.hearing.held + 1 < flow.cyclic.hearing.limit → exchange_ending flow ≡ ending_by (alarm_due flow)
+heard_still flow begun h = rw begun (rw (min_below flow.cyclic.hearing.limit flow.cyclic.hearing.held h) refl)
 
-heard_no_more : (flow : Flow) → flow.begun ≡ true → flow.hearing.held + 1 ≡ flow.hearing.limit → exchange_ending flow ≡ Some DataHold
-heard_no_more flow begun h = rw begun (rw (min_at flow.hearing.limit flow.hearing.held h) refl)
+heard_no_more : (flow : Flow) → flow.cyclic.begun ≡ true → flow.cyclic.hearing.held + 1 ≡ flow.cyclic.hearing.limit → exchange_ending flow ≡ Some DataHold
+heard_no_more flow begun h = rw begun (rw (min_at flow.cyclic.hearing.limit flow.cyclic.hearing.held h) refl)
 
 -- an alarm that waits is not given up with the next unit
 abbrev IsPatient : Sending → Option ℕ → Type 0
@@ -100,7 +103,7 @@ patient_there link later units patient same waited is =
     let before = since link.flow.alarms.sender.sending.waiting units waited (sym same.waiting ∙ is) in
     omega (arith, same.patience, before.1.1, patient before.0 before.1.0)
 
-on_next : (link later : Link) (units : ℕ) → link.flow.hearing.held + suc units < link.flow.hearing.limit → IsPatientFor (suc units) link.flow.alarms.sender.sending
+on_next : (link later : Link) (units : ℕ) → link.flow.cyclic.hearing.held + suc units < link.flow.cyclic.hearing.limit → IsPatientFor (suc units) link.flow.alarms.sender.sending
     → IsOn link units later → IsOn link (suc units) (unit_later later)
 on_next link later units below patient same = rw same.begun (record {
   phase = same.phase;
@@ -115,14 +118,14 @@ on_next link later units below patient same = rw same.begun (record {
   seen = same.seen;
 })
 
-no_ending : (link later : Link) (units : ℕ) → link.flow.hearing.held + suc units < link.flow.hearing.limit → IsPatientFor (suc units) link.flow.alarms.sender.sending
+no_ending : (link later : Link) (units : ℕ) → link.flow.cyclic.hearing.held + suc units < link.flow.cyclic.hearing.limit → IsPatientFor (suc units) link.flow.alarms.sender.sending
     → IsOn link units later → ending_of later ≡ None
 no_ending link later units below patient same =
     ending_there later same.phase
     ∙ (heard_still later.flow same.begun (omega (arith, same.held, same.limit, below))
     ∙ unspent later.flow.alarms.sender.sending later.flow.alarms.sender.sending.waiting (patient_there link later units patient same))
 
-stands_on : (link : Link) (units : ℕ) → link.phase ≡ Exchanging → link.flow.begun ≡ true → link.flow.hearing.held + units < link.flow.hearing.limit
+stands_on : (link : Link) (units : ℕ) → link.phase ≡ Exchanging → link.flow.cyclic.begun ≡ true → link.flow.cyclic.hearing.held + units < link.flow.cyclic.hearing.limit
     → IsPatientFor units link.flow.alarms.sender.sending → StandsOn link units
 stands_on link zero at begun below patient = record {
   later = link;

@@ -4,10 +4,10 @@ use Rattle.pn_values.specs.declared.mac.Mac.{Mac}
 use Rattle.pn_values.specs.declared.real.RealModule.{RealModule}
 use Rattle.pn_alarms.specs.declared.device.Heard.{Heard}
 use Rattle.pn_alarms.specs.declared.device.Heard.TheVariants.{Data, Done, Ignored, Aborted}
-use Rattle.pn_alarms.specs.declared.message.Message.{Message}
+use Rattle.pn_alarms.specs.Message.{ToDevice}
 use Rattle.pn_alarms.specs.Device.{heard_as}
-use Rattle.exchanges.specs.declared.cyclic.Received.{Received}
-use Rattle.exchanges.specs.declared.cyclic.Received.TheVariants.{Foreign, Short, Stale, Taken}
+use Rattle.cyclic_exchange.specs.declared.received.Received.{Received}
+use Rattle.cyclic_exchange.specs.declared.received.Received.TheVariants.{Foreign, Short, Stale, Taken}
 use Rattle.exchanges.specs.Flow.{Flow}
 use Rattle.exchanges.specs.Received.{behind_frame, received_as}
 use Rattle.exchanges.specs.Process.{given_at, output_at}
@@ -51,7 +51,7 @@ output_in slot subslot None = None
 output_in slot subslot (Some link) = output_at link.flow slot subslot
 
 -- a PDU of the partner: what becomes of it, and of the relation, which ERR ends
-abbrev pub heard_by : Message → Option Link → Heard
+abbrev pub heard_by : ToDevice → Option Link → Heard
 heard_by message None = Ignored
 heard_by message (Some link) = heard_as link.flow.alarms message
 
@@ -61,6 +61,6 @@ hearing_as Done flow = Exchanged flow
 hearing_as Ignored flow = Unmoved
 hearing_as Aborted flow = Ended
 
-abbrev pub hearing : Message → Option Link → Judged
+abbrev pub hearing : ToDevice → Option Link → Judged
 hearing message None = Unmoved
 hearing message (Some link) = hearing_as (heard_as link.flow.alarms message) (behind_message link.flow message)

@@ -77,7 +77,7 @@ is_exchanging Exchanging = true
 -- where there is a relation in a phase, its exchange has begun exactly if data is exchanged in it
 abbrev pub HasBegunIn : Option Phase → Flow → Type 0
 HasBegunIn None flow = Unit {0}
-HasBegunIn (Some phase) flow = flow.begun ≡ is_exchanging phase
+HasBegunIn (Some phase) flow = flow.cyclic.begun ≡ is_exchanging phase
 
 -- the same of what is kept of the relation
 abbrev pub IsInStep : Option Link → Type 0

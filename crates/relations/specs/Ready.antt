@@ -3,9 +3,8 @@ use Rattle.std.specs.Prelude.{◌==◌, ◌&&◌, ℕ, Bool, nat_eq, List, Optio
 use Rattle.std.specs.Cmp.Lexicographic.{pointwise}
 use Rattle.rpc_core.specs.declared.interface.Interface.TheVariants.{Controller}
 use Rattle.rpc_core.specs.declared.header.Header.{Header}
-use Rattle.rpc_core.specs.declared.response.Status.{Status}
 use Rattle.rpc_core.specs.Interface.{interface_uuid}
-use Rattle.rpc_core.specs.Response.{Answered}
+use Rattle.rpc_core.specs.Response.{Answered, is_done}
 use Rattle.block_fields.specs.declared.fault.BlockFault.{BlockFault}
 use Rattle.block_codec.specs.declared.block.Block.{Block}
 use Rattle.block_codec.specs.Block.{block_of, in_application_ready_res}
@@ -46,10 +45,6 @@ is_answer_to uuid header = pointwise nat_eq header.activity uuid && (header.sequ
 -- it is wanted: the relation waits for it
 abbrev pub is_wanted : Answered → Link → Bool
 is_wanted response link = is_awaiting link.phase && is_answer_to link.request.ar.uuid response.header
-
--- it is positive: PNIOStatus is four zeros
-abbrev pub is_done : Status → Bool
-is_done status = (status.code == 0) && ((status.decode == 0) && ((status.code1 == 0) && (status.code2 == 0)))
 
 -- its block: the first one, if it is the answer to ApplicationReady, whose ControlCommand is Done
 abbrev pub confirmed_block : Result (Block × List ℕ) BlockFault → Option ControlBlock

@@ -47,10 +47,10 @@ IsPatientFor units sending = (waited : ℕ) → sending.waiting ≡ Some waited 
 -- Where data is exchanged and nothing comes, a relation ends with the last unit of its data hold time, unless an alarm is given up
 -- before; this also where one would be with that unit.
 abbrev pub IsHeldFor : Type 0
-IsHeldFor = (link : Link) (units : ℕ) → link.phase ≡ Exchanging → link.flow.begun ≡ true → link.flow.hearing.held + (units + 1) ≡ link.flow.hearing.limit
+IsHeldFor = (link : Link) (units : ℕ) → link.phase ≡ Exchanging → link.flow.cyclic.begun ≡ true → link.flow.cyclic.hearing.held + (units + 1) ≡ link.flow.cyclic.hearing.limit
     → IsPatientFor units link.flow.alarms.sender.sending → EndsBehind units DataHold link
 
 -- And it ends with the unit with which an alarm that waits is given up, unless the data hold time is over by then.
 abbrev pub IsGivenUp : Type 0
-IsGivenUp = (link : Link) (units waited : ℕ) → link.phase ≡ Exchanging → link.flow.begun ≡ true → link.flow.hearing.held + (units + 1) < link.flow.hearing.limit
+IsGivenUp = (link : Link) (units waited : ℕ) → link.phase ≡ Exchanging → link.flow.cyclic.begun ≡ true → link.flow.cyclic.hearing.held + (units + 1) < link.flow.cyclic.hearing.limit
     → link.flow.alarms.sender.sending.waiting ≡ Some waited → waited + (units + 1) ≡ link.flow.alarms.sender.sending.limit → EndsBehind units Other link

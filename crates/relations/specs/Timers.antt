@@ -38,7 +38,7 @@ EndsIn Other phase = phase ≡ Some Exchanging
 
 -- whether the data hold time is over with the next unit, if data is exchanged
 abbrev pub is_unheard : Link → Bool
-is_unheard link = (held_on link.flow.hearing).held == link.flow.hearing.limit
+is_unheard link = (held_on link.flow.cyclic.hearing).held == link.flow.cyclic.hearing.limit
 
 -- ApplicationReady is sent again each second, 32,000 units, until it is answered
 abbrev pub is_again : Link → Bool

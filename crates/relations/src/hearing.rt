@@ -5,13 +5,13 @@ ghost use Rattle.relations.specs.declared.phase.Phase.TheVariants.{Awaiting, Exc
 ghost use Rattle.relations.specs.Link.{phase_of};
 ghost use Rattle.relations.specs.Phases.{moved};
 ghost use Rattle.block_codec.specs.Block.{block_of};
-ghost use Rattle.relations.specs.Ready.{answer_of, confirmed_block, confirmed_by, is_answer_to, is_done, judged_by};
+ghost use Rattle.relations.specs.Ready.{answer_of, confirmed_block, confirmed_by, is_answer_to, judged_by};
 
 use crate::ready::CONTROL;
 use crate::{Farewell, Phase, Relation};
 use block_codec::{Block, read_block};
 use pn_alarms::{Abort, PduType};
-use rpc_core::{Header, Response, Status};
+use rpc_core::{Header, Response};
 use uuid::Uuid;
 
 /// What an answer is.
@@ -45,7 +45,7 @@ impl Relation {
         if !is_answer_to(&uuid, &response.header) {
             return Heard::NotWanted;
         }
-        if !is_done(response.status) {
+        if !response.status.is_done() {
             self.phase = None;
             let header = self.exchange.header(PduType::Error);
             return Heard::Refused(Farewell::of(&self.request, &header, Abort::Other));
@@ -64,13 +64,6 @@ fn is_answer_to(uuid: &Uuid, header: &Header) -> bool
     ensures { result ≡ is_answer_to uuid.now header.now }
 {
     header.activity == *uuid && header.sequence == 0 && header.operation == CONTROL
-}
-
-/// Whether a call was answered positively.
-fn is_done(status: Status) -> bool
-    ensures { result ≡ is_done status }
-{
-    status.code == 0 && status.decode == 0 && status.code1 == 0 && status.code2 == 0
 }
 
 /// What the blocks of a positive answer are to the relation with this ARUUID.

@@ -1,4 +1,6 @@
 //! The units of time.
+//!
+//! `inline(always)` stands where instructions were counted (`bench/figures/exchange.py`): most units bring nothing, and cost little.
 ghost use Rattle.std.specs.Prelude.{◌≡◌, ◌==◌, ◌+◌, ◌<◌, ◌⊎◌, IfSome, None, Option, Some, false, nat_le, true, if◌then◌else◌};
 ghost use Rattle.pn_alarms.specs.declared.abort.Abort.TheVariants.{Activity, DataHold};
 ghost use Rattle.relations.specs.declared.phase.Phase.TheVariants.{Exchanging};

@@ -1,5 +1,5 @@
 -- Responses.
-use Rattle.std.specs.Prelude.{ℕ, List, [], length, Option, Some, None, Result}
+use Rattle.std.specs.Prelude.{◌==◌, ◌&&◌, ℕ, Bool, List, [], length, Option, Some, None, Result}
 use Rattle.std.specs.Option.{option_map}
 use Rattle.wire.specs.Codec.{Codec, Whole}
 use Rattle.wire.specs.Checks.{named}
@@ -31,6 +31,10 @@ answered response = record {
   maximum_count = response.maximum_count;
   blocks = response.blocks.now;
 }
+
+-- whether a call was done: PNIOStatus is 0
+abbrev pub is_done : Status → Bool
+is_done status = (status.code == 0) && ((status.decode == 0) && ((status.code1 == 0) && (status.code2 == 0)))
 
 -- the response to a call: it repeats the header, and its MaximumCount is the call's ArgsMaximum
 abbrev pub answer_to : Asked → Status → List ℕ → Answered

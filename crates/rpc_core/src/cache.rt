@@ -141,7 +141,7 @@ impl<const N: usize> CallCache<N> {
         Looked::New
     }
 
-    /// Keeps the answer to a call. It takes the place of the answer that is kept of its activity or, where there is none and the
+    /// Keeps the answer to a call as its frame, so that a call that is repeated is answered alike whatever has changed since. It takes the place of the answer that is kept of its activity or, where there is none and the
     /// cache is full, of the answer that was kept longest ago.
     pub fn keep(&mut self, activity: &Uuid, sequence: u32, frame: &Frame)
         requires { 0 < N }

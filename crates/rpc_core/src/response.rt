@@ -3,7 +3,7 @@ ghost use Rattle.std.specs.Prelude.{◌≡◌, ◌++◌, List, ℕ, IfOk, Ok};
 ghost use Rattle.wire.specs.Codec.{Gives};
 ghost use Rattle.std.specs.Option.{option_map};
 ghost use Rattle.rpc_core.specs.Body.{status, body};
-ghost use Rattle.rpc_core.specs.Response.{Answered, answered, IsResponse, response_of};
+ghost use Rattle.rpc_core.specs.Response.{Answered, answered, is_done, IsResponse, response_of};
 
 use crate::RpcFault;
 use crate::fields::{Order, u8_at};
@@ -24,6 +24,15 @@ pub struct Status {
     pub code1: u8,
     /// ErrorCode2: which error it is.
     pub code2: u8,
+}
+
+impl Status {
+    /// Whether the call was done.
+    pub fn is_done(self) -> bool
+        ensures { result ≡ is_done self }
+    {
+        self.code == 0 && self.decode == 0 && self.code1 == 0 && self.code2 == 0
+    }
 }
 
 /// A response.

@@ -72,7 +72,7 @@ impl<'a> Power<'a> {
         }
     }
 
-    /// Gives a flash its power back, and starts the device. An order that has not struck stays armed.
+    /// Gives a flash its power back, and starts the device. An order that is pending stays armed.
     fn with_power(flash: DemoFlash<'a>) -> Power<'a>
         ensures runs { (settings : Settings) (room : ℕ) → IsReliable flash.entry → LeftByDevice (image_of flash.entry) → StartsWith (image_of flash.entry) settings room →
             IsRunning (demo_started settings room) result }

@@ -2,6 +2,7 @@ pub mod Active
 pub mod Apart
 pub mod Asking
 pub mod Commands
+pub mod Cut
 pub mod Parts
 pub mod Reading
 pub mod Rising

@@ -16,6 +16,7 @@ use Rattle.settings_journal.specs.Writes.{IsBase, MayLeave, KeepsOthers, MayLeav
 use Rattle.flash_model.specs.Calls.{Call}
 use Rattle.settings_journal.specs.Calls.{CommitCalls, calls_of}
 use Rattle.settings_journal.specs.Commit.{IsKept}
+use Rattle.settings_journal.specs.Cut.{AreSafe, AreWrites}
 use Rattle.settings_journal.specs.Store.{IsBefore, Stored}
 use Rattle.settings_journal.specs.declared.start.Position.{Position}
 use Rattle.flash_model.specs.declared.flash.FlashFault.{FlashFault}
@@ -440,8 +441,9 @@ pub before : (image : Image) (position : Position) (command : Command) (settings
 before image position command settings copy next starts is same = record { starts = starts; next_is = is ∙ ap (apply command) same }
 
 pub commit_calls : (image : Image) (active : Option Sector) (settings : Settings) (command : Command) (generation free size : ℕ) (calls : List Call) → IsImage size image → StartsAt image active settings generation free
+    → AreWrites (calls_of (slots_in size) active generation free settings command) → AreSafe image (calls_of (slots_in size) active generation free settings command) settings (apply command settings)
     → calls ≡ calls_of (slots_in size) active generation free settings command → CommitCalls image settings (room_of (slots_in size) generation free) command calls
-commit_calls image active settings command generation free size calls sized starts are =
+commit_calls image active settings command generation free size calls sized starts writes safe are =
     let e : slots_in size ≡ slots_of image.first = ap slots_in (sym sized.first_size) in
     record {
       active = active;
@@ -450,4 +452,6 @@ commit_calls image active settings command generation free size calls sized star
       starts = starts;
       room_is = ap (λ n. room_of n generation free) e;
       are = are ∙ ap (λ n. calls_of n active generation free settings command) e;
+      writes = subst AreWrites (sym are) writes;
+      safe = subst (λ these. AreSafe image these settings (apply command settings)) (sym are) safe;
     }

@@ -166,17 +166,21 @@ pub record IsWritten (size : ℕ) (sector base : List ℕ) : Type 0 where
   pub front : take 437 sector ≡ base
   pub behind : drop 512 sector ≡ drop 512 (erased size)
 
-pub written : (size : ℕ) (sector : Sector) (blank new : Image) (base : List ℕ) → IsSectorSize size → sector_of blank sector ≡ erased size → AreBytes base → length base ≡ 437
-    → IsImage size new → new ≡ with_sector blank sector (programmed (sector_of blank sector) 0 base) → IsWritten size (sector_of new sector) base
-written size sector blank new base wide empty small l sized e =
+pub written_long : (size : ℕ) (sector : Sector) (blank new : Image) (base : List ℕ) → IsSectorSize size → sector_of blank sector ≡ erased size → AreBytes base → length base ≡ 437
+    → length (sector_of new sector) ≡ size → new ≡ with_sector blank sector (programmed (sector_of blank sector) 0 base) → IsWritten size (sector_of new sector) base
+written_long size sector blank new base wide empty small l long e =
     let is : sector_of new sector ≡ programmed (erased size) 0 base = ap (λ image. sector_of image sector) e ∙ sector_with blank sector _ ∙ ap (λ bytes. programmed bytes 0 base) empty in
     let ones : take (length base) (erased size) ≡ replicate (length base) 255 = take-replicate (length base) size 255 (omega (arith, l, wide.at_least, wide.whole)) in
     let front : take (length base) (programmed (erased size) 0 base) ≡ base = programmed_entry (erased size) 0 base (omega arith) small ones in
     record {
-      long = sector_size size new sector sized;
+      long = long;
       front = ap (take 437) is ∙ subst (λ n. take n (programmed (erased size) 0 base) ≡ base) l front;
       behind = ap (drop 512) is ∙ programmed_behind (erased size) 0 base (omega arith) 512 (omega (arith, l));
     }
+
+pub written : (size : ℕ) (sector : Sector) (blank new : Image) (base : List ℕ) → IsSectorSize size → sector_of blank sector ≡ erased size → AreBytes base → length base ≡ 437
+    → IsImage size new → new ≡ with_sector blank sector (programmed (sector_of blank sector) 0 base) → IsWritten size (sector_of new sector) base
+written size sector blank new base wide empty small l sized e = written_long size sector blank new base wide empty small l (sector_size size new sector sized) e
 
 front_of_head : (sector base : List ℕ) → take 437 sector ≡ base → take 437 (head_of sector) ≡ base
 front_of_head sector base e = take-take 437 512 sector (lit≤ tt) ∙ e

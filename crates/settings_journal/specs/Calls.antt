@@ -6,6 +6,7 @@ use Rattle.pn_values.specs.declared.settings.Settings.{Settings}
 use Rattle.flash_model.specs.Calls.{Call, Programs, Erases}
 use Rattle.flash_model.specs.Image.{Image}
 use Rattle.flash_model.specs.declared.flash.Sector.{Sector}
+use Rattle.settings_journal.specs.Cut.{AreSafe, AreWrites}
 use Rattle.settings_journal.specs.Head.{base_of}
 use Rattle.settings_journal.specs.Slot.{place_of, entry_of}
 use Rattle.settings_journal.specs.Image.{StartsAt, spare, slots_of, room_of}
@@ -28,7 +29,9 @@ calls_of slots (Some sector) generation (suc left) settings command = slot_calls
 calls_of slots (Some sector) generation zero settings command = base_calls (spare (Some sector)) (base_of (generation + 1) (apply command settings))
 calls_of slots None generation free settings command = base_calls (spare None) (base_of (generation + 1) (apply command settings))
 
--- the calls of a commit over an image that is read as these settings, with room for so many commits
+-- The calls of a commit over an image that is read as these settings, with room for so many commits. Each writes, and no
+-- more than a base has. Wherever they are cut off, a start gives the settings from before or those that the command makes of
+-- them.
 pub record CommitCalls (image : Image) (settings : Settings) (room : ℕ) (command : Command) (calls : List Call) : Type 0 where
   pub active : Option Sector
   pub generation : ℕ
@@ -36,6 +39,8 @@ pub record CommitCalls (image : Image) (settings : Settings) (room : ℕ) (comma
   pub starts : StartsAt image active settings generation free
   pub room_is : room ≡ room_of (slots_of image.first) generation free
   pub are : calls ≡ calls_of (slots_of image.first) active generation free settings command
+  pub writes : AreWrites calls
+  pub safe : AreSafe image calls settings (apply command settings)
 
 -- some of the calls, from the first one on
 pub record IsFront (calls all : List Call) : Type 0 where

@@ -1,6 +1,7 @@
 pub mod Apart
 pub mod Calls
 pub mod Commit
+pub mod Cut
 pub mod Faults
 pub mod Head
 pub mod Image

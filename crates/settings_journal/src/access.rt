@@ -2,7 +2,7 @@
 ghost use Rattle.std.specs.Prelude.{◌≡◌, ◌<◌, ◌≤◌, List, [], false, length, IsOk, OnOk, IfOk, MatchOption};
 ghost use Rattle.pn_values.specs.declared.settings.Settings.{Settings};
 ghost use Rattle.flash_model.specs.Calls.{Call};
-ghost use Rattle.flash_model.specs.Image.{erased, other, sector_of, slots_in};
+ghost use Rattle.flash_model.specs.Image.{AreBytes, erased, other, sector_of, slots_in};
 ghost use Rattle.flash_model.specs.Torn.{HasCause, StaysLost};
 ghost use Rattle.settings_journal.specs.Calls.{IsAskedFor, base_calls, slot_calls};
 ghost use Rattle.settings_journal.specs.Image.{head_in};
@@ -40,7 +40,7 @@ pub(crate) fn slots_of(size: usize) -> usize
 }
 
 /// Applies to the settings of a base what the open slots of its sector keep, in order. Gives the slot behind the last one
-/// that holds a byte other than FF. None where an open one keeps no command.
+/// that holds a byte other than FF, so that a write which was cut short is never written over. None where an open one keeps no command.
 pub(crate) fn read_slots<F: Flash<S>, const S: usize>(
     flash: &mut F,
     sector: Sector,
@@ -98,6 +98,7 @@ pub(crate) fn write_base<F: Flash<S>, const S: usize>(
     ensures done { OnOk result (IsBase (sector_of (F.image flash.new) sector) base.now) }
     ensures left { MayLeave (sector_of (F.image flash.old) sector) base.now (sector_of (F.image flash.new) sector) }
     ensures calls { (calls : List Call) × F.asked flash.old calls flash.new × IsAskedFor result (base_calls sector base.now) calls }
+    ensures bytes { AreBytes base.now }
     ensures other { sector_of (F.image flash.new) (other sector) ≡ sector_of (F.image flash.old) (other sector) }
     ensures cause { HasCause (F.failures flash.old) (F.failures flash.new) result }
     ensures lost { StaysLost (F.is_lost flash.old) (F.is_lost flash.new) result }
@@ -123,6 +124,7 @@ pub(crate) fn write_slot<F: Flash<S>, const S: usize>(
     ensures left { MayLeaveSlot entry.now (slot_at (sector_of (F.image flash.new) sector) number) }
     ensures others { KeepsOthers number (sector_of (F.image flash.old) sector) (sector_of (F.image flash.new) sector) }
     ensures calls { (calls : List Call) × F.asked flash.old calls flash.new × IsAskedFor result (slot_calls sector number entry.now) calls }
+    ensures bytes { AreBytes entry.now }
     ensures other { sector_of (F.image flash.new) (other sector) ≡ sector_of (F.image flash.old) (other sector) }
     ensures cause { HasCause (F.failures flash.old) (F.failures flash.new) result }
     ensures lost { StaysLost (F.is_lost flash.old) (F.is_lost flash.new) result }

@@ -6,6 +6,7 @@ ghost use Rattle.flash_model.specs.Image.{slots_in};
 ghost use Rattle.flash_model.specs.Torn.{HasCause, StaysLost};
 ghost use Rattle.settings_journal.specs.Apart.{IsApart};
 ghost use Rattle.settings_journal.specs.Calls.{IsAskedFor, calls_of};
+ghost use Rattle.settings_journal.specs.Cut.{AreSafe, AreWrites};
 ghost use Rattle.settings_journal.specs.Image.{spare};
 ghost use Rattle.settings_journal.specs.Store.{IsBefore, Stored};
 
@@ -30,6 +31,10 @@ pub(crate) fn store<F: Flash<S>, const S: usize>(
     ensures calls { (before : Settings) → IsBefore (F.image flash.old) position command.now before next.now →
         (calls : List Call) × F.asked flash.old calls flash.new
         × IsAskedFor result (calls_of (slots_in S) position.active position.generation position.free before command.now) calls }
+    ensures writes { (before : Settings) → IsBefore (F.image flash.old) position command.now before next.now →
+        AreWrites (calls_of (slots_in S) position.active position.generation position.free before command.now) }
+    ensures cut { (before : Settings) → IsBefore (F.image flash.old) position command.now before next.now →
+        AreSafe (F.image flash.old) (calls_of (slots_in S) position.active position.generation position.free before command.now) before next.now }
     ensures apart { IsApart (slots_in S) position.active position.free (F.image flash.old) (F.image flash.new) }
     ensures cause { HasCause (F.failures flash.old) (F.failures flash.new) result }
     ensures lost { StaysLost (F.is_lost flash.old) (F.is_lost flash.new) result }

@@ -43,3 +43,12 @@ returns-clause-calls g c =
     let two = g.met.F.Flash.asked_more _ _ _ _ _ c.in_ok-erase.ensures.calls c.in_ok-program.ensures.calls in
     let three = g.met.F.Flash.asked_more _ _ _ _ _ two c.program-2.ensures.calls in
     (_, three, asked_all c.program-2.result _ _)
+
+pub returns-in_err-erase-clause-bytes : goal.returns-in_err-erase-clause-bytes
+returns-in_err-erase-clause-bytes g c = λ k. (c.type_inv.base k).fits
+
+pub returns-in_err-program-clause-bytes : goal.returns-in_err-program-clause-bytes
+returns-in_err-program-clause-bytes g c = λ k. (c.type_inv.base k).fits
+
+pub returns-clause-bytes : goal.returns-clause-bytes
+returns-clause-bytes g c = λ k. (c.type_inv.base k).fits

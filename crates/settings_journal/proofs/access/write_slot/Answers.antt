@@ -71,3 +71,9 @@ pub returns-clause-calls : goal.returns-clause-calls
 returns-clause-calls g c =
     let two = g.met.F.Flash.asked_more _ _ _ _ _ c.in_ok-program.ensures.calls c.program-2.ensures.calls in
     (_, two, asked_all c.program-2.result _ _)
+
+pub returns-in_err-program-clause-bytes : goal.returns-in_err-program-clause-bytes
+returns-in_err-program-clause-bytes g c = λ k. (c.type_inv.entry k).fits
+
+pub returns-clause-bytes : goal.returns-clause-bytes
+returns-clause-bytes g c = λ k. (c.type_inv.entry k).fits

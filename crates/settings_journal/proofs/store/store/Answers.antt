@@ -1,10 +1,11 @@
 -- What a write into a slot, and that of a base, leave and ask for.
-use Rattle.std.proofs.Common.{◌∙◌, ◌-◌, ap, sym, subst, arith, refl}
+use Rattle.std.proofs.Common.{◌∙◌, ◌-◌, ◌≤◌, length, ap, sym, subst, arith, refl}
 use Rattle.std.proofs.lemmas.Result.{err_from_is_err_and}
 use Rattle.flash_model.specs.Image.{slots_in}
 use Rattle.settings_journal.specs.Slot.{IsEntryOf}
 use Rattle.settings_journal.proofs.Apart.{apart_slot, apart_base}
 use Rattle.settings_journal.proofs.Asking.{calls_slot, calls_base, failed_as}
+use Rattle.settings_journal.proofs.Cut.{safe_slot, safe_base, writes_slot, writes_base}
 use Rattle.settings_journal.proofs.Storing.{slot_first, in_slot, stored_failed, stored_slot, slot_kept_at, none_free, base_written, stored_base, base_kept}
 use Rattle.settings_journal.proofs.store.store.Goals as goal
 
@@ -91,3 +92,53 @@ returns-in_err-write_base-in-None-clause-apart g c =
 pub returns-in_ok-write_base-in-None-clause-apart : goal.returns-in_ok-write_base-in-None-clause-apart
 returns-in_ok-write_base-in-None-clause-apart g c =
     apart_base (slots_in g.row.S) c.args.position.free c.args.position.active _ (g.F.Flash.image c.args.flash.now) (g.F.Flash.image c.write_base.new.flash) c.in-None.ensures c.spare_of-sector.ensures c.write_base.ensures.other
+
+pub returns-in_err-write_slot-in-Some-clause-cut : goal.returns-in_err-write_slot-in-Some-clause-cut
+returns-in_err-write_slot-in-Some-clause-cut g c = λ before b.
+    let number = ap (λ n. n - c.args.position.free) c.slots_of.ensures in
+    let entry = subst (λ e. IsEntryOf e c.args.command.now) (sym c.as_slice.ensures.value) c.encode_command-entry.ensures.kept in
+    let short = subst (λ e. length e ≤ 242) (sym c.as_slice.ensures.value) c.encode_command-entry.ensures.length in
+    safe_slot _ c.args.position _ before _ _ _ g.row.S _ c.in-Some.ensures.0 c.in-Some.ensures.1 (g.met.F.Flash.sector_size c.args.flash.now) (g.met.F.Flash.sized c.args.flash.now) b entry (c.as_slice.ensures.value ∙ c.encode_command-entry.ensures.value) c.write_slot.ensures.bytes short number
+
+pub returns-in_err-write_base-in-None-clause-cut : goal.returns-in_err-write_base-in-None-clause-cut
+returns-in_err-write_base-in-None-clause-cut g c = λ before b.
+    let bytes = c.as_slice-in-None.ensures.value ∙ c.encode-base.ensures.value in
+    let long = ap length c.as_slice-in-None.ensures.value ∙ c.encode-base.ensures.length in
+    safe_base _ c.args.position _ before _ _ _ g.row.S _ c.in-None.ensures c.requires.few (g.met.F.Flash.sector_size c.args.flash.now) (g.met.F.Flash.sized c.args.flash.now) b c.spare_of-sector.ensures refl bytes c.encode-base.ensures.valid c.write_base.ensures.bytes long
+
+pub returns-in_ok-write_slot-in-Some-clause-cut : goal.returns-in_ok-write_slot-in-Some-clause-cut
+returns-in_ok-write_slot-in-Some-clause-cut g c = λ before b.
+    let number = ap (λ n. n - c.args.position.free) c.slots_of.ensures in
+    let entry = subst (λ e. IsEntryOf e c.args.command.now) (sym c.as_slice.ensures.value) c.encode_command-entry.ensures.kept in
+    let short = subst (λ e. length e ≤ 242) (sym c.as_slice.ensures.value) c.encode_command-entry.ensures.length in
+    safe_slot _ c.args.position _ before _ _ _ g.row.S _ c.in-Some.ensures.0 c.in-Some.ensures.1 (g.met.F.Flash.sector_size c.args.flash.now) (g.met.F.Flash.sized c.args.flash.now) b entry (c.as_slice.ensures.value ∙ c.encode_command-entry.ensures.value) c.write_slot.ensures.bytes short number
+
+pub returns-in_ok-write_base-in-None-clause-cut : goal.returns-in_ok-write_base-in-None-clause-cut
+returns-in_ok-write_base-in-None-clause-cut g c = λ before b.
+    let bytes = c.as_slice-in-None.ensures.value ∙ c.encode-base.ensures.value in
+    let long = ap length c.as_slice-in-None.ensures.value ∙ c.encode-base.ensures.length in
+    safe_base _ c.args.position _ before _ _ _ g.row.S _ c.in-None.ensures c.requires.few (g.met.F.Flash.sector_size c.args.flash.now) (g.met.F.Flash.sized c.args.flash.now) b c.spare_of-sector.ensures refl bytes c.encode-base.ensures.valid c.write_base.ensures.bytes long
+
+pub returns-in_err-write_slot-in-Some-clause-writes : goal.returns-in_err-write_slot-in-Some-clause-writes
+returns-in_err-write_slot-in-Some-clause-writes g c = λ before b.
+    let number = ap (λ n. n - c.args.position.free) c.slots_of.ensures in
+    let short = subst (λ e. length e ≤ 242) (sym c.as_slice.ensures.value) c.encode_command-entry.ensures.length in
+    writes_slot (slots_in g.row.S) c.args.position _ before _ _ _ c.in-Some.ensures.0 c.in-Some.ensures.1 (c.as_slice.ensures.value ∙ c.encode_command-entry.ensures.value) short number
+
+pub returns-in_err-write_base-in-None-clause-writes : goal.returns-in_err-write_base-in-None-clause-writes
+returns-in_err-write_base-in-None-clause-writes g c = λ before b.
+    let bytes = c.as_slice-in-None.ensures.value ∙ c.encode-base.ensures.value in
+    let long = ap length c.as_slice-in-None.ensures.value ∙ c.encode-base.ensures.length in
+    writes_base _ (slots_in g.row.S) c.args.position _ before _ _ _ _ c.in-None.ensures b c.spare_of-sector.ensures refl bytes long
+
+pub returns-in_ok-write_slot-in-Some-clause-writes : goal.returns-in_ok-write_slot-in-Some-clause-writes
+returns-in_ok-write_slot-in-Some-clause-writes g c = λ before b.
+    let number = ap (λ n. n - c.args.position.free) c.slots_of.ensures in
+    let short = subst (λ e. length e ≤ 242) (sym c.as_slice.ensures.value) c.encode_command-entry.ensures.length in
+    writes_slot (slots_in g.row.S) c.args.position _ before _ _ _ c.in-Some.ensures.0 c.in-Some.ensures.1 (c.as_slice.ensures.value ∙ c.encode_command-entry.ensures.value) short number
+
+pub returns-in_ok-write_base-in-None-clause-writes : goal.returns-in_ok-write_base-in-None-clause-writes
+returns-in_ok-write_base-in-None-clause-writes g c = λ before b.
+    let bytes = c.as_slice-in-None.ensures.value ∙ c.encode-base.ensures.value in
+    let long = ap length c.as_slice-in-None.ensures.value ∙ c.encode-base.ensures.length in
+    writes_base _ (slots_in g.row.S) c.args.position _ before _ _ _ _ c.in-None.ensures b c.spare_of-sector.ensures refl bytes long

@@ -3,6 +3,7 @@ use Rattle.std.proofs.Common.{subst, refl}
 use Rattle.settings_journal.specs.Commit.{IsKept}
 use Rattle.settings_journal.proofs.Active.{starts_with}
 use Rattle.settings_journal.proofs.Apart.{apart_same, apart_at}
+use Rattle.settings_journal.proofs.Cut.{safe_as}
 use Rattle.settings_journal.proofs.Storing.{still_kept, before, commit_calls}
 use Rattle.settings_journal.proofs.journal.Journal.commit.Goals as goal
 
@@ -40,13 +41,15 @@ pub returns-in-Ok-clause-calls : goal.returns-in-Ok-clause-calls
 returns-in-Ok-clause-calls g c =
     let b = before _ c.self.inside.position _ _ _ _ (c.self.invariant c.if-self.false) c.apply-next.ensures c.copy.ensures in
     let asked = c.in-Ok.ensures.calls _ b in
-    rw (← c.self.view_is) (asked.0, asked.1, commit_calls _ _ _ _ _ _ _ _ (g.met.F.Flash.sized c.self.inside.flash) b.starts asked.2)
+    let safe = safe_as _ _ _ _ _ b.next_is (c.in-Ok.ensures.cut _ b) in
+    rw (← c.self.view_is) (asked.0, asked.1, commit_calls _ _ _ _ _ _ _ _ (g.met.F.Flash.sized c.self.inside.flash) b.starts (c.in-Ok.ensures.writes _ b) safe asked.2)
 
 pub returns-in-Err-clause-calls : goal.returns-in-Err-clause-calls
 returns-in-Err-clause-calls g c =
     let b = before _ c.self.inside.position _ _ _ _ (c.self.invariant c.if-self.false) c.apply-next.ensures c.copy.ensures in
     let asked = c.in-Err.ensures.calls _ b in
-    rw (← c.self.view_is) (asked.0, asked.1, (_, commit_calls _ _ _ _ _ _ _ _ (g.met.F.Flash.sized c.self.inside.flash) b.starts refl, asked.2))
+    let safe = safe_as _ _ _ _ _ b.next_is (c.in-Err.ensures.cut _ b) in
+    rw (← c.self.view_is) (asked.0, asked.1, (_, commit_calls _ _ _ _ _ _ _ _ (g.met.F.Flash.sized c.self.inside.flash) b.starts (c.in-Err.ensures.writes _ b) safe refl, asked.2))
 
 pub returns-in-Err-clause-left : goal.returns-in-Err-clause-left
 returns-in-Err-clause-left g c =

@@ -1,0 +1,77 @@
+#!/usr/bin/env python3
+"""Each allocation of the built program's run failing in turn, until none is left to fail.
+
+The answer has to be `pnscript: out of memory`, status 4 and a front of the output, or the unchanged output. The scripts
+are the program's stored run and the examples. Needs a C compiler (cc) and the GNU C library.
+
+Use: bench/gate/allocations.py [PROGRAM]   (the proved one if left out). Prints a line for each script, with how many allocations
+were refused in turn; its status is 1 if an answer is wrong.
+"""
+
+import glob
+import os
+import subprocess
+import sys
+import tempfile
+
+from program import answer_help, need, proved, refuse
+
+HERE = os.path.dirname(os.path.realpath(__file__))
+TOP = os.path.dirname(os.path.dirname(HERE))
+CRATE = os.path.join(TOP, "crates", "pnscript")
+
+
+def read(path):
+    with open(path, "rb") as file:
+        return file.read()
+
+
+def run(program, script, environment):
+    return subprocess.run([program, "run"], input=script, capture_output=True, env=environment)
+
+
+def is_right(answer, whole):
+    is_unchanged = (answer.returncode, answer.stdout, answer.stderr) == (0, whole, b"")
+    is_refused = (answer.returncode, answer.stderr) == (4, b"pnscript: out of memory\n")
+    return is_unchanged or (is_refused and whole.startswith(answer.stdout))
+
+
+def fail_each(program, shim, mark, script, whole):
+    """How many allocations were refused in turn, how many runs ended out of memory and how many answers were wrong."""
+    refused = short = wrong = 0
+    while True:
+        environment = {"LD_PRELOAD": shim, "FAIL_ALLOC": str(refused + 1), "FAIL_MARK": mark}
+        answer = run(program, script, environment)
+        if not is_right(answer, whole):
+            print(f"allocation {refused + 1}: status {answer.returncode}, {answer.stderr!r}, {answer.stdout[-80:]!r}")
+            wrong += 1
+        if not os.path.exists(mark):
+            return refused, short, wrong
+        os.remove(mark)
+        refused += 1
+        short += answer.returncode == 4
+
+
+def main(words):
+    answer_help(__doc__, words)
+    if len(words) > 1:
+        return refuse(words)
+    need("cc")
+    program = words[0] if words else proved()
+    stored = read(os.path.join(CRATE, "stdin"))
+    scripts = [("the stored run", stored, read(os.path.join(CRATE, "stdout")))]
+    for path in sorted(glob.glob(os.path.join(TOP, "examples", "*.txt"))):
+        scripts.append((os.path.basename(path), read(path), run(program, read(path), {}).stdout))
+    all_wrong = 0
+    with tempfile.TemporaryDirectory() as folder:
+        shim, mark = os.path.join(folder, "fail_alloc.so"), os.path.join(folder, "mark")
+        subprocess.run(["cc", "-O2", "-shared", "-fPIC", "-o", shim, os.path.join(HERE, "fail_alloc.c")], check=True)
+        for name, script, whole in scripts:
+            refused, short, wrong = fail_each(program, shim, mark, script, whole)
+            all_wrong += wrong
+            print(f"{name}: {refused} allocations failed in turn: {short} out of memory, "
+                  f"{refused - short - wrong} with the output unchanged, {wrong} wrong")
+    return 1 if all_wrong else 0
+
+
+sys.exit(main(sys.argv[1:]))

@@ -1,0 +1,73 @@
+#!/usr/bin/env python3
+"""Prints the path of the proved program; its status is 1 where that is missing or older than the sources.
+
+The launcher knows whether it is made from the sources as they are. The other tools of bench/ import this file for it, and for how
+they answer `--help`, words that they do not know, and what is not installed.
+Use: bench/gate/program.py
+"""
+
+import importlib.machinery
+import importlib.util
+import os
+import shutil
+import sys
+
+TOP = os.path.dirname(os.path.dirname(os.path.dirname(os.path.realpath(__file__))))
+
+# Debian's package of what a tool calls, where its name is another one.
+PACKAGES = {"cc": "gcc", "objdump": "binutils", "text2pcap": "tshark"}
+
+
+def launcher():
+    """The launcher of the repository, as a module."""
+    loader = importlib.machinery.SourceFileLoader("launcher", os.path.join(TOP, "pnscript"))
+    module = importlib.util.module_from_spec(importlib.util.spec_from_loader("launcher", loader))
+    loader.exec_module(module)
+    return module
+
+
+def proved():
+    """The path of the proved program. Ends with status 1 where it is missing or older than the sources."""
+    known = launcher()
+    if known.kept() != "proved":
+        raise SystemExit(f"{name()}: the proved program is missing or older than the sources: ./pnscript prove makes it")
+    return known.PROGRAM
+
+
+def name():
+    """The name of the tool that runs."""
+    return os.path.basename(sys.argv[0])
+
+
+def answer_help(text, words):
+    """Prints what a tool says of itself and ends it, where that is asked for."""
+    if words[:1] in (["--help"], ["-h"]):
+        print(text.strip())
+        raise SystemExit(0)
+
+
+def refuse(words):
+    """Says that a tool does not know these words. Gives its status."""
+    print(f"{name()}: it has no use for '{' '.join(words)}'; {name()} --help tells what it takes", file=sys.stderr)
+    return 64
+
+
+def need(*tools):
+    """Ends with a sentence where one of these is not installed."""
+    lacking = [tool for tool in tools if shutil.which(tool) is None]
+    if lacking:
+        packages = " ".join(sorted({PACKAGES.get(tool, tool) for tool in lacking} - {"rt"}))
+        way = f" (Debian: apt-get install {packages})" if packages else ""
+        raise SystemExit(f"{name()}: {' and '.join(lacking)} is not on the PATH{way}")
+
+
+def main(words):
+    answer_help(__doc__, words)
+    if words:
+        return refuse(words)
+    print(proved())
+    return 0
+
+
+if __name__ == "__main__":
+    sys.exit(main(sys.argv[1:]))

@@ -1,0 +1,24 @@
+use Rattle.std.proofs.Common.{refl, rules, inr}
+use Rattle.catalogue.proofs.Chains.{fails}
+use Rattle.catalogue.specs.Projects.{project}
+use Rattle.catalogue.proofs.project.project_of.Goals as goal
+
+pub returns-in_err-send_clock_factor : goal.returns-in_err-send_clock_factor
+unfolding project
+returns-in_err-send_clock_factor c = rw c.in_ok-station.ensures (rw c.in_ok-controller.ensures (fails _ _ _ _ _ (let h = c.from_residual-in_err-send_clock_factor.ensures in search rules) (inr c.in_err-send_clock_factor.ensures)))
+
+pub returns-in_err-reduction_ratio : goal.returns-in_err-reduction_ratio
+unfolding project
+returns-in_err-reduction_ratio c = rw c.in_ok-station.ensures (rw c.in_ok-controller.ensures (rw c.in_ok-send_clock_factor.ensures (fails _ _ _ _ _ (let h = c.from_residual-in_err-reduction_ratio.ensures in search rules) (inr c.in_err-reduction_ratio.ensures))))
+
+pub returns-in_err-data_hold_factor : goal.returns-in_err-data_hold_factor
+unfolding project
+returns-in_err-data_hold_factor c = rw c.in_ok-station.ensures (rw c.in_ok-controller.ensures (rw c.in_ok-send_clock_factor.ensures (rw c.in_ok-reduction_ratio.ensures (fails _ _ _ _ _ (let h = c.from_residual-in_err-data_hold_factor.ensures in search rules) (inr c.in_err-data_hold_factor.ensures)))))
+
+pub returns-in_err-slots : goal.returns-in_err-slots
+unfolding project
+returns-in_err-slots c = rw c.in_ok-station.ensures (rw c.in_ok-controller.ensures (rw c.in_ok-send_clock_factor.ensures (rw c.in_ok-reduction_ratio.ensures (rw c.in_ok-data_hold_factor.ensures (fails _ _ _ _ _ (let h = c.from_residual-in_err-slots.ensures in search rules) c.in_err-slots.ensures)))))
+
+pub returns : goal.returns
+unfolding project
+returns c = rw c.in_ok-station.ensures (rw c.in_ok-controller.ensures (rw c.in_ok-send_clock_factor.ensures (rw c.in_ok-reduction_ratio.ensures (rw c.in_ok-data_hold_factor.ensures (rw c.in_ok-slots.ensures refl)))))

@@ -1,0 +1,8 @@
+use Rattle.std.proofs.Common.{◌≡◌, drop}
+use Rattle.serde_json.specs.View.{items_view}
+use Rattle.catalogue.specs.Submodules.{octets_in}
+use Rattle.catalogue.proofs.submodule.octets_of.Given as goal
+
+-- all are counted as what is left is behind those counted
+abbrev pub invariant-loop-tree : goal.invariant-loop-tree
+invariant-loop-tree l = octets_in 0 (items_view l.trees) ≡ octets_in l.octets (items_view (drop l.tree-index l.trees))

@@ -1,0 +1,30 @@
+-- Modules of the catalogue.
+use Rattle.std.specs.Prelude.{ℕ, codes, List, [], ◌∷◌, Bool, Ok, if◌then◌else◌}
+use Rattle.std.specs.List.{list_any}
+use Rattle.std.specs.Str.{bytes_eq}
+use Rattle.catalogue.specs.Reader.{◌>>=◌, Reader, number_at, text_at, list_at}
+use Rattle.catalogue.specs.Submodules.{Submodule, submodule, unless}
+
+-- A module.
+pub record Module : Type 0 where
+  pub id : List ℕ
+  pub ident : ℕ
+  pub submodules : List Submodule
+
+-- one of them has this ID
+abbrev pub has_id : List ℕ → List Module → Bool
+has_id id modules = list_any (λ other. bytes_eq other.id id) modules
+
+-- the submodules of the module with this ID: none where none has it
+abbrev pub submodules_of : List ℕ → List Module → List Submodule
+submodules_of id [] = []
+submodules_of id (entry ∷ entries) = if bytes_eq entry.id id then entry.submodules else submodules_of id entries
+
+-- a module, whose ID is new
+unfoldable pub module_item : List Module → Reader Module
+module_item before tree =
+    text_at (codes "ID") tree >>= λ id.
+    unless (has_id id before) (
+    number_at (codes "ModuleIdentNumber") 1 4294967295 tree >>= λ ident.
+    list_at (codes "VirtualSubmoduleItem") submodule tree >>= λ submodules.
+    Ok (record { id = id; ident = ident; submodules = submodules }))

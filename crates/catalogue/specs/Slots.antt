@@ -1,0 +1,68 @@
+-- What a project puts into its slots, and the records that it writes.
+use Rattle.std.specs.Prelude.{◌==◌, ℕ, codes, List, [], ◌∷◌, length, Option, Some, None, ok_or, Result, Ok, Err, if◌then◌else◌}
+use Rattle.hex.specs.Hex.{decode_of}
+use Rattle.hex.specs.declared.error.FromHexError.{FromHexError}
+use Rattle.catalogue.specs.declared.fault.TreeFault.{TreeFault}
+use Rattle.catalogue.specs.declared.fault.TreeFault.TheVariants.{WrongKind, Number}
+use Rattle.catalogue.specs.declared.submodule.ParameterItem.{ParameterItem}
+use Rattle.catalogue.specs.Reader.{◌>>=◌, Reader, whole_at, number_at, text_at, list_at}
+use Rattle.catalogue.specs.Submodules.{Submodule}
+use Rattle.catalogue.specs.Modules.{Module, submodules_of}
+
+-- A parameter record and what is written to it.
+pub record Record : Type 0 where
+  pub subslot : ℕ
+  pub index : ℕ
+  pub octets : List ℕ
+
+-- What stands in a slot.
+pub record Slot : Type 0 where
+  pub slot : ℕ
+  -- the ID of the module
+  pub target : List ℕ
+  pub records : List Record
+
+-- octets, or no hex
+abbrev pub hex_or_fault : Result (List ℕ) FromHexError → Result (List ℕ) TreeFault
+hex_or_fault (Ok octets) = Ok octets
+hex_or_fault (Err _) = Err WrongKind
+
+-- the octets that the text at a key is in hex
+unfoldable pub octets_at : List ℕ → Reader (List ℕ)
+octets_at key tree = text_at key tree >>= λ text. hex_or_fault (decode_of text)
+
+-- the parameter records of the submodule with this subslot
+abbrev pub parameters_of : ℕ → List Submodule → Option (List ParameterItem)
+parameters_of subslot [] = None
+parameters_of subslot (entry ∷ entries) = if entry.subslot == subslot then Some entry.parameters else parameters_of subslot entries
+
+-- the length of the parameter record with this index
+abbrev pub length_of : ℕ → List ParameterItem → Option ℕ
+length_of index [] = None
+length_of index (entry ∷ entries) = if entry.index == index then Some entry.length else length_of index entries
+
+-- octets of this length
+abbrev pub of_length : ℕ → List ℕ → Result (List ℕ) TreeFault
+of_length size octets = if length octets == size then Ok octets else Err Number
+
+-- a record that the submodules of its module have, with its length
+unfoldable pub record_item : List Submodule → Reader Record
+record_item submodules tree =
+    number_at (codes "Subslot") 1 36863 tree >>= λ subslot.
+    ok_or (parameters_of subslot submodules) Number >>= λ parameters.
+    number_at (codes "Index") 0 32767 tree >>= λ index.
+    ok_or (length_of index parameters) Number >>= λ size.
+    octets_at (codes "Data") tree >>= of_length size >>= λ octets.
+    Ok (record { subslot = subslot; index = index; octets = octets })
+
+-- the records of a slot with this module
+abbrev pub records_of : List Module → List ℕ → Reader (List Record)
+records_of modules target tree = list_at (codes "Records") (λ _ entry. record_item (submodules_of target modules) entry) tree
+
+-- what stands in a slot
+unfoldable pub slot_item : List Module → Reader Slot
+slot_item modules tree =
+    whole_at (codes "Slot") tree >>= λ slot.
+    text_at (codes "ModuleItemTarget") tree >>= λ target.
+    records_of modules target tree >>= λ records.
+    Ok (record { slot = slot; target = target; records = records })

@@ -1,0 +1,97 @@
+-- Submodules of the catalogue, with their data and their parameter records.
+use Rattle.std.specs.Prelude.{◌+◌, ◌||◌, ◌==◌, ℕ, min, codes, List, Bool, Option, Some, None, ok_or, Result, Ok, Err, if◌then◌else◌}
+use Rattle.std.specs.List.{list_any}
+use Rattle.std.specs.Str.{bytes_eq}
+use Rattle.serde_json.specs.Data.{Data, Items, no_items, item}
+use Rattle.serde_json.specs.Find.{get}
+use Rattle.catalogue.specs.declared.fault.TreeFault.{TreeFault}
+use Rattle.catalogue.specs.declared.fault.TreeFault.TheVariants.{WrongKind, Number}
+use Rattle.catalogue.specs.declared.submodule.ParameterItem.{ParameterItem}
+use Rattle.catalogue.specs.Reader.{◌>>=◌, Reader, number_at, text_at, items_of, list_at}
+
+-- A submodule: a parameter record is an index with its length in octets.
+pub record Submodule : Type 0 where
+  pub subslot : ℕ
+  pub ident : ℕ
+  -- octets of input data
+  pub input : ℕ
+  -- octets of output data
+  pub output : ℕ
+  pub parameters : List ParameterItem
+
+-- the types of one octet
+unfoldable pub is_octet_type : List ℕ → Bool
+is_octet_type name = bytes_eq name (codes "Unsigned8") || bytes_eq name (codes "Integer8")
+
+-- the types of two octets
+unfoldable pub is_word_type : List ℕ → Bool
+is_word_type name = bytes_eq name (codes "Unsigned16") || bytes_eq name (codes "Integer16")
+
+-- the types of four octets
+unfoldable pub is_long_type : List ℕ → Bool
+is_long_type name = bytes_eq name (codes "Unsigned32") || bytes_eq name (codes "Integer32") || bytes_eq name (codes "Float32")
+
+-- the octets of a type that says its size
+abbrev pub size_of_type : List ℕ → Option ℕ
+size_of_type name =
+    if is_octet_type name then Some 1
+    else (if is_word_type name then Some 2
+    else (if is_long_type name then Some 4 else None))
+
+-- the octets of an item of this type: an OctetString says its length beside it
+abbrev pub item_of_type : Data → List ℕ → Result ℕ TreeFault
+item_of_type tree name =
+    if bytes_eq name (codes "OctetString") then number_at (codes "Length") 1 1440 tree
+    else ok_or (size_of_type name) WrongKind
+
+-- the octets of one item of data
+unfoldable pub data_item : Reader ℕ
+data_item tree = text_at (codes "DataType") tree >>= item_of_type tree
+
+-- the octets of items of data together with so many before them; all above 65,535 are told as that
+abbrev pub octets_in : ℕ → Items → Result ℕ TreeFault
+octets_in before no_items = Ok before
+octets_in before (item tree trees) = data_item tree >>= λ octets. octets_in (min (before + octets) 65535) trees
+
+-- the octets of the items of data at a key
+unfoldable pub octets_at : List ℕ → Reader ℕ
+octets_at key tree = items_of key tree >>= octets_in 0
+
+-- the octets of input and output
+abbrev pub io_within : Option Data → Result (ℕ × ℕ) TreeFault
+io_within None = Ok (0, 0)
+io_within (Some io) = octets_at (codes "Input") io >>= λ input. octets_at (codes "Output") io >>= λ output. Ok (input, output)
+
+-- the octets of input and output of a submodule: none where it says nothing of them
+unfoldable pub io_of : Reader (ℕ × ℕ)
+io_of tree = io_within (get (codes "IOData") tree)
+
+-- one of them has this index
+abbrev pub has_index : ℕ → List ParameterItem → Bool
+has_index index items = list_any (λ other. other.index == index) items
+
+-- one of them has this subslot
+abbrev pub has_subslot : ℕ → List Submodule → Bool
+has_subslot subslot submodules = list_any (λ other. other.subslot == subslot) submodules
+
+-- what is new, or a fault of its number
+abbrev pub unless : {A : Type 0} → Bool → Result A TreeFault → Result A TreeFault
+unless repeats read = if repeats then Err Number else read
+
+-- a parameter record, whose index is new
+unfoldable pub parameter : List ParameterItem → Reader ParameterItem
+parameter before tree =
+    number_at (codes "Index") 0 32767 tree >>= λ index.
+    unless (has_index index before) (
+    number_at (codes "Length") 1 64 tree >>= λ length.
+    Ok (record { index = index; length = length }))
+
+-- a submodule, whose subslot is new
+unfoldable pub submodule : List Submodule → Reader Submodule
+submodule before tree =
+    number_at (codes "Subslot") 1 36863 tree >>= λ subslot.
+    unless (has_subslot subslot before) (
+    number_at (codes "SubmoduleIdentNumber") 0 4294967295 tree >>= λ ident.
+    io_of tree >>= λ io.
+    list_at (codes "ParameterRecordDataItem") parameter tree >>= λ parameters.
+    Ok (record { subslot = subslot; ident = ident; input = io.0; output = io.1; parameters = parameters }))

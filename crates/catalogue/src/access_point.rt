@@ -1,0 +1,136 @@
+//! The access point of a device, and which modules it takes where.
+ghost use Rattle.std.specs.Prelude.{◌≡◌, List, string_bytes};
+ghost use Rattle.serde_json.specs.View.{view, items_view};
+ghost use Rattle.catalogue.specs.Reader.{Reads, number, whole};
+ghost use Rattle.catalogue.specs.AccessPoints.{AccessPoint, Reference, slots_in, slots_at, reference, access_point};
+
+use crate::entry::{Entry, each_of, list};
+use crate::tree::{are_whole, items_at, long_at, number_in, string, whole};
+use crate::{SubmoduleItem, TreeFault};
+use serde_json::Value;
+use std::alloc::Global;
+use std::marker::Model;
+
+/// Where a module may stand.
+#[derive(Drop)]
+pub struct ModuleReference {
+    /// The ID of the module.
+    pub target: String,
+    pub allowed_in: Vec<u64>,
+    pub fixed_in: Vec<u64>,
+}
+
+impl Model for ModuleReference {
+    ghost Value = { Reference };
+
+    ghost view = { λ item. record { target = string_bytes item.target; allowed_in = item.allowed_in.items; fixed_in = item.fixed_in.items } };
+}
+
+/// The access point: what stands in slot 0, and what the device is.
+#[derive(Drop)]
+pub struct AccessPoint {
+    pub ident: u32,
+    pub physical_slots: Vec<u16>,
+    /// The type of station that the device answers Identify with.
+    pub station_type: String,
+    /// In units of 31.25 microseconds.
+    pub least_interval: u32,
+    pub submodules: Vec<SubmoduleItem>,
+    pub references: Vec<ModuleReference>,
+}
+
+impl Model for AccessPoint {
+    ghost Value = { AccessPoint };
+
+    ghost view = { λ item. record { ident = item.ident; physical_slots = item.physical_slots.items; station_type = string_bytes item.station_type; least_interval = item.least_interval; submodules = item.submodules.items; references = item.references.items } };
+}
+
+impl Entry<()> for u16 {
+    ghost reader = { λ _ _ tree. number 0 32767 tree };
+
+    fn read(
+        _alloc: Global,
+        _context: &(),
+        _before: &[u16],
+        tree: &Value,
+    ) -> Result<u16, TreeFault> {
+        let slot = number_in(tree, 0, 32_767)?;
+        Ok(slot as u16)
+    }
+}
+
+impl Entry<()> for u64 {
+    ghost reader = { λ _ _ tree. whole tree };
+
+    fn read(
+        _alloc: Global,
+        _context: &(),
+        _before: &[u64],
+        tree: &Value,
+    ) -> Result<u64, TreeFault> {
+        let slot = whole(tree)?;
+        Ok(slot)
+    }
+}
+
+/// Slots: first each is a whole number, then each is within its range.
+fn slots_of(alloc: Global, trees: &[Value]) -> Result<Vec<u16>, TreeFault>
+    ensures { Reads (λ slots. slots.items) result (slots_in (items_view trees.now)) }
+{
+    if are_whole(trees) {
+        each_of(alloc, &(), trees)
+    } else {
+        Err(TreeFault::WrongKind)
+    }
+}
+
+/// The slots at a key.
+#[tactic(auto, unfolding(crate::specs::AccessPoints::slots_at))]
+fn slots_at(alloc: Global, tree: &Value, key: &str) -> Result<Vec<u16>, TreeFault>
+    ensures { Reads (λ slots. slots.items) result (slots_at key.now (view tree.now)) }
+{
+    let trees = items_at(tree, key)?;
+    slots_of(alloc, trees)
+}
+
+impl Entry<()> for ModuleReference {
+    ghost reader = { λ _ _ tree. reference tree };
+
+    #[tactic(auto, unfolding(crate::specs::AccessPoints::reference))]
+    fn read(
+        alloc: Global,
+        _context: &(),
+        _before: &[ModuleReference],
+        tree: &Value,
+    ) -> Result<ModuleReference, TreeFault> {
+        let target = string(alloc, tree, "ModuleItemTarget")?;
+        let allowed_in = list(alloc, &(), tree, "AllowedInSlots")?;
+        let fixed_in = list(alloc, &(), tree, "FixedInSlots")?;
+        Ok(ModuleReference {
+            target,
+            allowed_in,
+            fixed_in,
+        })
+    }
+}
+
+/// The access point that a tree is.
+#[tactic(auto, unfolding(crate::specs::AccessPoints::access_point))]
+pub(crate) fn access_point(alloc: Global, tree: &Value) -> Result<AccessPoint, TreeFault>
+    ensures { Reads (λ found. found) result (access_point (view tree.now)) }
+{
+    let ident = long_at(tree, "ModuleIdentNumber", 1, 0xFFFF_FFFF)?;
+    let physical_slots = slots_at(alloc, tree, "PhysicalSlots")?;
+    let station_type = string(alloc, tree, "DNS_CompatibleName")?;
+    let least_interval = long_at(tree, "MinDeviceInterval", 1, 65_536)?;
+    let submodules = list(alloc, &(), tree, "VirtualSubmoduleItem")?;
+    let references = list(alloc, &(), tree, "ModuleItemRef")?;
+    Ok(AccessPoint {
+        ident,
+        physical_slots,
+        station_type,
+        least_interval,
+        submodules,
+        references,
+    })
+}

@@ -1,0 +1,20 @@
+//! The catalogue of a station in JSON, with the names of GSDML, read to structs.
+#![tactic(auto)]
+
+mod access_point;
+mod catalogue;
+mod entry;
+mod fault;
+mod module;
+mod project;
+mod slot;
+mod submodule;
+mod tree;
+
+pub use access_point::{AccessPoint, ModuleReference};
+pub use catalogue::{Catalogue, DeviceIdentity, read, read_tree};
+pub use fault::{CatalogueFault, TreeFault};
+pub use module::ModuleItem;
+pub use project::{ControllerItem, Project, StationItem};
+pub use slot::{RecordItem, SlotItem};
+pub use submodule::{ParameterItem, SubmoduleItem};

@@ -1,0 +1,152 @@
+//! What a project puts into its slots, and the records that it writes.
+ghost use Rattle.std.specs.Prelude.{◌≡◌, List, Option, option_map, string_bytes};
+ghost use Rattle.serde_json.specs.View.{view};
+ghost use Rattle.catalogue.specs.Reader.{Reads};
+ghost use Rattle.catalogue.specs.Submodules.{Submodule};
+ghost use Rattle.catalogue.specs.Modules.{submodules_of};
+ghost use Rattle.catalogue.specs.Slots.{Record, Slot, record_item, slot_item, records_of, octets_at, length_of, parameters_of};
+
+use crate::entry::{Entry, list};
+use crate::tree::{string, text, whole_at, word_at};
+use crate::{ModuleItem, ParameterItem, SubmoduleItem, TreeFault};
+use hex::FromHexError;
+use serde_json::Value;
+use std::alloc::Global;
+use std::marker::Model;
+
+/// A parameter record and what is written to it.
+#[derive(Drop)]
+pub struct RecordItem {
+    pub subslot: u16,
+    pub index: u16,
+    pub octets: Vec<u8>,
+}
+
+impl Model for RecordItem {
+    ghost Value = { Record };
+
+    ghost view = { λ item. record { subslot = item.subslot; index = item.index; octets = item.octets.items } };
+}
+
+/// What stands in a slot.
+#[derive(Drop)]
+pub struct SlotItem {
+    pub slot: u64,
+    /// The ID of the module.
+    pub target: String,
+    pub records: Vec<RecordItem>,
+}
+
+impl Model for SlotItem {
+    ghost Value = { Slot };
+
+    ghost view = { λ item. record { slot = item.slot; target = string_bytes item.target; records = item.records.items } };
+}
+
+/// The octets that the text at a key is in hex.
+#[tactic(auto, unfolding(crate::specs::Slots::octets_at))]
+fn octets_at(alloc: Global, tree: &Value, key: &str) -> Result<Vec<u8>, TreeFault>
+    ensures { Reads (λ octets. octets.items) result (octets_at key.now (view tree.now)) }
+{
+    let text = text(tree, key)?;
+    match hex::decode(alloc, text) {
+        Ok(octets) => Ok(octets),
+        Err(FromHexError::OutOfMemory) => Err(TreeFault::OutOfMemory),
+        Err(_) => Err(TreeFault::WrongKind),
+    }
+}
+
+/// The parameter records of the submodule with this subslot.
+fn parameters_of(submodules: &Vec<SubmoduleItem>, subslot: u16) -> Option<&[ParameterItem]>
+    ensures { option_map (λ parameters. parameters.now) result ≡ parameters_of subslot submodules.now.items }
+{
+    for submodule in submodules {
+        if submodule.subslot == subslot {
+            return Some(submodule.parameters.as_slice());
+        }
+    }
+    None
+}
+
+/// The length of the parameter record with this index.
+fn length_of(parameters: &[ParameterItem], index: u16) -> Option<u16>
+    ensures { result ≡ length_of index parameters.now }
+{
+    for parameter in parameters {
+        if parameter.index == index {
+            return Some(parameter.length);
+        }
+    }
+    None
+}
+
+impl Entry<Vec<SubmoduleItem>> for RecordItem {
+    ghost reader = { λ submodules _ tree. record_item submodules.items tree };
+
+    #[tactic(auto, unfolding(crate::specs::Slots::record_item))]
+    fn read(
+        alloc: Global,
+        context: &Vec<SubmoduleItem>,
+        _before: &[RecordItem],
+        tree: &Value,
+    ) -> Result<RecordItem, TreeFault> {
+        let subslot = word_at(tree, "Subslot", 1, 36_863)?;
+        let parameters = match parameters_of(context, subslot) {
+            Some(parameters) => parameters,
+            None => return Err(TreeFault::Number),
+        };
+        let index = word_at(tree, "Index", 0, 32_767)?;
+        let length = match length_of(parameters, index) {
+            Some(length) => length,
+            None => return Err(TreeFault::Number),
+        };
+        let octets = octets_at(alloc, tree, "Data")?;
+        if octets.len() != length as usize {
+            return Err(TreeFault::Number);
+        }
+        Ok(RecordItem {
+            subslot,
+            index,
+            octets,
+        })
+    }
+}
+
+/// The records of a slot, of a module with these submodules.
+fn records_of(
+    alloc: Global,
+    tree: &Value,
+    modules: &Vec<ModuleItem>,
+    target: &str,
+) -> Result<Vec<RecordItem>, TreeFault>
+    ensures { Reads (λ records. records.items) result (records_of modules.now.items target.now (view tree.now)) }
+{
+    for module in modules {
+        if module.id.as_str() == target {
+            return list(alloc, &module.submodules, tree, "Records");
+        }
+    }
+    let none = Vec::new(alloc);
+    list(alloc, &none, tree, "Records")
+}
+
+impl Entry<Vec<ModuleItem>> for SlotItem {
+    ghost reader = { λ modules _ tree. slot_item modules.items tree };
+
+    #[tactic(auto, unfolding(crate::specs::Slots::slot_item))]
+    fn read(
+        alloc: Global,
+        context: &Vec<ModuleItem>,
+        _before: &[SlotItem],
+        tree: &Value,
+    ) -> Result<SlotItem, TreeFault> {
+        let slot = whole_at(tree, "Slot")?;
+        let target = string(alloc, tree, "ModuleItemTarget")?;
+        let records = records_of(alloc, tree, context, target.as_str())?;
+        Ok(SlotItem {
+            slot,
+            target,
+            records,
+        })
+    }
+}

@@ -1,0 +1,190 @@
+//! Submodules of the catalogue, with their data and their parameter records.
+ghost use Rattle.std.specs.Prelude.{◌≡◌, List, Some, None, ℕ};
+ghost use Rattle.wire.specs.Codec.{Gives};
+ghost use Rattle.serde_json.specs.View.{view, items_view};
+ghost use Rattle.catalogue.specs.Reader.{Reads};
+ghost use Rattle.catalogue.specs.Submodules.{Submodule, is_octet_type, is_word_type, is_long_type, size_of_type, data_item, octets_in, octets_at, io_of, has_index, has_subslot, parameter, submodule};
+
+use crate::TreeFault;
+use crate::entry::{Entry, list};
+use crate::tree::{items_at, long_at, member_at, text, word_at};
+use serde_json::Value;
+use std::alloc::Global;
+use std::marker::Model;
+
+/// A parameter record that a submodule takes.
+#[derive(Clone, Copy, Drop)]
+pub struct ParameterItem {
+    pub index: u16,
+    /// In octets.
+    pub length: u16,
+}
+
+/// A submodule that is built into its module.
+#[derive(Drop)]
+pub struct SubmoduleItem {
+    pub subslot: u16,
+    pub ident: u32,
+    /// Octets of input data, 65,535 where they are more.
+    pub input: u16,
+    /// Octets of output data, likewise.
+    pub output: u16,
+    pub parameters: Vec<ParameterItem>,
+}
+
+impl Model for SubmoduleItem {
+    ghost Value = { Submodule };
+
+    ghost view = { λ item. record { subslot = item.subslot; ident = item.ident; input = item.input; output = item.output; parameters = item.parameters.items } };
+}
+
+/// Whether a type of data takes one octet.
+#[tactic(auto, unfolding(crate::specs::Submodules::is_octet_type))]
+fn is_octet_type(name: &str) -> bool
+    ensures { result ≡ is_octet_type name.now }
+{
+    name == "Unsigned8" || name == "Integer8"
+}
+
+/// Whether a type of data takes two octets.
+#[tactic(auto, unfolding(crate::specs::Submodules::is_word_type))]
+fn is_word_type(name: &str) -> bool
+    ensures { result ≡ is_word_type name.now }
+{
+    name == "Unsigned16" || name == "Integer16"
+}
+
+/// Whether a type of data takes four octets.
+#[tactic(auto, unfolding(crate::specs::Submodules::is_long_type))]
+fn is_long_type(name: &str) -> bool
+    ensures { result ≡ is_long_type name.now }
+{
+    name == "Unsigned32" || name == "Integer32" || name == "Float32"
+}
+
+/// The octets of a type of data that says its size.
+fn size_of_type(name: &str) -> Option<u16>
+    ensures { result ≡ size_of_type name.now }
+{
+    if is_octet_type(name) {
+        return Some(1);
+    }
+    if is_word_type(name) {
+        return Some(2);
+    }
+    if is_long_type(name) {
+        return Some(4);
+    }
+    None
+}
+
+/// The octets of one item of data.
+#[tactic(auto, unfolding(crate::specs::Submodules::data_item))]
+fn data_item(tree: &Value) -> Result<u16, TreeFault>
+    ensures { Gives (λ octets. octets) result (data_item (view tree.now)) }
+{
+    let name = text(tree, "DataType")?;
+    if name == "OctetString" {
+        return word_at(tree, "Length", 1, 1440);
+    }
+    match size_of_type(name) {
+        Some(octets) => Ok(octets),
+        None => Err(TreeFault::WrongKind),
+    }
+}
+
+/// The octets of items of data together, at most 65,535.
+fn octets_of(trees: &[Value]) -> Result<u16, TreeFault>
+    ensures { Gives (λ octets. octets) result (octets_in 0 (items_view trees.now)) }
+{
+    let mut octets = 0u16;
+    for tree in trees {
+        let more = data_item(tree)?;
+        octets = octets.saturating_add(more);
+    }
+    Ok(octets)
+}
+
+/// The octets of the items of data at a key.
+#[tactic(auto, unfolding(crate::specs::Submodules::octets_at))]
+fn octets_at(tree: &Value, key: &str) -> Result<u16, TreeFault>
+    ensures { Gives (λ octets. octets) result (octets_at key.now (view tree.now)) }
+{
+    let trees = items_at(tree, key)?;
+    octets_of(trees)
+}
+
+/// The octets of input and of output of a submodule.
+#[tactic(auto, unfolding(crate::specs::Submodules::io_of))]
+fn io_at(tree: &Value) -> Result<(u16, u16), TreeFault>
+    ensures { Gives (λ io. io) result (io_of (view tree.now)) }
+{
+    match tree.get("IOData") {
+        None => Ok((0, 0)),
+        Some(io) => {
+            let input = octets_at(io, "Input")?;
+            let output = octets_at(io, "Output")?;
+            Ok((input, output))
+        }
+    }
+}
+
+/// Whether a parameter record with this index stands before.
+fn has_index(before: &[ParameterItem], index: u16) -> bool
+    ensures { result ≡ has_index index before.now }
+{
+    before.iter().any(|item| item.index == index)
+}
+
+/// Whether a submodule with this subslot stands before.
+fn has_subslot(before: &[SubmoduleItem], subslot: u16) -> bool
+    ensures { result ≡ has_subslot subslot before.now }
+{
+    before.iter().any(|item| item.subslot == subslot)
+}
+
+impl Entry<()> for ParameterItem {
+    ghost reader = { λ _ before tree. parameter before tree };
+
+    #[tactic(auto, unfolding(crate::specs::Submodules::parameter))]
+    fn read(
+        _alloc: Global,
+        _context: &(),
+        before: &[ParameterItem],
+        tree: &Value,
+    ) -> Result<ParameterItem, TreeFault> {
+        let index = word_at(tree, "Index", 0, 32_767)?;
+        if has_index(before, index) {
+            return Err(TreeFault::Number);
+        }
+        let length = word_at(tree, "Length", 1, 64)?;
+        Ok(ParameterItem { index, length })
+    }
+}
+
+impl Entry<()> for SubmoduleItem {
+    ghost reader = { λ _ before tree. submodule before tree };
+
+    #[tactic(auto, unfolding(crate::specs::Submodules::submodule))]
+    fn read(
+        alloc: Global,
+        _context: &(),
+        before: &[SubmoduleItem],
+        tree: &Value,
+    ) -> Result<SubmoduleItem, TreeFault> {
+        let subslot = word_at(tree, "Subslot", 1, 36_863)?;
+        if has_subslot(before, subslot) {
+            return Err(TreeFault::Number);
+        }
+        let ident = long_at(tree, "SubmoduleIdentNumber", 0, 0xFFFF_FFFF)?;
+        let (input, output) = io_at(tree)?;
+        let parameters = list(alloc, &(), tree, "ParameterRecordDataItem")?;
+        Ok(SubmoduleItem {
+            subslot,
+            ident,
+            input,
+            output,
+            parameters,
+        })
+    }
+}

@@ -1,0 +1,7 @@
+pub mod Cyclic
+pub mod Opening
+pub mod Units
+pub mod Received
+pub mod Process
+pub mod Frames
+pub mod Runs

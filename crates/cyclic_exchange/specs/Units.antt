@@ -1,0 +1,42 @@
+-- What a unit of time, 31.25 microseconds, brings to one end.
+use Rattle.std.specs.Prelude.{◌==◌, ◌&&◌, Bool, true, false, Option, Some, None, if◌then◌else◌}
+use Rattle.cyclic_data.specs.Timing.{Hearing, held_on, is_due, unit_later}
+use Rattle.pn_alarms.specs.declared.abort.Abort.{Abort}
+use Rattle.pn_alarms.specs.declared.abort.Abort.TheVariants.{DataHold, Other}
+use Rattle.pn_alarms.specs.declared.repeats.Due.{Due}
+use Rattle.pn_alarms.specs.declared.repeats.Due.TheVariants.{Nothing, Again, Spent}
+use Rattle.cyclic_exchange.specs.declared.units.Tick.{Tick}
+use Rattle.cyclic_exchange.specs.Cyclic.{Cyclic}
+
+-- whether the data hold time is over with this unit: it runs while data is exchanged
+abbrev pub is_silent : Cyclic → Bool
+is_silent cyclic = cyclic.begun && ((held_on cyclic.hearing).held == cyclic.hearing.limit)
+
+-- why the relation ends with this unit, if it does: because no frame came, before because no ACK of what was sent as an alarm's data did
+abbrev pub ending_by : Due → Option Abort
+ending_by Nothing = None
+ending_by Again = None
+ending_by Spent = Some Other
+
+abbrev pub ending_of : Cyclic → Due → Option Abort
+ending_of cyclic alarm = if is_silent cyclic then Some DataHold else ending_by alarm
+
+abbrev pub is_again : Due → Bool
+is_again Nothing = false
+is_again Again = true
+is_again Spent = false
+
+-- where the relation ends nothing more is done; else an alarm's data may be due again, and a frame
+abbrev pub tick_by : Cyclic → Due → Option Abort → Tick
+tick_by cyclic alarm (Some reason) = record { ending = Some reason; is_alarm = false; is_cyclic = false }
+tick_by cyclic alarm None = record { ending = None; is_alarm = is_again alarm; is_cyclic = is_due cyclic.sending }
+
+abbrev pub tick_of : Cyclic → Due → Tick
+tick_of cyclic alarm = tick_by cyclic alarm (ending_of cyclic alarm)
+
+-- a unit later
+abbrev pub hearing_later : Cyclic → Hearing
+hearing_later cyclic = if cyclic.begun then held_on cyclic.hearing else cyclic.hearing
+
+abbrev pub cyclic_later : Cyclic → Cyclic
+cyclic_later cyclic = record cyclic { sending = unit_later cyclic.sending; hearing = hearing_later cyclic }

@@ -1,0 +1,169 @@
+//! One end of cyclic data.
+ghost use Rattle.std.specs.Prelude.{◌≡◌, ◌≤◌, ◌++◌, IfSome, [], false, is_some, length, option_map, replicate, unwrap_or};
+ghost use Rattle.arrayvec.specs.ArrayVec.{array_vec_len};
+ghost use Rattle.cyclic_exchange.specs.Frames.{cyclic_body};
+ghost use Rattle.cyclic_exchange.specs.Opening.{begun_of, ended_of, opened};
+ghost use Rattle.cyclic_exchange.specs.Process.{given_at, provided_at, value_at};
+
+use crate::opening::fill;
+use crate::{Route, Statuses};
+use arrayvec::ArrayVec;
+use cyclic_data::{Consumer, CyclicTail, Image, Layout, PlaceKind, Provider, ReceivedImage};
+use std::marker::Model;
+
+/// The status of good data (IEC 61158-6-10, 4.7.2.1.1).
+const GOOD: u8 = 0x80;
+
+/// As many zeros as the longest frame has octets of data.
+static ZEROS: [u8; 1440] = [0; 1440];
+
+/// So many zeros.
+fn zeros(size: usize) -> &'static [u8]
+    requires { size ≤ 1440 }
+    ensures { result.now ≡ replicate size 0 }
+{
+    &ZEROS[..size]
+}
+
+/// One end of the cyclic data of a relation. It is large, and stays in its place: what was exchanged is filled anew as the next relation
+/// opens it.
+#[derive(Drop)]
+pub struct CyclicExchange {
+    pub(crate) route: Route,
+    /// Data is exchanged.
+    pub(crate) begun: bool,
+    pub(crate) provider: Provider,
+    pub(crate) sent: Image,
+    pub(crate) consumer: Consumer,
+    pub(crate) taken: ReceivedImage,
+}
+
+// Clauses see one value a place, and the states of those who send and take.
+impl Model for CyclicExchange {
+    ghost use Rattle.cyclic_exchange.specs.Cyclic.{Cyclic};
+
+    ghost Value = { Cyclic };
+
+    ghost view = { λ exchange. record {
+      route = exchange.route;
+      begun = exchange.begun;
+      sending = exchange.provider;
+      shown = exchange.sent;
+      hearing = exchange.consumer;
+      taken = exchange.taken;
+    } };
+}
+
+impl CyclicExchange {
+    /// One of nobody, to be opened: no data is exchanged, and no submodule has a place.
+    pub fn new() -> CyclicExchange
+        ensures begun { result.begun ≡ false }
+        ensures shown { result.shown.cells ≡ [] }
+        ensures taken { result.taken.cells ≡ [] }
+    {
+        CyclicExchange {
+            route: Route::blank(),
+            begun: false,
+            provider: Provider::start(1, 1),
+            sent: Image::new(),
+            consumer: Consumer::new(1, 1),
+            taken: ReceivedImage::new(),
+        }
+    }
+
+    /// A relation is made: nothing was given and nothing taken, the interval is counted from now, and IOPS and IOCS that are sent are
+    /// these. Nothing is left of an earlier relation.
+    pub fn open<S: Statuses>(
+        &mut self,
+        route: Route,
+        provider: Provider,
+        consumer: Consumer,
+        sent: &Layout,
+        taken: &Layout,
+        statuses: &S,
+    )
+        ensures { self.new ≡ opened route provider consumer (S.status_of statuses.now) sent.now taken.now }
+    {
+        self.route = route;
+        self.begun = false;
+        self.provider = provider;
+        fill(&mut self.sent, sent, statuses);
+        self.consumer = consumer;
+        self.taken.start(taken);
+    }
+
+    /// Data is exchanged, and the data hold time runs from now on.
+    pub fn begin(&mut self)
+        ensures { self.new ≡ begun_of self.old }
+    {
+        self.begun = true;
+        self.consumer.restart();
+    }
+
+    /// No data is exchanged any more, and what was taken is zeros.
+    pub fn end(&mut self)
+        ensures { self.new ≡ ended_of self.old }
+    {
+        self.begun = false;
+        let size = self.taken.data_length();
+        self.taken.accept(zeros(size as usize));
+    }
+
+    /// Whether data is exchanged.
+    #[inline(always)]
+    pub fn has_begun(&self) -> bool
+        ensures { result ≡ self.now.begun }
+    {
+        self.begun
+    }
+
+    /// With whom, and the numbers of its frames.
+    #[inline(always)]
+    pub fn route(&self) -> &Route
+        ensures { result.now ≡ self.now.route }
+    {
+        &self.route
+    }
+
+    /// Gives a submodule its data, which the frames have from now on. Answers whether it has data of this length; if not, nothing
+    /// changes. Its IOPS stays as it was.
+    #[inline(always)]
+    pub fn give(&mut self, slot: u16, subslot: u16, value: &[u8]) -> bool
+        ensures done { result ≡ is_some (given_at self.old slot subslot value.now) }
+        ensures state { self.new ≡ unwrap_or (given_at self.old slot subslot value.now) self.old }
+    {
+        self.sent.put(slot, subslot, value)
+    }
+
+    /// Gives a submodule its data, whose IOPS is good from now on. Answers whether it has data of this length; if not, nothing changes.
+    pub fn provide(&mut self, slot: u16, subslot: u16, value: &[u8]) -> bool
+        ensures done { result ≡ is_some (provided_at self.old slot subslot value.now) }
+        ensures state { self.new ≡ unwrap_or (provided_at self.old slot subslot value.now) self.old }
+    {
+        if !self.sent.put(slot, subslot, value) {
+            return false;
+        }
+        self.sent.set_status(PlaceKind::Data, slot, subslot, GOOD);
+        true
+    }
+
+    /// What the partner's last frame that was taken holds for a submodule, if it has data there: zeros where none was taken or its IOPS
+    /// is not good.
+    #[inline(always)]
+    pub fn value(&self, slot: u16, subslot: u16) -> Option<&[u8]>
+        ensures value { option_map (λ value. value.now) result ≡ value_at self.now slot subslot }
+        ensures short { IfSome result (λ value. length value.now ≤ 1440) }
+    {
+        self.taken.output(slot, subslot)
+    }
+
+    /// What follows the FrameID of a frame that is sent at this CycleCounter: the data, at most 1,440 octets, and these four behind them.
+    #[inline(always)]
+    pub fn data(&self, counter: u16) -> (&[u8], ArrayVec<u8, 4>)
+        ensures exact { result.0.now ++ result.1.items ≡ cyclic_body self.now.shown counter }
+        ensures few { length result.0.now ≤ 1440 }
+        ensures tail { array_vec_len result.1 ≡ 4 }
+    {
+        (self.sent.bytes(), CyclicTail::running(counter).octets())
+    }
+}

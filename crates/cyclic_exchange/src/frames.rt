@@ -1,0 +1,28 @@
+//! Cyclic frames that are sent.
+ghost use Rattle.std.specs.Prelude.{◌≡◌, ◌<◌, ◌+◌, ◌++◌, ◌∷◌, [], map};
+ghost use Rattle.arrayvec.specs.ArrayVec.{array_vec_len};
+ghost use Rattle.cyclic_exchange.specs.Frames.{cyclic_frame};
+
+use crate::CyclicExchange;
+use frame_codec::{Outbox, Pieces};
+use pn_values::Mac;
+
+/// Puts a cyclic frame at this CycleCounter from this station to the partner into the box, behind what is in it.
+#[inline(always)]
+pub fn send_cyclic(source: Mac, counter: u16, exchange: &CyclicExchange, outbox: &mut Outbox)
+    requires room { array_vec_len outbox.old < 4 }
+    ensures frames { map (λ frame. frame.items) outbox.new.items
+        ≡ map (λ frame. frame.items) outbox.old.items ++ cyclic_frame source exchange.now.route exchange.now.shown counter ∷ [] }
+    ensures len { array_vec_len outbox.new ≡ array_vec_len outbox.old + 1 }
+{
+    let route = exchange.route();
+    let (octets, tail) = exchange.data(counter);
+    outbox.put_pieces(&Pieces {
+        destination: route.partner,
+        source,
+        tag: Some(route.sent_tag),
+        frame_id: route.sent_id,
+        front: octets,
+        behind: tail.as_slice(),
+    });
+}

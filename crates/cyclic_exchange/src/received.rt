@@ -1,0 +1,46 @@
+//! Cyclic frames that come.
+ghost use Rattle.std.specs.Prelude.{◌≡◌, ◌≢◌};
+ghost use Rattle.cyclic_exchange.specs.Received.{behind_frame, received_as};
+
+use crate::CyclicExchange;
+use cyclic_data::read_cyclic;
+use pn_values::Mac;
+
+/// What becomes of a cyclic frame.
+#[derive(Clone, Copy, Debug, PartialEq, Eq)]
+pub enum Received {
+    /// It is of another station, or has another FrameID.
+    Foreign,
+    /// It has fewer octets than DataLength and four more.
+    Short,
+    /// Its data is not valid, its TransferStatus is not 0, or its CycleCounter is not newer.
+    Stale,
+    /// It is taken: values are read of it, and the data hold time runs anew.
+    Taken,
+}
+
+impl CyclicExchange {
+    /// A cyclic frame comes: from this station, of this FrameID, and all that follows it.
+    #[inline(always)]
+    pub fn receive(&mut self, source: Mac, frame_id: u16, body: &[u8]) -> Received
+        ensures received { result ≡ received_as self.old source frame_id body.now }
+        ensures state { self.new ≡ behind_frame self.old source frame_id body.now }
+        // One that is not taken changes nothing.
+        ensures refused { result ≢ Received.Taken → self.new ≡ self.old }
+    {
+        if !self.route.is_of_partner(source, frame_id) {
+            return Received::Foreign;
+        }
+        let Ok((octets, tail)) = read_cyclic(body, self.taken.data_length()) else {
+            return Received::Short;
+        };
+        let is_taken = self
+            .consumer
+            .accept(tail.counter, tail.data_status, tail.transfer_status);
+        if !is_taken {
+            return Received::Stale;
+        }
+        self.taken.accept(octets);
+        Received::Taken
+    }
+}

@@ -1,0 +1,4 @@
+pub mod Packed
+pub mod Parts
+pub mod Connect
+pub mod Plan

@@ -1,0 +1,30 @@
+-- What a plan is.
+use Rattle.std.specs.Prelude.{◌≡◌, ◌≤◌, ◌&&◌, Bool, true, not, length, nat_le, Result, Ok, Err, if◌then◌else◌}
+use Rattle.connect_blocks.specs.declared.iocr.IocrType.TheVariants.{Input, Output}
+use Rattle.plans.specs.declared.parts.Parts.{Parts}
+use Rattle.plans.specs.declared.plan.TooLong.{TooLong}
+use Rattle.plans.specs.declared.plan.TooLong.TheVariants.{Frame, Connect}
+use Rattle.plans.specs.Packed.{frame_octets}
+use Rattle.plans.specs.Parts.{AreParts, data_of}
+use Rattle.plans.specs.Connect.{does_connect_fit}
+
+-- the frames of each direction hold at most 1,440 octets
+abbrev pub do_frames_fit : Parts → Bool
+do_frames_fit parts =
+    nat_le (frame_octets Input (data_of parts.real.modules.items)) 1440 && nat_le (frame_octets Output (data_of parts.real.modules.items)) 1440
+
+-- a plan: each part is in its range, there are at most 16 modules with 64 submodules, and neither the frames nor the Connect are too long
+pub record IsPlan (parts : Parts) : Type 0 where
+  pub good : AreParts parts
+  pub few_modules : length parts.real.modules.items ≤ 16
+  pub few_submodules : length (data_of parts.real.modules.items) ≤ 64
+  pub input : frame_octets Input (data_of parts.real.modules.items) ≤ 1440
+  pub output : frame_octets Output (data_of parts.real.modules.items) ≤ 1440
+  pub connect : does_connect_fit parts ≡ true
+
+-- the plan that parts are, or what is too long: first the frames
+abbrev pub plan_of : Parts → Result Parts TooLong
+plan_of parts =
+    if not (do_frames_fit parts) then Err Frame
+    else if not (does_connect_fit parts) then Err Connect
+    else Ok parts

@@ -1,0 +1,12 @@
+//! The plan of a station: what is plugged in which slot of a device, the records that it is given, and the Connect with which a
+//! controller asks it for a relation (IEC 61158-6-10, 5.2.4). It takes no memory.
+#![tactic(auto)]
+
+mod blocks;
+mod data;
+mod parts;
+mod places;
+mod plan;
+
+pub use parts::{Controller, Parts, PlanRecord, Station, Times};
+pub use plan::{Layouts, Plan, TooLong};

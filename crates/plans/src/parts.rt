@@ -1,0 +1,61 @@
+//! What a plan is made of.
+use arrayvec::ArrayVec;
+use pn_values::{IpSuite, Mac, Real, StationName};
+
+/// The device: what it is to be named and addressed as, and what it has to be.
+#[derive(Drop)]
+pub struct Station {
+    /// NameOfStation.
+    pub name: StationName,
+    pub suite: IpSuite,
+    pub vendor_id: u16,
+    pub device_id: u16,
+}
+
+/// The controller.
+#[derive(Drop)]
+pub struct Controller {
+    /// Its NameOfStation.
+    pub name: StationName,
+    /// Its Ethernet address, whose first octet is even.
+    pub mac: Mac,
+    /// Its IP address.
+    pub address: [u8; 4],
+}
+
+/// How often cyclic frames are sent, and for how long their values hold.
+#[derive(Clone, Copy)]
+pub struct Times {
+    /// SendClockFactor, 1 to 128, in units of 31.25 microseconds.
+    pub send_clock_factor: u16,
+    /// ReductionRatio, 1 to 512.
+    pub reduction_ratio: u16,
+    /// DataHoldFactor, 1 to 7,680.
+    pub data_hold_factor: u16,
+}
+
+/// A parameter record that a submodule is given at start-up.
+#[derive(Default, Drop)]
+pub struct PlanRecord {
+    /// SlotNumber.
+    pub slot: u16,
+    /// SubslotNumber.
+    pub subslot: u16,
+    /// Index.
+    pub index: u16,
+    /// What is written.
+    pub data: ArrayVec<u8, 64>,
+}
+
+/// What a plan is made of.
+#[derive(Drop)]
+pub struct Parts {
+    pub station: Station,
+    pub controller: Controller,
+    pub times: Times,
+    /// What is plugged in the device: the modules in the order of their slots, the submodules of each in the order of their
+    /// subslots, with the parameter records that each submodule takes.
+    pub real: Real,
+    /// The records, in the order in which they are written.
+    pub records: ArrayVec<PlanRecord, 32>,
+}

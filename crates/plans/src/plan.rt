@@ -1,0 +1,177 @@
+//! The plan of a station.
+ghost use Rattle.std.specs.Prelude.{◌≡◌, ◌≤◌, length};
+ghost use Rattle.std.specs.List.{AllByRecursion};
+ghost use Rattle.arrayvec.specs.ArrayVec.{array_vec_len};
+ghost use Rattle.connect_blocks.specs.declared.iocr.IocrType.TheVariants.{Input, Output};
+ghost use Rattle.wire.specs.Codec.{Gives};
+ghost use Rattle.plans.specs.Packed.{frame_octets, layout_in};
+ghost use Rattle.plans.specs.Parts.{AreOrdered, AreParts, data_of};
+ghost use Rattle.plans.specs.Connect.{IsRead, blocks_of, connect_of};
+ghost use Rattle.plans.specs.Plan.{IsPlan, do_frames_fit, plan_of};
+
+use crate::blocks::{does_connect_fit, write_alarm, write_all_expected, write_ar, write_iocr};
+use crate::data::data_of;
+use crate::parts::{Controller, Parts, PlanRecord, Station, Times};
+use crate::places::{Places, data_length, frame_octets};
+use arrayvec::ArrayVec;
+use block_codec::{IoObjects, IocrType};
+use block_fields::Uuid;
+use cyclic_data::Layout;
+use pn_values::Real;
+use std::marker::Model;
+
+/// The plan of a station: parts of which each is in its range, whose frames and whose Connect are not too long. A clause sees the
+/// parts.
+#[derive(Drop)]
+pub struct Plan {
+    parts: Parts,
+}
+
+impl Model for Plan {
+    ghost use Rattle.plans.specs.declared.parts.Parts.{Parts};
+    ghost use Rattle.plans.specs.Plan.{IsPlan};
+
+    ghost Value = { Parts };
+
+    ghost view = { λ plan. plan.parts };
+
+    ghost invariant = { λ plan. IsPlan plan.parts };
+}
+
+/// Why parts are no plan.
+#[derive(Clone, Copy, Debug, PartialEq, Eq)]
+pub enum TooLong {
+    /// The cyclic frames of a direction would hold more than 1,440 octets.
+    Frame,
+    /// The blocks of the Connect would be more than 1,372 octets.
+    Connect,
+}
+
+/// The layouts of a plan.
+#[derive(Drop)]
+pub struct Layouts {
+    /// Of the frames from the device to the controller.
+    pub input: Layout,
+    /// Of the frames from the controller to the device.
+    pub output: Layout,
+}
+
+/// Whether the frames of each direction hold at most 1,440 octets.
+fn do_frames_fit(parts: &Parts) -> bool
+    ensures value { result ≡ do_frames_fit parts.now }
+    ensures few { length (data_of parts.now.real.modules.items) ≤ 64 }
+{
+    let subs = data_of(&parts.real);
+    frame_octets(IocrType::Input, subs.as_slice()) <= 1440
+        && frame_octets(IocrType::Output, subs.as_slice()) <= 1440
+}
+
+/// The layout of a direction for what submodules have.
+fn layout_in(direction: IocrType, parts: &Parts) -> Layout
+    requires short { frame_octets direction (data_of parts.now.real.modules.items) ≤ 1440 }
+    requires ordered { AreOrdered parts.now.real.modules.items }
+    ensures { result ≡ layout_in direction (data_of parts.now.real.modules.items) }
+{
+    let subs = data_of(&parts.real);
+    let places = Places::of(direction, subs.as_slice());
+    let checked = Layout::check(
+        direction,
+        data_length(direction, subs.as_slice()),
+        &IoObjects::lent(&places.io_data_objects),
+        &IoObjects::lent(&places.iocs),
+        subs.as_slice(),
+    );
+    match checked {
+        Ok(layout) => layout,
+        Err(_) => unreachable!(),
+    }
+}
+
+impl Plan {
+    /// The plan that parts are, each of which is in its range, or what is too long: first the frames, then the Connect.
+    pub fn new(parts: Parts) -> Result<Plan, TooLong>
+        requires { AreParts parts }
+        ensures { Gives (λ plan. plan) result (plan_of parts) }
+    {
+        let _few = parts.real.modules.as_slice();
+        if !do_frames_fit(&parts) {
+            return Err(TooLong::Frame);
+        }
+        if !does_connect_fit(&parts) {
+            return Err(TooLong::Connect);
+        }
+        Ok(Plan { parts })
+    }
+
+    /// The device.
+    pub fn station(&self) -> &Station
+        ensures value { result.now ≡ self.now.station }
+        ensures valid { IsPlan self.now }
+    {
+        &self.parts.station
+    }
+
+    /// The controller.
+    pub fn controller(&self) -> &Controller
+        ensures value { result.now ≡ self.now.controller }
+        ensures valid { IsPlan self.now }
+    {
+        &self.parts.controller
+    }
+
+    /// How often cyclic frames are sent, and for how long their values hold.
+    pub fn times(&self) -> Times
+        ensures value { result ≡ self.now.times }
+        ensures valid { IsPlan self.now }
+    {
+        self.parts.times
+    }
+
+    /// What is plugged in the device.
+    pub fn real(&self) -> &Real
+        ensures value { result.now ≡ self.now.real }
+        ensures valid { IsPlan self.now }
+    {
+        &self.parts.real
+    }
+
+    /// The records, in the order in which they are written.
+    pub fn records(&self) -> &[PlanRecord]
+        ensures { result.now ≡ self.now.records.items }
+    {
+        self.parts.records.as_slice()
+    }
+
+    /// Where the submodules have their places in the frames of a direction.
+    pub fn layout(&self, direction: IocrType) -> Layout
+        ensures { result ≡ layout_in direction (data_of self.now.real.modules.items) }
+    {
+        layout_in(direction, &self.parts)
+    }
+
+    /// The same of both directions.
+    pub fn layouts(&self) -> Layouts
+        ensures input { result.input ≡ layout_in Input (data_of self.now.real.modules.items) }
+        ensures output { result.output ≡ layout_in Output (data_of self.now.real.modules.items) }
+    {
+        Layouts {
+            input: self.layout(IocrType::Input),
+            output: self.layout(IocrType::Output),
+        }
+    }
+
+    /// The blocks of the Connect, with this ARUUID: they fit a frame.
+    #[tactic(auto, using(crate::proofs::Sizes::connect_room))]
+    pub fn connect(&self, ar: &Uuid) -> ArrayVec<u8, 1372>
+        ensures { result.items ≡ connect_of self.now ar.now }
+    {
+        let _octets = ar.into_bytes();
+        let mut out = ArrayVec::new();
+        write_ar(&mut out, &self.parts, ar);
+        write_iocr(&mut out, &self.parts, IocrType::Input);
+        write_iocr(&mut out, &self.parts, IocrType::Output);
+        write_alarm(&mut out);
+        write_all_expected(&mut out, self.parts.real.modules.as_slice());
+        out
+    }
+}

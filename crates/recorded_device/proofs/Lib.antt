@@ -1,0 +1,3 @@
+pub mod Legal
+pub mod Placed
+pub mod OneStep

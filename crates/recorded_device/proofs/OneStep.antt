@@ -1,0 +1,27 @@
+-- One step, from what its items asked of the flash.
+use Rattle.std.proofs.Common.{◌≡◌, ℕ, false, [], ap, ◌∙◌}
+use Rattle.device_core.specs.Machine.{items_of, judged_step, heard_step, step_of}
+use Rattle.device_core.specs.State.{State, store_of}
+use Rattle.device_frames.specs.Heard.{heard_of}
+use Rattle.device_frames.specs.declared.event.Event.{Event}
+use Rattle.settings_store.specs.Carries.{OneByOne, Holds}
+use Rattle.recorded_flash.specs.Record.{image_of, record_of, IsAsked}
+use Rattle.recorded_flash.specs.Laws.{failures_of, IsImage-of}
+use Rattle.recorded_flash.specs.declared.flash.RecordedFlash.{RecordedFlash}
+use Rattle.recorded_device.specs.Recorded.{Records}
+use Rattle.recorded_device.proofs.Legal.{are_legal}
+use Rattle.recorded_device.proofs.Placed.{items_calls, last_calls}
+
+pub step_records : {S : ℕ} (old new : State (RecordedFlash S)) (event : Event) → Holds (image_of old.flash) old.live.values → old.live.values.has_failed ≡ false
+    → OneByOne image_of failures_of IsAsked [] (store_of old) (items_of old.station old.live (heard_of old.station.identity event)) (store_of new) → Records old (step_of [] old.station old.live event).accepted new
+unfolding heard_step judged_step
+step_records old new event holds going placed =
+    let all = items_calls (store_of old) (store_of new) (items_of old.station old.live (heard_of old.station.identity event)) placed going holds in
+    let is = all.asked all.writes in
+    record {
+      calls = all.calls;
+      of_commands = all.of_commands;
+      record_is = is;
+      last = λ few. (let kept = last_calls (record_of old.flash) all.calls few in (kept.0, ap (λ r. r.recent) is ∙ kept.1));
+      legal = are_legal _ (image_of old.flash) old.live.values.stored old.live.values.room _ all.calls (IsImage-of old.flash).first_size all.of_commands;
+    }

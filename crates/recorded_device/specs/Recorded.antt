@@ -1,0 +1,18 @@
+-- What a step records for its host.
+use Rattle.std.specs.Prelude.{◌≡◌, ◌≤◌, ℕ, List, [], ◌++◌, length}
+use Rattle.flash_model.specs.Calls.{Call}
+use Rattle.recorded_flash.specs.Record.{image_of, record_of, after_all}
+use Rattle.recorded_flash.specs.declared.flash.RecordedFlash.{RecordedFlash}
+use Rattle.settings_store.specs.Machine.{Accepted}
+use Rattle.device_core.specs.State.{State}
+use Rattle.recorded_device.specs.Calls.{CallsOf, AreLegal}
+
+-- A step in which these commands were accepted. What it records is exactly the calls of these commands, in order: where they
+-- are at most 48, the last calls of the record are these. Wherever a host is cut off as it carries them out, its chip is a
+-- legal end.
+pub record Records {S : ℕ} (old : State (RecordedFlash S)) (accepted : List Accepted) (new : State (RecordedFlash S)) : Type 0 where
+  pub calls : List Call
+  pub of_commands : CallsOf (image_of old.flash) old.live.values.stored old.live.values.room accepted calls
+  pub record_is : record_of new.flash ≡ after_all (record_of old.flash) calls
+  pub last : length calls ≤ 48 → (before : List Call) × ((record_of new.flash).recent ≡ before ++ calls)
+  pub legal : AreLegal S (image_of old.flash) old.live.values.stored accepted calls

@@ -1,0 +1,29 @@
+// One step, and what it records for the host.
+ghost use Rattle.std.specs.Prelude.{◌≡◌, false, [], map};
+ghost use Rattle.device_core.specs.Machine.{step_of};
+ghost use Rattle.device_core.specs.Steps.{IsExactStep};
+ghost use Rattle.recorded_device.specs.Recorded.{Records};
+
+use device_core::{Device, Event, Note};
+use frame_codec::Outbox;
+use recorded_flash::RecordedFlash;
+
+/// Takes an event, and puts the frames to be sent into the box. What the step asks of the flash is recorded; a host carries
+/// it out on its chip, call by call, and sends the frames behind the last of them.
+pub fn step<const S: usize>(
+    device: &mut Device<RecordedFlash<S>, S>,
+    event: &Event,
+    outbox: &mut Outbox,
+) -> Note
+    requires { device.old.live.values.has_failed ≡ false }
+    ensures exact { IsExactStep device.old event.now (map (λ frame. frame.items) outbox.new.items) result device.new }
+    ensures going { device.new.live.values.has_failed ≡ false }
+
+    // What is recorded is exactly the calls of the commands that the step accepts, in order; and wherever a host is cut off as
+    // it carries them out, its chip is a legal end.
+    ensures records { Records device.old (step_of [] device.old.station device.old.live event.now).accepted device.new }
+{
+    // What is stored is what a restart finds, before the step too.
+    let _ = device.stored();
+    device.step(event, outbox)
+}
