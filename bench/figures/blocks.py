@@ -22,7 +22,7 @@ sys.path.insert(0, os.path.join(os.path.dirname(os.path.realpath(__file__)), "..
 from program import answer_help, need, refuse
 
 ROOT = pathlib.Path(__file__).resolve().parent.parent.parent
-PROGRAM = ROOT / "crates/block_bench/out/block_bench"
+PROGRAM = ROOT / "crates/bench_block/out/bench_block"
 # how the names of functions begin that read or write blocks
 CRATES_OF_BLOCKS = "(?:block_codec|connect_blocks|module_lists|module_blocks|record_blocks)::"
 MOST_INSTRUCTIONS = 60_000
@@ -142,7 +142,7 @@ def main(words):
         sys.exit(refuse(words))
     need("valgrind", "objdump")
     if not PROGRAM.exists():
-        sys.exit("blocks.py: no program block_bench: `rt run` in crates/block_bench makes it")
+        sys.exit("blocks.py: no program bench_block: `rt run` in crates/bench_block makes it")
     measured = []
     for what, octets, bound in (("the blocks of a Connect", connect(), MOST_INSTRUCTIONS), ("a PrmEnd, which has no lists", prm_end(), MOST_OF_ONE)):
         for verb, turns in (("read", (1, 0)), ("write", (0, 1))):

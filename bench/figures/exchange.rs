@@ -1,4 +1,4 @@
-// What crates/exchange_bench does, in plain Rust: a device in a relation that takes cyclic frames and alarms and sends its own. It has
+// What crates/bench_exchange does, in plain Rust: a device in a relation that takes cyclic frames and alarms and sends its own. It has
 // no calls: an exchange begins with the first line that is a cyclic frame, an alarm, an input or a unit of time. The octets of data,
 // the units of an interval and the intervals of data hold come from the command line; what else a Connect would have said stands in the
 // relation, as it does in a device. It prints what that crate prints.

@@ -1,7 +1,7 @@
 #!/usr/bin/env python3
 """Puts one block of each kind into a frame of its own, and the blocks of a Connect into one, and prints tshark's line for it.
 
-The blocks are those of bench/interoperation/blocks.txt and those that bench/figures/blocks.py measures. The program `block_table` (made by `rt run`
+The blocks are those of bench/interoperation/blocks.txt and those that bench/figures/blocks.py measures. The program `table_block` (made by `rt run`
 in its folder) has to read each and write exactly it again.
 Needs Debian's package `tshark`. Its status is 1 where a block is written otherwise or a frame is dissected as malformed.
 Use: bench/interoperation/blocks_in_tshark.py
@@ -20,7 +20,7 @@ from blocks import connect
 from program import answer_help, need, refuse
 
 HERE = pathlib.Path(__file__).resolve().parent
-PROGRAM = HERE.parent.parent / "crates/block_table/out/block_table"
+PROGRAM = HERE.parent.parent / "crates/table_block/out/table_block"
 DEVICE = bytes.fromhex("dea000016c9711d1827100a02442df7d")
 CONTROLLER = bytes.fromhex("dea000026c9711d1827100a02442df7d")
 OBJECT = bytes.fromhex("dea000006c9711d18271000104560123")
@@ -80,7 +80,7 @@ def main(words):
         return refuse(words)
     need("tshark")
     if not PROGRAM.exists():
-        print("blocks_in_tshark.py: no program block_table: `rt run` in crates/block_table makes it", file=sys.stderr)
+        print("blocks_in_tshark.py: no program table_block: `rt run` in crates/table_block makes it", file=sys.stderr)
         return 1
     found = list(blocks())
     otherwise = written_otherwise(found)

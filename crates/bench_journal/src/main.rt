@@ -1,4 +1,4 @@
-//! What the figures of the journal come from (bench/figures/measure.py). `journal_bench COMMITS STARTS` makes so many commits of a
+//! What the figures of the journal come from (bench/figures/measure.py). `bench_journal COMMITS STARTS` makes so many commits of a
 //! name over a blank flash in memory, and then starts on it so many times. It prints how many of the commits were done,
 //! and how long the name is that the last start read.
 #![tactic(auto)]
@@ -15,7 +15,7 @@ const USAGE: u8 = 64;
 fn main(rt: HostRuntime) -> io::Result<ExitCode> {
     let words: Vec<String> = env::args(&rt)?.collect(rt.alloc())?;
     let Some((commits, starts)) = turns_of(words.as_slice()) else {
-        println!(rt; "usage: journal_bench COMMITS STARTS")?;
+        println!(rt; "usage: bench_journal COMMITS STARTS")?;
         return Ok(ExitCode::from(USAGE));
     };
     let mut flash = Flash::blank();

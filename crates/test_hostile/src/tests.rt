@@ -1,6 +1,6 @@
 // Requests of DCP, and frames of each kind that a relation knows, in each phase: cut at each length, and with each length and count in
-// them at 0, at 1 and at its greatest. (Connects with such numbers in each of their fields are those of connect_table; packets of ARP
-// and Read Implicit stand in call_tests.)
+// them at 0, at 1 and at its greatest. (Connects with such numbers in each of their fields are those of table_connect; packets of ARP
+// and Read Implicit stand in test_call.)
 mod answers;
 mod bent;
 mod calls;

@@ -1,4 +1,4 @@
-// PROFINET blocks, by the tables of IEC 61158-6-10, 5.2. The program block_table compares what each kind is with results of
+// PROFINET blocks, by the tables of IEC 61158-6-10, 5.2. The program table_block compares what each kind is with results of
 // a reference model; here is what its lines do not show.
 use arrayvec::ArrayVec;
 use block_codec::{

@@ -1,4 +1,4 @@
-//! What the benchmark of blocks runs (bench/figures/blocks.py). `block_bench READ WRITE` reads the blocks on standard input READ
+//! What the benchmark of blocks runs (bench/figures/blocks.py). `bench_block READ WRITE` reads the blocks on standard input READ
 //! times and writes them WRITE times. It prints how many octets they are in all those readings, how many are written in
 //! the end and whether they are those that came, and how large a block is in memory.
 #![tactic(auto)]
@@ -17,7 +17,7 @@ const USAGE: u8 = 64;
 fn main(rt: HostRuntime) -> io::Result<ExitCode> {
     let words: Vec<String> = env::args(&rt)?.collect(rt.alloc())?;
     let Some((reads, writes)) = turns_of(words.as_slice()) else {
-        println!(rt; "usage: block_bench READ WRITE")?;
+        println!(rt; "usage: bench_block READ WRITE")?;
         return Ok(ExitCode::from(USAGE));
     };
     let mut bytes = Vec::new(rt.alloc());
