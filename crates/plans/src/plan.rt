@@ -7,7 +7,7 @@ ghost use Rattle.wire.specs.Codec.{Gives};
 ghost use Rattle.plans.specs.Packed.{frame_octets, layout_in};
 ghost use Rattle.plans.specs.Parts.{AreOrdered, AreParts, data_of};
 ghost use Rattle.plans.specs.Connect.{IsRead, blocks_of, connect_of};
-ghost use Rattle.plans.specs.Plan.{IsPlan, do_frames_fit, plan_of};
+ghost use Rattle.plans.specs.Plan.{AreShort, IsPlan, do_frames_fit, plan_of};
 
 use crate::blocks::{does_connect_fit, write_alarm, write_all_expected, write_ar, write_iocr};
 use crate::data::data_of;
@@ -66,6 +66,15 @@ fn do_frames_fit(parts: &Parts) -> bool
         && frame_octets(IocrType::Output, subs.as_slice()) <= 1440
 }
 
+/// Each record has at most 64 octets: so many has a list of them room for.
+fn are_short(records: &[PlanRecord])
+    ensures { AreShort records.now }
+{
+    for entry in records {
+        let _octets = entry.data.as_slice();
+    }
+}
+
 /// The layout of a direction for what submodules have.
 fn layout_in(direction: IocrType, parts: &Parts) -> Layout
     requires short { frame_octets direction (data_of parts.now.real.modules.items) ≤ 1440 }
@@ -93,7 +102,8 @@ impl Plan {
         requires { AreParts parts }
         ensures { Gives (λ plan. plan) result (plan_of parts) }
     {
-        let _few = parts.real.modules.as_slice();
+        let _modules = parts.real.modules.as_slice();
+        are_short(parts.records.as_slice());
         if !do_frames_fit(&parts) {
             return Err(TooLong::Frame);
         }
@@ -135,9 +145,11 @@ impl Plan {
         &self.parts.real
     }
 
-    /// The records, in the order in which they are written.
+    /// The records, in the order in which they are written: at most 32, each of at most 64 octets.
     pub fn records(&self) -> &[PlanRecord]
-        ensures { result.now ≡ self.now.records.items }
+        ensures value { result.now ≡ self.now.records.items }
+        ensures few { length result.now ≤ 32 }
+        ensures short { AreShort result.now }
     {
         self.parts.records.as_slice()
     }
