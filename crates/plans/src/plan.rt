@@ -1,5 +1,5 @@
 //! The plan of a station.
-ghost use Rattle.std.specs.Prelude.{◌≡◌, ◌≤◌, length};
+ghost use Rattle.std.specs.Prelude.{◌≡◌, ◌≤◌, true, length};
 ghost use Rattle.std.specs.List.{AllByRecursion};
 ghost use Rattle.arrayvec.specs.ArrayVec.{array_vec_len};
 ghost use Rattle.connect_blocks.specs.declared.iocr.IocrType.TheVariants.{Input, Output};
@@ -174,7 +174,7 @@ impl Plan {
     }
 
     /// The blocks of the Connect, with this ARUUID: they fit a frame.
-    #[tactic(auto, using(crate::proofs::Sizes::connect_room, crate::proofs::Accepted::all_read))]
+    #[tactic(auto, using(crate::proofs::Sizes::connect_room))]
     pub fn connect(&self, ar: &Uuid) -> ArrayVec<u8, 1372>
         ensures exact { result.items ≡ connect_of self.now ar.now }
         // Each block is read as it, whatever is behind it, where the ARUUID is not zero.
