@@ -23,8 +23,10 @@ front_of value = ((body_of (type_of (number_of (kind_of value)))).write value ++
 pub number_in_front : (value : Block) (rest : List ℕ) → number_of (kind_of value) < 256 ^ 2 → big_number 2 (block_bytes value ++ rest) ≡ number_of (kind_of value)
 number_in_front value rest short =
     let front = front_of value in
-    rw (front.1, append_assoc (big_bytes 2 (number_of (kind_of value))) (big_bytes 2 ((body_of (type_of (number_of (kind_of value)))).size value) ++ front.0) rest)
-    (big_number-reads_back 2 (number_of (kind_of value)) _ short)
+    let behind_number : List ℕ = big_bytes 2 ((body_of (type_of (number_of (kind_of value)))).size value) ++ front.0 in
+    ap (λ (bytes : List ℕ). big_number 2 (bytes ++ rest)) front.1
+    ∙ (ap (λ (bytes : List ℕ). big_number 2 bytes) (append_assoc (big_bytes 2 (number_of (kind_of value))) behind_number rest)
+    ∙ big_number-reads_back 2 (number_of (kind_of value)) (behind_number ++ rest) short)
 
 pub four_at_least : (value : Block) (rest : List ℕ) → 4 ≤ length (block_bytes value ++ rest)
 four_at_least value rest =
@@ -113,7 +115,7 @@ pub taken_all : (blocks : List Block) (most : ℕ) (sofar last : Sofar) → leng
 taken_all [] most sofar last few taken =
     ap (λ (pieces : List Piece). with_pieces sofar pieces) (none_left most) ∙ (ends sofar ∙ ap (λ (s : Sofar). Ok s) taken)
 taken_all (value ∷ blocks) zero sofar last few taken = absurd (omega (arith, few))
-taken_all (value ∷ blocks) (suc most) sofar last few (next, (one, others)) =
+taken_all (value ∷ blocks) (suc most) sofar last few (next, one, others) =
     ap (λ (pieces : List Piece). with_pieces sofar pieces) (block_left most value (bytes_of blocks) one.read)
     ∙ (goes_on sofar next (piece_at (block_bytes value ++ bytes_of blocks)) (pieces_in most (bytes_of blocks)) (piece_taken sofar next value (bytes_of blocks) one)
     ∙ taken_all blocks most next last (omega (arith, few)) others)

@@ -16,7 +16,7 @@ use Rattle.module_diff.specs.Diff.{Wanted, diff_of, differs, is_as_expected, is_
 use Rattle.cyclic_data.specs.declared.place.ExpectedData.{ExpectedData}
 use Rattle.connect_requests.specs.Layouts.{data_in_slot as asked_in_slot, data_of as asked_of, data_of_modules}
 use Rattle.plans.specs.Parts.{AreOrdered, IsRising, data_in_slot, data_of, io_data_of, module_of, slots_of, submodule_of, subslots_of}
-use Rattle.plan_connect.specs.Request.{expected_of, submodules_in}
+use Rattle.plan_connect.specs.Request.{expected_of, no_rows, submodules_in}
 
 -- ---- its own submodules stand in front of those of the modules behind it
 
@@ -123,15 +123,12 @@ none_left real [] rising plugged = refl
 none_left real (entry ∷ modules) rising plugged =
     rw (none_differs real entry rising.0 plugged.0) (none_left real modules rising.1 plugged.1)
 
-abbrev none_listed : Listed DiffModule DiffSubmodule
-none_listed = record { modules = []; submodules = [] }
+none_make_no_rows : (real : List RealModule) (wanted : List Wanted) → filter (differs real) wanted ≡ []
+    → ◌≡◌ {A = Listed DiffModule DiffSubmodule} (record { modules = map (module_row real) (filter (differs real) wanted); submodules = submodules_of_all real (filter (differs real) wanted) }) no_rows
+none_make_no_rows real wanted e = rw e refl
 
-no_rows : (real : List RealModule) (wanted : List Wanted) → filter (differs real) wanted ≡ []
-    → ◌≡◌ {A = Listed DiffModule DiffSubmodule} (record { modules = map (module_row real) (filter (differs real) wanted); submodules = submodules_of_all real (filter (differs real) wanted) }) none_listed
-no_rows real wanted e = rw e refl
-
-pub no_row_differs : (modules : List RealModule) → AreOrdered modules → diff_of (expected_of modules) modules ≡ record { modules = []; submodules = [] }
+pub no_row_differs : (modules : List RealModule) → AreOrdered modules → diff_of (expected_of modules) modules ≡ no_rows
 no_row_differs modules ordered =
-    no_rows modules (wanted_in (map module_of modules) (submodules_in modules))
+    none_make_no_rows modules (wanted_in (map module_of modules) (submodules_in modules))
     (ap (λ (wanted : List Wanted). filter (differs modules) wanted) (same_wanted modules)
     ∙ none_left modules modules ordered.subslots (each_found (λ (entry : RealModule). entry.slot) modules ordered.slots))

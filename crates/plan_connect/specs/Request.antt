@@ -4,6 +4,9 @@ use Rattle.pn_values.specs.declared.real.RealModule.{RealModule}
 use Rattle.connect_blocks.specs.declared.iocr.IocrType.{IocrType}
 use Rattle.connect_blocks.specs.declared.iocr.IocrType.TheVariants.{Input, Output}
 use Rattle.module_blocks.specs.declared.expected.ExpectedSubmodule.{ExpectedSubmodule}
+use Rattle.module_blocks.specs.declared.module_diff.DiffModule.{DiffModule}
+use Rattle.module_blocks.specs.declared.module_diff.DiffSubmodule.{DiffSubmodule}
+use Rattle.module_lists.specs.Lists.{Listed}
 use Rattle.module_diff.specs.declared.expected.Expected.{Expected}
 use Rattle.connect_requests.specs.declared.parts.Ar.{Ar}
 use Rattle.connect_requests.specs.declared.parts.Iocr.{Iocr}
@@ -62,3 +65,7 @@ request_for parts ar = record {
   alarm = alarm_for;
   expected = expected_of parts.real.modules.items;
 }
+
+-- no module differs
+abbrev pub no_rows : Listed DiffModule DiffSubmodule
+no_rows = record { modules = []; submodules = [] }

@@ -4,4 +4,4 @@
 
 mod law;
 
-pub use law::connect_is_taken;
+pub use law::{connect_is_taken, requests_are_read};

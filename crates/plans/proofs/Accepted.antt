@@ -1,5 +1,5 @@
 -- The blocks of a Connect are accepted.
-use Rattle.std.proofs.Common.{◌≡◌, ℕ, ◌+◌, ◌<◌, ◌≤◌, ◌==◌, true, false, List, [], ◌∷◌, ◌++◌, map, length, max, take, Option, Some, None, option_map, unwrap_or, refl, sym, ap, subst, ◌∙◌, arith}
+use Rattle.std.proofs.Common.{◌≡◌, ℕ, ◌+◌, ◌<◌, ◌≤◌, ◌==◌, true, false, List, [], ◌∷◌, ◌++◌, map, length, take, Option, Some, None, option_map, unwrap_or, refl, sym, ap, subst, ◌∙◌, arith}
 use Rattle.std.specs.Prelude.{IfSome}
 use Rattle.std.specs.List.{AllByRecursion, IsDistinct}
 use Rattle.std.proofs.lemmas.Bool.{eqb-true, false_from_ne_true}
@@ -17,7 +17,7 @@ use Rattle.connect_blocks.specs.AlarmCr.{IsAlarmCrBlockReq}
 use Rattle.module_blocks.specs.declared.expected.ExpectedSubmodule.{ExpectedSubmodule}
 use Rattle.module_blocks.specs.Expected.{IsExpectedSubmoduleBlockReq, IsShort, own_of}
 use Rattle.block_codec.specs.declared.block.Block.TheVariants as is
-use Rattle.cyclic_data.specs.declared.place.PlaceKind.TheVariants.{Data, Iocs}
+use Rattle.cyclic_data.specs.declared.place.PlaceKind.TheVariants.{Data}
 use Rattle.cyclic_data.specs.declared.place.ExpectedData.{ExpectedData}
 use Rattle.cyclic_data.specs.Places.{input_of}
 use Rattle.plans.specs.declared.parts.Parts.{Parts}
