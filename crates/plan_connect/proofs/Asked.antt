@@ -259,7 +259,7 @@ module _ (parts : Parts) (ar : List ℕ) where
                 (sofar_with (Some input) (Some output) true (Some (alarm_of alarm_block)) x (map module_of modules) (submodules_in modules)))
                 (some_there modules plan.good.plugged)
                 (all_blocks (Some input) (Some output) true (Some (alarm_of alarm_block)) false [] [] modules (all_free modules) plan.good.ordered.slots
-                (omega (arith, few_modules)) few_submodules read.1.1.1),
+                (omega (arith, few_modules)) (omega (arith, few_submodules)) read.1.1.1),
           ),
         ),
       )
