@@ -1,8 +1,9 @@
 //! The plan of a station.
-ghost use Rattle.std.specs.Prelude.{◌≡◌, ◌≤◌, length};
+ghost use Rattle.std.specs.Prelude.{◌≡◌, ◌≤◌, true, length};
 ghost use Rattle.std.specs.List.{AllByRecursion};
 ghost use Rattle.arrayvec.specs.ArrayVec.{array_vec_len};
 ghost use Rattle.connect_blocks.specs.declared.iocr.IocrType.TheVariants.{Input, Output};
+ghost use Rattle.connect_blocks.specs.ArBlock.{is_some_uuid};
 ghost use Rattle.wire.specs.Codec.{Gives};
 ghost use Rattle.plans.specs.Packed.{frame_octets, layout_in};
 ghost use Rattle.plans.specs.Parts.{AreOrdered, AreParts, data_of};
@@ -175,7 +176,9 @@ impl Plan {
     /// The blocks of the Connect, with this ARUUID: they fit a frame.
     #[tactic(auto, using(crate::proofs::Sizes::connect_room))]
     pub fn connect(&self, ar: &Uuid) -> ArrayVec<u8, 1372>
-        ensures { result.items ≡ connect_of self.now ar.now }
+        ensures exact { result.items ≡ connect_of self.now ar.now }
+        // Each block is read as it, whatever is behind it, where the ARUUID is not zero.
+        ensures read { is_some_uuid ar.now ≡ true → AllByRecursion IsRead (blocks_of self.now ar.now) }
     {
         let _octets = ar.into_bytes();
         let mut out = ArrayVec::new();
