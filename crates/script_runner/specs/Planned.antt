@@ -10,7 +10,7 @@ use Rattle.plans.specs.declared.parts.Parts.{Parts}
 use Rattle.plans.specs.Packed.{layout_in}
 use Rattle.plans.specs.Parts.{data_of}
 use Rattle.configurator.specs.declared.fault.PlanFault.{PlanFault}
-use Rattle.configurator.specs.Plan.{IsPlanOf, Refuses}
+use Rattle.configurator.specs.Planned.{IsPlanOf, IsRefused}
 use Rattle.script_runner.specs.declared.fault.RunFault.{RunFault}
 use Rattle.script_runner.specs.declared.fault.RunFault.TheVariants.{Read, Write, Line, OutOfMemory, Config, EndlessInput}
 use Rattle.script_runner.specs.Fault.{fault_of}
@@ -53,7 +53,7 @@ pub record HasText (input text : List ℕ) : Type 0 where
 
 -- it has none for this fault, or memory was refused
 abbrev pub HasNoText : List ℕ → RunFault → Type 0
-HasNoText input fault = (fault ≡ OutOfMemory) ⊎ ((plan : PlanFault) × Refuses input plan × (fault ≡ fault_of plan))
+HasNoText input fault = (fault ≡ OutOfMemory) ⊎ ((plan : PlanFault) × IsRefused input plan × (fault ≡ fault_of plan))
 
 -- What is written of a catalogue: the lines of its plan, a front of them where a write failed, and nothing where memory was
 -- refused or there is no plan.
