@@ -1,5 +1,5 @@
 -- The plan of a catalogue as text, and what making it leaves in a writer.
-use Rattle.std.specs.Prelude.{◌≡◌, ◌≢◌, ℕ, List, [], ◌++◌, codes, decimal, flat_map, Option, Result, Ok, Err}
+use Rattle.std.specs.Prelude.{◌≡◌, ◌⊎◌, ℕ, List, [], ◌++◌, codes, decimal, flat_map, Option, Result, Ok, Err}
 use Rattle.std.specs.Io.KnownBytes.{Appends, Keeps}
 use Rattle.connect_blocks.specs.declared.iocr.IocrType.TheVariants.{Input, Output}
 use Rattle.cyclic_data.specs.declared.place.PlaceKind.{PlaceKind}
