@@ -1,5 +1,5 @@
 // The words of the command line.
-ghost use Rattle.std.specs.Prelude.{◌≡◌, ℕ, List, [], ◌∷◌, IfOk, IfErr, codes, map, option_and_then, string_bytes};
+ghost use Rattle.std.specs.Prelude.{◌≡◌, ℕ, true, List, [], ◌∷◌, IfOk, IfErr, codes, map, option_and_then, string_bytes};
 ghost use Rattle.clap.specs.Words.{kind_of};
 ghost use Rattle.pnscript.specs.Words.{is_word, task_asked, task_named};
 
@@ -37,16 +37,15 @@ fn command_in(alloc: Global, words: &[String]) -> Result<Option<Task>, Error>
     ensures met { IfOk result (λ task. (program word : List ℕ) → map string_bytes words.now ≡ program ∷ word ∷ [] → task ≡ task_named word) }
     ensures passes { IfErr result (λ error. (program word : List ℕ) → is_word word ≡ true → map string_bytes words.now ≡ program ∷ word ∷ [] → kind_of error ≡ ErrorKind.OutOfMemory) }
 {
-    let command = Command::new(alloc, "pnscript")
-        .subcommand(Command::new(alloc, "run"))?
-        .subcommand(Command::new(alloc, "plan"))?;
+    let alone = Command::new(alloc, "pnscript").subcommand(Command::new(alloc, "run"))?;
+    let command = alone.subcommand(Command::new(alloc, "plan"))?;
     let matches = command.try_get_matches_from(words)?;
     Ok(task_in(matches.subcommand_name()))
 }
 
 // The task of a command, where one was met.
 fn task_in(name: Option<&str>) -> Option<Task>
-    ensures { result ≡ option_and_then (λ name. task_named name.now) name }
+    ensures { result ≡ option_and_then (λ word. task_named word.now) name.entry }
 {
     match name {
         Some("run") => Some(Task::Run),
