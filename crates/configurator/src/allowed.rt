@@ -1,10 +1,15 @@
 //! Whether each module may stand in its slot.
 ghost use Rattle.std.specs.Prelude.{◌≡◌};
+ghost use Rattle.std.specs.List.{list_any, list_all};
+ghost use Rattle.catalogue.specs.Modules.{has_id};
+ghost use Rattle.configurator.specs.Allowed.{are_allowed, are_apart, has_other, is_fixed_well, is_in, is_used, may_all_stand, may_stand, takes};
 
 use catalogue::{AccessPoint, Catalogue, ModuleItem, ModuleReference, SlotItem};
 
 /// Whether a module with this ID is in the catalogue.
-fn is_known(modules: &[ModuleItem], target: &str) -> bool {
+fn has_id(modules: &[ModuleItem], target: &str) -> bool
+    ensures { result ≡ has_id target.now modules.now }
+{
     for module in modules {
         if module.id.as_str() == target {
             return true;
@@ -14,22 +19,34 @@ fn is_known(modules: &[ModuleItem], target: &str) -> bool {
 }
 
 /// Whether one of these slots is this one.
-fn has_slot(slots: &[u64], slot: u64) -> bool {
+pub(crate) fn is_in(slots: &[u64], slot: u64) -> bool
+    ensures { result ≡ is_in slot slots.now }
+{
     slots.iter().any(|other| *other == slot)
 }
 
 /// Whether the device has this slot.
-fn is_physical(slots: &[u16], slot: u64) -> bool {
+fn is_physical(slots: &[u16], slot: u64) -> bool
+    ensures { result ≡ is_in slot slots.now }
+{
     slots.iter().any(|other| *other as u64 == slot)
 }
 
 /// Whether the module may be put into this slot, or is fixed there.
-fn is_taken(references: &[ModuleReference], slot: u64, target: &str) -> bool {
+fn takes(reference: &ModuleReference, slot: u64, target: &str) -> bool
+    ensures { result ≡ takes slot target.now reference.now }
+{
+    reference.target.as_str() == target
+        && (is_in(reference.allowed_in.as_slice(), slot)
+            || is_in(reference.fixed_in.as_slice(), slot))
+}
+
+/// Whether one of the modules that may be put into this slot or are fixed there is this one.
+fn is_taken(references: &[ModuleReference], slot: u64, target: &str) -> bool
+    ensures { result ≡ list_any (takes slot target.now) references.now }
+{
     for reference in references {
-        if reference.target.as_str() == target
-            && (has_slot(reference.allowed_in.as_slice(), slot)
-                || has_slot(reference.fixed_in.as_slice(), slot))
-        {
+        if takes(reference, slot, target) {
             return true;
         }
     }
@@ -37,9 +54,18 @@ fn is_taken(references: &[ModuleReference], slot: u64, target: &str) -> bool {
 }
 
 /// Whether another module is fixed in this slot.
-fn has_other(references: &[ModuleReference], slot: u64, target: &str) -> bool {
+fn has_other(reference: &ModuleReference, slot: u64, target: &str) -> bool
+    ensures { result ≡ has_other slot target.now reference.now }
+{
+    reference.target.as_str() != target && is_in(reference.fixed_in.as_slice(), slot)
+}
+
+/// Whether one of these modules is another and fixed in this slot.
+fn have_other(references: &[ModuleReference], slot: u64, target: &str) -> bool
+    ensures { result ≡ list_any (has_other slot target.now) references.now }
+{
     for reference in references {
-        if reference.target.as_str() != target && has_slot(reference.fixed_in.as_slice(), slot) {
+        if has_other(reference, slot, target) {
             return true;
         }
     }
@@ -47,17 +73,34 @@ fn has_other(references: &[ModuleReference], slot: u64, target: &str) -> bool {
 }
 
 /// Whether a module may stand in a slot.
-fn may_stand(point: &AccessPoint, modules: &[ModuleItem], slot: u64, target: &str) -> bool {
+#[tactic(auto, unfolding(crate::specs::Allowed::may_stand))]
+fn may_stand(point: &AccessPoint, modules: &[ModuleItem], slot: u64, target: &str) -> bool
+    ensures { result ≡ may_stand point.now modules.now slot target.now }
+{
     slot != 0
         && is_physical(point.physical_slots.as_slice(), slot)
-        && is_known(modules, target)
+        && has_id(modules, target)
         && is_taken(point.references.as_slice(), slot, target)
-        && !has_other(point.references.as_slice(), slot, target)
+        && !have_other(point.references.as_slice(), slot, target)
+}
+
+/// Whether what is put into slots may stand there.
+fn may_all_stand(point: &AccessPoint, modules: &[ModuleItem], slots: &[SlotItem]) -> bool
+    ensures { result ≡ may_all_stand point.now modules.now slots.now }
+{
+    for entry in slots {
+        if !may_stand(point, modules, entry.slot, entry.target.as_str()) {
+            return false;
+        }
+    }
+    true
 }
 
 /// Whether a slot is one of these.
-fn is_repeated(before: &[SlotItem], slot: u64) -> bool {
-    for entry in before {
+fn is_used(slots: &[SlotItem], slot: u64) -> bool
+    ensures { result ≡ is_used slot slots.now }
+{
+    for entry in slots {
         if entry.slot == slot {
             return true;
         }
@@ -65,13 +108,13 @@ fn is_repeated(before: &[SlotItem], slot: u64) -> bool {
     false
 }
 
-/// Whether what is put into slots may stand there, and each slot is named once.
-fn are_slots_allowed(point: &AccessPoint, modules: &[ModuleItem], slots: &[SlotItem]) -> bool {
+/// Whether each slot is named once.
+fn are_apart(slots: &[SlotItem]) -> bool
+    ensures { result ≡ are_apart slots.now }
+{
     for index in 0..slots.len() {
         let entry = &slots[index];
-        if !may_stand(point, modules, entry.slot, entry.target.as_str())
-            || is_repeated(&slots[..index], entry.slot)
-        {
+        if is_used(&slots[index + 1..], entry.slot) {
             return false;
         }
     }
@@ -79,11 +122,9 @@ fn are_slots_allowed(point: &AccessPoint, modules: &[ModuleItem], slots: &[SlotI
 }
 
 /// Whether a module may stand where it is fixed.
-fn is_fixed_allowed(
-    point: &AccessPoint,
-    modules: &[ModuleItem],
-    reference: &ModuleReference,
-) -> bool {
+fn is_fixed_well(point: &AccessPoint, modules: &[ModuleItem], reference: &ModuleReference) -> bool
+    ensures { result ≡ is_fixed_well point.now modules.now reference.now }
+{
     for slot in reference.fixed_in.as_slice() {
         if !may_stand(point, modules, *slot, reference.target.as_str()) {
             return false;
@@ -93,13 +134,15 @@ fn is_fixed_allowed(
 }
 
 /// Whether all modules may stand where they are fixed.
-fn are_fixed_allowed(
+fn are_fixed_well(
     point: &AccessPoint,
     modules: &[ModuleItem],
     references: &[ModuleReference],
-) -> bool {
+) -> bool
+    ensures { result ≡ list_all (is_fixed_well point.now modules.now) references.now }
+{
     for reference in references {
-        if !is_fixed_allowed(point, modules, reference) {
+        if !is_fixed_well(point, modules, reference) {
             return false;
         }
     }
@@ -107,9 +150,14 @@ fn are_fixed_allowed(
 }
 
 /// Whether each module may stand in its slot.
-pub(crate) fn are_allowed(catalogue: &Catalogue) -> bool {
+#[tactic(auto, unfolding(crate::specs::Allowed::are_allowed))]
+pub(crate) fn are_allowed(catalogue: &Catalogue) -> bool
+    ensures { result ≡ are_allowed catalogue.now }
+{
     let point = &catalogue.access_point;
     let modules = catalogue.modules.as_slice();
-    are_slots_allowed(point, modules, catalogue.project.slots.as_slice())
-        && are_fixed_allowed(point, modules, point.references.as_slice())
+    let slots = catalogue.project.slots.as_slice();
+    may_all_stand(point, modules, slots)
+        && are_apart(slots)
+        && are_fixed_well(point, modules, point.references.as_slice())
 }

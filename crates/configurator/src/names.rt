@@ -1,5 +1,7 @@
 //! The names of the station and of the controller.
-ghost use Rattle.std.specs.Prelude.{◌≡◌};
+ghost use Rattle.std.specs.Prelude.{◌≡◌, IfSome, IfNone};
+ghost use Rattle.pn_values.specs.StationName.{IsStationName};
+ghost use Rattle.configurator.specs.Addresses.{AreNamed};
 
 use catalogue::Project;
 use pn_values::StationName;
@@ -12,16 +14,29 @@ pub(crate) struct Names {
     pub controller: StationName,
 }
 
-/// The names of a project, if both are station names.
-pub(crate) fn names_of(project: &Project) -> Option<Names> {
-    match (
-        check(project.station.name.as_bytes()),
-        check(project.controller.name.as_bytes()),
-    ) {
-        (Ok(station), Ok(controller)) => Some(Names {
-            station,
-            controller,
-        }),
-        _ => None,
+/// The station name that a text is, if it is one.
+fn name_of(text: &str) -> Option<StationName>
+    ensures valid { IfSome result (λ name. IsStationName text.now) }
+    ensures value { IfSome result (λ name. name ≡ text.now) }
+    ensures none { IfNone result (¬ IsStationName text.now) }
+{
+    match check(text.as_bytes()) {
+        Ok(name) => Some(name),
+        Err(_) => None,
     }
+}
+
+/// The names of a project, if both are station names.
+pub(crate) fn names_of(project: &Project) -> Option<Names>
+    ensures valid { IfSome result (λ names. AreNamed project.now) }
+    ensures station { IfSome result (λ names. names.station ≡ project.now.station.name) }
+    ensures controller { IfSome result (λ names. names.controller ≡ project.now.controller.name) }
+    ensures none { IfNone result (¬ AreNamed project.now) }
+{
+    let station = name_of(project.station.name.as_str())?;
+    let controller = name_of(project.controller.name.as_str())?;
+    Some(Names {
+        station,
+        controller,
+    })
 }

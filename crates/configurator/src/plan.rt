@@ -1,5 +1,11 @@
 //! From a text to a plan.
-ghost use Rattle.std.specs.Prelude.{◌≡◌};
+ghost use Rattle.std.specs.Prelude.{◌≡◌, IfOk, IfErr, result_map};
+ghost use Rattle.pn_values.specs.StationName.{IsStationName};
+ghost use Rattle.catalogue.specs.Kept.{IsInRange};
+ghost use Rattle.plans.specs.Parts.{AreParts};
+ghost use Rattle.configurator.specs.Addresses.{AreAddresses, AreNamed};
+ghost use Rattle.configurator.specs.Few.{are_few};
+ghost use Rattle.configurator.specs.Planned.{IsPlanOf, IsRefused, Judged, parts_of};
 
 use crate::PlanFault;
 use crate::addresses::{Addresses, addresses_of};
@@ -13,7 +19,13 @@ use plans::{Controller, Parts, Plan, Station, Times};
 use std::alloc::Global;
 
 /// What a plan is made of.
-fn parts_of(catalogue: &Catalogue, names: Names, addresses: Addresses) -> Parts {
+fn parts_of(catalogue: &Catalogue, names: Names, addresses: Addresses) -> Parts
+    requires kept { IsInRange catalogue.now }
+    requires station { names.station ≡ catalogue.now.project.station.name }
+    requires controller { names.controller ≡ catalogue.now.project.controller.name }
+    requires few { are_few catalogue.now ≡ true }
+    ensures { result ≡ parts_of catalogue.now addresses }
+{
     let project = &catalogue.project;
     Parts {
         station: Station {
@@ -37,8 +49,11 @@ fn parts_of(catalogue: &Catalogue, names: Names, addresses: Addresses) -> Parts 
     }
 }
 
-/// The plan of a catalogue.
-fn plan_of(catalogue: &Catalogue) -> Result<Plan, PlanFault> {
+/// The plan of a catalogue, or its first fault over the whole.
+fn plan_of(catalogue: &Catalogue) -> Result<Plan, PlanFault>
+    requires { IsInRange catalogue.now }
+    ensures { Judged catalogue.now result }
+{
     let names = match names_of(&catalogue.project) {
         Some(names) => names,
         None => return Err(PlanFault::Name),
@@ -53,12 +68,20 @@ fn plan_of(catalogue: &Catalogue) -> Result<Plan, PlanFault> {
     if !are_few(catalogue) {
         return Err(PlanFault::TooManySlots);
     }
-    let plan = Plan::new(parts_of(catalogue, names, addresses))?;
-    Ok(plan)
+    match Plan::new(parts_of(catalogue, names, addresses)) {
+        Ok(plan) => Ok(plan),
+        Err(fault) => Err(PlanFault::from(fault)),
+    }
 }
 
-/// The plan of the catalogue that a text of JSON is.
-pub fn plan_from_json(alloc: Global, text: &[u8]) -> Result<Plan, PlanFault> {
-    let catalogue = read(alloc, text)?;
+/// The plan of the catalogue that a text of JSON is (the keys are GSDML's), or its first fault.
+pub fn plan_from_json(alloc: Global, text: &[u8]) -> Result<Plan, PlanFault>
+    ensures planned { IfOk result (IsPlanOf text.now) }
+    ensures refused { IfErr result (IsRefused text.now) }
+{
+    let catalogue = match read(alloc, text) {
+        Ok(catalogue) => catalogue,
+        Err(fault) => return Err(PlanFault::from(fault)),
+    };
     plan_of(&catalogue)
 }
