@@ -1,10 +1,10 @@
 -- The names and addresses of a project.
-use Rattle.std.specs.Prelude.{◌≡◌, ◌%◌, ◌==◌, ◌&&◌, ℕ, Bool, List, [], ◌∷◌, length, slice_index, Option, Some, None, if◌then◌else◌}
-use Rattle.std.specs.Result.{ok}
+use Rattle.std.specs.Prelude.{◌≡◌, ◌%◌, ◌==◌, ◌&&◌, ℕ, Bool, true, List, [], ◌∷◌, length, slice_index, Option, Some, None, if◌then◌else◌}
+use Rattle.std.specs.Result.{result_ok}
 use Rattle.std.specs.Net.Grammar.{IsDotted}
 use Rattle.hex.specs.Hex.{decode_sized}
 use Rattle.pn_values.specs.StationName.{IsStationName}
-use Rattle.pn_values.specs.IpSuite.{IsHost, IsSuite, Suite}
+use Rattle.pn_values.specs.IpSuite.{IsSuite, Suite, is_host}
 use Rattle.catalogue.specs.Projects.{Controller, Project, Station}
 use Rattle.configurator.specs.declared.addresses.Addresses.{Addresses}
 
@@ -30,7 +30,7 @@ digits_of text =
 
 -- the octets of such a text
 abbrev pub mac_of : List ℕ → Option (List ℕ)
-mac_of text = if is_parted text then ok (decode_sized (digits_of text) 6) else None
+mac_of text = if is_parted text then result_ok (decode_sized (digits_of text) 6) else None
 
 -- an IP suite that a station may have, in dotted decimal
 pub record IsSuiteOf (station : Station) (suite : Suite) : Type 0 where
@@ -47,7 +47,7 @@ pub record IsMacOf (controller : Controller) (octets : List ℕ) : Type 0 where
 -- an address of a host
 pub record IsHostOf (controller : Controller) (address : List ℕ) : Type 0 where
   pub spelled : IsDotted controller.address address
-  pub host : IsHost (slice_index address 0)
+  pub host : is_host (slice_index address 0) ≡ true
 
 -- the addresses of a project
 pub record AreAddresses (project : Project) (found : Addresses) : Type 0 where

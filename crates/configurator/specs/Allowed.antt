@@ -1,5 +1,5 @@
 -- Which module may stand in which slot.
-use Rattle.std.specs.Prelude.{◌≡◌, ◌==◌, ◌&&◌, ◌||◌, ℕ, Bool, not, true, List, [], ◌∷◌}
+use Rattle.std.specs.Prelude.{◌==◌, ◌&&◌, ◌||◌, ℕ, suc, Bool, not, List, [], ◌∷◌, if◌then◌else◌}
 use Rattle.std.specs.List.{list_any, list_all}
 use Rattle.std.specs.Str.{bytes_eq}
 use Rattle.catalogue.specs.Slots.{Slot}
@@ -33,14 +33,14 @@ may_stand point modules slot target =
 abbrev pub may_all_stand : AccessPoint → List Module → List Slot → Bool
 may_all_stand point modules slots = list_all (λ entry. may_stand point modules entry.slot entry.target) slots
 
--- a slot is one of these
-abbrev pub is_used : ℕ → List Slot → Bool
-is_used slot slots = list_any (λ entry. entry.slot == slot) slots
+-- how often a slot is named
+abbrev pub uses_of : ℕ → List Slot → ℕ
+uses_of slot [] = 0
+uses_of slot (entry ∷ entries) = if entry.slot == slot then suc (uses_of slot entries) else uses_of slot entries
 
 -- each slot is named once
-abbrev pub are_apart : List Slot → Bool
-are_apart [] = true
-are_apart (entry ∷ entries) = not (is_used entry.slot entries) && are_apart entries
+abbrev pub are_once : List Slot → Bool
+are_once slots = list_all (λ entry. uses_of entry.slot slots == 1) slots
 
 -- a module may stand where it is fixed
 abbrev pub is_fixed_well : AccessPoint → List Module → Reference → Bool
@@ -50,5 +50,5 @@ is_fixed_well point modules entry = list_all (λ slot. may_stand point modules s
 unfoldable pub are_allowed : Catalogue → Bool
 are_allowed found =
     may_all_stand found.access_point found.modules found.project.slots
-    && are_apart found.project.slots
+    && are_once found.project.slots
     && list_all (is_fixed_well found.access_point found.modules) found.access_point.references

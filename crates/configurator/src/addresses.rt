@@ -1,7 +1,7 @@
 //! The addresses of the station and of the controller.
-ghost use Rattle.std.specs.Prelude.{◌≡◌, ℕ, List, IfSome, IfNone};
+ghost use Rattle.std.specs.Prelude.{◌≡◌, ℕ, true, List, IfSome, IfNone};
 ghost use Rattle.std.specs.Net.Grammar.{IsDotted};
-ghost use Rattle.pn_values.specs.IpSuite.{Suite};
+ghost use Rattle.pn_values.specs.IpSuite.{Suite, is_host};
 ghost use Rattle.configurator.specs.Addresses.{AreAddresses, IsHostOf, IsMacOf, IsSuiteOf, digits_of, is_parted, mac_of};
 
 use catalogue::{ControllerItem, Project, StationItem};
@@ -93,13 +93,20 @@ fn station_mac_of(controller: &ControllerItem) -> Option<Mac>
     }
 }
 
+/// Whether an address that begins with this octet is one of a host.
+fn is_host(octet: u8) -> bool
+    ensures { result ≡ is_host octet }
+{
+    (1 <= octet && octet <= 126) || (128 <= octet && octet <= 223)
+}
+
 /// The controller's IP address, which is one of a host.
 fn host_of(controller: &ControllerItem) -> Option<[u8; 4]>
     ensures some { IfSome result (λ address. IsHostOf controller.now address) }
     ensures none { IfNone result ((address : List ℕ) → ¬ IsHostOf controller.now address) }
 {
     let address = octets_of(controller.address.as_str())?;
-    if matches!(address[0], 1..=126 | 128..=223) {
+    if is_host(address[0]) {
         Some(address)
     } else {
         None

@@ -2,7 +2,7 @@
 ghost use Rattle.std.specs.Prelude.{◌≡◌};
 ghost use Rattle.std.specs.List.{list_any, list_all};
 ghost use Rattle.catalogue.specs.Modules.{has_id};
-ghost use Rattle.configurator.specs.Allowed.{are_allowed, are_apart, has_other, is_fixed_well, is_in, is_used, may_all_stand, may_stand, takes};
+ghost use Rattle.configurator.specs.Allowed.{are_allowed, are_once, has_other, is_fixed_well, is_in, may_all_stand, may_stand, takes, uses_of};
 
 use catalogue::{AccessPoint, Catalogue, ModuleItem, ModuleReference, SlotItem};
 
@@ -96,25 +96,37 @@ fn may_all_stand(point: &AccessPoint, modules: &[ModuleItem], slots: &[SlotItem]
     true
 }
 
-/// Whether a slot is one of these.
-fn is_used(slots: &[SlotItem], slot: u64) -> bool
-    ensures { result ≡ is_used slot slots.now }
+/// How often a slot is named.
+fn uses_of(slots: &[SlotItem], slot: u64) -> usize
+    ensures { result ≡ uses_of slot slots.now }
 {
+    let mut uses = 0;
     for entry in slots {
         if entry.slot == slot {
-            return true;
+            uses += 1;
         }
     }
-    false
+    uses
 }
 
 /// Whether each slot is named once.
-fn are_apart(slots: &[SlotItem]) -> bool
-    ensures { result ≡ are_apart slots.now }
+fn are_once(slots: &[SlotItem]) -> bool
+    ensures { result ≡ are_once slots.now }
 {
-    for index in 0..slots.len() {
-        let entry = &slots[index];
-        if is_used(&slots[index + 1..], entry.slot) {
+    for entry in slots {
+        if uses_of(slots, entry.slot) != 1 {
+            return false;
+        }
+    }
+    true
+}
+
+/// Whether a module may stand in these slots.
+fn may_stand_in(point: &AccessPoint, modules: &[ModuleItem], slots: &[u64], target: &str) -> bool
+    ensures { result ≡ list_all (λ slot. may_stand point.now modules.now slot target.now) slots.now }
+{
+    for slot in slots {
+        if !may_stand(point, modules, *slot, target) {
             return false;
         }
     }
@@ -125,12 +137,12 @@ fn are_apart(slots: &[SlotItem]) -> bool
 fn is_fixed_well(point: &AccessPoint, modules: &[ModuleItem], reference: &ModuleReference) -> bool
     ensures { result ≡ is_fixed_well point.now modules.now reference.now }
 {
-    for slot in reference.fixed_in.as_slice() {
-        if !may_stand(point, modules, *slot, reference.target.as_str()) {
-            return false;
-        }
-    }
-    true
+    may_stand_in(
+        point,
+        modules,
+        reference.fixed_in.as_slice(),
+        reference.target.as_str(),
+    )
 }
 
 /// Whether all modules may stand where they are fixed.
@@ -158,6 +170,6 @@ pub(crate) fn are_allowed(catalogue: &Catalogue) -> bool
     let modules = catalogue.modules.as_slice();
     let slots = catalogue.project.slots.as_slice();
     may_all_stand(point, modules, slots)
-        && are_apart(slots)
+        && are_once(slots)
         && are_fixed_well(point, modules, point.references.as_slice())
 }

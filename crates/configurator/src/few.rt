@@ -1,10 +1,10 @@
 //! Whether there are not too many slots, submodules and records.
 ghost use Rattle.std.specs.Prelude.{◌≡◌, nat_le, length};
-ghost use Rattle.std.specs.List.{list_all, range_with_len};
-ghost use Rattle.configurator.specs.Few.{are_few, are_records_few, is_low, is_small, is_small_if};
+ghost use Rattle.std.specs.List.{list_all};
+ghost use Rattle.configurator.specs.Few.{are_few, are_low, are_records_few, are_slots_low, is_small, is_small_if};
 ghost use Rattle.configurator.specs.Standing.{stands_in};
 
-use crate::station::standing_in;
+use crate::station::{ALL_SLOTS, standing_in};
 use catalogue::{Catalogue, ModuleReference, SlotItem, SubmoduleItem};
 
 /// Whether each submodule has at most two parameter records.
@@ -36,12 +36,12 @@ fn is_slot_small(catalogue: &Catalogue, slot: u16) -> bool
     }
 }
 
-/// Whether what stands in each slot is small.
-fn are_slots_small(catalogue: &Catalogue) -> bool
-    ensures { result ≡ list_all (λ slot. is_small_if (stands_in catalogue.now slot)) (range_with_len 0 16) }
+/// Whether what stands in each of these slots is small.
+fn are_slots_small(catalogue: &Catalogue, slots: &[u16]) -> bool
+    ensures { result ≡ list_all (λ slot. is_small_if (stands_in catalogue.now slot)) slots.now }
 {
-    for slot in 0..16u16 {
-        if !is_slot_small(catalogue, slot) {
+    for slot in slots {
+        if !is_slot_small(catalogue, *slot) {
             return false;
         }
     }
@@ -50,7 +50,7 @@ fn are_slots_small(catalogue: &Catalogue) -> bool
 
 /// Whether all slots into which something is put are at most 15.
 fn are_slots_low(slots: &[SlotItem]) -> bool
-    ensures { result ≡ list_all (λ entry. nat_le entry.slot 15) slots.now }
+    ensures { result ≡ are_slots_low slots.now }
 {
     for entry in slots {
         if entry.slot > 15 {
@@ -60,11 +60,11 @@ fn are_slots_low(slots: &[SlotItem]) -> bool
     true
 }
 
-/// Whether a module is fixed in no slot above 15.
-fn is_low(reference: &ModuleReference) -> bool
-    ensures { result ≡ is_low reference.now }
+/// Whether slots are at most 15.
+fn are_low(slots: &[u64]) -> bool
+    ensures { result ≡ are_low slots.now }
 {
-    for slot in reference.fixed_in.as_slice() {
+    for slot in slots {
         if *slot > 15 {
             return false;
         }
@@ -72,12 +72,12 @@ fn is_low(reference: &ModuleReference) -> bool
     true
 }
 
-/// The same of all modules.
+/// The same of all slots in which modules are fixed.
 fn are_fixed_low(references: &[ModuleReference]) -> bool
-    ensures { result ≡ list_all is_low references.now }
+    ensures { result ≡ list_all (λ entry. are_low entry.fixed_in) references.now }
 {
     for reference in references {
-        if !is_low(reference) {
+        if !are_low(reference.fixed_in.as_slice()) {
             return false;
         }
     }
@@ -106,6 +106,6 @@ pub(crate) fn are_few(catalogue: &Catalogue) -> bool
     let slots = catalogue.project.slots.as_slice();
     are_slots_low(slots)
         && are_fixed_low(catalogue.access_point.references.as_slice())
-        && are_slots_small(catalogue)
+        && are_slots_small(catalogue, &ALL_SLOTS)
         && are_records_few(slots)
 }

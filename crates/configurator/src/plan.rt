@@ -1,5 +1,5 @@
 //! From a text to a plan.
-ghost use Rattle.std.specs.Prelude.{◌≡◌, IfOk, IfErr, result_map};
+ghost use Rattle.std.specs.Prelude.{◌≡◌, true, IfOk, IfErr};
 ghost use Rattle.pn_values.specs.StationName.{IsStationName};
 ghost use Rattle.catalogue.specs.Kept.{IsInRange};
 ghost use Rattle.plans.specs.Parts.{AreParts};
@@ -27,6 +27,7 @@ fn parts_of(catalogue: &Catalogue, names: Names, addresses: Addresses) -> Parts
     ensures { result ≡ parts_of catalogue.now addresses }
 {
     let project = &catalogue.project;
+    let address = addresses.address;
     Parts {
         station: Station {
             name: names.station,
@@ -37,7 +38,7 @@ fn parts_of(catalogue: &Catalogue, names: Names, addresses: Addresses) -> Parts
         controller: Controller {
             name: names.controller,
             mac: addresses.mac,
-            address: addresses.address,
+            address,
         },
         times: Times {
             send_clock_factor: project.send_clock_factor,
@@ -46,6 +47,27 @@ fn parts_of(catalogue: &Catalogue, names: Names, addresses: Addresses) -> Parts
         },
         real: real_of(catalogue),
         records: records_of(project.slots.as_slice()),
+    }
+}
+
+/// The plan of a catalogue whose names and addresses are valid, or its first fault over the rest.
+fn planned(catalogue: &Catalogue, names: Names, addresses: Addresses) -> Result<Plan, PlanFault>
+    requires kept { IsInRange catalogue.now }
+    requires named { AreNamed catalogue.now.project }
+    requires station { names.station ≡ catalogue.now.project.station.name }
+    requires controller { names.controller ≡ catalogue.now.project.controller.name }
+    requires addressed { AreAddresses catalogue.now.project addresses }
+    ensures { Judged catalogue.now result }
+{
+    if !are_allowed(catalogue) {
+        return Err(PlanFault::NotAllowedInSlot);
+    }
+    if !are_few(catalogue) {
+        return Err(PlanFault::TooManySlots);
+    }
+    match Plan::new(parts_of(catalogue, names, addresses)) {
+        Ok(plan) => Ok(plan),
+        Err(fault) => Err(PlanFault::from(fault)),
     }
 }
 
@@ -62,16 +84,7 @@ fn plan_of(catalogue: &Catalogue) -> Result<Plan, PlanFault>
         Some(addresses) => addresses,
         None => return Err(PlanFault::Address),
     };
-    if !are_allowed(catalogue) {
-        return Err(PlanFault::NotAllowedInSlot);
-    }
-    if !are_few(catalogue) {
-        return Err(PlanFault::TooManySlots);
-    }
-    match Plan::new(parts_of(catalogue, names, addresses)) {
-        Ok(plan) => Ok(plan),
-        Err(fault) => Err(PlanFault::from(fault)),
-    }
+    planned(catalogue, names, addresses)
 }
 
 /// The plan of the catalogue that a text of JSON is (the keys are GSDML's), or its first fault.

@@ -1,9 +1,9 @@
 //! The records that are written.
-ghost use Rattle.std.specs.Prelude.{◌≡◌, ◌≤◌, ◌+◌, ◌++◌, nat_le, length, map};
-ghost use Rattle.std.specs.List.{AllByRecursion, list_all};
+ghost use Rattle.std.specs.Prelude.{◌≡◌, ◌≤◌, ◌+◌, ◌++◌, true, length, map};
+ghost use Rattle.std.specs.List.{AllByRecursion};
 ghost use Rattle.arrayvec.specs.ArrayVec.{array_vec_len};
 ghost use Rattle.catalogue.specs.Kept.{AreSlotsShort};
-ghost use Rattle.configurator.specs.Few.{are_records_few};
+ghost use Rattle.configurator.specs.Few.{are_records_few, are_slots_low};
 ghost use Rattle.configurator.specs.Planned.{record_at, records_of};
 
 use arrayvec::ArrayVec;
@@ -47,7 +47,7 @@ fn push_records(records: &mut ArrayVec<PlanRecord, 32>, slot: u16, items: &[Reco
 
 /// All records, in the order of the text.
 pub(crate) fn records_of(slots: &[SlotItem]) -> ArrayVec<PlanRecord, 32>
-    requires low { list_all (λ entry. nat_le entry.slot 15) slots.now ≡ true }
+    requires low { are_slots_low slots.now ≡ true }
     requires short { AreSlotsShort slots.now }
     requires few { are_records_few slots.now ≡ true }
     ensures { result.items ≡ records_of slots.now }

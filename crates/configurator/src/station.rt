@@ -1,17 +1,20 @@
 //! What stands in each slot.
-ghost use Rattle.std.specs.Prelude.{◌≡◌, ◌++◌, ◌≤◌, [], option_map, IfSome};
-ghost use Rattle.std.specs.List.{cons_option, list_all, range_with_len};
+ghost use Rattle.std.specs.Prelude.{◌≡◌, ◌+◌, ◌++◌, ◌≤◌, [], true, length, option_map};
+ghost use Rattle.std.specs.List.{cons_option, filter_map, list_all};
 ghost use Rattle.arrayvec.specs.ArrayVec.{array_vec_len};
 ghost use Rattle.configurator.specs.Allowed.{is_in};
 ghost use Rattle.configurator.specs.Few.{is_small_if};
 ghost use Rattle.configurator.specs.Seen.{seen};
-ghost use Rattle.configurator.specs.Standing.{fixed_in, module_with, plugged, plugged_in, put_in, stands_in, target_in};
+ghost use Rattle.configurator.specs.Standing.{all_slots, fixed_in, module_with, plugged, plugged_in, put_in, stands_in, target_in};
 
 use crate::allowed::is_in;
 use crate::submodules::module_at;
 use arrayvec::ArrayVec;
 use catalogue::{Catalogue, ModuleItem, ModuleReference, SlotItem, SubmoduleItem};
 use pn_values::{Real, RealModule};
+
+/// The slots that a device has.
+pub(crate) const ALL_SLOTS: [u16; 16] = [0, 1, 2, 3, 4, 5, 6, 7, 8, 9, 10, 11, 12, 13, 14, 15];
 
 /// A module that stands in a slot.
 #[derive(Clone, Copy)]
@@ -98,14 +101,23 @@ fn push_module(modules: &mut ArrayVec<RealModule, 16>, catalogue: &Catalogue, sl
     }
 }
 
+/// Appends what stands in these slots. There must be room.
+fn push_modules(modules: &mut ArrayVec<RealModule, 16>, catalogue: &Catalogue, slots: &[u16])
+    requires room { array_vec_len modules.old + length slots.now ≤ 16 }
+    requires small { list_all (λ slot. is_small_if (stands_in catalogue.now slot)) slots.now ≡ true }
+    ensures { modules.new.items ≡ modules.old.items ++ filter_map (plugged_in catalogue.now) slots.now }
+{
+    for slot in slots {
+        push_module(modules, catalogue, *slot);
+    }
+}
+
 /// What is plugged, in the order of the slots.
 pub(crate) fn real_of(catalogue: &Catalogue) -> Real
-    requires { list_all (λ slot. is_small_if (stands_in catalogue.now slot)) (range_with_len 0 16) ≡ true }
+    requires { list_all (λ slot. is_small_if (stands_in catalogue.now slot)) all_slots ≡ true }
     ensures { result.modules.items ≡ plugged catalogue.now }
 {
     let mut modules = ArrayVec::new();
-    for slot in 0..16u16 {
-        push_module(&mut modules, catalogue, slot);
-    }
+    push_modules(&mut modules, catalogue, &ALL_SLOTS);
     Real { modules }
 }
