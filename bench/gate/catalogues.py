@@ -5,7 +5,8 @@ layouts of its cyclic frames, the blocks of its Connect and its records. It shar
     bench/gate/catalogues.py --lines FILE       prints the layouts of a catalogue, as `pnscript plan` does
     bench/gate/catalogues.py --table FILE       prints what the program table_plan has to print of a file of catalogues, one a line
                                                 whose fault is told by --faults FILE: a line for each, `-` or the fault
-    bench/gate/catalogues.py --check            compares: each example with its layouts, and the table with what stands there
+    bench/gate/catalogues.py --check            compares: each example with its layouts, the table with what stands there, and the Connect of
+                                                the demo station with the one that Scapy built in examples/exchange.txt
 """
 
 import glob
@@ -166,6 +167,11 @@ def check():
         if catalogue not in whole:
             print(f"{os.path.relpath(path, TOP)}: it is no line of crates/table_plan/stdin")
             wrong += 1
+    pump = json.loads(read(os.path.join(EXAMPLES, "pump.json")))
+    # Behind its ARUUID.
+    if connect_of(pump, modules_of(pump))[24:].hex() not in read(os.path.join(TOP, "examples", "exchange.txt")):
+        print("examples/exchange.txt: Scapy's Connect is another")
+        wrong += 1
     print(f"{len(catalogues)} catalogues and {len(examples)} examples, {wrong or 'no'} faults")
     return 1 if wrong else 0
 
