@@ -27,7 +27,7 @@ const BROADCAST: Mac = Mac { octets: [0xFF; 6] };
 pub fn real_time_in(bytes: &Bytes) -> Option<RealTimeFrame<'_>>
     ensures found { IfSome result (λ frame. (identity : Identity) → heard_of identity (Frame bytes.now) ≡ heard_content identity frame.destination frame.source (RealTime frame.frame_id frame.body.now)) }
     // One that is there is found.
-    ensures none { IfNone result (IsNoRealTime (frame_of bytes.now)) }
+    ensures none { IfNone result (IsNoRealTime (frame_of bytes.now.items)) }
 {
     read_real_time(bytes.as_slice())
 }

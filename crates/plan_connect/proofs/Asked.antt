@@ -1,7 +1,7 @@
 -- What the Connect of a plan asks for.
-use Rattle.std.proofs.Common.{◌≡◌, ℕ, zero, suc, ◌+◌, ◌-◌, ◌<◌, ◌≤◌, ◌^◌, ◌==◌, ◌&&◌, ◌||◌, Bool, true, false, not, nat_lt, lit<, List, [], ◌∷◌, ◌++◌, map, length, Option, Some, None, is_some, Result, Ok, Err, append_assoc, append-nil, length-append, refl, sym, ap, subst, ◌∙◌, arith}
+use Rattle.std.proofs.Common.{◌≡◌, ℕ, suc, ◌+◌, ◌-◌, ◌<◌, ◌≤◌, ◌^◌, ◌==◌, ◌&&◌, ◌||◌, Bool, true, false, not, lit<, List, [], ◌∷◌, ◌++◌, map, length, Option, Some, None, is_some, Result, Ok, append_assoc, append-nil, length-append, refl, ap, subst, ◌∙◌, arith}
 use Rattle.std.specs.List.{AllByRecursion, list_any}
-use Rattle.std.proofs.lemmas.Bool.{eqb-true, false_from_ne_true, le-ltb, or_from}
+use Rattle.std.proofs.lemmas.Bool.{le-ltb, or_from}
 use Rattle.std.proofs.lemmas.List.{length-map}
 use Rattle.std.proofs.lemmas.List.Folds.{list_any-append}
 use Rattle.pn_values.specs.declared.real.RealModule.{RealModule}
@@ -16,26 +16,23 @@ use Rattle.wire.specs.Checks.{or_fault}
 use Rattle.pnio_status.specs.declared.call_fault.CallFault.TheVariants as faults
 use Rattle.module_blocks.specs.declared.expected.ExpectedModule.{ExpectedModule}
 use Rattle.module_blocks.specs.declared.expected.ExpectedSubmodule.{ExpectedSubmodule}
-use Rattle.module_lists.specs.Lists.{Listed}
 use Rattle.block_codec.specs.declared.block.Block.{Block}
 use Rattle.block_codec.specs.declared.block.Block.TheVariants as is
 use Rattle.block_codec.specs.declared.block_type.BlockType.TheVariants as kind
 use Rattle.block_codec.specs.Kinds.{number_of}
-use Rattle.block_codec.specs.Block.{block_bytes, block_of, in_ar_block_req, kind_of}
+use Rattle.block_codec.specs.Block.{block_bytes, block_of, in_ar_block_req}
 use Rattle.cyclic_data.specs.declared.place.PlaceKind.TheVariants.{Data, Iocs}
 use Rattle.cyclic_data.specs.declared.place.Place.{Place}
 use Rattle.cyclic_data.specs.declared.place.ExpectedData.{ExpectedData}
 use Rattle.cyclic_data.specs.Places.{asked}
-use Rattle.cyclic_data.specs.Layout.{IsLayout, Table}
+use Rattle.cyclic_data.specs.Layout.{IsLayout}
 use Rattle.pnio_status.specs.declared.call_fault.CallFault.{CallFault}
 use Rattle.call_blocks.specs.Judged.{judged}
-use Rattle.module_diff.specs.declared.expected.Expected.{Expected}
-use Rattle.connect_requests.specs.declared.parts.Ar.{Ar}
 use Rattle.connect_requests.specs.declared.parts.AlarmCr.{AlarmCr}
-use Rattle.connect_requests.specs.Pieces.{Piece, behind, block_in, piece_at, pieces_in, pieces_of}
+use Rattle.connect_requests.specs.Pieces.{block_in, piece_at, pieces_in}
 use Rattle.connect_requests.specs.Layouts.{data_of as asked_of, layout_at, layout_of}
-use Rattle.connect_requests.specs.Request.{Request, alarm_of, ar_of}
-use Rattle.connect_requests.specs.Judged.{Sofar, admitted, ar_in, expected_with, is_further, nothing, repeats_slot, request_behind, request_in, request_of, request_with, well_formed, with_block, with_pieces}
+use Rattle.connect_requests.specs.Request.{alarm_of, ar_of}
+use Rattle.connect_requests.specs.Judged.{Sofar, ar_in, expected_with, is_further, nothing, request_behind, request_in, request_of, request_with, well_formed, with_pieces}
 use Rattle.plans.specs.declared.parts.Parts.{Parts}
 use Rattle.plans.specs.Packed.{layout_in, object_of, octets_of, packed, packed_places}
 use Rattle.plans.specs.Parts.{AreOrdered, IsRising, data_in_slot, data_of, module_of, slots_of, submodule_of}

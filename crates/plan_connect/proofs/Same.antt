@@ -1,21 +1,20 @@
 -- What a plan expects does not differ from its own modules.
-use Rattle.std.proofs.Common.{◌≡◌, ℕ, ◌<◌, ◌==◌, ◌||◌, Bool, true, false, not, List, [], ◌∷◌, ◌++◌, map, length, take, drop, Option, Some, None, option_map, refl, sym, ap, ◌∙◌, arith}
+use Rattle.std.proofs.Common.{◌≡◌, ℕ, ◌<◌, ◌==◌, Bool, true, false, not, List, [], ◌∷◌, ◌++◌, map, length, take, drop, Some, refl, sym, ap, ◌∙◌, arith}
 use Rattle.std.specs.List.{AllByRecursion, filter, find, list_any}
-use Rattle.std.proofs.lemmas.Bool.{cases_Bool, eqb-true, false_from_ne_true, or_from}
+use Rattle.std.proofs.lemmas.Bool.{eqb-true, false_from_ne_true, or_from}
 use Rattle.std.proofs.lemmas.List.{length-map}
 use Rattle.std.proofs.Math.Seq.{take-append_seam, drop-append_seam}
 use Rattle.pn_values.specs.declared.real.RealModule.{RealModule}
 use Rattle.pn_values.specs.declared.real.RealSubmodule.{RealSubmodule}
 use Rattle.module_lists.specs.Lists.{Listed}
-use Rattle.module_blocks.specs.declared.expected.ExpectedModule.{ExpectedModule}
 use Rattle.module_blocks.specs.declared.expected.ExpectedSubmodule.{ExpectedSubmodule}
 use Rattle.module_blocks.specs.declared.module_diff.DiffModule.{DiffModule}
 use Rattle.module_blocks.specs.declared.module_diff.DiffSubmodule.{DiffSubmodule}
-use Rattle.module_diff.specs.Plugged.{is_ident, module_ident, module_in, part_ident, part_ident_of, submodule_ident}
+use Rattle.module_diff.specs.Plugged.{module_in}
 use Rattle.module_diff.specs.Diff.{Wanted, diff_of, differs, is_as_expected, is_proper, module_row, submodules_of_all, wanted_in}
 use Rattle.cyclic_data.specs.declared.place.ExpectedData.{ExpectedData}
 use Rattle.connect_requests.specs.Layouts.{data_in_slot as asked_in_slot, data_of as asked_of, data_of_modules}
-use Rattle.plans.specs.Parts.{AreOrdered, IsRising, data_in_slot, data_of, io_data_of, module_of, slots_of, submodule_of, subslots_of}
+use Rattle.plans.specs.Parts.{AreOrdered, IsRising, data_in_slot, data_of, io_data_of, module_of, submodule_of, subslots_of}
 use Rattle.plan_connect.specs.Request.{expected_of, no_rows, submodules_in}
 
 -- ---- its own submodules stand in front of those of the modules behind it

@@ -1,8 +1,7 @@
 -- What leads from phase to phase.
 use Rattle.std.proofs.Common.{◌≡◌, refl, Option, Some, None}
 use Rattle.relations.specs.declared.phase.Phase.TheVariants.{Started, Awaiting, Exchanging}
-use Rattle.relations.specs.Link.{Link, phase_of}
-use Rattle.relations.specs.Phases.{Judged, Made, Parameterized, Confirmed, Named, Took, Exchanged, Passed, Ended, Unmoved, moved}
+use Rattle.relations.specs.Phases.{Made, Parameterized, Confirmed, Named, Took, Exchanged, Passed, Ended, Unmoved}
 use Rattle.relations.specs.Runs.{IsByPrmEnd, IsByReady}
 
 pub is_by_prm_end : IsByPrmEnd
