@@ -29,6 +29,6 @@ pub returns-in-Ok-clause-back : goal.returns-in-Ok-clause-back
 returns-in-Ok-clause-back c = (
   rw (c.identity.ensures, c.real.ensures) at c.in-Ok.ensures.station,
   c.in-Ok.ensures.fresh,
-  subst (λ image. StartsWith image c.in-Ok.device.live.values.stored c.in-Ok.device.live.values.room) (sym c.in-Ok.ensures.same) c.in-Ok.ensures.starts,
+  subst (λ image. StartsWith image _ _) (sym c.in-Ok.ensures.same) c.in-Ok.ensures.starts,
   (c.in-Ok.ensures.same, ap (λ chip. chip.armed) c.in-Ok.ensures.calls),
 )
