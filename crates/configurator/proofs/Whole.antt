@@ -16,7 +16,7 @@ use Rattle.configurator.specs.Fault.{of_length}
 use Rattle.configurator.specs.Standing.{all_slots, stands_in}
 use Rattle.configurator.specs.Planned.{ArePartsOf, IsAddressed, IsPlanOf, IsRefused, Judged, parts_of}
 
-pub addressed_with : (found : Catalogue) (addresses : Addresses) → AreNamed found.project → AreAddresses found.project addresses → IsAddressed found
+abbrev pub addressed_with : (found : Catalogue) (addresses : Addresses) → AreNamed found.project → AreAddresses found.project addresses → IsAddressed found
 addressed_with found addresses named addressed = record { named = named; addresses = addresses; addressed = addressed }
 
 pub made_with : (found : Catalogue) (addresses : Addresses) (parts : Parts) → AreNamed found.project → AreAddresses found.project addresses → are_allowed found ≡ true
