@@ -11,6 +11,7 @@ use block_codec::{Block, ControlBlock, IodWriteReq, write_block};
 use frame_codec::{Endpoint, Layered, Outbox, Payload, RPC_PORT, Udp};
 use plans::{PlanRecord, Station};
 use pn_values::Mac;
+use record_blocks::iod_write_req_len;
 use rpc_core::{Call, Datagram, Header, Interface, Uuid, write_request};
 use wire::append;
 
@@ -62,7 +63,7 @@ fn control_of(setup: &Setup, command: u16) -> ControlBlock
 }
 
 /// Appends the block of a Write, and the record behind it. There must be room.
-#[tactic(auto, unfolding(block_codec::specs::Block::block_size, block_codec::specs::Block::fields_of, block_fields::specs::Fields::body, block_fields::specs::Fields::version, record_blocks::specs::WriteRecord::iod_write_req))]
+#[tactic(auto, unfolding(block_codec::specs::Block::block_size, block_codec::specs::Block::fields_of, block_fields::specs::Fields::body, block_fields::specs::Fields::version))]
 fn put_record(setup: &Setup, number: u16, entry: &PlanRecord, blocks: &mut ArrayVec<u8, 1372>)
     requires few { number < 65535 }
     requires room { array_vec_len blocks.old + 128 ≤ 1372 }
@@ -78,6 +79,7 @@ fn put_record(setup: &Setup, number: u16, entry: &PlanRecord, blocks: &mut Array
         index: entry.index,
         record_data_length: octets.len() as u32,
     };
+    let _size = iod_write_req_len(&block);
     write_block(blocks, &Block::IodWriteReq(block));
     append(blocks, octets);
 }

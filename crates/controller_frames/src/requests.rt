@@ -1,7 +1,7 @@
 //! What is asked of the device.
 ghost use Rattle.std.specs.Prelude.{◌≡◌, ◌+◌, ◌<◌, ◌++◌, ◌∷◌, [], length, map};
 ghost use Rattle.arrayvec.specs.ArrayVec.{array_vec_len};
-ghost use Rattle.dcp_core.specs.Request.{asked};
+ghost use Rattle.dcp_core.specs.Request.{asked_block};
 ghost use Rattle.dcp_core.specs.Identify.{suite_bytes};
 ghost use Rattle.dcp_core.specs.Writing.{request_bytes};
 ghost use Rattle.cyclic_exchange.specs.Frames.{plain_frame};
@@ -26,7 +26,7 @@ type Octets = ArrayVec<u8, 256>;
 
 /// One block.
 fn one<'a>(kind: Kind, contents: &'a [u8]) -> ArrayVec<Block<'a>, 16>
-    ensures { result.items ≡ record { kind = kind; contents = contents } ∷ [] }
+    ensures { map asked_block result.items ≡ record { kind = kind; contents = contents.now } ∷ [] }
 {
     let mut blocks = ArrayVec::new();
     blocks.push(Block { kind, contents });
