@@ -122,6 +122,7 @@ fn heard_datagram<'a>(controller: &Controller, bytes: &'a Bytes) -> Hearing<'a>
 
 /// What a frame says to a controller. It hangs on the octets, and on the controller's address of Ethernet and its IP address.
 #[inline(always)]
+#[tactic(auto, unfolding(crate::specs::Heard::heard_of))]
 pub fn heard<'a>(controller: &Controller, bytes: &'a Bytes) -> Hearing<'a>
     ensures { told result ≡ heard_of controller.now bytes.now.items }
 {
