@@ -1,7 +1,8 @@
 // The calls of a start-up, and their blocks (IEC 61158-6-10, 5.2).
-ghost use Rattle.std.specs.Prelude.{◌≡◌, ◌+◌, ◌<◌, ◌≤◌, ◌++◌, ◌∷◌, [], ℕ, Some, length, map};
+ghost use Rattle.std.specs.Prelude.{◌≡◌, ◌+◌, ◌<◌, ◌≤◌, ◌++◌, ◌∷◌, [], Some, length, map};
 ghost use Rattle.std.specs.List.{slice_get};
 ghost use Rattle.arrayvec.specs.ArrayVec.{array_vec_len};
+ghost use Rattle.block_codec.specs.Block.{block_bytes};
 ghost use Rattle.controller_frames.specs.Requests.{blocks_of, call_for, control_of, header_of, object_of, write_blocks, write_of};
 ghost use Rattle.controller_frames.specs.Sent.{call_frame};
 
@@ -99,7 +100,7 @@ fn put_write(setup: &Setup, number: u16, blocks: &mut ArrayVec<u8, 1372>)
 #[tactic(auto, unfolding(block_codec::specs::Block::block_size, block_codec::specs::Block::fields_of, block_fields::specs::Fields::body, block_fields::specs::Fields::version))]
 fn put_prm_end(setup: &Setup, blocks: &mut ArrayVec<u8, 1372>)
     requires empty { blocks.old.items ≡ [] }
-    ensures { blocks.new.items ≡ blocks_of setup.now Request.PrmEnd }
+    ensures { blocks.new.items ≡ block_bytes (Block.PrmEnd (control_of setup.now 1)) }
 {
     let block = control_of(setup, PRM_END);
     let _size = control_len(&block);
@@ -110,7 +111,7 @@ fn put_prm_end(setup: &Setup, blocks: &mut ArrayVec<u8, 1372>)
 #[tactic(auto, unfolding(block_codec::specs::Block::block_size, block_codec::specs::Block::fields_of, block_fields::specs::Fields::body, block_fields::specs::Fields::version))]
 fn put_release(setup: &Setup, blocks: &mut ArrayVec<u8, 1372>)
     requires empty { blocks.old.items ≡ [] }
-    ensures { (sequence : ℕ) → blocks.new.items ≡ blocks_of setup.now (Request.Release sequence) }
+    ensures { blocks.new.items ≡ block_bytes (Block.Release (control_of setup.now 4)) }
 {
     let block = control_of(setup, RELEASE);
     let _size = control_len(&block);
