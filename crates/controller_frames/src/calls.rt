@@ -1,16 +1,19 @@
 // The calls of a start-up, and their blocks (IEC 61158-6-10, 5.2).
-ghost use Rattle.std.specs.Prelude.{◌≡◌, ◌+◌, ◌<◌, ◌≤◌, ◌++◌, ◌∷◌, [], length, map};
+ghost use Rattle.std.specs.Prelude.{◌≡◌, ◌+◌, ◌<◌, ◌≤◌, ◌++◌, ◌∷◌, [], Some, length, map};
 ghost use Rattle.std.specs.List.{slice_get};
 ghost use Rattle.arrayvec.specs.ArrayVec.{array_vec_len};
+ghost use Rattle.block_codec.specs.Block.{block_bytes};
 ghost use Rattle.controller_frames.specs.Requests.{blocks_of, call_for, control_of, header_of, object_of, write_blocks, write_of};
 ghost use Rattle.controller_frames.specs.Sent.{call_frame};
 
 use crate::{Request, Setup};
 use arrayvec::ArrayVec;
 use block_codec::{Block, ControlBlock, IodWriteReq, write_block};
+use connect_blocks::control_len;
 use frame_codec::{Endpoint, Layered, Outbox, Payload, RPC_PORT, Udp};
 use plans::{PlanRecord, Station};
 use pn_values::Mac;
+use record_blocks::iod_write_req_len;
 use rpc_core::{Call, Datagram, Header, Interface, Uuid, write_request};
 use wire::append;
 
@@ -62,7 +65,7 @@ fn control_of(setup: &Setup, command: u16) -> ControlBlock
 }
 
 /// Appends the block of a Write, and the record behind it. There must be room.
-#[tactic(auto, unfolding(block_codec::specs::Block::block_size, block_codec::specs::Block::fields_of, block_fields::specs::Fields::body, block_fields::specs::Fields::version, record_blocks::specs::WriteRecord::iod_write_req))]
+#[tactic(auto, unfolding(block_codec::specs::Block::block_size, block_codec::specs::Block::fields_of, block_fields::specs::Fields::body, block_fields::specs::Fields::version))]
 fn put_record(setup: &Setup, number: u16, entry: &PlanRecord, blocks: &mut ArrayVec<u8, 1372>)
     requires few { number < 65535 }
     requires room { array_vec_len blocks.old + 128 ≤ 1372 }
@@ -78,6 +81,7 @@ fn put_record(setup: &Setup, number: u16, entry: &PlanRecord, blocks: &mut Array
         index: entry.index,
         record_data_length: octets.len() as u32,
     };
+    let _size = iod_write_req_len(&block);
     write_block(blocks, &Block::IodWriteReq(block));
     append(blocks, octets);
 }
@@ -92,8 +96,29 @@ fn put_write(setup: &Setup, number: u16, blocks: &mut ArrayVec<u8, 1372>)
     }
 }
 
-/// The blocks of a call.
+/// Appends the block of PrmEnd. There must be room.
 #[tactic(auto, unfolding(block_codec::specs::Block::block_size, block_codec::specs::Block::fields_of, block_fields::specs::Fields::body, block_fields::specs::Fields::version))]
+fn put_prm_end(setup: &Setup, blocks: &mut ArrayVec<u8, 1372>)
+    requires empty { blocks.old.items ≡ [] }
+    ensures { blocks.new.items ≡ block_bytes (Block.PrmEnd (control_of setup.now 1)) }
+{
+    let block = control_of(setup, PRM_END);
+    let _size = control_len(&block);
+    write_block(blocks, &Block::PrmEnd(block));
+}
+
+/// Appends the block of a Release. There must be room.
+#[tactic(auto, unfolding(block_codec::specs::Block::block_size, block_codec::specs::Block::fields_of, block_fields::specs::Fields::body, block_fields::specs::Fields::version))]
+fn put_release(setup: &Setup, blocks: &mut ArrayVec<u8, 1372>)
+    requires empty { blocks.old.items ≡ [] }
+    ensures { blocks.new.items ≡ block_bytes (Block.Release (control_of setup.now 4)) }
+{
+    let block = control_of(setup, RELEASE);
+    let _size = control_len(&block);
+    write_block(blocks, &Block::Release(block));
+}
+
+/// The blocks of a call.
 fn put_blocks(setup: &Setup, request: Request, blocks: &mut ArrayVec<u8, 1372>)
     requires empty { blocks.old.items ≡ [] }
     ensures { blocks.new.items ≡ blocks_of setup.now request }
@@ -102,8 +127,8 @@ fn put_blocks(setup: &Setup, request: Request, blocks: &mut ArrayVec<u8, 1372>)
         Request::Identify | Request::Address => {}
         Request::Connect => *blocks = setup.plan.connect(&setup.ar),
         Request::Write(number) => put_write(setup, number, blocks),
-        Request::PrmEnd => write_block(blocks, &Block::PrmEnd(control_of(setup, PRM_END))),
-        Request::Release(_) => write_block(blocks, &Block::Release(control_of(setup, RELEASE))),
+        Request::PrmEnd => put_prm_end(setup, blocks),
+        Request::Release(_) => put_release(setup, blocks),
     }
 }
 

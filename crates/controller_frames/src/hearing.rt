@@ -99,6 +99,7 @@ fn is_to(address: [u8; 4], to: &Endpoint) -> bool
 
 /// What a frame says that is not of EtherType 0x8892.
 #[inline(never)]
+#[tactic(auto, unfolding(crate::specs::Heard::heard_of))]
 fn heard_datagram<'a>(controller: &Controller, bytes: &'a Bytes) -> Hearing<'a>
     requires { IsNoRealTime (frame_of bytes.now.items) }
     ensures { told result ≡ heard_of controller.now bytes.now.items }
@@ -121,6 +122,7 @@ fn heard_datagram<'a>(controller: &Controller, bytes: &'a Bytes) -> Hearing<'a>
 
 /// What a frame says to a controller. It hangs on the octets, and on the controller's address of Ethernet and its IP address.
 #[inline(always)]
+#[tactic(auto, unfolding(crate::specs::Heard::heard_of))]
 pub fn heard<'a>(controller: &Controller, bytes: &'a Bytes) -> Hearing<'a>
     ensures { told result ≡ heard_of controller.now bytes.now.items }
 {

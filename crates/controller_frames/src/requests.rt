@@ -1,7 +1,7 @@
 //! What is asked of the device.
 ghost use Rattle.std.specs.Prelude.{◌≡◌, ◌+◌, ◌<◌, ◌++◌, ◌∷◌, [], length, map};
 ghost use Rattle.arrayvec.specs.ArrayVec.{array_vec_len};
-ghost use Rattle.dcp_core.specs.Request.{asked};
+ghost use Rattle.dcp_core.specs.Request.{asked_block};
 ghost use Rattle.dcp_core.specs.Identify.{suite_bytes};
 ghost use Rattle.dcp_core.specs.Writing.{request_bytes};
 ghost use Rattle.cyclic_exchange.specs.Frames.{plain_frame};
@@ -21,12 +21,20 @@ const IDENTIFY_MULTICAST: Mac = Mac {
     octets: [0x01, 0x0E, 0xCF, 0x00, 0x00, 0x00],
 };
 
+/// That address.
+#[tactic(auto, unfolding(crate::specs::Sent::identify_multicast))]
+fn all_stations() -> Mac
+    ensures { result ≡ identify_multicast }
+{
+    IDENTIFY_MULTICAST
+}
+
 /// The octets of a request of DCP with one block, which is at most 240 octets.
 type Octets = ArrayVec<u8, 256>;
 
 /// One block.
 fn one<'a>(kind: Kind, contents: &'a [u8]) -> ArrayVec<Block<'a>, 16>
-    ensures { result.items ≡ record { kind = kind; contents = contents } ∷ [] }
+    ensures { map asked_block result.items ≡ record { kind = kind; contents = contents.now } ∷ [] }
 {
     let mut blocks = ArrayVec::new();
     blocks.push(Block { kind, contents });
@@ -65,10 +73,12 @@ fn send_dcp(source: Mac, destination: Mac, frame_id: u16, request: &Octets, outb
 
 /// Puts the Identify by the name of the plan into the box, behind what is in it.
 #[inline(never)]
+#[tactic(auto, unfolding(dcp_core::specs::Format::block_of, dcp_core::specs::Format::block, dcp_core::specs::Format::kind))]
 fn send_identify(setup: &Setup, outbox: &mut Outbox)
     requires room { array_vec_len outbox.old < 4 }
-    ensures frames { (device : Mac) → map (λ frame. frame.items) outbox.new.items
-        ≡ map (λ frame. frame.items) outbox.old.items ++ request_frame setup.now device Request.Identify ∷ [] }
+    ensures frames { map (λ frame. frame.items) outbox.new.items
+        ≡ map (λ frame. frame.items) outbox.old.items
+        ++ plain_frame setup.now.plan.controller.mac identify_multicast (RealTime 0xFEFE (request_bytes (identify_asked setup.now.plan))) ∷ [] }
     ensures len { array_vec_len outbox.new ≡ array_vec_len outbox.old + 1 }
 {
     let mut octets = Octets::new();
@@ -80,7 +90,7 @@ fn send_identify(setup: &Setup, outbox: &mut Outbox)
     write_request(&request, &mut octets);
     send_dcp(
         setup.plan.controller().mac,
-        IDENTIFY_MULTICAST,
+        all_stations(),
         DCP_IDENTIFY_REQUEST,
         &octets,
         outbox,
@@ -89,6 +99,7 @@ fn send_identify(setup: &Setup, outbox: &mut Outbox)
 
 /// Puts the Set of the plan's IP suite into the box, behind what is in it.
 #[inline(never)]
+#[tactic(auto, unfolding(dcp_core::specs::Format::block_of, dcp_core::specs::Format::block, dcp_core::specs::Format::kind))]
 fn send_address(setup: &Setup, device: Mac, outbox: &mut Outbox)
     requires room { array_vec_len outbox.old < 4 }
     ensures frames { map (λ frame. frame.items) outbox.new.items
