@@ -4,3 +4,4 @@ pub mod Answers
 pub mod Connect
 pub mod Alarms
 pub mod Machine
+pub mod Laws

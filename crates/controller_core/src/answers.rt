@@ -21,7 +21,7 @@ const CONTROL: u16 = 4;
 
 /// Whether there is a value, and it is this.
 pub(crate) fn is_told(wanted: &[u8], value: Option<&[u8]>) -> bool
-    ensures { result ≡ is_told wanted.now (option_map (λ value. value.now) value) }
+    ensures { result ≡ is_told wanted.now (option_map (λ value. value.now) value.entry) }
 {
     match value {
         Some(value) => value == wanted,
@@ -100,7 +100,11 @@ pub(crate) fn next_sequence(plan: &Plan, asked: Option<Request>) -> u32
 pub(crate) fn request_behind(plan: &Plan, number: u16) -> Request
     ensures { result ≡ writing_from plan.now (number + 1) }
 {
-    Request::writing_from(plan, number.saturating_add(1))
+    if (number as usize) + 1 < plan.records().len() {
+        Request::Write(number + 1)
+    } else {
+        Request::PrmEnd
+    }
 }
 
 /// The state in which a record is written, or the parameters are ended.

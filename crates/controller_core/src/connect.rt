@@ -1,6 +1,7 @@
 // What the answer to a Connect holds (IEC 61158-6-10, 5.2.4).
-ghost use Rattle.std.specs.Prelude.{◌≡◌};
-ghost use Rattle.controller_core.specs.Connect.{found_in, is_whole, nothing, with_block, with_iocr};
+ghost use Rattle.std.specs.Prelude.{◌≡◌, option_map};
+ghost use Rattle.block_codec.specs.Block.{block_of};
+ghost use Rattle.controller_core.specs.Connect.{found_in, is_whole, next_found, nothing, with_block, with_iocr};
 
 use block_codec::{Block, IocrBlockRes, read_block};
 
@@ -80,8 +81,17 @@ impl Found {
     }
 }
 
-/// What octets hold that are blocks, one behind the other, at most so many, behind what was found before. There is none where one of them
-/// does not read.
+/// Takes the block at the front of octets, if it reads, and gives what was found behind it, and what is left.
+fn take_block(found: Found, bytes: &[u8]) -> Option<(Found, &[u8])>
+    ensures { option_map (λ x. (x.0, x.1.now)) result ≡ next_found found (block_of bytes.now) }
+{
+    match read_block(bytes) {
+        Ok((block, rest)) => Some((found.with_block(&block), rest)),
+        Err(_) => None,
+    }
+}
+
+/// What octets hold that are blocks, one behind the other, at most so many. There is none where one of them does not read.
 pub(crate) fn found_in(most: usize, bytes: &[u8]) -> Option<Found>
     ensures { result ≡ found_in most bytes.now nothing }
 {
@@ -91,10 +101,10 @@ pub(crate) fn found_in(most: usize, bytes: &[u8]) -> Option<Found>
         if rest.is_empty() {
             return Some(found);
         }
-        let Ok((block, behind)) = read_block(rest) else {
+        let Some((next, behind)) = take_block(found, rest) else {
             return None;
         };
-        found = found.with_block(&block);
+        found = next;
         rest = behind;
     }
     None

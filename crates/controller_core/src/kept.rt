@@ -1,9 +1,22 @@
 // The last alarm, as a controller keeps it.
-ghost use Rattle.std.specs.Prelude.{◌≡◌};
+ghost use Rattle.std.specs.Prelude.{◌≡◌, ◌≤◌, length, take};
 ghost use Rattle.controller_core.specs.Alarms.{ack_of, alarm_in, kept_alarm};
 
 use arrayvec::ArrayVec;
 use block_codec::{AlarmAck, AlarmData, AlarmNotification};
+
+/// As many of these octets as a frame holds.
+#[tactic(auto, using(crate::proofs::Fronts::all_of))]
+fn front_of(octets: &[u8]) -> &[u8]
+    ensures value { result.now ≡ take 1500 octets.now }
+    ensures few { length result.now ≤ 1500 }
+{
+    if octets.len() <= 1500 {
+        octets
+    } else {
+        &octets[..1500]
+    }
+}
 
 /// An alarm, away from the frame in which it came.
 #[derive(Drop)]
@@ -23,10 +36,8 @@ impl KeptAlarm {
     pub(crate) fn of(alarm: &AlarmNotification<'_>) -> KeptAlarm
         ensures { alarm_in result ≡ kept_alarm alarm.now }
     {
-        let octets = alarm.alarm_data.octets();
-        let size = octets.len().min(1500);
         let mut alarm_data = ArrayVec::new();
-        let _ = alarm_data.try_extend_from_slice(&octets[..size]);
+        let _ = alarm_data.try_extend_from_slice(front_of(alarm.alarm_data.octets()));
         KeptAlarm {
             alarm_type: alarm.alarm_type,
             api: alarm.api,

@@ -1,7 +1,7 @@
 //! What no contract says: that the two ends understand each other.
 use arrayvec::ArrayVec;
 use controller_core::{Controller, Event, State};
-use device_core::Event as DeviceEvent;
+use device_core::{Device, Event as DeviceEvent};
 use flash_model::MemoryFlash;
 use frame_codec::Outbox;
 use plans::{Controller as Ours, Parts, Plan, PlanRecord, Station as Theirs, Times};
@@ -9,7 +9,6 @@ use pn_values::{IpSuite, Mac, Real, RealModule, RealSubmodule, StationName};
 use std::process::Abort;
 use std::test::Fail;
 use test_stations::{Station, identity, octets};
-use device_core::Device;
 use uuid::Uuid;
 
 fn sub(subslot: u16, ident: u32, input: u16, output: u16) -> RealSubmodule {
@@ -87,10 +86,7 @@ fn hand_on(controller: &mut Controller, frames: &Outbox, answers: &mut Outbox) {
 fn deliver(controller: &mut Controller, device: &mut Station, sent: &mut Outbox) {
     let mut answers = Outbox::new();
     for frame in sent.as_slice() {
-        device.step(
-            &DeviceEvent::Frame(octets(frame.as_slice())),
-            &mut answers,
-        );
+        device.step(&DeviceEvent::Frame(octets(frame.as_slice())), &mut answers);
     }
     hand_on(controller, &answers, sent);
 }
@@ -101,8 +97,11 @@ fn start_up() -> Option<[State; 4]> {
     let mut device: Station = Device::boot(identity(), real(), MemoryFlash::blank()).ok()?;
     let mut sent = Outbox::new();
     device.step(&DeviceEvent::Frame(octets(&test_stations::SET)), &mut sent);
-    let mut controller =
-        Controller::new(plan, Uuid::from_bytes([1; 16]), Uuid::from_bytes([2; 16]));
+    let mut controller = Controller::new(
+        plan,
+        Uuid::from_bytes([1; 16]),
+        Uuid::from_bytes([2; 16]),
+    );
     let opening = controller.opening();
     sent.clear();
     sent.put_copy(&opening);
@@ -121,8 +120,7 @@ fn start_up() -> Option<[State; 4]> {
 #[test]
 fn starts_up(rt: HostRuntime) {
     let states = start_up();
-    assert_eq!(
-        rt;
+    assert_eq!(rt;
         states,
         Some([
             State::Addressing,
