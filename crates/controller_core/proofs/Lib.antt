@@ -1,3 +1,3 @@
 pub mod Blocks
 pub mod Fronts
-pub mod Laws
+pub mod Ended

@@ -26,20 +26,17 @@ with_block (is.AlarmCrBlockRes block) found = record found { alarm = true }
 with_block (is.ModuleDiffBlock block) found = record found { differs = true }
 with_block block found = found
 
--- what was found behind the block at the front, and what is left, if it reads
-abbrev pub next_found : Found → Result (Block × List ℕ) BlockFault → Option (Found × List ℕ)
-next_found found (Ok x) = Some (with_block x.0 found, x.1)
-next_found found (Err fault) = None
-
-abbrev pub found_on : Option (Found × List ℕ) → (List ℕ → Found → Option Found) → Option Found
-found_on (Some x) next = next x.1 x.0
-found_on None next = None
+-- what comes behind a block that reads
+abbrev pub behind_block : Result (Block × List ℕ) BlockFault → (Block → List ℕ → Option Found) → Option Found
+behind_block (Ok x) next = next x.0 x.1
+behind_block (Err fault) next = None
 
 -- Behind octets that are blocks, one behind the other, in any order, at most so many; of a kind that comes twice the last counts. There is
 -- none where one of them does not read.
 unfoldable pub found_in : ℕ → List ℕ → Found → Option Found
 found_in zero bytes found = None
-found_in (suc most) bytes found = if length bytes == 0 then Some found else found_on (next_found found (block_of bytes)) (found_in most)
+found_in (suc most) bytes found =
+    if length bytes == 0 then Some found else behind_block (block_of bytes) (λ block rest. found_in most rest (with_block block found))
 
 -- whether all that a relation needs is there
 abbrev pub is_whole : Found → Bool

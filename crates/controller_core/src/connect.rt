@@ -1,7 +1,8 @@
 // What the answer to a Connect holds (IEC 61158-6-10, 5.2.4).
 ghost use Rattle.std.specs.Prelude.{◌≡◌, option_map};
 ghost use Rattle.block_codec.specs.Block.{block_of};
-ghost use Rattle.controller_core.specs.Connect.{found_in, is_whole, next_found, nothing, with_block, with_iocr};
+ghost use Rattle.controller_core.specs.Connect.{found_in, is_whole, nothing, with_block, with_iocr};
+ghost use Rattle.controller_core.specs.Reading.{next_found};
 
 use block_codec::{Block, IocrBlockRes, read_block};
 

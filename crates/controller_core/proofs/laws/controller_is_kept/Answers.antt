@@ -1,4 +1,4 @@
-use Rattle.controller_core.proofs.Laws.{drops_whole, ends, keeps_its_cause, sends_its_release_alone}
+use Rattle.controller_core.proofs.Ended.{drops_whole, ends, keeps_its_cause, sends_its_release_alone}
 use Rattle.controller_core.proofs.laws.controller_is_kept.Goals as goal
 
 pub returns-clause-ends : goal.returns-clause-ends
