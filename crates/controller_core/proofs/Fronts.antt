@@ -3,5 +3,5 @@ use Rattle.std.proofs.Common.{◌≡◌, ◌≤◌, ℕ, List, length, take}
 use Rattle.std.proofs.lemmas.List.{take_all}
 
 -- so few octets are all of them
-pub all_of : (octets : List ℕ) → length octets ≤ 1500 → take 1500 octets ≡ octets
-all_of octets few = take_all 1500 octets few
+pub all_of : (most : ℕ) (octets : List ℕ) → length octets ≤ most → take most octets ≡ octets
+all_of most octets few = take_all most octets few

@@ -5,4 +5,3 @@ pub mod Connect
 pub mod Reading
 pub mod Alarms
 pub mod Machine
-pub mod Laws

@@ -11,11 +11,9 @@ mod connect;
 mod controller;
 mod event;
 mod kept;
-mod laws;
 mod state;
 mod step;
 
 pub use controller::Controller;
 pub use event::Event;
-pub use laws::controller_is_kept;
 pub use state::{Cause, State};
