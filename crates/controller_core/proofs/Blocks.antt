@@ -13,7 +13,7 @@ unfolding found_in
 ends more most bytes found count empty = rw (count, empty) refl
 
 -- one more block
-go_on : Option (Found × List ℕ) → (List ℕ → Found → Option Found) → Option Found
+abbrev go_on : Option (Found × List ℕ) → (List ℕ → Found → Option Found) → Option Found
 go_on (Some x) go = go x.1 x.0
 go_on None go = None
 
