@@ -83,17 +83,11 @@ impl<F: Flash<S>, const S: usize> Device<F, S> {
         ensures reliable { F.is_reliable flash →
             MatchResult result (λ device. F.is_reliable device.flash) (λ refused. F.is_reliable refused.1 × (refused.0 ≡ BootFault.Foreign)) }
     {
-        Ok(Device {
-            identity,
-            real,
-            store: Store::boot(flash)?,
-            lamp: 0,
-            cache: CallCache::new(),
-            relation: Relation::new(),
-            units: 0,
-            plan: ArrayVec::new(),
-            blocks: Blocks::new(),
-        })
+        let mut device = Device::unstarted(identity, real, flash);
+        match device.load() {
+            Ok(()) => Ok(device),
+            Err(fault) => Err((fault, device.into_flash())),
+        }
     }
 
     /// The settings that run.

@@ -3,7 +3,10 @@ ghost use Rattle.std.specs.Prelude.{◌≡◌, ◌+◌, length};
 ghost use Rattle.frame_codec.specs.Meaning.{meaning_of};
 ghost use Rattle.frame_codec.specs.Frame.{content_size};
 
-use frame_codec::{DCP_IDENTIFY_REQUEST, FrameFault, Layered, Outbox, Payload, read, write};
+use frame_codec::{
+    ALARM_HIGH, ALARM_LOW, DCP_GET_SET, DCP_IDENTIFY_REQUEST, DCP_IDENTIFY_RESPONSE, FrameFault,
+    Layered, Outbox, Payload, RPC_PORT, is_alarm, is_cyclic, read, write,
+};
 use pn_values::Mac;
 
 /// A DCP Identify request for all stations, as it is sent on the wire before padding.
@@ -203,5 +206,34 @@ fn faults_of_frames_are_numbered(rt: HostRuntime) {
     ];
     for (fault, number) in faults {
         assert_eq!(rt; fault.number(), number, "{fault:?}");
+    }
+}
+
+// As Wireshark names them: the FrameIDs of alarms and of DCP (packet-pn-rt.c), and the port of the calls (IANA, profinet-cm).
+#[test]
+fn numbers_of_the_standard(rt: HostRuntime) {
+    for (number, wanted) in [
+        (ALARM_HIGH, [0xFC, 0x01]),
+        (ALARM_LOW, [0xFE, 0x01]),
+        (DCP_GET_SET, [0xFE, 0xFD]),
+        (DCP_IDENTIFY_REQUEST, [0xFE, 0xFE]),
+        (DCP_IDENTIFY_RESPONSE, [0xFE, 0xFF]),
+        (RPC_PORT, [0x88, 0x94]),
+    ] {
+        assert_eq!(rt; number.to_be_bytes(), wanted);
+    }
+    for (number, alarm, cyclic) in [
+        (0xFC01, true, false),
+        (0xFE01, true, false),
+        (0xFE02, false, false),
+        (0x7FFF, false, false),
+        (0x8000, false, true),
+        (0xBBFF, false, true),
+        (0xBC00, false, false),
+        (0xC000, false, true),
+        (0xF7FF, false, true),
+        (0xF800, false, false),
+    ] {
+        assert_eq!(rt; (is_alarm(number), is_cyclic(number)), (alarm, cyclic));
     }
 }

@@ -1,5 +1,5 @@
 // Images whose bytes were worked out by hand from the layout, and calls at a flash in memory.
-use flash_model::{Lent, MemoryFlash, Order, Sector};
+use flash_model::{FlashFault, Lent, MemoryFlash, Order, Sector};
 use pn_values::{Command, ImValue, Padded};
 use settings_journal::{BootFault, CommitFault, Journal};
 use station_names::NameFault;
@@ -379,6 +379,7 @@ fn version_1_has_no_slot_of_im4(rt: HostRuntime) -> Result<(), std::test::Fail> 
 
 #[test]
 fn the_numbers_of_refusals(rt: HostRuntime) {
+    assert_eq!(rt; FlashFault.number(), 1);
     for (fault, number) in [(BootFault::FlashFault, 1), (BootFault::Foreign, 2)] {
         assert_eq!(rt; fault.number(), number);
     }

@@ -1,7 +1,17 @@
--- What can be read is given, unless a read fails.
-use Rattle.std.proofs.lemmas.Result.{err_from_is_err_and}
+-- What is loaded is what is started with.
 use Rattle.settings_store.proofs.store.Store.boot.Goals as goal
 
-pub returns-in_err-journal-clause-known : goal.returns-in_err-journal-clause-known
-returns-in_err-journal-clause-known g c =
-    λ settings room starts. let p = err_from_is_err_and c.from_residual.result c.from_residual.ensures.1 in rw (p.1, p.2) (c.in_err-journal.ensures.known settings room starts)
+pub returns-in-Ok-clause-known : goal.returns-in-Ok-clause-known
+returns-in-Ok-clause-known g c = rw (← c.unstarted-store.ensures.flash) c.in-Ok.ensures.known
+
+pub returns-in-Ok-clause-strange : goal.returns-in-Ok-clause-strange
+returns-in-Ok-clause-strange g c = rw (← c.unstarted-store.ensures.flash) c.in-Ok.ensures.strange
+
+pub returns-in-Err-clause-known : goal.returns-in-Err-clause-known
+returns-in-Err-clause-known g c = rw (← c.unstarted-store.ensures.flash) c.in-Err.ensures.known
+
+pub returns-in-Err-clause-blank : goal.returns-in-Err-clause-blank
+returns-in-Err-clause-blank g c = rw (← c.unstarted-store.ensures.flash) c.in-Err.ensures.blank
+
+pub returns-in-Err-clause-foreign : goal.returns-in-Err-clause-foreign
+returns-in-Err-clause-foreign g c = rw (← c.unstarted-store.ensures.flash) c.in-Err.ensures.foreign
