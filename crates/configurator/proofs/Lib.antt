@@ -1,0 +1,3 @@
+pub mod Dotted
+pub mod Rising
+pub mod Whole
