@@ -1,4 +1,5 @@
 // What became of an event.
+ghost use Rattle.std.specs.Prelude.{◌≡◌};
 ghost use Rattle.device_core.specs.Notes.{note_number};
 
 /// What became of an event.
