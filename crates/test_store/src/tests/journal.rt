@@ -1,5 +1,5 @@
 // Images whose bytes were worked out by hand from the layout, and calls at a flash in memory.
-use flash_model::{Lent, MemoryFlash, Order, Sector};
+use flash_model::{FlashFault, Lent, MemoryFlash, Order, Sector};
 use pn_values::{Command, ImValue, Padded};
 use settings_journal::{BootFault, CommitFault, Journal};
 use station_names::NameFault;
