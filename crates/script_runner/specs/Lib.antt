@@ -6,6 +6,7 @@ pub mod Read
 pub mod Demo
 pub mod Text
 pub mod Show
+pub mod Ends
 pub mod Script
 pub mod Told
 pub mod Session

@@ -1,9 +1,10 @@
 -- The lines of a script, and what they ask for.
-use Rattle.std.specs.Prelude.{◌≡◌, ◌==◌, ◌||◌, ℕ, zero, suc, Bool, nat_lt, nat_eq, List, [], ◌∷◌, length, slice_index, if◌then◌else◌, codes, Option, Some, None, Result, Ok, Err}
+use Rattle.std.specs.Prelude.{◌≡◌, ◌==◌, ◌||◌, ◌&&◌, take, drop, ℕ, zero, suc, Bool, nat_lt, nat_eq, List, [], ◌∷◌, length, slice_index, if◌then◌else◌, codes, Option, Some, None, Result, Ok, Err}
 use Rattle.std.specs.List.{slice_split, list_any}
 use Rattle.std.specs.Option.{option_map}
 use Rattle.std.specs.Cmp.Lexicographic.{pointwise}
 use Rattle.hex.specs.Hex.{decode_of}
+use Rattle.uuid.specs.Text.{parsed}
 use Rattle.flash_model.specs.declared.flash.Order.{Order}
 use Rattle.flash_model.specs.declared.flash.Order.TheVariants.{Cut, Fault}
 use Rattle.script_runner.specs.Numbers.{number_of, repeated}
@@ -12,7 +13,8 @@ use Rattle.script_runner.specs.declared.command.Words.{Words}
 use Rattle.script_runner.specs.declared.command.Words.TheVariants.{One, Two, Three, Four, More}
 
 -- what a script asks for: hand in these bytes, take the power away and give it back, let time go by, show the settings, tell the flash
--- what to do, give the submodule in a slot and subslot this input, or raise an alarm of it with these octets
+-- what to do, give the submodule in a slot and subslot this input, or raise an alarm of it with these octets; make a plan, put a
+-- controller with this ARUUID and activity at the other end, give an output of its own, end the relation, hand over what waits
 pub data Command : Type 0 where
   Frame : (bytes : List ℕ) → Command
   Restart : Command
@@ -21,6 +23,11 @@ pub data Command : Type 0 where
   Arm : (order : Order) → Command
   Input : (slot : ℕ) → (subslot : ℕ) → (bytes : List ℕ) → Command
   Alarm : (slot : ℕ) → (subslot : ℕ) → (bytes : List ℕ) → Command
+  Config : (catalogue : List ℕ) → Command
+  Start : (ar : List ℕ) → (activity : List ℕ) → Command
+  Give : (slot : ℕ) → (subslot : ℕ) → (bytes : List ℕ) → Command
+  Stop : Command
+  Deliver : Command
 
 -- what a line is: too long or not ASCII, empty or a comment, one that asks for something, or none of these
 pub data Line : Type 0 where
@@ -59,8 +66,11 @@ if_decoded (Err fault) = None
 abbrev pub bytes_of : List ℕ → Option (List ℕ)
 bytes_of digits = if length digits == 0 then None else if_decoded (decode_of digits)
 
+abbrev pub bare_of_both : List ℕ → Option Command
+bare_of_both word = if is_text word (codes "deliver") then Some Deliver else (if is_text word (codes "stop") then Some Stop else None)
+
 abbrev pub bare : List ℕ → Option Command
-bare word = if is_text word (codes "restart") then Some Restart else (if is_text word (codes "show") then Some Show else None)
+bare word = if is_text word (codes "restart") then Some Restart else (if is_text word (codes "show") then Some Show else bare_of_both word)
 
 -- units of time, at least one
 abbrev pub ticks_of : Option ℕ → Option Command
@@ -94,14 +104,21 @@ abbrev pub ordered : List ℕ → Option (ℕ × List ℕ) → Option Command
 ordered word None = None
 ordered word (Some strike) = order_of word strike
 
+-- a controller, if there are both of its identifiers
+abbrev pub start_of : Option (List ℕ) → Option (List ℕ) → Option Command
+start_of None activity = None
+start_of (Some ar) activity = option_map (Start ar) activity
+
 abbrev pub with_two : List ℕ → List ℕ → List ℕ → Option Command
-with_two word first second = ordered word (strike_of (number_of 4294967295 first) (mask_of (decode_of second)))
+with_two word first second =
+    if is_text word (codes "start") then start_of (parsed first) (parsed second)
+    else ordered word (strike_of (number_of 4294967295 first) (mask_of (decode_of second)))
 
 -- what a word asks for with a slot, a subslot and bytes
 abbrev pub targeted : List ℕ → Option ℕ → Option ℕ → Option (List ℕ) → Option Command
 targeted word (Some slot) (Some subslot) (Some bytes) =
     if is_text word (codes "input") then Some (Input slot subslot bytes)
-    else (if is_text word (codes "alarm") then Some (Alarm slot subslot bytes) else None)
+    else (if is_text word (codes "alarm") then Some (Alarm slot subslot bytes) else (if is_text word (codes "give") then Some (Give slot subslot bytes) else None))
 targeted word (Some slot) (Some subslot) None = None
 targeted word (Some slot) None bytes = None
 targeted word None subslot bytes = None
@@ -130,6 +147,15 @@ abbrev pub asked : Option Command → Line
 asked (Some command) = Asks command
 asked None = Unknown
 
+-- the catalogue of a line 'config': the rest of the line, which may have spaces and is not empty
+abbrev pub catalogue_in : List ℕ → Option (List ℕ)
+catalogue_in line = if is_text (take 7 line) (codes "config ") && nat_lt 7 (length line) then Some (drop 7 line) else None
+
+-- what a line asks for: a plan, or what its words say
+abbrev pub command_in : Option (List ℕ) → List (List ℕ) → Option Command
+command_in (Some catalogue) words = Some (Config catalogue)
+command_in None words = command_of words
+
 -- what a line is
 unfoldable pub meaning_of : List ℕ → Line
-meaning_of line = if is_unfit line then Unfit else (if is_skipped line then Skipped else asked (command_of (words_of line)))
+meaning_of line = if is_unfit line then Unfit else (if is_skipped line then Skipped else asked (command_in (catalogue_in line) (words_of line)))

@@ -3,7 +3,7 @@ use Rattle.script_runner.specs.declared.command.Command.{Command as Code}
 use Rattle.script_runner.specs.declared.command.Command.TheVariants as code
 use Rattle.script_runner.specs.declared.command.Line.{Line as CodeLine}
 use Rattle.script_runner.specs.declared.command.Line.TheVariants as line
-use Rattle.script_runner.specs.Line.{Command, Frame, Restart, Tick, Show, Arm, Input, Alarm, Line, Unfit, Skipped, Asks, Unknown}
+use Rattle.script_runner.specs.Line.{Command, Frame, Restart, Tick, Show, Arm, Input, Alarm, Config, Start, Give, Stop, Deliver, Line, Unfit, Skipped, Asks, Unknown}
 
 abbrev pub command_read : Code → Command
 command_read (code.Frame bytes) = Frame bytes.now
@@ -13,6 +13,11 @@ command_read code.Show = Show
 command_read (code.Arm order) = Arm order
 command_read (code.Input slot subslot bytes) = Input slot subslot bytes.now
 command_read (code.Alarm slot subslot bytes) = Alarm slot subslot bytes.now
+command_read (code.Config catalogue) = Config catalogue.now
+command_read (code.Start ar activity) = Start ar activity
+command_read (code.Give slot subslot bytes) = Give slot subslot bytes.now
+command_read code.Stop = Stop
+command_read code.Deliver = Deliver
 
 abbrev pub line_read : CodeLine → Line
 line_read line.Unfit = Unfit

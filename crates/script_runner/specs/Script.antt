@@ -1,98 +1,176 @@
--- What a script prints: its lines in order, each read as a command to the demo device, whose flash never fails.
-use Rattle.std.specs.Prelude.{◌+◌, ℕ, zero, suc, Bool, true, false, List, [], ◌∷◌, ◌++◌, take, if◌then◌else◌, Option, Some, None}
+-- What a script prints: its lines in order, each read as a command to the demo device, whose flash never fails, or to the other end.
+use Rattle.std.specs.Prelude.{◌+◌, ℕ, Bool, true, false, List, [], ◌∷◌, ◌++◌, codes, length, replicate, take, if◌then◌else◌, Option, Some, None}
 use Rattle.std.specs.List.{list_any}
 use Rattle.std.specs.Str.Lines.{lines}
+use Rattle.arrayvec.specs.ArrayVec.{ArrayVec}
 use Rattle.pn_values.specs.Settings.{factory_settings}
 use Rattle.pn_values.specs.declared.settings.Settings.{Settings}
 use Rattle.settings_journal.specs.Image.{capacity}
 use Rattle.relations.specs.Link.{phase_of}
+use Rattle.plans.specs.declared.parts.Parts.{Parts}
+use Rattle.configurator.specs.Plan.{plan_in}
+use Rattle.device_frames.specs.declared.event.Event.{Event}
 use Rattle.device_frames.specs.declared.event.Event.TheVariants as event
 use Rattle.device_core.specs.declared.note.Note.TheVariants.{Done}
-use Rattle.device_core.specs.State.{Station as Device, Live}
 use Rattle.device_core.specs.Machine.{Stepped, step_of}
 use Rattle.device_core.specs.Cycle.{started}
+use Rattle.controller_core.specs.declared.event.Event.{Event as ControllerEvent}
+use Rattle.controller_core.specs.declared.event.Event.TheVariants as heard
+use Rattle.controller_core.specs.State.{Controlling}
 use Rattle.script_runner.specs.Demo.{demo_device}
-use Rattle.script_runner.specs.Line.{Command, Frame, Restart, Tick, Show, Arm, Input, Alarm, Line, Unfit, Skipped, Asks, Unknown, meaning_of}
-use Rattle.script_runner.specs.Show.{shown, outputs_shown}
-use Rattle.script_runner.specs.Text.{boot_line, out_lines, note_line}
-
--- a device without its flash: what it is, and what changes
-pub record Station : Type 0 where
-  pub device : Device
-  pub live : Live
-
--- what the device is stays
-abbrev pub turned_to : Station → Live → Station
-turned_to station live = record { device = station.device; live = live }
+use Rattle.script_runner.specs.Ends.{Station, turned_to, Other, Network, arrived_at, cleared, controller_run, device_run, frames_for_controller, frames_for_device, nobody, printed_for, ticked_by, with_fresh, with_plan, with_run, with_sent}
+use Rattle.script_runner.specs.Line.{Command, Frame, Restart, Tick, Show, Arm, Input, Alarm, Config, Start, Give, Stop, Deliver, Line, Unfit, Skipped, Asks, Unknown, meaning_of}
+use Rattle.script_runner.specs.Show.{shown, outputs_shown, controller_shown, state_line}
+use Rattle.script_runner.specs.Text.{boot_line, moved_line, note_line, printed}
 
 -- the demo device, started from these settings
 abbrev pub demo_started : Settings → ℕ → Station
 demo_started settings room = record { device = demo_device; live = started settings room }
 
--- the device after a line, and what the line prints
+-- what is at both ends after a line, and what the line prints
 pub record Answer : Type 0 where
-  pub station : Station
+  pub network : Network
   pub text : List ℕ
 
--- a step of the device: a line for each frame that it sends, and one for its note
-abbrev pub step_answer : Station → Stepped → Answer
-step_answer station step = record { station = turned_to station step.live; text = out_lines step.frames ++ note_line step.note }
-
--- units of time: the frames that are sent in them
-abbrev pub ticked : ℕ → Station → Answer
-ticked zero station = record { station = station; text = [] }
-ticked (suc units) station =
-    let step = step_of [] station.device station.live event.Tick in
-    let later = ticked units (turned_to station step.live) in
-    record { station = later.station; text = out_lines step.frames ++ later.text }
-
--- and then the note
-abbrev pub tick_answer : Answer → Answer
-tick_answer answer = record { station = answer.station; text = answer.text ++ note_line Done }
-
--- What a command does. Of more than 1,519 bytes the first 1,519 are handed in, which are refused alike. A restart starts
--- the device from what is stored, and an order to the flash is none to the device.
-unfoldable pub said : Station → Command → Answer
-said station (Frame bytes) = step_answer station (step_of [] station.device station.live (event.Frame (record { items = take 1519 bytes })))
-said station Restart = record { station = demo_started station.live.values.stored station.live.values.room; text = boot_line None }
-said station (Tick units) = tick_answer (ticked units station)
-said station Show = record {
-  station = station;
-  text = shown station.live.values.running station.live.values.stored (phase_of station.live.rest.link) station.live.rest.lamp
-      ++ outputs_shown station.device.real station.live.rest.link;
+-- a step of the device: a line for each frame that it sends, as long as there is no controller, and one for its note
+abbrev pub step_answer : Network → Stepped → Answer
+step_answer network step = record {
+  network = record { station = turned_to network.station step.live; other = with_sent network.other step.frames };
+  text = printed_for network.other.controller step.frames ++ note_line step.note;
 }
-said station (Arm order) = record { station = station; text = [] }
-said station (Input slot subslot bytes) = step_answer station (step_of [] station.device station.live (event.Input slot subslot (record { items = take 1519 bytes })))
-said station (Alarm slot subslot bytes) = step_answer station (step_of [] station.device station.live (event.Alarm slot subslot (record { items = take 1519 bytes })))
 
--- what a line does; None where it is refused
-abbrev pub answer_of : Station → Line → Option Answer
-answer_of station Skipped = Some (record { station = station; text = [] })
-answer_of station (Asks command) = Some (said station command)
-answer_of station Unfit = None
-answer_of station Unknown = None
+-- of more than 1,519 bytes the first 1,519 are handed in, which are refused alike
+abbrev pub handed : List ℕ → ArrayVec ℕ
+handed bytes = record { items = take 1519 bytes }
 
--- an answer, and what comes after it
-abbrev pub then_told : Option Answer → (Station → List ℕ) → List ℕ
-then_told None later = []
-then_told (Some answer) later = answer.text ++ later answer.station
+abbrev pub event_answer : Network → Event → Answer
+event_answer network event = step_answer network (step_of [] network.station.device network.station.live event)
+
+-- a restart starts the device from what is stored; no frame waits then, and the controller is as it was
+abbrev pub restart_answer : Network → Answer
+restart_answer network = record {
+  network = record {
+    station = demo_started network.station.live.values.stored network.station.live.values.room;
+    other = cleared network.other;
+  };
+  text = boot_line None;
+}
+
+-- units of time at either end, and then the note
+abbrev pub tick_answer : Network → ℕ → Answer
+tick_answer network units =
+    let run = device_run network.station (replicate units event.Tick) in
+    record {
+      network = record { station = run.station; other = ticked_by network.other.controller (with_sent network.other run.frames) units };
+      text = printed_for network.other.controller run.frames ++ note_line Done;
+    }
+
+abbrev pub show_answer : Network → Answer
+show_answer network =
+    let live = network.station.live in
+    record {
+      network = network;
+      text = shown live.values.running live.values.stored (phase_of live.rest.link) live.rest.lamp
+          ++ (outputs_shown network.station.device.real live.rest.link ++ controller_shown network.other.controller);
+    }
+
+-- an order to the flash is none to either end
+abbrev pub unchanged : Network → Answer
+unchanged network = record { network = network; text = [] }
+
+-- ---- lines that a script may have at some times alone
+
+-- what comes of a line: it is answered, none that a script may have here, or a catalogue that has no plan
+pub data Outcome : Type 0 where
+  Answers : (answer : Answer) → Outcome
+  Refuses : Outcome
+  HasNoPlan : (catalogue : List ℕ) → Outcome
+
+-- what is at the other end is this, and the line says what the controller is at
+abbrev pub at_other : Network → Other → List ℕ → Outcome
+at_other network other text = Answers (record { network = record { station = network.station; other = other }; text = text ++ controller_shown other.controller })
+
+abbrev pub config_outcome : Network → List ℕ → Option Parts → Outcome
+config_outcome network catalogue (Some plan) = Answers (record { network = record { station = network.station; other = with_plan network.other plan }; text = printed (codes "plan ok") })
+config_outcome network catalogue None = HasNoPlan catalogue
+
+abbrev pub start_outcome : Network → List ℕ → List ℕ → Option Parts → Outcome
+start_outcome network ar activity (Some plan) = at_other network (with_fresh network.other plan ar activity) []
+start_outcome network ar activity None = Refuses
+
+abbrev pub heard_outcome : Network → ControllerEvent → Option Controlling → Outcome
+heard_outcome network event (Some controller) = at_other network (with_run network.other (controller_run controller (event ∷ []))) []
+heard_outcome network event None = Refuses
+
+-- what waits for the device is handed over, and then what then waits for the controller: also what the device answered
+abbrev pub deliver_answer : Network → Controlling → Answer
+deliver_answer network controller =
+    let run = device_run network.station (frames_for_device network.other.to_device) in
+    let arriving = network.other.to_controller ++ run.frames in
+    let heard = controller_run controller (frames_for_controller arriving) in
+    record {
+      network = record {
+        station = run.station;
+        other = record { plan = network.other.plan; controller = Some heard.controller; to_device = heard.frames; to_controller = [] };
+      };
+      text = moved_line (length network.other.to_device) (length arriving) ++ state_line heard.controller.phase;
+    }
+
+abbrev pub deliver_outcome : Network → Option Controlling → Outcome
+deliver_outcome network (Some controller) = Answers (deliver_answer network controller)
+deliver_outcome network None = Refuses
+
+-- what a command does
+unfoldable pub said : Network → Command → Outcome
+said network (Frame bytes) = Answers (event_answer network (event.Frame (handed bytes)))
+said network Restart = Answers (restart_answer network)
+said network (Tick units) = Answers (tick_answer network units)
+said network Show = Answers (show_answer network)
+said network (Arm order) = Answers (unchanged network)
+said network (Input slot subslot bytes) = Answers (event_answer network (event.Input slot subslot (handed bytes)))
+said network (Alarm slot subslot bytes) = Answers (event_answer network (event.Alarm slot subslot (handed bytes)))
+said network (Config catalogue) = config_outcome network catalogue (plan_in catalogue)
+said network (Start ar activity) = start_outcome network ar activity network.other.plan
+said network (Give slot subslot bytes) = heard_outcome network (heard.Give slot subslot (handed bytes)) network.other.controller
+said network Stop = heard_outcome network heard.Stop network.other.controller
+said network Deliver = deliver_outcome network network.other.controller
+
+-- what comes of a line
+abbrev pub outcome_of : Network → Line → Outcome
+outcome_of network Skipped = Answers (unchanged network)
+outcome_of network (Asks command) = said network command
+outcome_of network Unfit = Refuses
+outcome_of network Unknown = Refuses
+
+-- ---- lines, one after another
+
+-- what a line prints, and then what comes after it
+abbrev pub then_told : Outcome → (Network → List ℕ) → List ℕ
+then_told (Answers answer) later = answer.text ++ later answer.network
+then_told Refuses later = []
+then_told (HasNoPlan catalogue) later = []
 
 -- what lines print, up to the first that is refused
-abbrev pub told : Station → List (List ℕ) → List ℕ
-told station [] = []
-told station (line ∷ lines) = then_told (answer_of station (meaning_of line)) (λ next. told next lines)
+abbrev pub told : Network → List (List ℕ) → List ℕ
+told network [] = []
+told network (line ∷ lines) = then_told (outcome_of network (meaning_of line)) (λ next. told next lines)
 
--- the number of a line that is refused, else what is found behind it
-abbrev pub number_or : Line → ℕ → Option ℕ → Option ℕ
-number_or Unfit n later = Some n
-number_or Unknown n later = Some n
-number_or Skipped n later = later
-number_or (Asks command) n later = later
+-- how lines end: all of them were answered, this one is none that a script may have there, or this catalogue has no plan
+pub data End : Type 0 where
+  AllDone : End
+  Refused : (number : ℕ) → End
+  Unplanned : (catalogue : List ℕ) → End
 
--- the number of the first line that is refused, where the first of these has the number n
-abbrev pub refused_from : ℕ → List (List ℕ) → Option ℕ
-refused_from n [] = None
-refused_from n (line ∷ lines) = number_or (meaning_of line) n (refused_from (n + 1) lines)
+-- how a line ends them, else how what is behind it does
+abbrev pub then_ended : Outcome → ℕ → (Network → End) → End
+then_ended (Answers answer) n later = later answer.network
+then_ended Refuses n later = Refused n
+then_ended (HasNoPlan catalogue) n later = Unplanned catalogue
+
+-- how lines end of which the first has the number n
+abbrev pub ended : ℕ → Network → List (List ℕ) → End
+ended n network [] = AllDone
+ended n network (line ∷ lines) = then_ended (outcome_of network (meaning_of line)) n (λ next. ended (n + 1) next lines)
 
 -- a command that orders a failure of the flash
 abbrev pub arms : Command → Bool
@@ -103,6 +181,11 @@ arms Show = false
 arms (Arm order) = true
 arms (Input slot subslot bytes) = false
 arms (Alarm slot subslot bytes) = false
+arms (Config catalogue) = false
+arms (Start ar activity) = false
+arms (Give slot subslot bytes) = false
+arms Stop = false
+arms Deliver = false
 
 -- a line that does
 abbrev pub is_order : Line → Bool
@@ -120,15 +203,18 @@ abbrev pub before_order : List (List ℕ) → List (List ℕ)
 before_order [] = []
 before_order (line ∷ lines) = if is_order (meaning_of line) then [] else line ∷ before_order lines
 
--- the demo device as it leaves the factory
+-- the demo device as it leaves the factory, and nobody at the other end
 abbrev pub factory_device : Station
 factory_device = demo_started factory_settings (capacity 4096)
+
+abbrev pub alone : Network
+alone = record { station = factory_device; other = nobody }
 
 -- what a script prints, up to the first line that orders a failure of the flash: what its calls of the flash do to later lines is
 -- not told
 unfoldable pub output_of : List ℕ → List ℕ
-output_of input = boot_line None ++ told factory_device (before_order (lines input))
+output_of input = boot_line None ++ told alone (before_order (lines input))
 
--- the number, from 1, of the first line that is refused, if it stands before that
-unfoldable pub refused_line : List ℕ → Option ℕ
-refused_line input = refused_from 1 (before_order (lines input))
+-- how it ends, if before that
+unfoldable pub end_of : List ℕ → End
+end_of input = ended 1 alone (before_order (lines input))

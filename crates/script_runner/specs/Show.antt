@@ -11,6 +11,11 @@ use Rattle.relations.specs.Exchanged.{output_in}
 use Rattle.relations.specs.Link.{Link}
 use Rattle.relations.specs.declared.phase.Phase.{Phase}
 use Rattle.relations.specs.declared.phase.Phase.TheVariants.{Started, Awaiting, Exchanging}
+use Rattle.controller_core.specs.declared.state.State.{State}
+use Rattle.controller_core.specs.declared.state.State.TheVariants.{Looking, Addressing, Connecting, Writing, Ending, Waiting, Ended}
+use Rattle.controller_core.specs.declared.state.State.TheVariants as controller
+use Rattle.controller_core.specs.State.{Controlling}
+use Rattle.controller_core.specs.Cause.{number_of}
 use Rattle.script_runner.specs.Text.{printed}
 
 -- a name, or '-' where there is none
@@ -77,3 +82,22 @@ shown running stored phase lamp =
     ++ text_line (codes "im4 ") running.im4
     ++ phase_line phase
     ++ lamp_line lamp
+
+-- what the controller is at
+abbrev pub state_word : State → List ℕ
+state_word Looking = codes "looking"
+state_word Addressing = codes "addressing"
+state_word Connecting = codes "connecting"
+state_word Writing = codes "writing"
+state_word Ending = codes "ending"
+state_word Waiting = codes "waiting"
+state_word controller.Exchanging = codes "exchanging"
+state_word (Ended cause) = codes "ended " ++ decimal (number_of cause)
+
+unfoldable pub state_line : State → List ℕ
+state_line state = printed (codes "state " ++ state_word state)
+
+-- if there is one
+abbrev pub controller_shown : Option Controlling → List ℕ
+controller_shown None = []
+controller_shown (Some controller) = state_line controller.phase

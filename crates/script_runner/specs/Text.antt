@@ -1,5 +1,5 @@
 -- The lines that are printed.
-use Rattle.std.specs.Prelude.{ℕ, List, [], ◌∷◌, ◌++◌, codes, Option, Some, None}
+use Rattle.std.specs.Prelude.{ℕ, List, [], ◌∷◌, ◌++◌, codes, decimal, Option, Some, None}
 use Rattle.std.specs.List.{flat_map}
 use Rattle.hex.specs.Hex.{encode_lower}
 use Rattle.settings_journal.specs.declared.journal.BootFault.{BootFault}
@@ -42,3 +42,7 @@ note_word Refused = codes "refused"
 -- what became of an event
 unfoldable pub note_line : Note → List ℕ
 note_line note = printed (codes "note " ++ note_word note)
+
+-- how many frames were handed over: to the device, and to the controller
+unfoldable pub moved_line : ℕ → ℕ → List ℕ
+moved_line to_device to_controller = printed (codes "moved " ++ decimal to_device ++ codes " " ++ decimal to_controller)

@@ -3,16 +3,24 @@ use Rattle.std.specs.Prelude.{◌≡◌, ◌<◌, ◌≤◌, ◌⊎◌, ℕ, tru
 use Rattle.std.specs.Io.KnownBytes.{Appends, Keeps}
 use Rattle.std.specs.Str.Lines.{lines}
 use Rattle.script_runner.specs.declared.fault.RunFault.{RunFault}
-use Rattle.script_runner.specs.declared.fault.RunFault.TheVariants.{Read, Write, Line, OutOfMemory, EndlessInput}
+use Rattle.script_runner.specs.declared.fault.RunFault.TheVariants.{Read, Write, Line, OutOfMemory, Config, EndlessInput}
 use Rattle.script_runner.specs.Output.{AppendsFront}
-use Rattle.script_runner.specs.Script.{output_of, refused_line, has_order}
+use Rattle.configurator.specs.declared.fault.PlanFault.{PlanFault}
+use Rattle.configurator.specs.Plan.{Refuses}
+use Rattle.script_runner.specs.Fault.{fault_of}
+use Rattle.script_runner.specs.Script.{End, AllDone, Refused, Unplanned, output_of, end_of, has_order}
+
+-- a catalogue has no plan for the fault that this is the number of
+abbrev pub IsUnplanned : List ℕ → RunFault → Type 0
+IsUnplanned catalogue fault = (plan : PlanFault) × Refuses catalogue plan × (fault ≡ fault_of plan)
 
 -- What comes of a script up to its first line that orders a failure of the flash: at the end, where there is no such line, all of
--- its output was written, at a line that is refused the output of the lines before it, and where a write failed or memory was
--- refused a front of the output.
+-- its output was written, at a line that is refused or a catalogue that has no plan the output of the lines before it, and where a
+-- write failed or memory was refused a front of the output.
 abbrev pub Plays : Option (List ℕ) → Option (List ℕ) → List ℕ → Result (Unit {0}) RunFault → Type 0
-Plays old new input (Ok done) = Appends old new (output_of input) × (refused_line input ≡ None) × (has_order (lines input) ≡ false)
-Plays old new input (Err (Line n)) = Appends old new (output_of input) × (refused_line input ≡ Some n)
+Plays old new input (Ok done) = Appends old new (output_of input) × (end_of input ≡ AllDone) × (has_order (lines input) ≡ false)
+Plays old new input (Err (Line n)) = Appends old new (output_of input) × (end_of input ≡ Refused n)
+Plays old new input (Err (Config n)) = Appends old new (output_of input) × (catalogue : List ℕ) × (end_of input ≡ Unplanned catalogue) × IsUnplanned catalogue (Config n)
 Plays old new input (Err Write) = AppendsFront old new (output_of input)
 Plays old new input (Err OutOfMemory) = AppendsFront old new (output_of input)
 Plays old new input (Err Read) = ⊥
@@ -21,7 +29,7 @@ Plays old new input (Err EndlessInput) = ⊥
 -- A line orders a failure of the flash and none before it is refused: all that these print was written, and then more.
 pub record PlaysOn (old new : Option (List ℕ)) (input : List ℕ) : Type 0 where
   pub ordered : has_order (lines input) ≡ true
-  pub unrefused : refused_line input ≡ None
+  pub unended : end_of input ≡ AllDone
   pub more : List ℕ
   pub appended : Appends old new (output_of input ++ more)
 
@@ -41,6 +49,7 @@ IsWhole old new input (Err EndlessInput) = Keeps old new × (limit < length inpu
 IsWhole old new input (Err OutOfMemory) = Unit {0}
 IsWhole old new input (Ok done) = length input ≤ limit
 IsWhole old new input (Err (Line n)) = length input ≤ limit
+IsWhole old new input (Err (Config n)) = length input ≤ limit
 IsWhole old new input (Err Write) = length input ≤ limit
 
 -- Of the same: what was written of its output.
@@ -50,6 +59,7 @@ IsTold old new input (Err EndlessInput) = Keeps old new
 IsTold old new input (Err OutOfMemory) = IsPlayed old new input (Err OutOfMemory)
 IsTold old new input (Ok done) = IsPlayed old new input (Ok done)
 IsTold old new input (Err (Line n)) = IsPlayed old new input (Err (Line n))
+IsTold old new input (Err (Config n)) = IsPlayed old new input (Err (Config n))
 IsTold old new input (Err Write) = IsPlayed old new input (Err Write)
 
 -- a fault of a script that was read
@@ -57,5 +67,6 @@ abbrev pub IsPlayFault : RunFault → Type 0
 IsPlayFault Read = ⊥
 IsPlayFault Write = Unit {0}
 IsPlayFault (Line n) = Unit {0}
+IsPlayFault (Config n) = Unit {0}
 IsPlayFault OutOfMemory = Unit {0}
 IsPlayFault EndlessInput = ⊥

@@ -4,7 +4,8 @@ ghost use Rattle.std.specs.List.{slice_split, list_any, position};
 ghost use Rattle.std.specs.Option.{option_map, option_copied};
 ghost use Rattle.std.specs.Str.Lines.{lines, strip_carriage_return};
 ghost use Rattle.hex.specs.Hex.{decode_of};
-ghost use Rattle.script_runner.specs.Line.{behind, AreWords, bytes_of, command_of, meaning_of, words_of, bare, with_one, with_two, with_three, ticks_of, mask_of, strike_of};
+ghost use Rattle.uuid.specs.Text.{parsed};
+ghost use Rattle.script_runner.specs.Line.{behind, AreWords, bytes_of, catalogue_in, command_of, meaning_of, words_of, bare, bare_of_both, with_one, with_two, with_three, ordered, start_of, ticks_of, mask_of, strike_of};
 ghost use Rattle.script_runner.specs.Numbers.{number_of};
 ghost use Rattle.script_runner.specs.Read.{command_read, line_read};
 
@@ -12,6 +13,7 @@ use crate::{digits, numbers};
 use flash_model::Order;
 use memchr::memchr;
 use std::alloc::AllocError;
+use uuid::Uuid;
 
 /// How many bytes a line may have, what ends it not counted.
 pub(crate) const LONGEST_LINE: usize = 65_536;
@@ -36,6 +38,16 @@ pub(crate) enum Command<'a> {
     Input(u16, u16, &'a [u8]),
     /// Raise an alarm of the submodule in this slot and subslot, with these octets.
     Alarm(u16, u16, &'a [u8]),
+    /// Make the plan of this catalogue, for the next controller.
+    Config(&'a [u8]),
+    /// Put a controller with this ARUUID and this activity at the other end.
+    Start(Uuid, Uuid),
+    /// Give the controller's output to the submodule in this slot and subslot.
+    Give(u16, u16, &'a [u8]),
+    /// Have the controller end the relation.
+    Stop,
+    /// Hand over the frames that wait: those for the device, then those for the controller.
+    Deliver,
 }
 
 /// What a line is.
@@ -130,7 +142,7 @@ pub(crate) fn words_in(line: &[u8]) -> Words<'_>
 
 /// What a line means. `buffer` is for the bytes of a frame.
 #[tactic(auto, unfolding(crate::specs::Line::meaning_of))]
-pub(crate) fn meaning<'a>(line: &[u8], buffer: &'a mut Vec<u8>) -> Result<Line<'a>, AllocError>
+pub(crate) fn meaning<'a>(line: &'a [u8], buffer: &'a mut Vec<u8>) -> Result<Line<'a>, AllocError>
     ensures { IfOk result (λ meaning. line_read meaning ≡ meaning_of line.now) }
 {
     if line.is_empty() {
@@ -142,9 +154,22 @@ pub(crate) fn meaning<'a>(line: &[u8], buffer: &'a mut Vec<u8>) -> Result<Line<'
     if line[0] == b'#' {
         return Ok(Line::Skipped);
     }
+    if let Some(catalogue) = catalogue_in(line) {
+        return Ok(Line::Asks(Command::Config(catalogue)));
+    }
     match asked_by(words_in(line), buffer)? {
         Some(command) => Ok(Line::Asks(command)),
         None => Ok(Line::Unknown),
+    }
+}
+
+/// The catalogue of a line `config`, which is the rest of the line and not empty.
+fn catalogue_in(line: &[u8]) -> Option<&[u8]>
+    ensures { option_copied result ≡ catalogue_in line.now }
+{
+    match line.strip_prefix(b"config ".as_slice()) {
+        Some(catalogue) if !catalogue.is_empty() => Some(catalogue),
+        _ => None,
     }
 }
 
@@ -178,6 +203,19 @@ fn bare(word: &[u8]) -> Option<Command<'static>>
         Some(Command::Restart)
     } else if word == b"show".as_slice() {
         Some(Command::Show)
+    } else {
+        bare_of_both(word)
+    }
+}
+
+/// The same of the words that a controller is needed for.
+fn bare_of_both(word: &[u8]) -> Option<Command<'static>>
+    ensures { option_map command_read result ≡ bare_of_both word.now }
+{
+    if word == b"deliver".as_slice() {
+        Some(Command::Deliver)
+    } else if word == b"stop".as_slice() {
+        Some(Command::Stop)
     } else {
         None
     }
@@ -216,6 +254,40 @@ fn with_two(
 ) -> Result<Option<Command<'static>>, AllocError>
     ensures { IfOk result (λ command. option_map command_read command ≡ with_two word.now first.now second.now) }
 {
+    if word == b"start".as_slice() {
+        return Ok(start(first, second));
+    }
+    ordered(word, first, second, buffer)
+}
+
+/// A controller with this ARUUID and this activity.
+fn start(ar: &[u8], activity: &[u8]) -> Option<Command<'static>>
+    ensures { option_map command_read result ≡ start_of (parsed ar.now) (parsed activity.now) }
+{
+    let ar = identifier(ar)?;
+    let activity = identifier(activity)?;
+    Some(Command::Start(ar, activity))
+}
+
+/// The UUID that a word spells, in one of its four forms.
+fn identifier(word: &[u8]) -> Option<Uuid>
+    ensures { result ≡ parsed word.now }
+{
+    match Uuid::try_parse_ascii(word) {
+        Ok(identifier) => Some(identifier),
+        Err(_) => None,
+    }
+}
+
+/// An order to the flash.
+fn ordered(
+    word: &[u8],
+    first: &[u8],
+    second: &[u8],
+    buffer: &mut Vec<u8>,
+) -> Result<Option<Command<'static>>, AllocError>
+    ensures { IfOk result (λ command. option_map command_read command ≡ ordered word.now (strike_of (number_of 4294967295 first.now) (mask_of (decode_of second.now)))) }
+{
     let Some(strike) = strike(first, second, buffer)? else {
         return Ok(None);
     };
@@ -251,6 +323,8 @@ fn with_three<'a>(
         Ok(Some(Command::Input(slot, subslot, bytes)))
     } else if word == b"alarm".as_slice() {
         Ok(Some(Command::Alarm(slot, subslot, bytes)))
+    } else if word == b"give".as_slice() {
+        Ok(Some(Command::Give(slot, subslot, bytes)))
     } else {
         Ok(None)
     }

@@ -3,11 +3,13 @@
 
 mod bytes;
 mod command;
+mod copies;
 mod demo;
 mod digits;
 mod fault;
 mod input;
 mod numbers;
+mod other_end;
 mod output;
 mod play;
 mod render;

@@ -1,11 +1,12 @@
 // The lines that are printed. Each function appends one of them to a text.
-ghost use Rattle.std.specs.Prelude.{◌≡◌, ◌≤◌, ◌++◌, length, OnOk, map};
+ghost use Rattle.std.specs.Prelude.{◌≡◌, ◌≤◌, ◌++◌, length, OnOk, decimal, map};
 ghost use Rattle.hex.specs.Hex.{encode_lower};
-ghost use Rattle.script_runner.specs.Text.{boot_line, out_line, out_lines, note_line, note_word};
+ghost use Rattle.script_runner.specs.Text.{boot_line, out_line, moved_line, out_lines, note_line, note_word};
 
 use crate::digits;
 use device_core::Note;
 use frame_codec::Frame;
+use itoa::Buffer;
 use settings_journal::BootFault;
 use std::alloc::AllocError;
 
@@ -74,4 +75,28 @@ fn word(note: Note) -> &'static [u8]
         Note::StaleCycle => b"stale-cycle",
         Note::Refused => b"refused",
     }
+}
+
+/// How many frames were handed over: to the device, and to the controller.
+#[tactic(auto, unfolding(crate::specs::Text::moved_line))]
+pub(crate) fn moved(
+    to_device: usize,
+    to_controller: usize,
+    text: &mut Vec<u8>,
+) -> Result<(), AllocError>
+    ensures { OnOk result (text.new.items ≡ text.old.items ++ moved_line to_device to_controller) }
+{
+    text.extend_from_slice(b"moved ")?;
+    count(to_device, text)?;
+    text.extend_from_slice(b" ")?;
+    count(to_controller, text)?;
+    text.extend_from_slice(b"\n")
+}
+
+/// A number of frames. This is no line of its own.
+fn count(frames: usize, text: &mut Vec<u8>) -> Result<(), AllocError>
+    ensures { OnOk result (text.new.items ≡ text.old.items ++ decimal frames) }
+{
+    let mut buffer = Buffer::new();
+    text.extend_from_slice(buffer.format(frames).as_bytes())
 }

@@ -1,18 +1,21 @@
 // What a run holds from line to line.
-ghost use Rattle.std.specs.Prelude.{◌≡◌, ◌⊎◌, ◌++◌, ℕ, true, false, [], IfErr, IfOk, OnOk, map, take};
+ghost use Rattle.std.specs.Prelude.{◌≡◌, ◌⊎◌, ◌++◌, ℕ, true, false, [], IfErr, IfOk, IsErr, MatchResult, OnOk, Ok, map, replicate, take};
 ghost use Rattle.pn_values.specs.declared.settings.Settings.{Settings};
 ghost use Rattle.flash_model.specs.Image.{erased};
 ghost use Rattle.flash_model.specs.Memory.{image_of, IsReliable};
 ghost use Rattle.settings_journal.specs.Image.{StartsWith, LeftByDevice};
 ghost use Rattle.device_frames.specs.declared.event.Event.TheVariants as event;
 ghost use Rattle.device_core.specs.Machine.{step_of};
+ghost use Rattle.controller_core.specs.declared.event.Event.TheVariants as heard;
 ghost use Rattle.script_runner.specs.Read.{line_read};
-ghost use Rattle.script_runner.specs.Script.{Station, demo_started, step_answer, ticked};
+ghost use Rattle.script_runner.specs.Ends.{Station, device_run};
+ghost use Rattle.script_runner.specs.Script.{demo_started, event_answer, handed, tick_answer};
 ghost use Rattle.script_runner.specs.Show.{module_shown, outputs_shown, part_shown};
-ghost use Rattle.script_runner.specs.Session.{Runs, IsStepped, IsDone, is_heard_off};
+ghost use Rattle.script_runner.specs.Session.{Runs, IsExchanged, IsRunOf, IsStepped, IsDone, at, is_heard_off};
 
 use crate::bytes::{copied, front};
 use crate::command::{self, Command, Line};
+use crate::other_end::OtherEnd;
 use crate::output::put;
 use crate::{RunFault, demo, render, show};
 use device_core::{Device, Event, Note};
@@ -23,12 +26,13 @@ use settings_journal::BootFault;
 use std::alloc::{AllocError, Global};
 use std::io::Write;
 use std::mem;
+use uuid::Uuid;
 
 /// The flash of the demo device, which is lent to it: it is large, and stays where it is.
-type DemoFlash<'a> = Lent<'a, MemoryFlash<4096>>;
+pub(crate) type DemoFlash<'a> = Lent<'a, MemoryFlash<4096>>;
 
 /// The demo device.
-type DemoDevice<'a> = Device<DemoFlash<'a>, 4096>;
+pub(crate) type DemoDevice<'a> = Device<DemoFlash<'a>, 4096>;
 
 /// The demo device as it runs, or why it did not start and what its flash holds.
 #[derive(Drop)]
@@ -104,30 +108,35 @@ impl<'a> Power<'a> {
     }
 }
 
-/// A run: the device, the last event that came from the network, the frames that the device sends at a time, and the text
-/// that a line prints.
+/// A run: the device, the other end, the last event that came from the network, the frames that the device sends at a time, and the
+/// text that a line prints.
 #[derive(Drop)]
 pub(crate) struct Session<'a> {
     power: Power<'a>,
+    other: OtherEnd,
     received: Event,
     outbox: Outbox,
     text: Vec<u8>,
 }
 
 impl<'a> Session<'a> {
-    ghost use Rattle.script_runner.specs.Line.{Frame, Restart, Tick, Show, Input, Alarm, meaning_of};
+    ghost use Rattle.script_runner.specs.Ends.{cleared, nobody};
+    ghost use Rattle.script_runner.specs.Line.{Command, Config, Restart, meaning_of};
     ghost use Rattle.script_runner.specs.Read.{command_read};
     ghost use Rattle.script_runner.specs.Output.{Grows};
-    ghost use Rattle.script_runner.specs.Script.{said, factory_device, arms, is_order};
-    ghost use Rattle.script_runner.specs.Session.{IsDemo, IsRunning, IsBack, Takes, TakesOff, GivesBack, Obeys, IsObeyed, is_off, refusal_of};
+    ghost use Rattle.script_runner.specs.Script.{arms, config_outcome, deliver_outcome, factory_device, heard_outcome, is_order, restart_answer, said, show_answer, start_outcome};
+    ghost use Rattle.script_runner.specs.Session.{Comes, IsDemo, IsLineFault, IsRunning, IsBack, IsUnplannedBy, Takes, TakesOff, GivesBack, Obeys, IsObeyed, is_off, refusal_of};
     ghost use Rattle.script_runner.specs.Text.{boot_line};
+    ghost use Rattle.configurator.specs.Plan.{plan_in};
 
-    /// The demo device over this flash, as it starts.
+    /// The demo device over this flash, as it starts, and nobody at the other end.
     pub(crate) fn new(alloc: Global, flash: &'a mut MemoryFlash<4096>) -> Session<'a>
-        ensures { IsReliable flash.old → image_of flash.old ≡ record { first = erased 4096; second = erased 4096 } → IsRunning factory_device result.power }
+        ensures runs { IsReliable flash.old → image_of flash.old ≡ record { first = erased 4096; second = erased 4096 } → IsRunning factory_device result.power }
+        ensures other { result.other ≡ nobody }
     {
         Session {
             power: Power::start(Lent::new(flash)),
+            other: OtherEnd::new(alloc),
             received: Event::Tick,
             outbox: Outbox::new(),
             text: Vec::new(alloc),
@@ -142,11 +151,11 @@ impl<'a> Session<'a> {
         buffer: &mut Vec<u8>,
         writer: &mut W,
     ) -> Result<bool, RunFault>
-        ensures faults { IfErr result (λ fault. (fault ≡ RunFault.Write) ⊎ (fault ≡ RunFault.OutOfMemory)) }
+        ensures faults { IfErr result IsLineFault }
         ensures takes { (station : Station) → IsRunning station self.old.power → is_order (meaning_of line.now) ≡ false →
-            Takes station (meaning_of line.now) (W.contents writer.old) (W.contents writer.new) self.new.power result }
+            Takes (at station self.old.other) (meaning_of line.now) (W.contents writer.old) (W.contents writer.new) self.new.power self.new.other result }
         ensures off { is_off self.old.power ≡ true →
-            TakesOff (meaning_of line.now) self.old.power self.new.power (W.contents writer.old) (W.contents writer.new) result }
+            TakesOff (meaning_of line.now) self.old.power self.old.other self.new.power self.new.other (W.contents writer.old) (W.contents writer.new) result }
         ensures demo { IsDemo self.old.power → IsDemo self.new.power }
         ensures grows { Grows (W.contents writer.old) (W.contents writer.new) }
     {
@@ -160,132 +169,159 @@ impl<'a> Session<'a> {
         let Line::Asks(command) = meaning else {
             return Ok(matches!(meaning, Line::Skipped));
         };
-        self.obey(command, writer)?;
-        Ok(true)
+        self.obey(command, writer)
     }
 
-    /// Does what a command asks for, and writes what it prints.
-    fn obey<W: Write>(&mut self, command: Command<'_>, writer: &mut W) -> Result<(), RunFault>
-        ensures faults { IfErr result (λ fault. (fault ≡ RunFault.Write) ⊎ (fault ≡ RunFault.OutOfMemory)) }
+    /// Does what a command asks for, and writes what it prints. Says whether it is one that a script may have here.
+    fn obey<W: Write>(&mut self, command: Command<'_>, writer: &mut W) -> Result<bool, RunFault>
+        ensures faults { IfErr result IsLineFault }
         ensures obeys { (station : Station) → IsRunning station self.old.power → arms (command_read command.entry) ≡ false →
-            Obeys (said station (command_read command.entry)) (W.contents writer.old) (W.contents writer.new) self.new.power result }
+            Obeys (said (at station self.old.other) (command_read command.entry)) (W.contents writer.old) (W.contents writer.new) self.new.power self.new.other result }
         ensures back { command_read command.entry ≡ Restart →
-            GivesBack self.old.power self.new.power (W.contents writer.old) (W.contents writer.new) result }
+            GivesBack self.old.power self.old.other self.new.power self.new.other (W.contents writer.old) (W.contents writer.new) result }
         ensures demo { IsDemo self.old.power → IsDemo self.new.power }
         ensures grows { Grows (W.contents writer.old) (W.contents writer.new) }
     {
         self.text.clear();
-        let Ok(()) = self.answer(command) else {
-            return Err(RunFault::OutOfMemory);
-        };
-        put(writer, self.text.as_slice())
+        if !self.answer(command)? {
+            return Ok(false);
+        }
+        put(writer, self.text.as_slice())?;
+        Ok(true)
     }
 
-    /// Does what a command asks for, and renders what it prints.
-    fn answer(&mut self, command: Command<'_>) -> Result<(), AllocError>
+    /// Does what a command asks for, and renders what it prints. Says whether it is one that a script may have here.
+    fn answer(&mut self, command: Command<'_>) -> Result<bool, RunFault>
         ensures obeys { (station : Station) → IsRunning station self.old.power → arms (command_read command.entry) ≡ false →
-            OnOk result (IsObeyed (said station (command_read command.entry)) self.new.power self.old.text.items self.new.text.items) }
-        ensures back { command_read command.entry ≡ Restart → IsBack self.old.power self.new.power }
+            IfOk result (λ is. Comes (said (at station self.old.other) (command_read command.entry)) self.new.power self.new.other self.old.text.items self.new.text.items is) }
+        ensures unplanned { IfErr result (λ fault. (fault ≡ RunFault.OutOfMemory) ⊎ IsUnplannedBy (command_read command.entry) fault) }
+        ensures back { command_read command.entry ≡ Restart → IsBack self.old.power self.new.power × (self.new.other ≡ cleared self.old.other) }
         ensures printed { command_read command.entry ≡ Restart →
-            OnOk result (self.new.text.items ≡ self.old.text.items ++ boot_line (refusal_of self.new.power)) }
+            IfOk result (λ is. (is ≡ true) × (self.new.text.items ≡ self.old.text.items ++ boot_line (refusal_of self.new.power))) }
         ensures demo { IsDemo self.old.power → IsDemo self.new.power }
     {
         match command {
-            Command::Frame(bytes) => self.hand_in(bytes),
-            Command::Input(slot, subslot, bytes) => self.give(slot, subslot, bytes),
-            Command::Alarm(slot, subslot, bytes) => self.alarm(slot, subslot, bytes),
-            Command::Restart => self.restart(),
-            Command::Tick(units) => self.tick(units),
-            Command::Show => self.show(),
+            Command::Frame(bytes) => always(self.hand_in(bytes)),
+            Command::Input(slot, subslot, bytes) => always(self.give(slot, subslot, bytes)),
+            Command::Alarm(slot, subslot, bytes) => always(self.alarm(slot, subslot, bytes)),
+            Command::Restart => always(self.restart()),
+            Command::Tick(units) => always(self.tick(units)),
+            Command::Show => always(self.show()),
             Command::Arm(order) => {
                 self.arm(order);
-                Ok(())
+                Ok(true)
             }
+            Command::Config(catalogue) => self.config(catalogue),
+            Command::Start(ar, activity) => if_there(self.start(ar, activity)),
+            Command::Give(slot, subslot, bytes) => if_there(self.hear(&output(slot, subslot, bytes))),
+            Command::Stop => if_there(self.hear(&controller_core::Event::Stop)),
+            Command::Deliver => if_there(self.deliver()),
         }
     }
 
     /// Hands bytes to the device, as from the network, at most 1,519 of them: no frame is so long.
-    #[tactic(auto, unfolding(crate::specs::Script::said))]
     fn hand_in(&mut self, bytes: &[u8]) -> Result<(), AllocError>
         ensures obeys { (station : Station) → IsRunning station self.old.power →
-            OnOk result (IsObeyed (said station (Frame bytes.now)) self.new.power self.old.text.items self.new.text.items) }
+            OnOk result (IsObeyed (event_answer (at station self.old.other) (event.Frame (handed bytes.now))) self.new.power self.new.other self.old.text.items self.new.text.items) }
         ensures demo { IsDemo self.old.power → IsDemo self.new.power }
     {
         match &mut self.power {
             Power::On(device) => {
                 receive(&mut self.received, bytes);
-                respond(device, &self.received, &mut self.outbox, &mut self.text)
+                respond(
+                    device,
+                    &self.received,
+                    &mut self.outbox,
+                    &mut self.other,
+                    &mut self.text,
+                )
             }
             Power::Off(_, _) | Power::Away => self.text.extend_from_slice(b"off\n"),
         }
     }
 
-    /// Gives the device the input of a submodule, at most 1,519 bytes: no input is so long.
-    #[tactic(auto, unfolding(crate::specs::Script::said))]
+    /// Gives a submodule its input, of at most 1,519 bytes: no input is so long.
     fn give(&mut self, slot: u16, subslot: u16, bytes: &[u8]) -> Result<(), AllocError>
         ensures obeys { (station : Station) → IsRunning station self.old.power →
-            OnOk result (IsObeyed (said station (Input slot subslot bytes.now)) self.new.power self.old.text.items self.new.text.items) }
+            OnOk result (IsObeyed (event_answer (at station self.old.other) (event.Input slot subslot (handed bytes.now))) self.new.power self.new.other self.old.text.items self.new.text.items) }
         ensures demo { IsDemo self.old.power → IsDemo self.new.power }
     {
         match &mut self.power {
             Power::On(device) => {
                 let event = Event::Input(slot, subslot, copied(front(bytes, 1519)));
-                respond(device, &event, &mut self.outbox, &mut self.text)
+                respond(
+                    device,
+                    &event,
+                    &mut self.outbox,
+                    &mut self.other,
+                    &mut self.text,
+                )
             }
             Power::Off(_, _) | Power::Away => self.text.extend_from_slice(b"off\n"),
         }
     }
 
     /// Raises an alarm at the device, of at most 1,519 bytes: none is so long.
-    #[tactic(auto, unfolding(crate::specs::Script::said))]
     fn alarm(&mut self, slot: u16, subslot: u16, bytes: &[u8]) -> Result<(), AllocError>
         ensures obeys { (station : Station) → IsRunning station self.old.power →
-            OnOk result (IsObeyed (said station (Alarm slot subslot bytes.now)) self.new.power self.old.text.items self.new.text.items) }
+            OnOk result (IsObeyed (event_answer (at station self.old.other) (event.Alarm slot subslot (handed bytes.now))) self.new.power self.new.other self.old.text.items self.new.text.items) }
         ensures demo { IsDemo self.old.power → IsDemo self.new.power }
     {
         match &mut self.power {
             Power::On(device) => {
                 let event = Event::Alarm(slot, subslot, copied(front(bytes, 1519)));
-                respond(device, &event, &mut self.outbox, &mut self.text)
+                respond(
+                    device,
+                    &event,
+                    &mut self.outbox,
+                    &mut self.other,
+                    &mut self.text,
+                )
             }
             Power::Off(_, _) | Power::Away => self.text.extend_from_slice(b"off\n"),
         }
     }
 
-    /// Takes the device's power away, and gives it back.
-    #[tactic(auto, unfolding(crate::specs::Script::said))]
+    /// Takes the device's power away, and gives it back. Frames that wait are lost with it.
     fn restart(&mut self) -> Result<(), AllocError>
         ensures obeys { (station : Station) → IsRunning station self.old.power →
-            OnOk result (IsObeyed (said station Restart) self.new.power self.old.text.items self.new.text.items) }
+            OnOk result (IsObeyed (restart_answer (at station self.old.other)) self.new.power self.new.other self.old.text.items self.new.text.items) }
         ensures back { IsBack self.old.power self.new.power }
+        ensures other { self.new.other ≡ cleared self.old.other }
         ensures printed { OnOk result (self.new.text.items ≡ self.old.text.items ++ boot_line (refusal_of self.new.power)) }
     {
         let power = mem::replace(&mut self.power, Power::Away);
         self.power = power.restart();
+        self.other.clear();
         render::boot(self.power.refusal(), &mut self.text)
     }
 
-    /// Lets units of time go by.
-    #[tactic(auto, unfolding(crate::specs::Script::said))]
+    /// Lets units of time go by at either end.
     fn tick(&mut self, units: u32) -> Result<(), AllocError>
         ensures obeys { (station : Station) → IsRunning station self.old.power →
-            OnOk result (IsObeyed (said station (Tick units)) self.new.power self.old.text.items self.new.text.items) }
+            OnOk result (IsObeyed (tick_answer (at station self.old.other) units) self.new.power self.new.other self.old.text.items self.new.text.items) }
         ensures demo { IsDemo self.old.power → IsDemo self.new.power }
     {
         match &mut self.power {
             Power::On(device) => {
-                ticks(device, units, &mut self.outbox, &mut self.text)?;
+                ticks(
+                    device,
+                    units,
+                    &mut self.outbox,
+                    &mut self.other,
+                    &mut self.text,
+                )?;
+                self.other.ticks(units)?;
                 render::note(Note::Done, &mut self.text)
             }
             Power::Off(_, _) | Power::Away => self.text.extend_from_slice(b"off\n"),
         }
     }
 
-    /// Shows the settings, the relation and the lamp.
-    #[tactic(auto, unfolding(crate::specs::Script::said))]
+    /// Shows the settings, the relation, the lamp, the outputs and, where there is one, what the controller is at.
     fn show(&mut self) -> Result<(), AllocError>
         ensures obeys { (station : Station) → IsRunning station self.old.power →
-            OnOk result (IsObeyed (said station Show) self.new.power self.old.text.items self.new.text.items) }
+            OnOk result (IsObeyed (show_answer (at station self.old.other)) self.new.power self.new.other self.old.text.items self.new.text.items) }
         ensures same { self.new.power ≡ self.old.power }
     {
         match &self.power {
@@ -298,7 +334,8 @@ impl<'a> Session<'a> {
                     lamp,
                     &mut self.text,
                 )?;
-                outputs(device, &mut self.text)
+                outputs(device, &mut self.text)?;
+                self.other.show(&mut self.text)
             }
             Power::Off(_, _) | Power::Away => self.text.extend_from_slice(b"off\n"),
         }
@@ -314,6 +351,91 @@ impl<'a> Session<'a> {
             Power::Away => {}
         }
     }
+
+    /// Makes the plan of a catalogue, for the next controller.
+    fn config(&mut self, catalogue: &[u8]) -> Result<bool, RunFault>
+        ensures obeys { (station : Station) → IsRunning station self.old.power →
+            IfOk result (Comes (config_outcome (at station self.old.other) catalogue.now (plan_in catalogue.now)) self.new.power self.new.other self.old.text.items self.new.text.items) }
+        ensures unplanned { IfErr result (λ fault. (fault ≡ RunFault.OutOfMemory) ⊎ IsUnplannedBy (Config catalogue.now) fault) }
+        ensures same { self.new.power ≡ self.old.power }
+    {
+        self.other.plan(catalogue)?;
+        always(self.text.extend_from_slice(b"plan ok\n"))
+    }
+
+    /// Puts a controller at the other end. Says whether there is a plan for it.
+    fn start(&mut self, ar: Uuid, activity: Uuid) -> Result<bool, AllocError>
+        ensures obeys { (station : Station) → IsRunning station self.old.power →
+            IfOk result (Comes (start_outcome (at station self.old.other) ar activity self.old.other.plan) self.new.power self.new.other self.old.text.items self.new.text.items) }
+        ensures same { self.new.power ≡ self.old.power }
+    {
+        if !self.other.start(ar, activity)? {
+            return Ok(false);
+        }
+        self.other.show(&mut self.text)?;
+        Ok(true)
+    }
+
+    /// Has the controller take an event of its application. Says whether there is a controller.
+    fn hear(&mut self, event: &controller_core::Event) -> Result<bool, AllocError>
+        ensures obeys { (station : Station) → IsRunning station self.old.power →
+            IfOk result (Comes (heard_outcome (at station self.old.other) event.now self.old.other.controller) self.new.power self.new.other self.old.text.items self.new.text.items) }
+        ensures same { self.new.power ≡ self.old.power }
+    {
+        if !self.other.take(event)? {
+            return Ok(false);
+        }
+        self.other.show(&mut self.text)?;
+        Ok(true)
+    }
+
+    /// Hands over what waits for the device, and then what waits for the controller. Says whether there is a controller.
+    fn deliver(&mut self) -> Result<bool, AllocError>
+        ensures obeys { (station : Station) → IsRunning station self.old.power →
+            IfOk result (Comes (deliver_outcome (at station self.old.other) self.old.other.controller) self.new.power self.new.other self.old.text.items self.new.text.items) }
+        ensures demo { IsDemo self.old.power → IsDemo self.new.power }
+    {
+        if !self.other.is_started() {
+            return Ok(false);
+        }
+        match &mut self.power {
+            Power::On(device) => exchange(
+                device,
+                &mut self.outbox,
+                &mut self.other,
+                &mut self.text,
+            )?,
+            Power::Off(_, _) | Power::Away => self.text.extend_from_slice(b"off\n")?,
+        }
+        Ok(true)
+    }
+}
+
+/// The result of what a script may have at any time.
+fn always(done: Result<(), AllocError>) -> Result<bool, RunFault>
+    ensures { MatchResult result (λ is. (is ≡ true) × (done ≡ Ok tt)) (λ fault. (fault ≡ RunFault.OutOfMemory) × IsErr done) }
+{
+    match done {
+        Ok(()) => Ok(true),
+        Err(_) => Err(RunFault::OutOfMemory),
+    }
+}
+
+/// The same of what a script may have where something is there.
+fn if_there(is: Result<bool, AllocError>) -> Result<bool, RunFault>
+    ensures { MatchResult result (λ there. is ≡ Ok there) (λ fault. (fault ≡ RunFault.OutOfMemory) × IsErr is) }
+{
+    match is {
+        Ok(there) => Ok(there),
+        Err(_) => Err(RunFault::OutOfMemory),
+    }
+}
+
+/// The event of an output that is given, of at most 1,519 bytes: none is so long.
+fn output(slot: u16, subslot: u16, bytes: &[u8]) -> controller_core::Event
+    ensures { result ≡ heard.Give slot subslot (handed bytes.now) }
+{
+    controller_core::Event::Give(slot, subslot, copied(front(bytes, 1519)))
 }
 
 /// The outputs of the submodules that have one.
@@ -385,34 +507,36 @@ fn receive(received: &mut Event, bytes: &[u8])
     }
 }
 
-/// Makes a step of the device, and renders the frames that it sends.
+/// Makes a step of the device, and sends its frames: they are rendered or, once there is a controller, wait for it.
 fn step(
     device: &mut DemoDevice<'_>,
     event: &Event,
     outbox: &mut Outbox,
+    other: &mut OtherEnd,
     text: &mut Vec<u8>,
 ) -> Result<Note, AllocError>
     ensures steps { (station : Station) → Runs station device.old →
-        IfOk result (λ note. IsStepped station (step_of [] station.device station.live event.now) device.new text.old.items text.new.items note) }
+        IfOk result (λ note. IsStepped station (step_of [] station.device station.live event.now) device.new other.old other.new text.old.items text.new.items note) }
     ensures same { device.new.station ≡ device.old.station }
 {
     let note = device.step(event, outbox);
-    render::outs(outbox.as_slice(), text)?;
+    other.send(outbox.as_slice(), text)?;
     Ok(note)
 }
 
-/// Makes a step of the device, and renders the frames that it sends and what became of the event, or that power was lost.
+/// Makes a step of the device, and renders what became of the event, or that power was lost.
 fn respond(
     device: &mut DemoDevice<'_>,
     event: &Event,
     outbox: &mut Outbox,
+    other: &mut OtherEnd,
     text: &mut Vec<u8>,
 ) -> Result<(), AllocError>
     ensures done { (station : Station) → Runs station device.old →
-        OnOk result (IsDone (step_answer station (step_of [] station.device station.live event.now)) device.new text.old.items text.new.items) }
+        OnOk result (IsDone (event_answer (at station other.old) event.now) device.new other.new text.old.items text.new.items) }
     ensures same { device.new.station ≡ device.old.station }
 {
-    let note = step(device, event, outbox, text)?;
+    let note = step(device, event, outbox, other, text)?;
     if device.flash().is_lost() {
         text.clear();
         return text.extend_from_slice(b"power lost\n");
@@ -420,21 +544,42 @@ fn respond(
     render::note(note, text)
 }
 
-/// Makes a step for each of some units of time, and renders the frames that it sends.
+/// Makes a step for each of some units of time, and sends the frames.
 fn ticks(
     device: &mut DemoDevice<'_>,
     units: u32,
     outbox: &mut Outbox,
+    other: &mut OtherEnd,
     text: &mut Vec<u8>,
 ) -> Result<(), AllocError>
     ensures ticked { (station : Station) → Runs station device.old →
-        OnOk result (IsDone (ticked units station) device.new text.old.items text.new.items) }
+        OnOk result (IsRunOf (device_run station (replicate units event.Tick)) device.new other.old other.new text.old.items text.new.items) }
     ensures same { device.new.station ≡ device.old.station }
 {
     let mut left = units;
     while left > 0 {
-        step(device, &Event::Tick, outbox, text)?;
+        step(device, &Event::Tick, outbox, other, text)?;
         left -= 1;
     }
     Ok(())
+}
+
+/// Hands over what waits at either end, and renders how much that was and what the controller is at, or that power was lost.
+fn exchange(
+    device: &mut DemoDevice<'_>,
+    outbox: &mut Outbox,
+    other: &mut OtherEnd,
+    text: &mut Vec<u8>,
+) -> Result<(), AllocError>
+    ensures done { (station : Station) → Runs station device.old →
+        OnOk result (IsExchanged (at station other.old) other.old.controller device.new other.new text.old.items text.new.items) }
+    ensures same { device.new.station ≡ device.old.station }
+{
+    let to_device = other.hand_over(device, outbox)?;
+    if device.flash().is_lost() {
+        return text.extend_from_slice(b"power lost\n");
+    }
+    let to_controller = other.deliver()?;
+    render::moved(to_device, to_controller, text)?;
+    other.show(text)
 }

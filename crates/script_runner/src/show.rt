@@ -1,8 +1,9 @@
 // The lines that show the settings, the relation and the lamp. Each function appends one of them to a text.
 ghost use Rattle.std.specs.Prelude.{◌≡◌, ◌++◌, ◌≤◌, length, OnOk, decimal};
-ghost use Rattle.script_runner.specs.Show.{name_line, suite_line, dotted, text_line, phase_line, phase_word, lamp_line, output_line, shown};
+ghost use Rattle.script_runner.specs.Show.{name_line, suite_line, dotted, text_line, phase_line, phase_word, lamp_line, output_line, shown, state_line, state_word};
 
 use crate::render::hex_digits;
+use controller_core::{Cause, State};
 use itoa::Buffer;
 use pn_values::{IpSuite, Settings, StationName};
 use relations::Phase;
@@ -70,7 +71,8 @@ fn octets(octets: [u8; 4], text: &mut Vec<u8>) -> Result<(), AllocError>
     number(u32::from(octets[3]), text)
 }
 
-fn number(number: u32, text: &mut Vec<u8>) -> Result<(), AllocError>
+/// A decimal number. This is no line of its own.
+pub(crate) fn number(number: u32, text: &mut Vec<u8>) -> Result<(), AllocError>
     ensures { OnOk result (text.new.items ≡ text.old.items ++ decimal number) }
 {
     let mut buffer = Buffer::new();
@@ -137,4 +139,37 @@ pub(crate) fn output(
     text.extend_from_slice(b" ")?;
     hex_digits(value, text)?;
     text.extend_from_slice(b"\n")
+}
+
+/// What the controller is at.
+#[tactic(auto, unfolding(crate::specs::Show::state_line))]
+pub(crate) fn state(state: State, text: &mut Vec<u8>) -> Result<(), AllocError>
+    ensures { OnOk result (text.new.items ≡ text.old.items ++ state_line state) }
+{
+    text.extend_from_slice(b"state ")?;
+    state_word(state, text)?;
+    text.extend_from_slice(b"\n")
+}
+
+/// A word, and behind it the number of the cause where there is one. This is no line of its own.
+fn state_word(state: State, text: &mut Vec<u8>) -> Result<(), AllocError>
+    ensures { OnOk result (text.new.items ≡ text.old.items ++ state_word state) }
+{
+    match state {
+        State::Looking => text.extend_from_slice(b"looking"),
+        State::Addressing => text.extend_from_slice(b"addressing"),
+        State::Connecting => text.extend_from_slice(b"connecting"),
+        State::Writing => text.extend_from_slice(b"writing"),
+        State::Ending => text.extend_from_slice(b"ending"),
+        State::Waiting => text.extend_from_slice(b"waiting"),
+        State::Exchanging => text.extend_from_slice(b"exchanging"),
+        State::Ended(cause) => ended(cause, text),
+    }
+}
+
+fn ended(cause: Cause, text: &mut Vec<u8>) -> Result<(), AllocError>
+    ensures { OnOk result (text.new.items ≡ text.old.items ++ state_word (State.Ended cause)) }
+{
+    text.extend_from_slice(b"ended ")?;
+    number(u32::from(cause.number()), text)
 }
