@@ -1,6 +1,7 @@
 pub mod AccessPoints
 pub mod Catalogues
 pub mod Fault
+pub mod Kept
 pub mod Modules
 pub mod Projects
 pub mod Reader

@@ -3,6 +3,7 @@ ghost use Rattle.std.specs.Prelude.{◌≡◌, IfOk, IfErr, List};
 ghost use Rattle.serde_json.specs.View.{view};
 ghost use Rattle.catalogue.specs.Reader.{Reads};
 ghost use Rattle.catalogue.specs.Catalogues.{Catalogue, Found, Refuses, identity, catalogue};
+ghost use Rattle.catalogue.specs.Kept.{IsInRange};
 
 use crate::access_point::access_point;
 use crate::entry::list;
@@ -79,6 +80,7 @@ pub fn read_tree(alloc: Global, tree: &Value) -> Result<Catalogue, TreeFault>
 /// Reads a catalogue. The first fault in the order of keys counts.
 pub fn read(alloc: Global, text: &[u8]) -> Result<Catalogue, CatalogueFault>
     ensures found { IfOk result (Found text.now) }
+    ensures kept { IfOk result IsInRange }
     ensures refused { IfErr result (Refuses text.now) }
 {
     let tree = match Value::from_slice(alloc, text) {

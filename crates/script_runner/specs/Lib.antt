@@ -10,3 +10,4 @@ pub mod Ends
 pub mod Script
 pub mod Told
 pub mod Session
+pub mod Planned

@@ -11,6 +11,7 @@ mod input;
 mod numbers;
 mod other_end;
 mod output;
+mod plan;
 mod play;
 mod render;
 mod session;
@@ -18,4 +19,5 @@ mod show;
 mod whole;
 
 pub use fault::RunFault;
+pub use plan::plan_text;
 pub use whole::run;

@@ -1,0 +1,203 @@
+-- A catalogue that is read is in its ranges.
+use Rattle.std.proofs.Common.{subst, if◌then◌else◌, ◌≡◌, ◌≢◌, ◌≤◌, ◌∙◌, ◌++◌, ◌==◌, ◌||◌, ℕ, refl, sym, ap, codes, List, [], ◌∷◌, length, Bool, true, false, cond, Option, Some, None, Result, Ok, Err}
+use Rattle.std.specs.List.{AllByRecursion, list_any}
+use Rattle.std.specs.Str.{bytes_eq}
+use Rattle.std.specs.Option.{ok_or}
+use Rattle.std.proofs.lemmas.Bool.{eqb-true, eqb-false}
+use Rattle.serde_json.specs.Data.{Data}
+use Rattle.wire.proofs.Fields.{bind_ok, ok_is}
+use Rattle.catalogue.specs.declared.fault.TreeFault.{TreeFault}
+use Rattle.catalogue.specs.declared.fault.TreeFault.TheVariants.{Number}
+use Rattle.catalogue.specs.declared.submodule.ParameterItem.{ParameterItem}
+use Rattle.catalogue.specs.Reader.{◌>>=◌, member, number_at, text_at, list_at, whole_at}
+use Rattle.catalogue.specs.Submodules.{Submodule, has_index, has_subslot, io_of, parameter, submodule}
+use Rattle.catalogue.specs.Modules.{Module, has_id, module_item, submodules_of}
+use Rattle.catalogue.specs.Slots.{Record, Slot, length_of, octets_at, of_length, parameters_of, record_item, records_of, slot_item}
+use Rattle.catalogue.specs.AccessPoints.{AccessPoint, access_point, reference, slots_at}
+use Rattle.catalogue.specs.Projects.{Project, controller, kept_by, project, reduction, station}
+use Rattle.catalogue.specs.Catalogues.{Catalogue, catalogue, identity}
+use Rattle.catalogue.specs.Kept.{AreApart, AreShort, AreSlotsShort, IsInRange, IsKept}
+use Rattle.catalogue.proofs.Within.{all_behind, list_keeps, list_of, number_within, passed, there, went_on}
+
+-- ---- submodules
+
+parameter_short : (before : List ParameterItem) (value : ParameterItem) (tree : Data) → parameter before tree ≡ Ok value → value.length ≤ 64
+unfolding parameter
+parameter_short before value tree e =
+    let a = bind_ok (number_at (codes "Index") 0 32767 tree) _ value e in
+    let b = went_on (has_index a.0 before) Number _ value a.2 in
+    let c = bind_ok (number_at (codes "Length") 1 64 tree) _ value b.1 in
+    subst (λ (item : ParameterItem). item.length ≤ 64) (ok_is {F = TreeFault} _ value c.2) (number_within (codes "Length") 1 64 tree c.0 c.1).1
+
+-- the subslot of a submodule is new, and its parameter records are short
+record IsRead (before : List Submodule) (value : Submodule) : Type 0 where
+  new : has_subslot value.subslot before ≡ false
+  short : AllByRecursion (λ item. item.length ≤ 64) value.parameters
+
+submodule_read : (before : List Submodule) (value : Submodule) (tree : Data) → submodule before tree ≡ Ok value → IsRead before value
+unfolding submodule
+submodule_read before value tree e =
+    let a = bind_ok (number_at (codes "Subslot") 1 36863 tree) _ value e in
+    let b = went_on (has_subslot a.0 before) Number _ value a.2 in
+    let c = bind_ok (number_at (codes "SubmoduleIdentNumber") 0 4294967295 tree) _ value b.1 in
+    let d = bind_ok (io_of tree) _ value c.2 in
+    let f = bind_ok (list_at (codes "ParameterRecordDataItem") parameter tree) _ value d.2 in
+    subst (IsRead before) (ok_is {F = TreeFault} _ value f.2) (record {
+      new = b.0;
+      short = list_of parameter (λ item. item.length ≤ 64) parameter_short (codes "ParameterRecordDataItem") tree f.0 f.1;
+    })
+
+-- a submodule behind others that is apart of them
+apart_behind : (before : List Submodule) (value : Submodule) → AreApart before → has_subslot value.subslot before ≡ false → AreApart (before ++ value ∷ [])
+apart_behind [] value apart new = (tt, tt)
+apart_behind (entry ∷ entries) value apart new =
+    let n = neither (entry.subslot == value.subslot) (has_subslot value.subslot entries) new in
+    (all_behind (λ (other : Submodule). other.subslot ≢ entry.subslot) entries value apart.0 (λ e. eqb-false entry.subslot value.subslot n.0 (sym e)), apart_behind entries value apart.1 n.1)
+  where
+    neither : (a b : Bool) → (a || b) ≡ false → (a ≡ false) × (b ≡ false)
+    neither true b e = absurd cc
+    neither false b e = (refl, e)
+
+-- the submodules at a key are apart
+pub submodules_apart : (tree : Data) (found : List Submodule) → list_at (codes "VirtualSubmoduleItem") submodule tree ≡ Ok found → AreApart found
+submodules_apart tree found e =
+    list_keeps submodule AreApart (λ before value tree kept e. apart_behind before value kept (submodule_read before value tree e).new) (codes "VirtualSubmoduleItem") tree found tt e
+
+pub submodules_short : (tree : Data) (found : List Submodule) → list_at (codes "VirtualSubmoduleItem") submodule tree ≡ Ok found → AreShort found
+submodules_short tree found e =
+    list_of submodule (λ entry. AllByRecursion (λ item. item.length ≤ 64) entry.parameters) (λ before value tree e. (submodule_read before value tree e).short) (codes "VirtualSubmoduleItem") tree found e
+
+-- ---- modules
+
+pub record IsModule (value : Module) : Type 0 where
+  pub apart : AreApart value.submodules
+  pub short : AreShort value.submodules
+
+module_read : (before : List Module) (value : Module) (tree : Data) → module_item before tree ≡ Ok value → IsModule value
+unfolding module_item
+module_read before value tree e =
+    let a = bind_ok (text_at (codes "ID") tree) _ value e in
+    let b = went_on (has_id a.0 before) Number _ value a.2 in
+    let c = bind_ok (number_at (codes "ModuleIdentNumber") 1 4294967295 tree) _ value b.1 in
+    let d = bind_ok (list_at (codes "VirtualSubmoduleItem") submodule tree) _ value c.2 in
+    subst IsModule (ok_is {F = TreeFault} _ value d.2) (record { apart = submodules_apart tree d.0 d.1; short = submodules_short tree d.0 d.1 })
+
+pub modules_read : (tree : Data) (found : List Module) → list_at (codes "ModuleItem") module_item tree ≡ Ok found → AllByRecursion IsModule found
+modules_read tree found e = list_of module_item IsModule module_read (codes "ModuleItem") tree found e
+
+pub modules_apart : (modules : List Module) → AllByRecursion IsModule modules → AllByRecursion (λ entry. AreApart entry.submodules) modules
+modules_apart [] all = tt
+modules_apart (entry ∷ entries) all = (all.0.apart, modules_apart entries all.1)
+
+-- ---- records
+
+some_is : {A : Type 0} (x y : A) → Some x ≡ Some y → x ≡ y
+some_is x y e = cc
+
+submodules_of_short : (id : List ℕ) (modules : List Module) → AllByRecursion IsModule modules → AreShort (submodules_of id modules)
+submodules_of_short id [] all = tt
+submodules_of_short id (entry ∷ entries) all = either (bytes_eq entry.id id) (submodules_of_short id entries all.1)
+  where
+    either : (b : Bool) → AreShort (submodules_of id entries) → AreShort (if b then entry.submodules else submodules_of id entries)
+    either true others = all.0.short
+    either false others = others
+
+parameters_of_short : (subslot : ℕ) (submodules : List Submodule) (found : List ParameterItem) → AreShort submodules → parameters_of subslot submodules ≡ Some found
+    → AllByRecursion (λ item. item.length ≤ 64) found
+parameters_of_short subslot [] found short e = absurd cc
+parameters_of_short subslot (entry ∷ entries) found short e = either (entry.subslot == subslot) (parameters_of_short subslot entries found short.1) e
+  where
+    either : (b : Bool) → (parameters_of subslot entries ≡ Some found → AllByRecursion (λ item. item.length ≤ 64) found) → (if b then Some entry.parameters else parameters_of subslot entries) ≡ Some found → AllByRecursion (λ item. item.length ≤ 64) found
+    either true others e = subst (AllByRecursion (λ (item : ParameterItem). item.length ≤ 64)) (some_is entry.parameters found e) short.0
+    either false others e = others e
+
+length_of_short : (index : ℕ) (items : List ParameterItem) (size : ℕ) → AllByRecursion (λ item. item.length ≤ 64) items → length_of index items ≡ Some size → size ≤ 64
+length_of_short index [] size short e = absurd cc
+length_of_short index (entry ∷ entries) size short e = either (entry.index == index) (length_of_short index entries size short.1) e
+  where
+    either : (b : Bool) → (length_of index entries ≡ Some size → size ≤ 64) → (if b then Some entry.length else length_of index entries) ≡ Some size → size ≤ 64
+    either true others e = subst (λ (n : ℕ). n ≤ 64) (some_is entry.length size e) short.0
+    either false others e = others e
+
+record_short : (submodules : List Submodule) → AreShort submodules → (before : List Record) (value : Record) (tree : Data) → record_item submodules tree ≡ Ok value → length value.octets ≤ 64
+unfolding record_item
+record_short submodules short before value tree e =
+    let a = bind_ok (number_at (codes "Subslot") 1 36863 tree) _ value e in
+    let b = bind_ok (ok_or (parameters_of a.0 submodules) Number) _ value a.2 in
+    let c = bind_ok (number_at (codes "Index") 0 32767 tree) _ value b.2 in
+    let d = bind_ok (ok_or (length_of c.0 b.0) Number) _ value c.2 in
+    let f = bind_ok (octets_at (codes "Data") tree >>= of_length d.0) _ value d.2 in
+    let g = bind_ok (octets_at (codes "Data") tree) (of_length d.0) f.0 f.1 in
+    let h = passed (length g.0 == d.0) Number g.0 f.0 g.2 in
+    let size = length_of_short c.0 b.0 d.0 (parameters_of_short a.0 submodules b.0 short (there _ Number b.0 b.1)) (there _ Number d.0 d.1) in
+    subst (λ (item : Record). length item.octets ≤ 64) (ok_is {F = TreeFault} _ value f.2)
+    (subst (λ (octets : List ℕ). length octets ≤ 64) h.1 (subst (λ (n : ℕ). n ≤ 64) (sym (eqb-true (length g.0) d.0 h.0)) size))
+
+slot_short : (modules : List Module) → AllByRecursion IsModule modules → (before : List Slot) (value : Slot) (tree : Data) → slot_item modules tree ≡ Ok value
+    → AllByRecursion (λ item. length item.octets ≤ 64) value.records
+unfolding slot_item
+slot_short modules all before value tree e =
+    let a = bind_ok (whole_at (codes "Slot") tree) _ value e in
+    let b = bind_ok (text_at (codes "ModuleItemTarget") tree) _ value a.2 in
+    let c = bind_ok (records_of modules b.0 tree) _ value b.2 in
+    subst (λ (item : Slot). AllByRecursion (λ (record_of : Record). length record_of.octets ≤ 64) item.records) (ok_is {F = TreeFault} _ value c.2)
+    (list_of (λ _ entry. record_item (submodules_of b.0 modules) entry) (λ (item : Record). length item.octets ≤ 64)
+    (record_short (submodules_of b.0 modules) (submodules_of_short b.0 modules all)) (codes "Records") tree c.0 c.1)
+
+-- ---- the whole
+
+reduction_within : (clock least : ℕ) (tree : Data) (n : ℕ) → reduction clock least tree ≡ Ok n → (1 ≤ n) × (n ≤ 512)
+unfolding reduction
+reduction_within clock least tree n e =
+    let a = bind_ok (number_at (codes "ReductionRatio") 1 512 tree) (kept_by clock least) n e in
+    let b = went_on _ Number _ n a.2 in
+    subst (λ (k : ℕ). (1 ≤ k) × (k ≤ 512)) (ok_is {F = TreeFault} a.0 n b.1) (number_within (codes "ReductionRatio") 1 512 tree a.0 a.1)
+
+project_kept : (least : ℕ) (modules : List Module) (tree : Data) (found : Project) → AllByRecursion IsModule modules → project least modules tree ≡ Ok found → IsKept found
+unfolding project
+project_kept least modules tree found all e =
+    let a = bind_ok (station tree) _ found e in
+    let b = bind_ok (controller tree) _ found a.2 in
+    let c = bind_ok (number_at (codes "SendClockFactor") 1 128 tree) _ found b.2 in
+    let d = bind_ok (reduction c.0 least tree) _ found c.2 in
+    let f = bind_ok (number_at (codes "DataHoldFactor") 1 7680 tree) _ found d.2 in
+    let g = bind_ok (list_at (codes "Slots") (λ _ entry. slot_item modules entry) tree) _ found f.2 in
+    let clock = number_within (codes "SendClockFactor") 1 128 tree c.0 c.1 in
+    let ratio = reduction_within c.0 least tree d.0 d.1 in
+    let hold = number_within (codes "DataHoldFactor") 1 7680 tree f.0 f.1 in
+    subst IsKept (ok_is {F = TreeFault} _ found g.2) (record {
+      clock_least = clock.0;
+      clock_greatest = clock.1;
+      ratio_least = ratio.0;
+      ratio_greatest = ratio.1;
+      hold_least = hold.0;
+      hold_greatest = hold.1;
+      short = list_of (λ _ entry. slot_item modules entry) (λ entry. AllByRecursion (λ item. length item.octets ≤ 64) entry.records) (slot_short modules all) (codes "Slots") tree g.0 g.1;
+    })
+
+point_apart : (tree : Data) (found : AccessPoint) → access_point tree ≡ Ok found → AreApart found.submodules
+unfolding access_point
+point_apart tree found e =
+    let a = bind_ok (number_at (codes "ModuleIdentNumber") 1 4294967295 tree) _ found e in
+    let b = bind_ok (slots_at (codes "PhysicalSlots") tree) _ found a.2 in
+    let c = bind_ok (text_at (codes "DNS_CompatibleName") tree) _ found b.2 in
+    let d = bind_ok (number_at (codes "MinDeviceInterval") 1 65536 tree) _ found c.2 in
+    let f = bind_ok (list_at (codes "VirtualSubmoduleItem") submodule tree) _ found d.2 in
+    let g = bind_ok (list_at (codes "ModuleItemRef") (λ _ entry. reference entry) tree) _ found f.2 in
+    subst (λ (point : AccessPoint). AreApart point.submodules) (ok_is {F = TreeFault} _ found g.2) (submodules_apart tree f.0 f.1)
+
+pub in_range : (tree : Data) (found : Catalogue) → catalogue tree ≡ Ok found → IsInRange found
+unfolding catalogue
+in_range tree found e =
+    let a = bind_ok (identity tree) _ found e in
+    let b = bind_ok (member (codes "DeviceAccessPointItem") tree) _ found a.2 in
+    let c = bind_ok (access_point b.0) _ found b.2 in
+    let d = bind_ok (list_at (codes "ModuleItem") module_item tree) _ found c.2 in
+    let f = bind_ok (member (codes "Project") tree) _ found d.2 in
+    let g = bind_ok (project c.0.least_interval d.0 f.0) _ found f.2 in
+    let all = modules_read tree d.0 d.1 in
+    subst IsInRange (ok_is {F = TreeFault} _ found g.2) (record {
+      project = project_kept c.0.least_interval d.0 f.0 g.0 all g.1;
+      point = point_apart b.0 c.0 c.1;
+      modules = modules_apart d.0 all;
+    })

@@ -1,0 +1,76 @@
+-- What is read is in its range.
+use Rattle.std.proofs.Common.{subst, if◌then◌else◌, ◌≡◌, ◌≢◌, ◌≤◌, ◌∙◌, ◌++◌, ◌&&◌, ℕ, refl, sym, ap, List, [], ◌∷◌, length, Bool, true, false, cond, Option, Some, None, Result, Ok, Err, nat_le, nat_lt}
+use Rattle.std.specs.List.{AllByRecursion, list_any}
+use Rattle.std.specs.Str.{bytes_eq}
+use Rattle.std.specs.Option.{ok_or}
+use Rattle.std.proofs.lemmas.Bool.{and_parts, leb-true, eqb-false}
+use Rattle.serde_json.specs.Data.{Data, Items, no_items, item}
+use Rattle.wire.proofs.Fields.{bind_ok, ok_is}
+use Rattle.catalogue.specs.declared.fault.TreeFault.{TreeFault}
+use Rattle.catalogue.specs.declared.fault.TreeFault.TheVariants.{Number}
+use Rattle.catalogue.specs.Reader.{◌>>=◌, Reader, each, whole, within, number, number_at, member, list_at, items_of}
+
+-- what a test let through
+pub passed : {F A : Type 0} (b : Bool) (fault : F) (x y : A) → cond b (Ok x) (Err fault) ≡ Ok y → (b ≡ true) × (x ≡ y)
+passed true fault x y e = (refl, ok_is x y e)
+passed false fault x y e = absurd cc
+
+-- what a test did not stop
+pub went_on : {F A : Type 0} (b : Bool) (fault : F) (r : Result A F) (y : A) → cond b (Err fault) r ≡ Ok y → (b ≡ false) × (r ≡ Ok y)
+went_on true fault r y e = absurd cc
+went_on false fault r y e = (refl, e)
+
+-- what was there
+pub there : {F A : Type 0} (o : Option A) (fault : F) (y : A) → ok_or o fault ≡ Ok y → o ≡ Some y
+there None fault y e = absurd cc
+there (Some x) fault y e = cc
+
+within_range : (least greatest m n : ℕ) → within least greatest m ≡ Ok n → (least ≤ n) × (n ≤ greatest)
+within_range least greatest m n e =
+    let g = passed (nat_le least m && nat_le m greatest) Number m n e in
+    let p = and_parts (nat_le least m) (nat_le m greatest) g.0 in
+    subst (λ k. (least ≤ k) × (k ≤ greatest)) g.1 (leb-true least m p.0, leb-true m greatest p.1)
+
+in_range : (least greatest : ℕ) (tree : Data) (n : ℕ) → number least greatest tree ≡ Ok n → (least ≤ n) × (n ≤ greatest)
+unfolding number
+in_range least greatest tree n e =
+    let a = bind_ok (whole tree) (within least greatest) n e in
+    within_range least greatest a.0 n a.2
+
+-- a number at a key is in its range
+pub number_within : (key : List ℕ) (least greatest : ℕ) (tree : Data) (n : ℕ) → number_at key least greatest tree ≡ Ok n → (least ≤ n) × (n ≤ greatest)
+unfolding number_at
+number_within key least greatest tree n e =
+    let a = bind_ok (member key tree) (number least greatest) n e in
+    in_range least greatest a.0 n a.2
+
+-- what each entry keeps of those before it, the list has
+pub each_keeps : {A : Type 0} (reader : List A → Reader A) (P : List A → Type 0)
+    → ((before : List A) (value : A) (tree : Data) → P before → reader before tree ≡ Ok value → P (before ++ value ∷ []))
+    → (before : List A) (trees : Items) (found : List A) → P before → each reader before trees ≡ Ok found → P found
+each_keeps reader P step before no_items found kept e = subst P (ok_is {F = TreeFault} before found e) kept
+each_keeps reader P step before (item tree trees) found kept e =
+    let a = bind_ok (reader before tree) (λ value. each reader (before ++ value ∷ []) trees) found e in
+    each_keeps reader P step (before ++ a.0 ∷ []) trees found (step before a.0 tree kept a.1) a.2
+
+-- the same of the list at a key
+pub list_keeps : {A : Type 0} (reader : List A → Reader A) (P : List A → Type 0)
+    → ((before : List A) (value : A) (tree : Data) → P before → reader before tree ≡ Ok value → P (before ++ value ∷ []))
+    → (key : List ℕ) (tree : Data) (found : List A) → P [] → list_at key reader tree ≡ Ok found → P found
+unfolding list_at
+list_keeps reader P step key tree found kept e =
+    let a = bind_ok (items_of key tree) (each reader []) found e in
+    each_keeps reader P step [] a.0 found kept a.2
+
+-- ---- lists
+
+pub all_behind : {A : Type 0} (P : A → Type 0) (xs : List A) (x : A) → AllByRecursion P xs → P x → AllByRecursion P (xs ++ x ∷ [])
+all_behind P [] x all one = (one, tt)
+all_behind P (y ∷ ys) x all one = (all.0, all_behind P ys x all.1 one)
+
+-- what each entry is, all are
+pub list_of : {A : Type 0} (reader : List A → Reader A) (P : A → Type 0)
+    → ((before : List A) (value : A) (tree : Data) → reader before tree ≡ Ok value → P value)
+    → (key : List ℕ) (tree : Data) (found : List A) → list_at key reader tree ≡ Ok found → AllByRecursion P found
+list_of reader P step key tree found e =
+    list_keeps reader (AllByRecursion P) (λ before value tree kept e. all_behind P before value kept (step before value tree e)) key tree found tt e

@@ -1,0 +1,82 @@
+-- The plan of a catalogue, and of a text.
+use Rattle.std.specs.Prelude.{◌≡◌, ◌⊎◌, ℕ, List, map, true, false, Result, Ok, Err}
+use Rattle.std.specs.List.{flat_map}
+use Rattle.plans.specs.declared.parts.Parts.{Parts}
+use Rattle.plans.specs.declared.parts.PlanRecord.{PlanRecord}
+use Rattle.plans.specs.declared.plan.TooLong.TheVariants as long
+use Rattle.plans.specs.Plan.{plan_of}
+use Rattle.catalogue.specs.declared.fault.CatalogueFault.{CatalogueFault}
+use Rattle.catalogue.specs.Slots.{Record, Slot}
+use Rattle.catalogue.specs.Catalogues.{Catalogue, Found, Refuses}
+use Rattle.configurator.specs.declared.addresses.Addresses.{Addresses}
+use Rattle.configurator.specs.declared.fault.PlanFault.{PlanFault}
+use Rattle.configurator.specs.declared.fault.PlanFault.TheVariants.{NotAllowedInSlot, TooManySlots, FrameTooLong, ConnectTooLong, Name, Address}
+use Rattle.configurator.specs.Fault.{of_catalogue}
+use Rattle.configurator.specs.Addresses.{AreAddresses, AreNamed}
+use Rattle.configurator.specs.Allowed.{are_allowed}
+use Rattle.configurator.specs.Few.{are_few}
+use Rattle.configurator.specs.Standing.{plugged}
+
+-- a record that is written into a slot
+abbrev pub record_at : ℕ → Record → PlanRecord
+record_at slot item = record { slot = slot; subslot = item.subslot; index = item.index; «data» = record { items = item.octets } }
+
+-- all records, in the order of the text
+abbrev pub records_of : List Slot → List PlanRecord
+records_of slots = flat_map (λ entry. map (record_at entry.slot) entry.records) slots
+
+-- what a plan is made of
+abbrev pub parts_of : Catalogue → Addresses → Parts
+parts_of found addresses = record {
+  station = record {
+    name = found.project.station.name;
+    suite = addresses.suite;
+    vendor_id = found.identity.vendor_id;
+    device_id = found.identity.device_id;
+  };
+  controller = record { name = found.project.controller.name; mac = addresses.mac; address = addresses.address };
+  times = record {
+    send_clock_factor = found.project.send_clock_factor;
+    reduction_ratio = found.project.reduction_ratio;
+    data_hold_factor = found.project.data_hold_factor;
+  };
+  real = record { modules = record { items = plugged found } };
+  records = record { items = records_of found.project.slots };
+}
+
+-- ---- what is judged over the whole
+
+-- names and addresses are valid
+pub record IsAddressed (found : Catalogue) : Type 0 where
+  pub named : AreNamed found.project
+  pub addresses : Addresses
+  pub addressed : AreAddresses found.project addresses
+
+-- parts are those of a catalogue whose names, addresses, slots and numbers of things are valid
+pub record ArePartsOf (found : Catalogue) (parts : Parts) : Type 0 where
+  pub addressed : IsAddressed found
+  pub allowed : are_allowed found ≡ true
+  pub few : are_few found ≡ true
+  pub made : parts ≡ parts_of found addressed.addresses
+
+-- the plan of a catalogue, or its first fault: a name, an address, a module that is not allowed in its slot, too many things, a
+-- frame or the Connect too long
+abbrev pub Judged : Catalogue → Result Parts PlanFault → Type 0
+Judged found (Ok parts) = ArePartsOf found parts × (plan_of parts ≡ Ok parts)
+Judged found (Err Name) = ¬ AreNamed found.project
+Judged found (Err Address) = AreNamed found.project × ((addresses : Addresses) → ¬ AreAddresses found.project addresses)
+Judged found (Err NotAllowedInSlot) = IsAddressed found × (are_allowed found ≡ false)
+Judged found (Err TooManySlots) = IsAddressed found × (are_allowed found ≡ true) × (are_few found ≡ false)
+Judged found (Err FrameTooLong) = (parts : Parts) × ArePartsOf found parts × (plan_of parts ≡ Err long.Frame)
+Judged found (Err ConnectTooLong) = (parts : Parts) × ArePartsOf found parts × (plan_of parts ≡ Err long.Connect)
+Judged found (Err fault) = ⊥
+
+-- a text is JSON of a tree that is a catalogue of this plan
+abbrev pub IsPlanOf : List ℕ → Parts → Type 0
+IsPlanOf text parts = (found : Catalogue) × Found text found × Judged found (Ok parts)
+
+-- a text is refused as it is read; or it is a catalogue whose first fault over the whole is this
+abbrev pub IsRefused : List ℕ → PlanFault → Type 0
+IsRefused text fault =
+    ((found : CatalogueFault) × Refuses text found × (fault ≡ of_catalogue found))
+    ⊎ ((found : Catalogue) × Found text found × Judged found (Err fault))

@@ -1,0 +1,7 @@
+-- What the code holds of a module that stands in a slot.
+use Rattle.configurator.specs.declared.station.Standing.{Standing}
+use Rattle.configurator.specs.Standing.{Stands}
+
+-- the module
+abbrev pub seen : Standing → Stands
+seen standing = record { ident = standing.ident; submodules = standing.submodules.now }

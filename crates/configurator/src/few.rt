@@ -1,0 +1,111 @@
+//! Whether there are not too many slots, submodules and records.
+ghost use Rattle.std.specs.Prelude.{◌≡◌, nat_le, length};
+ghost use Rattle.std.specs.List.{list_all, range_with_len};
+ghost use Rattle.configurator.specs.Few.{are_few, are_records_few, is_low, is_small, is_small_if};
+ghost use Rattle.configurator.specs.Standing.{stands_in};
+
+use crate::station::standing_in;
+use catalogue::{Catalogue, ModuleReference, SlotItem, SubmoduleItem};
+
+/// Whether each submodule has at most two parameter records.
+fn have_few_parameters(submodules: &[SubmoduleItem]) -> bool
+    ensures { result ≡ list_all (λ entry. nat_le (length entry.parameters) 2) submodules.now }
+{
+    for submodule in submodules {
+        if submodule.parameters.len() > 2 {
+            return false;
+        }
+    }
+    true
+}
+
+/// Whether a module has at most four submodules, and each at most two parameter records.
+fn is_small(submodules: &[SubmoduleItem]) -> bool
+    ensures { result ≡ is_small submodules.now }
+{
+    submodules.len() <= 4 && have_few_parameters(submodules)
+}
+
+/// Whether what stands in a slot is small.
+fn is_slot_small(catalogue: &Catalogue, slot: u16) -> bool
+    ensures { result ≡ is_small_if (stands_in catalogue.now slot) }
+{
+    match standing_in(catalogue, slot) {
+        Some(standing) => is_small(standing.submodules),
+        None => true,
+    }
+}
+
+/// Whether what stands in each slot is small.
+fn are_slots_small(catalogue: &Catalogue) -> bool
+    ensures { result ≡ list_all (λ slot. is_small_if (stands_in catalogue.now slot)) (range_with_len 0 16) }
+{
+    for slot in 0..16u16 {
+        if !is_slot_small(catalogue, slot) {
+            return false;
+        }
+    }
+    true
+}
+
+/// Whether all slots into which something is put are at most 15.
+fn are_slots_low(slots: &[SlotItem]) -> bool
+    ensures { result ≡ list_all (λ entry. nat_le entry.slot 15) slots.now }
+{
+    for entry in slots {
+        if entry.slot > 15 {
+            return false;
+        }
+    }
+    true
+}
+
+/// Whether a module is fixed in no slot above 15.
+fn is_low(reference: &ModuleReference) -> bool
+    ensures { result ≡ is_low reference.now }
+{
+    for slot in reference.fixed_in.as_slice() {
+        if *slot > 15 {
+            return false;
+        }
+    }
+    true
+}
+
+/// The same of all modules.
+fn are_fixed_low(references: &[ModuleReference]) -> bool
+    ensures { result ≡ list_all is_low references.now }
+{
+    for reference in references {
+        if !is_low(reference) {
+            return false;
+        }
+    }
+    true
+}
+
+/// Whether there are at most 32 records.
+fn are_records_few(slots: &[SlotItem]) -> bool
+    ensures { result ≡ are_records_few slots.now }
+{
+    let mut left = 32;
+    for entry in slots {
+        if entry.records.len() > left {
+            return false;
+        }
+        left -= entry.records.len();
+    }
+    true
+}
+
+/// Whether there are not too many slots, submodules and records.
+#[tactic(auto, unfolding(crate::specs::Few::are_few))]
+pub(crate) fn are_few(catalogue: &Catalogue) -> bool
+    ensures { result ≡ are_few catalogue.now }
+{
+    let slots = catalogue.project.slots.as_slice();
+    are_slots_low(slots)
+        && are_fixed_low(catalogue.access_point.references.as_slice())
+        && are_slots_small(catalogue)
+        && are_records_few(slots)
+}

@@ -1,0 +1,16 @@
+//! From the text of a catalogue to the plan of a station: what is judged of the whole, what is plugged in which slot, and the records
+//! that are written.
+#![tactic(auto)]
+
+mod addresses;
+mod allowed;
+mod fault;
+mod few;
+mod names;
+mod plan;
+mod records;
+mod station;
+mod submodules;
+
+pub use fault::PlanFault;
+pub use plan::plan_from_json;

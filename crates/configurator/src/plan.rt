@@ -1,0 +1,87 @@
+//! From a text to a plan.
+ghost use Rattle.std.specs.Prelude.{◌≡◌, IfOk, IfErr, result_map};
+ghost use Rattle.pn_values.specs.StationName.{IsStationName};
+ghost use Rattle.catalogue.specs.Kept.{IsInRange};
+ghost use Rattle.plans.specs.Parts.{AreParts};
+ghost use Rattle.configurator.specs.Addresses.{AreAddresses, AreNamed};
+ghost use Rattle.configurator.specs.Few.{are_few};
+ghost use Rattle.configurator.specs.Planned.{IsPlanOf, IsRefused, Judged, parts_of};
+
+use crate::PlanFault;
+use crate::addresses::{Addresses, addresses_of};
+use crate::allowed::are_allowed;
+use crate::few::are_few;
+use crate::names::{Names, names_of};
+use crate::records::records_of;
+use crate::station::real_of;
+use catalogue::{Catalogue, read};
+use plans::{Controller, Parts, Plan, Station, Times};
+use std::alloc::Global;
+
+/// What a plan is made of.
+fn parts_of(catalogue: &Catalogue, names: Names, addresses: Addresses) -> Parts
+    requires kept { IsInRange catalogue.now }
+    requires station { names.station ≡ catalogue.now.project.station.name }
+    requires controller { names.controller ≡ catalogue.now.project.controller.name }
+    requires few { are_few catalogue.now ≡ true }
+    ensures { result ≡ parts_of catalogue.now addresses }
+{
+    let project = &catalogue.project;
+    Parts {
+        station: Station {
+            name: names.station,
+            suite: addresses.suite,
+            vendor_id: catalogue.identity.vendor_id,
+            device_id: catalogue.identity.device_id,
+        },
+        controller: Controller {
+            name: names.controller,
+            mac: addresses.mac,
+            address: addresses.address,
+        },
+        times: Times {
+            send_clock_factor: project.send_clock_factor,
+            reduction_ratio: project.reduction_ratio,
+            data_hold_factor: project.data_hold_factor,
+        },
+        real: real_of(catalogue),
+        records: records_of(project.slots.as_slice()),
+    }
+}
+
+/// The plan of a catalogue, or its first fault over the whole.
+fn plan_of(catalogue: &Catalogue) -> Result<Plan, PlanFault>
+    requires { IsInRange catalogue.now }
+    ensures { Judged catalogue.now result }
+{
+    let names = match names_of(&catalogue.project) {
+        Some(names) => names,
+        None => return Err(PlanFault::Name),
+    };
+    let addresses = match addresses_of(&catalogue.project) {
+        Some(addresses) => addresses,
+        None => return Err(PlanFault::Address),
+    };
+    if !are_allowed(catalogue) {
+        return Err(PlanFault::NotAllowedInSlot);
+    }
+    if !are_few(catalogue) {
+        return Err(PlanFault::TooManySlots);
+    }
+    match Plan::new(parts_of(catalogue, names, addresses)) {
+        Ok(plan) => Ok(plan),
+        Err(fault) => Err(PlanFault::from(fault)),
+    }
+}
+
+/// The plan of the catalogue that a text of JSON is (the keys are GSDML's), or its first fault.
+pub fn plan_from_json(alloc: Global, text: &[u8]) -> Result<Plan, PlanFault>
+    ensures planned { IfOk result (IsPlanOf text.now) }
+    ensures refused { IfErr result (IsRefused text.now) }
+{
+    let catalogue = match read(alloc, text) {
+        Ok(catalogue) => catalogue,
+        Err(fault) => return Err(PlanFault::from(fault)),
+    };
+    plan_of(&catalogue)
+}
