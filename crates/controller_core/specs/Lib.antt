@@ -1,7 +1,6 @@
-pub mod Numbers
-pub mod Live
+pub mod Cause
+pub mod State
 pub mod Answers
 pub mod Connect
 pub mod Alarms
 pub mod Machine
-pub mod Steps

@@ -1,5 +1,5 @@
 -- What an event makes of a controller, and what it sends then (IEC 61158-6-10, 5.2; protocol machine CMCTL).
-use Rattle.std.specs.Prelude.{◌+◌, ◌*◌, ◌%◌, ◌==◌, ◌&&◌, ◌++◌, ℕ, Bool, true, false, List, [], ◌∷◌, length, unwrap_or, if◌then◌else◌, replicate, Option, Some, None, Result, Ok, Err}
+use Rattle.std.specs.Prelude.{◌+◌, ◌*◌, ◌%◌, ◌==◌, ◌&&◌, ◌++◌, ℕ, Bool, true, false, List, [], ◌∷◌, length, map, unwrap_or, if◌then◌else◌, replicate, Option, Some, None, Result, Ok, Err}
 use Rattle.pn_values.specs.declared.mac.Mac.{Mac}
 use Rattle.frame_codec.specs.declared.udp.Caller.{Caller}
 use Rattle.dcp_core.specs.Response.{Answered}
@@ -47,15 +47,15 @@ use Rattle.controller_frames.specs.declared.request.Request.TheVariants as asks
 use Rattle.controller_frames.specs.Heard.{Heard, Nothing, Answers, Responds, Calls, Alarms, heard_of}
 use Rattle.controller_frames.specs.Heard.{Cyclic as Comes}
 use Rattle.controller_frames.specs.Requests.{writing_from}
-use Rattle.controller_frames.specs.Sent.{Sent, Requests, Agrees, Cycles, Confirms, Replies, Ends, ready_answer}
+use Rattle.controller_frames.specs.Sent.{Sent, Requests, Agrees, Cycles, Confirms, Replies, Ends, bytes_of, ready_answer}
 use Rattle.controller_core.specs.declared.connect.Found.{Found}
 use Rattle.controller_core.specs.declared.state.Cause.{Cause}
 use Rattle.controller_core.specs.declared.state.Cause.TheVariants as cause
 use Rattle.controller_core.specs.declared.state.State.{State}
 use Rattle.controller_core.specs.declared.state.State.TheVariants.{Looking, Addressing, Connecting, Writing, Ending, Waiting, Exchanging, Ended}
-use Rattle.controller_core.specs.declared.step.Event.{Event}
-use Rattle.controller_core.specs.declared.step.Event.TheVariants.{Frame, Tick as Ticks, Give, Stop}
-use Rattle.controller_core.specs.Live.{Live}
+use Rattle.controller_core.specs.declared.event.Event.{Event}
+use Rattle.controller_core.specs.declared.event.Event.TheVariants.{Frame, Tick as Ticks, Give, Stop}
+use Rattle.controller_core.specs.State.{Controlling, Live, with_live}
 use Rattle.controller_core.specs.Answers.{is_addressed, is_answer, is_found, is_ready, is_right, is_set_answer}
 use Rattle.controller_core.specs.Connect.{found_in, is_whole, nothing}
 use Rattle.controller_core.specs.Alarms.{ack_of, header_of, is_alarm, kept_alarm}
@@ -366,3 +366,26 @@ first plan = record {
   alarms = unheard 1 3;
   alarm = None;
 }
+
+-- the controller of a plan, with this ARUUID and this activity
+abbrev pub fresh : Parts → List ℕ → List ℕ → Controlling
+fresh plan ar activity = record { setup = record { plan = plan; ar = ar; activity = activity }; live = first plan }
+
+-- its opening frame: the Identify
+unfoldable pub opening_of : Controlling → List ℕ
+opening_of controlling = bytes_of controlling.setup (Requests controlling.live.device asks.Identify)
+
+-- ---- a step
+
+-- the controller then, and the frames
+pub record Stepped : Type 0 where
+  pub controller : Controlling
+  pub frames : List (List ℕ)
+
+-- what a turn is of a controller
+abbrev pub stepped : Controlling → Turn → Stepped
+stepped old turn = record { controller = with_live old turn.live; frames = map (bytes_of old.setup) turn.sent }
+
+-- an event, to a controller: it hangs on the octets of a frame, and on what the controller keeps
+unfoldable pub step_of : Controlling → Event → Stepped
+step_of old event = stepped old (turn_of old.setup old.live event)

@@ -3,7 +3,7 @@ ghost use Rattle.std.specs.Prelude.{◌≡◌, ◌==◌, ◌&&◌, ◌++◌, ◌
 ghost use Rattle.arrayvec.specs.ArrayVec.{array_vec_len};
 ghost use Rattle.controller_frames.specs.Sent.{bytes_of};
 ghost use Rattle.controller_core.specs.Alarms.{ack_of, header_of, is_alarm};
-ghost use Rattle.controller_core.specs.Live.{with_live};
+ghost use Rattle.controller_core.specs.State.{with_live};
 ghost use Rattle.controller_core.specs.Machine.{ack_now, behind_data, confirming, noticed, over, reply_of, taken};
 ghost use Rattle.pn_alarms.specs.Format.{is_long};
 ghost use Rattle.pn_alarms.specs.Receiver.{taken_as};

@@ -1,5 +1,5 @@
 // What the answer to a Connect holds (IEC 61158-6-10, 5.2.4).
-ghost use Rattle.std.specs.Prelude.{◌≡◌, ◌×◌};
+ghost use Rattle.std.specs.Prelude.{◌≡◌};
 ghost use Rattle.controller_core.specs.Connect.{found_in, is_whole, nothing, with_block, with_iocr};
 
 use block_codec::{Block, IocrBlockRes, read_block};

@@ -1,8 +1,7 @@
 //! The controller.
 ghost use Rattle.std.specs.Prelude.{◌≡◌, ◌≤◌, IfSome, length, option_map};
 ghost use Rattle.cyclic_exchange.specs.Process.{value_at};
-ghost use Rattle.controller_frames.specs.Sent.{Requests, bytes_of};
-ghost use Rattle.controller_core.specs.Machine.{first, first_cyclic, interval_of, route_of};
+ghost use Rattle.controller_core.specs.Machine.{first_cyclic, fresh, interval_of, opening_of, route_of};
 
 use crate::State;
 use crate::kept::KeptAlarm;
@@ -56,10 +55,10 @@ pub struct Controller {
 
 impl Model for Controller {
     ghost use Rattle.std.specs.Prelude.{◌<◌, option_map};
-    ghost use Rattle.controller_core.specs.Live.{Controlled};
+    ghost use Rattle.controller_core.specs.State.{Controlling};
     ghost use Rattle.controller_core.specs.Alarms.{alarm_in};
 
-    ghost Value = { Controlled };
+    ghost Value = { Controlling };
 
     ghost view = { λ controller. record {
       setup = controller.setup;
@@ -141,8 +140,7 @@ impl Controller {
     /// The controller of a plan, with the ARUUID of its relation, which is not zero, and the activity of its calls. Its opening frame
     /// counts as sent.
     pub fn new(plan: Plan, ar: Uuid, activity: Uuid) -> Controller
-        ensures setup { result.setup ≡ record { plan = plan; ar = ar; activity = activity } }
-        ensures live { result.live ≡ first plan }
+        ensures { result ≡ fresh plan ar activity }
     {
         let mut exchange = CyclicExchange::new();
         open(&mut exchange, &plan);
@@ -161,8 +159,9 @@ impl Controller {
     }
 
     /// The Identify with which it begins.
+    #[tactic(auto, unfolding(crate::specs::Machine::opening_of))]
     pub fn opening(&self) -> Frame
-        ensures { (device : Mac) → result.items ≡ bytes_of self.now.setup (Requests device Request.Identify) }
+        ensures { result.items ≡ opening_of self.now }
     {
         let mut outbox = Outbox::new();
         send_request(&self.setup, self.device, Request::Identify, &mut outbox);

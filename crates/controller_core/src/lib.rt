@@ -9,11 +9,11 @@ mod alarms;
 mod answers;
 mod connect;
 mod controller;
+mod event;
 mod kept;
 mod state;
 mod step;
 
 pub use controller::Controller;
-pub use controller_frames::Request;
+pub use event::Event;
 pub use state::{Cause, State};
-pub use step::Event;

@@ -1,6 +1,6 @@
 // How far a controller is, and why it ended.
 ghost use Rattle.std.specs.Prelude.{◌≡◌};
-ghost use Rattle.controller_core.specs.Numbers.{number_of};
+ghost use Rattle.controller_core.specs.Cause.{number_of};
 
 /// Why a controller ended.
 #[derive(Clone, Copy, Debug, PartialEq, Eq)]

@@ -9,9 +9,8 @@ ghost use Rattle.controller_frames.specs.Sent.{bytes_of};
 ghost use Rattle.controller_frames.specs.Told.{told};
 ghost use Rattle.controller_core.specs.Answers.{is_answer, is_ready};
 ghost use Rattle.controller_core.specs.Connect.{nothing, found_in as all_found};
-ghost use Rattle.controller_core.specs.Live.{with_live};
-ghost use Rattle.controller_core.specs.Machine.{acks_of, addressed, alarmed, answered, asking, called, come, connected, connected_by, decided, done, due_frames, ended_by, found, given, is_again, judged, later, outputs_of, readied, ready_in as block_of_ready, related_by, released, requests_of, responded, stopped, ticked, turned, where_due, writing};
-ghost use Rattle.controller_core.specs.Steps.{Steps};
+ghost use Rattle.controller_core.specs.State.{with_live};
+ghost use Rattle.controller_core.specs.Machine.{acks_of, addressed, alarmed, answered, asking, called, come, connected, connected_by, decided, done, due_frames, ended_by, found, given, is_again, judged, later, outputs_of, readied, ready_in as block_of_ready, related_by, released, requests_of, responded, step_of, stopped, ticked, turned, where_due, writing};
 
 use crate::alarms::{header_of, is_alarm};
 use crate::answers::{
@@ -20,7 +19,7 @@ use crate::answers::{
 };
 use crate::connect::{Found, found_in};
 use crate::controller::route_of;
-use crate::{Cause, Controller, State};
+use crate::{Cause, Controller, Event, State};
 use block_codec::{AlarmNotification, ControlBlock};
 use controller_frames::{
     Hearing, Request, heard, send_alarm_ack, send_alarm_end, send_outputs, send_ready_answer,
@@ -31,19 +30,6 @@ use frame_codec::{Bytes, Caller, Outbox};
 use pn_alarms::{Abort, Header, Notice, PduType};
 use pn_values::Mac;
 use rpc_core::{Call, Response};
-
-/// What happens to a controller.
-#[derive(Drop)]
-pub enum Event {
-    /// These bytes came from the network. Of a longer byte string its first 1,519 bytes stand here, which are refused alike.
-    Frame(Bytes),
-    /// A unit of 31.25 microseconds is over.
-    Tick,
-    /// The application gives the output of the submodule in this slot and subslot.
-    Give(u16, u16, Bytes),
-    /// The application stops the controller.
-    Stop,
-}
 
 /// SessionKey of the relation.
 const SESSION_KEY: u16 = 1;
@@ -56,8 +42,10 @@ const SECOND: u32 = 32_000;
 
 impl Controller {
     /// One step: the box is emptied, and the frames that the event sends are put into it.
+    #[tactic(auto, unfolding(crate::specs::Machine::step_of))]
     pub fn step(&mut self, event: &Event, outbox: &mut Outbox)
-        ensures { Steps self.old event.now (map (λ frame. frame.items) outbox.new.items) self.new }
+        ensures state { self.new ≡ (step_of self.old event.now).controller }
+        ensures frames { map (λ frame. frame.items) outbox.new.items ≡ (step_of self.old event.now).frames }
     {
         outbox.clear();
         match event {

@@ -23,10 +23,10 @@ pub record Live : Type 0 where
   pub alarm : Option AlarmNotification
 
 -- a controller: what it was set up with, and what changes
-pub record Controlled : Type 0 where
+pub record Controlling : Type 0 where
   pub setup : Setup
   pub live : Live
 
 -- the same controller, of which this is kept
-abbrev pub with_live : Controlled → Live → Controlled
-with_live controlled live = record controlled { live = live }
+abbrev pub with_live : Controlling → Live → Controlling
+with_live controlling live = record controlling { live = live }
