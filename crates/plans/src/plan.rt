@@ -137,7 +137,8 @@ impl Plan {
 
     /// The records, in the order in which they are written.
     pub fn records(&self) -> &[PlanRecord]
-        ensures { result.now ≡ self.now.records.items }
+        ensures value { result.now ≡ self.now.records.items }
+        ensures few { length result.now ≤ 32 }
     {
         self.parts.records.as_slice()
     }

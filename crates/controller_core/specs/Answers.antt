@@ -1,0 +1,75 @@
+-- Which answers a controller wants.
+use Rattle.std.specs.Prelude.{◌==◌, ◌&&◌, ◌++◌, ℕ, Bool, true, false, nat_eq, List, Option, Some, None}
+use Rattle.std.specs.Cmp.Lexicographic.{pointwise}
+use Rattle.std.specs.Int.{w16, to_be_bytes}
+use Rattle.dcp_core.specs.declared.kind.Kind.TheVariants.{NameOfStation, DeviceId, IpSuite}
+use Rattle.dcp_core.specs.declared.request.Service.{Service}
+use Rattle.dcp_core.specs.declared.request.Service.TheVariants.{Get, Set, Identify}
+use Rattle.dcp_core.specs.Response.{Answered}
+use Rattle.dcp_core.specs.Answered.{value_among}
+use Rattle.dcp_core.specs.Identify.{suite_bytes}
+use Rattle.rpc_core.specs.declared.header.Header.{Header}
+use Rattle.connect_blocks.specs.declared.control.ControlBlock.{ControlBlock}
+use Rattle.plans.specs.declared.parts.Parts.{Parts}
+use Rattle.plans.specs.declared.parts.Station.{Station}
+use Rattle.controller_frames.specs.declared.setup.Setup.{Setup}
+use Rattle.controller_frames.specs.declared.request.Request.{Request}
+use Rattle.controller_frames.specs.declared.request.Request.TheVariants as asks
+use Rattle.controller_frames.specs.Requests.{sequence_of}
+
+-- ---- of DCP
+
+abbrev pub is_identify : Service → Bool
+is_identify Identify = true
+is_identify Get = false
+is_identify Set = false
+
+abbrev pub is_set : Service → Bool
+is_set Set = true
+is_set Get = false
+is_set Identify = false
+
+-- whether there is a value, and it is this
+abbrev pub is_told : List ℕ → Option (List ℕ) → Bool
+is_told wanted (Some value) = pointwise nat_eq value wanted
+is_told wanted None = false
+
+-- an answer to the Identify, of the station that has the plan's name
+abbrev pub is_found : Parts → Answered → Bool
+is_found plan answer =
+    is_identify answer.service && (answer.xid == 1 && is_told plan.station.name (value_among NameOfStation answer.blocks))
+
+-- VendorID and DeviceID
+abbrev pub ident_bytes : Station → List ℕ
+ident_bytes station = to_be_bytes w16 station.vendor_id ++ to_be_bytes w16 station.device_id
+
+-- whether it is the device of the plan, and whether it has the plan's IP suite
+abbrev pub is_right : Parts → Answered → Bool
+is_right plan answer = is_told (ident_bytes plan.station) (value_among DeviceId answer.blocks)
+
+abbrev pub is_addressed : Parts → Answered → Bool
+is_addressed plan answer = is_told (suite_bytes plan.station.suite) (value_among IpSuite answer.blocks)
+
+-- an answer to the Set of the IP suite
+abbrev pub is_set_answer : Answered → Bool
+is_set_answer answer = is_set answer.service && answer.xid == 2
+
+-- ---- of calls
+
+-- whether what is asked is asked by a call
+abbrev pub is_call : Request → Bool
+is_call asks.Identify = false
+is_call asks.Address = false
+is_call asks.Connect = true
+is_call (asks.Write number) = true
+is_call asks.PrmEnd = true
+is_call (asks.Release sequence) = true
+
+-- a response to the call that asks this: of the activity of the controller, and of its number
+abbrev pub is_answer : Setup → Request → Header → Bool
+is_answer setup request header =
+    is_call request && (pointwise nat_eq header.activity setup.activity && header.sequence == sequence_of setup.plan request)
+
+-- an ApplicationReady of the relation
+abbrev pub is_ready : Setup → ControlBlock → Bool
+is_ready setup block = pointwise nat_eq block.ar_uuid setup.ar && block.session_key == 1

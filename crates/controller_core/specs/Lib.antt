@@ -1,0 +1,6 @@
+pub mod Cause
+pub mod State
+pub mod Answers
+pub mod Connect
+pub mod Alarms
+pub mod Machine

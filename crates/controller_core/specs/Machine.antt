@@ -1,0 +1,391 @@
+-- What an event makes of a controller, and what it sends then (IEC 61158-6-10, 5.2; protocol machine CMCTL).
+use Rattle.std.specs.Prelude.{◌+◌, ◌*◌, ◌%◌, ◌==◌, ◌&&◌, ◌++◌, ℕ, Bool, true, false, List, [], ◌∷◌, length, map, unwrap_or, if◌then◌else◌, replicate, Option, Some, None, Result, Ok, Err}
+use Rattle.pn_values.specs.declared.mac.Mac.{Mac}
+use Rattle.frame_codec.specs.declared.udp.Caller.{Caller}
+use Rattle.dcp_core.specs.Response.{Answered}
+use Rattle.dcp_core.specs.Answered.{is_agreed}
+use Rattle.rpc_core.specs.Call.{Asked as Call}
+use Rattle.rpc_core.specs.Response.{Answered as Response, is_done}
+use Rattle.connect_blocks.specs.declared.control.ControlBlock.{ControlBlock}
+use Rattle.connect_blocks.specs.declared.iocr.IocrType.TheVariants.{Input, Output}
+use Rattle.block_fields.specs.declared.fault.BlockFault.{BlockFault}
+use Rattle.block_codec.specs.declared.block.Block.{Block}
+use Rattle.block_codec.specs.Block.{block_of, in_application_ready}
+use Rattle.record_blocks.specs.declared.alarm_ack.AlarmAck.{AlarmAck}
+use Rattle.record_blocks.specs.declared.alarm_notification.AlarmNotification.{AlarmNotification}
+use Rattle.cyclic_data.specs.declared.place.PlaceKind.{PlaceKind}
+use Rattle.cyclic_data.specs.declared.place.PlaceKind.TheVariants.{Data as at_data, Iocs as at_iocs}
+use Rattle.cyclic_data.specs.Image.{good}
+use Rattle.cyclic_data.specs.Timing.{Sending, Hearing}
+use Rattle.pn_alarms.specs.declared.abort.Abort.{Abort}
+use Rattle.pn_alarms.specs.declared.abort.Abort.TheVariants as reason
+use Rattle.pn_alarms.specs.declared.message.Notice.TheVariants as notice
+use Rattle.pn_alarms.specs.declared.pdu.Header.{Header}
+use Rattle.pn_alarms.specs.declared.pdu.PduType.{PduType}
+use Rattle.pn_alarms.specs.declared.pdu.PduType.TheVariants as pdu
+use Rattle.pn_alarms.specs.declared.receiver.Taken.{Taken}
+use Rattle.pn_alarms.specs.declared.receiver.Taken.TheVariants.{New, Again, Refused}
+use Rattle.pn_alarms.specs.Controller.{confirmed, controller_later, unheard, with_ack, with_data}
+use Rattle.pn_alarms.specs.Ends.{ControllerEnd}
+use Rattle.pn_alarms.specs.Message.{ToController}
+use Rattle.pn_alarms.specs.Receiver.{taken_as}
+use Rattle.pn_alarms.specs.Sending.{due}
+use Rattle.cyclic_exchange.specs.declared.route.Route.{Route}
+use Rattle.cyclic_exchange.specs.declared.units.Tick.{Tick}
+use Rattle.cyclic_exchange.specs.Cyclic.{Cyclic}
+use Rattle.cyclic_exchange.specs.Opening.{begun_of, ended_of, opened, related}
+use Rattle.cyclic_exchange.specs.Process.{provided_at}
+use Rattle.cyclic_exchange.specs.Received.{behind_frame}
+use Rattle.cyclic_exchange.specs.Units.{cyclic_later, tick_of}
+use Rattle.plans.specs.declared.parts.Parts.{Parts}
+use Rattle.plans.specs.declared.parts.Times.{Times}
+use Rattle.plans.specs.Packed.{layout_in}
+use Rattle.plans.specs.Parts.{data_of}
+use Rattle.controller_frames.specs.declared.setup.Setup.{Setup}
+use Rattle.controller_frames.specs.declared.request.Request.{Request}
+use Rattle.controller_frames.specs.declared.request.Request.TheVariants as asks
+use Rattle.controller_frames.specs.Heard.{Heard, Nothing, Answers, Responds, Calls, Alarms, heard_of}
+use Rattle.controller_frames.specs.Heard.{Cyclic as Comes}
+use Rattle.controller_frames.specs.Requests.{writing_from}
+use Rattle.controller_frames.specs.Sent.{Sent, Requests, Agrees, Cycles, Confirms, Replies, Ends, bytes_of, ready_answer}
+use Rattle.controller_core.specs.declared.connect.Found.{Found}
+use Rattle.controller_core.specs.declared.state.Cause.{Cause}
+use Rattle.controller_core.specs.declared.state.Cause.TheVariants as cause
+use Rattle.controller_core.specs.declared.state.State.{State}
+use Rattle.controller_core.specs.declared.state.State.TheVariants.{Looking, Addressing, Connecting, Writing, Ending, Waiting, Exchanging, Ended}
+use Rattle.controller_core.specs.declared.event.Event.{Event}
+use Rattle.controller_core.specs.declared.event.Event.TheVariants.{Frame, Tick as Ticks, Give, Stop}
+use Rattle.controller_core.specs.State.{Controlling, Live, with_live}
+use Rattle.controller_core.specs.Answers.{is_addressed, is_answer, is_found, is_ready, is_right, is_set_answer}
+use Rattle.controller_core.specs.Connect.{found_in, is_whole, nothing}
+use Rattle.controller_core.specs.Alarms.{ack_of, header_of, is_alarm, kept_alarm}
+
+-- what is kept then, and the messages
+pub record Turn : Type 0 where
+  pub live : Live
+  pub sent : List Sent
+
+-- nothing is sent
+abbrev pub stays : Live → Turn
+stays live = record { live = live; sent = [] }
+
+-- a request is sent, which stands from now on
+abbrev pub asking : State → Request → Live → Turn
+asking phase request live = record {
+  live = record live { phase = phase; asked = Some request; waited = 0 };
+  sent = Requests live.device request ∷ [];
+}
+
+-- ---- ends
+
+-- the controller is over, and so is its relation
+abbrev pub over : Cause → Live → Live
+over cause live = record live { phase = Ended cause; asked = None; waited = 0; stands = false; cyclic = ended_of live.cyclic }
+
+-- the number of the call behind the last one
+abbrev pub next_sequence : Parts → Option Request → ℕ
+next_sequence plan (Some asks.Connect) = 1
+next_sequence plan (Some (asks.Write number)) = number + 2
+next_sequence plan request = length plan.records.items + 2
+
+-- the same, and the device is told
+abbrev pub released : Setup → Cause → Live → Turn
+released setup cause live = asking (Ended cause) (asks.Release (next_sequence setup.plan live.asked)) (over cause live)
+
+-- the application stops it: the device is told of it from the Connect on
+abbrev pub stopped : Setup → Live → State → Turn
+stopped setup live Looking = stays (over cause.Stopped live)
+stopped setup live Addressing = stays (over cause.Stopped live)
+stopped setup live (Ended cause) = stays live
+stopped setup live phase = released setup cause.Stopped live
+
+-- ---- answers of DCP
+
+-- a station was found: it has its address already, or is given it; or it is another device
+abbrev pub found : Setup → Live → Mac → Answered → Turn
+found setup live source answer =
+    if is_right setup.plan answer
+    then (if is_addressed setup.plan answer
+    then asking Connecting asks.Connect (record live { device = source })
+    else asking Addressing asks.Address (record live { device = source }))
+    else stays (over cause.WrongDevice live)
+
+-- the station took its address, or refused it
+abbrev pub addressed : Live → Answered → Turn
+addressed live answer = if is_agreed answer then asking Connecting asks.Connect live else stays (over cause.Refused live)
+
+abbrev pub answered : Setup → Live → Mac → Answered → State → Turn
+answered setup live source answer Looking = if is_found setup.plan answer then found setup live source answer else stays live
+answered setup live source answer Addressing = if is_set_answer answer then addressed live answer else stays live
+answered setup live source answer phase = stays live
+
+-- ---- responses
+
+-- a record is written, or the parameters are ended
+abbrev pub phase_for : Request → State
+phase_for (asks.Write number) = Writing
+phase_for request = Ending
+
+abbrev pub writing : Request → Live → Turn
+writing request live = asking (phase_for request) request live
+
+-- with whom, and under which numbers, by the FrameID that the device chose for outputs
+abbrev pub route_of : Mac → ℕ → Route
+route_of device frame_id = record { partner = device; sent_id = frame_id; sent_tag = 0xC000; taken_id = 0xC001; alarm_tag = 0xC000; reference = 1 }
+
+abbrev pub interval_of : Times → ℕ
+interval_of times = times.send_clock_factor * times.reduction_ratio
+
+abbrev pub sending_of : Times → Sending
+sending_of times = record { interval = interval_of times; elapsed = 0 }
+
+-- the relation stands
+abbrev pub standing : Setup → Live → ℕ → Live
+standing setup live frame_id = record live {
+  stands = true;
+  cyclic = related live.cyclic (route_of live.device frame_id) (sending_of setup.plan.times);
+}
+
+-- behind a positive answer to the Connect: without all of its blocks it is dropped; where modules differ there is no relation
+abbrev pub related_by : Setup → Live → Option ℕ → Turn
+related_by setup live (Some frame_id) = writing (writing_from setup.plan 0) (standing setup live frame_id)
+related_by setup live None = stays live
+
+abbrev pub connected_by : Setup → Live → Found → Turn
+connected_by setup live found =
+    if is_whole found
+    then (if found.differs then released setup cause.ModuleDiff live else related_by setup live found.output)
+    else stays live
+
+abbrev pub connected : Setup → Live → Option Found → Turn
+connected setup live (Some found) = connected_by setup live found
+connected setup live None = stays live
+
+-- behind a positive answer
+abbrev pub done : Setup → Live → List ℕ → Request → Turn
+done setup live blocks asks.Identify = stays live
+done setup live blocks asks.Address = stays live
+done setup live blocks asks.Connect = connected setup live (found_in 400 blocks nothing)
+done setup live blocks (asks.Write number) = writing (writing_from setup.plan (number + 1)) live
+done setup live blocks asks.PrmEnd = stays (record live { phase = Waiting; asked = None })
+done setup live blocks (asks.Release sequence) = stays (record live { asked = None })
+
+-- behind any: the status decides, but that of a Release counts whatever it says
+abbrev pub judged : Setup → Live → Response → Request → Turn
+judged setup live response request =
+    if is_done response.status then done setup live response.blocks request else stays (over cause.Refused live)
+
+abbrev pub decided : Setup → Live → Response → Request → Turn
+decided setup live response (asks.Release sequence) = stays (record live { asked = None })
+decided setup live response request = judged setup live response request
+
+abbrev pub responded : Setup → Live → Response → Option Request → Turn
+responded setup live response (Some request) =
+    if is_answer setup request response.header then decided setup live response request else stays live
+responded setup live response None = stays live
+
+-- ---- ApplicationReady
+
+-- the block, if it is one
+abbrev pub ready_block : Result (Block × List ℕ) BlockFault → Option ControlBlock
+ready_block (Ok x) = in_application_ready x.0
+ready_block (Err fault) = None
+
+abbrev pub ready_in : Call → Option ControlBlock
+ready_in call = if call.header.operation == 4 then ready_block (block_of (unwrap_or call.blocks [])) else None
+
+-- it is answered, and data is exchanged from then on; where data is exchanged it is answered again
+abbrev pub readied : Live → Caller → Call → ControlBlock → State → Turn
+readied live caller call block Ending = record {
+  live = record live { phase = Exchanging; asked = None; cyclic = begun_of live.cyclic };
+  sent = Agrees caller (ready_answer call block) ∷ [];
+}
+readied live caller call block Waiting = record {
+  live = record live { phase = Exchanging; asked = None; cyclic = begun_of live.cyclic };
+  sent = Agrees caller (ready_answer call block) ∷ [];
+}
+readied live caller call block Exchanging = record { live = live; sent = Agrees caller (ready_answer call block) ∷ [] }
+readied live caller call block phase = stays live
+
+abbrev pub called : Setup → Live → Caller → Call → Option ControlBlock → Turn
+called setup live caller call (Some block) = if is_ready setup block then readied live caller call block live.phase else stays live
+called setup live caller call None = stays live
+
+-- ---- alarms
+
+-- an alarm comes: a new one is confirmed by its AlarmAck behind the ACK
+abbrev pub behind_data : Live → ℕ → Live
+behind_data live number = record live { alarms = with_data live.alarms number }
+
+abbrev pub confirming : Live → AlarmNotification → Live
+confirming live alarm = record live { alarms = confirmed live.alarms (ack_of alarm); alarm = Some (kept_alarm alarm) }
+
+abbrev pub reply_of : Live → PduType → Sent
+reply_of live kind = Replies live.cyclic.route (header_of live.alarms live.cyclic.route kind)
+
+abbrev pub ack_now : Live → AlarmAck → Sent
+ack_now live ack = Confirms live.cyclic.route (header_of live.alarms live.cyclic.route pdu.Data) ack
+
+abbrev pub taken : Live → AlarmNotification → Taken → Turn
+taken live alarm New = record {
+  live = confirming live alarm;
+  sent = reply_of live pdu.Ack ∷ ack_now (confirming live alarm) (ack_of alarm) ∷ [];
+}
+taken live alarm Again = record { live = live; sent = reply_of live pdu.Ack ∷ [] }
+taken live alarm Refused = record { live = live; sent = reply_of live pdu.Nack ∷ [] }
+
+abbrev pub noticed : Live → ToController → Turn
+noticed live (notice.Data number alarm) = taken (behind_data live number) alarm (taken_as live.alarms.seen number)
+noticed live (notice.Ack number) = stays (record live { alarms = with_ack live.alarms number })
+noticed live notice.Nack = stays live
+noticed live notice.Abort = stays (over cause.Aborted live)
+
+-- an alarm frame counts that is of the relation, while this stands
+abbrev pub alarmed : Live → Mac → Header → ToController → Turn
+alarmed live source header notice = if live.stands && is_alarm live.cyclic.route source header then noticed live notice else stays live
+
+-- ---- what was heard
+
+-- a cyclic frame counts while the relation stands
+abbrev pub come : Live → Mac → ℕ → List ℕ → Live
+come live source frame_id body = if live.stands then record live { cyclic = behind_frame live.cyclic source frame_id body } else live
+
+abbrev pub turned : Setup → Live → Heard → Turn
+turned setup live Nothing = stays live
+turned setup live (Answers source answer) = answered setup live source answer live.phase
+turned setup live (Responds response) = responded setup live response live.asked
+turned setup live (Calls caller call) = called setup live caller call (ready_in call)
+turned setup live (Comes source frame_id body) = stays (come live source frame_id body)
+turned setup live (Alarms source header notice) = alarmed live source header notice
+
+-- ---- units
+
+-- a request is sent again each second, 32,000 units, from its sending on
+abbrev pub is_again : Live → Bool
+is_again live = live.waited + 1 == 32000
+
+-- a unit later
+abbrev pub later : Live → Live
+later live = record live { waited = if is_again live then 0 else live.waited + 1; units = (live.units + 1) % 65536 }
+
+-- what is sent where it is due
+abbrev pub where_due : Bool → List Sent → List Sent
+where_due is_due sent = if is_due then sent else []
+
+abbrev pub requests_of : Mac → Option Request → List Sent
+requests_of device (Some request) = Requests device request ∷ []
+requests_of device None = []
+
+abbrev pub acks_in : Live → Option AlarmAck → List Sent
+acks_in live (Some ack) = ack_now live ack ∷ []
+acks_in live None = []
+
+abbrev pub acks_of : Live → List Sent
+acks_of live = acks_in live live.alarms.confirming
+
+abbrev pub outputs_of : Live → List Sent
+outputs_of live = Cycles live.cyclic.route live.cyclic.shown live.units ∷ []
+
+-- the same, and what the relation exchanges too
+abbrev pub flow_later : Live → Live
+flow_later live = record (later live) { cyclic = cyclic_later live.cyclic; alarms = controller_later live.alarms }
+
+-- why the controller ends with the relation
+abbrev pub cause_of : Abort → Cause
+cause_of reason.DataHold = cause.DataHold
+cause_of reason.Activity = cause.AlarmRetries
+cause_of reason.Other = cause.AlarmRetries
+
+-- the relation ends, and the device is told why, and nothing else is sent
+abbrev pub ended_by : Live → Abort → Turn
+ended_by live reason = record {
+  live = over (cause_of reason) live;
+  sent = Ends live.cyclic.route (header_of live.alarms live.cyclic.route pdu.Error) reason ∷ [];
+}
+
+-- the AlarmAck again, the request again, and the outputs, as far as each is due
+abbrev pub due_frames : Live → Bool → Bool → Bool → List Sent
+due_frames live is_ack is_request is_cyclic =
+    where_due is_ack (acks_of live) ++ (where_due is_request (requests_of live.device live.asked) ++ where_due is_cyclic (outputs_of live))
+
+abbrev pub flowed : Live → Bool → Tick → Option Abort → Turn
+flowed live is_request tick (Some reason) = ended_by live reason
+flowed live is_request tick None = record { live = live; sent = due_frames live tick.is_alarm is_request tick.is_cyclic }
+
+-- a unit passes: what is due of the relation, where it stands, and the request again
+abbrev pub brought : Live → Tick
+brought live = tick_of live.cyclic (due live.alarms.sending)
+
+abbrev pub ticked : Live → Turn
+ticked live =
+    if live.stands then flowed (flow_later live) (is_again live) (brought live) (brought live).ending
+    else record { live = later live; sent = where_due (is_again live) (requests_of live.device live.asked) }
+
+-- ---- events
+
+-- the output of a submodule is given, with a good IOPS from then on: where it has one of this length, and else nothing changes
+abbrev pub given : Live → ℕ → ℕ → List ℕ → Live
+given live slot subslot value = record live { cyclic = unwrap_or (provided_at live.cyclic slot subslot value) live.cyclic }
+
+abbrev pub turn_of : Setup → Live → Event → Turn
+turn_of setup live (Frame bytes) = turned setup live (heard_of setup.plan.controller bytes.items)
+turn_of setup live Ticks = ticked live
+turn_of setup live (Give slot subslot value) = stays (given live slot subslot value.items)
+turn_of setup live Stop = stopped setup live live.phase
+
+-- ---- the beginning
+
+-- IOPS is bad until a value is given, and IOCS is good
+abbrev pub first_status : PlaceKind → ℕ → ℕ → ℕ
+first_status at_data slot subslot = 0
+first_status at_iocs slot subslot = good
+
+-- nobody
+abbrev pub nobody : Mac
+nobody = record { octets = replicate 6 0 }
+
+-- the data hold time is DataHoldFactor times the interval
+abbrev pub hearing_of : Times → Hearing
+hearing_of times = record { last = None; held = 0; limit = times.data_hold_factor * interval_of times }
+
+abbrev pub first_cyclic : Parts → Cyclic
+first_cyclic plan =
+    opened (route_of nobody 0xFFFF) (sending_of plan.times) (hearing_of plan.times) first_status
+    (layout_in Output (data_of plan.real.modules.items)) (layout_in Input (data_of plan.real.modules.items))
+
+-- it looks for the station: the Identify counts as sent
+abbrev pub first : Parts → Live
+first plan = record {
+  phase = Looking;
+  device = nobody;
+  asked = Some asks.Identify;
+  waited = 0;
+  units = 0;
+  stands = false;
+  cyclic = first_cyclic plan;
+  alarms = unheard 1 3;
+  alarm = None;
+}
+
+-- the controller of a plan, with this ARUUID and this activity
+abbrev pub fresh : Parts → List ℕ → List ℕ → Controlling
+fresh plan ar activity = record { setup = record { plan = plan; ar = ar; activity = activity }; live = first plan }
+
+-- its opening frame: the Identify
+unfoldable pub opening_of : Controlling → List ℕ
+opening_of controlling = bytes_of controlling.setup (Requests controlling.live.device asks.Identify)
+
+-- ---- a step
+
+-- the controller then, and the frames
+pub record Stepped : Type 0 where
+  pub controller : Controlling
+  pub frames : List (List ℕ)
+
+-- what a turn is of a controller
+abbrev pub stepped : Controlling → Turn → Stepped
+stepped old turn = record { controller = with_live old turn.live; frames = map (bytes_of old.setup) turn.sent }
+
+-- an event, to a controller: it hangs on the octets of a frame, and on what the controller keeps
+unfoldable pub step_of : Controlling → Event → Stepped
+step_of old event = stepped old (turn_of old.setup old.live event)

@@ -1,0 +1,137 @@
+// What comes of the device, as far as it is wanted.
+ghost use Rattle.std.specs.Prelude.{◌≡◌, ◌+◌, option_map};
+ghost use Rattle.dcp_core.specs.Answered.{answered as answered_as};
+ghost use Rattle.dcp_core.specs.Identify.{suite_bytes};
+ghost use Rattle.rpc_core.specs.Call.{asked};
+ghost use Rattle.controller_frames.specs.Requests.{writing_from};
+ghost use Rattle.controller_core.specs.Answers.{ident_bytes, is_addressed, is_found, is_right, is_set_answer, is_told};
+ghost use Rattle.controller_core.specs.Machine.{cause_of, next_sequence, phase_for, ready_in};
+
+use crate::{Cause, State};
+use arrayvec::ArrayVec;
+use block_codec::{Block, ControlBlock, read_block};
+use controller_frames::Request;
+use dcp_core::{Kind, Service};
+use plans::{Plan, Station};
+use pn_alarms::Abort;
+use rpc_core::Call;
+
+/// Operation of Control.
+const CONTROL: u16 = 4;
+
+/// Whether there is a value, and it is this.
+pub(crate) fn is_told(wanted: &[u8], value: Option<&[u8]>) -> bool
+    ensures { result ≡ is_told wanted.now (option_map (λ value. value.now) value) }
+{
+    match value {
+        Some(value) => value == wanted,
+        None => false,
+    }
+}
+
+/// Whether an answer is to the Identify, and of the station that has the plan's name.
+pub(crate) fn is_found(plan: &Plan, answer: &dcp_core::Response<'_>) -> bool
+    ensures { result ≡ is_found plan.now (answered_as answer.now) }
+{
+    matches!(answer.service, Service::Identify)
+        && answer.xid == 1
+        && is_told(
+            plan.station().name.as_bytes(),
+            answer.value(Kind::NameOfStation),
+        )
+}
+
+/// VendorID and DeviceID.
+pub(crate) fn ident_octets(station: &Station) -> [u8; 4]
+    ensures { result ≡ ident_bytes station.now }
+{
+    let vendor = station.vendor_id.to_be_bytes();
+    let device = station.device_id.to_be_bytes();
+    [vendor[0], vendor[1], device[0], device[1]]
+}
+
+/// Whether an answer is of the device of the plan.
+pub(crate) fn is_right(plan: &Plan, answer: &dcp_core::Response<'_>) -> bool
+    ensures { result ≡ is_right plan.now (answered_as answer.now) }
+{
+    let ident = ident_octets(plan.station());
+    is_told(&ident, answer.value(Kind::DeviceId))
+}
+
+/// Address, mask and gateway.
+pub(crate) fn suite_octets(plan: &Plan) -> ArrayVec<u8, 12>
+    ensures { result.items ≡ suite_bytes plan.now.station.suite }
+{
+    let suite = &plan.station().suite;
+    let mut octets = ArrayVec::new();
+    let _ = octets.try_extend_from_slice(&suite.address());
+    let _ = octets.try_extend_from_slice(&suite.mask());
+    let _ = octets.try_extend_from_slice(&suite.gateway());
+    octets
+}
+
+/// Whether an answer says that the station has the plan's IP suite.
+pub(crate) fn is_addressed(plan: &Plan, answer: &dcp_core::Response<'_>) -> bool
+    ensures { result ≡ is_addressed plan.now (answered_as answer.now) }
+{
+    let suite = suite_octets(plan);
+    is_told(suite.as_slice(), answer.value(Kind::IpSuite))
+}
+
+/// Whether an answer is to the Set of the IP suite.
+pub(crate) fn is_set_answer(answer: &dcp_core::Response<'_>) -> bool
+    ensures { result ≡ is_set_answer (answered_as answer.now) }
+{
+    matches!(answer.service, Service::Set) && answer.xid == 2
+}
+
+/// The number of the call behind the last one.
+pub(crate) fn next_sequence(plan: &Plan, asked: Option<Request>) -> u32
+    ensures { result ≡ next_sequence plan.now asked }
+{
+    match asked {
+        Some(Request::Connect) => 1,
+        Some(Request::Write(number)) => u32::from(number) + 2,
+        _ => plan.records().len() as u32 + 2,
+    }
+}
+
+/// The request behind the record of this number.
+pub(crate) fn request_behind(plan: &Plan, number: u16) -> Request
+    ensures { result ≡ writing_from plan.now (number + 1) }
+{
+    Request::writing_from(plan, number.saturating_add(1))
+}
+
+/// The state in which a record is written, or the parameters are ended.
+pub(crate) fn phase_for(request: Request) -> State
+    ensures { result ≡ phase_for request }
+{
+    match request {
+        Request::Write(_) => State::Writing,
+        _ => State::Ending,
+    }
+}
+
+/// The block of an ApplicationReady, if a call is one.
+pub(crate) fn ready_in(call: &Call<'_>) -> Option<ControlBlock>
+    ensures { result ≡ ready_in (asked call.now) }
+{
+    if call.header.operation != CONTROL {
+        return None;
+    }
+    match read_block(call.blocks.unwrap_or(&[])) {
+        Ok((Block::ApplicationReady(block), _behind)) => Some(block),
+        _ => None,
+    }
+}
+
+/// Why the controller ends with its relation.
+pub(crate) fn cause_of(reason: Abort) -> Cause
+    ensures { result ≡ cause_of reason }
+{
+    match reason {
+        Abort::DataHold => Cause::DataHold,
+        Abort::Activity | Abort::Other => Cause::AlarmRetries,
+    }
+}

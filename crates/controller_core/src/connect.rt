@@ -1,0 +1,101 @@
+// What the answer to a Connect holds (IEC 61158-6-10, 5.2.4).
+ghost use Rattle.std.specs.Prelude.{◌≡◌};
+ghost use Rattle.controller_core.specs.Connect.{found_in, is_whole, nothing, with_block, with_iocr};
+
+use block_codec::{Block, IocrBlockRes, read_block};
+
+/// What was read of the blocks of the answer to a Connect.
+#[derive(Clone, Copy)]
+pub(crate) struct Found {
+    /// The ARBlockRes.
+    pub(crate) relation: bool,
+    /// The IOCRBlockRes of inputs.
+    pub(crate) input: bool,
+    /// The FrameID in that of outputs.
+    pub(crate) output: Option<u16>,
+    /// The AlarmCRBlockRes.
+    pub(crate) alarm: bool,
+    /// A ModuleDiffBlock.
+    pub(crate) differs: bool,
+}
+
+impl Found {
+    /// Nothing.
+    pub(crate) fn nothing() -> Found
+        ensures { result ≡ nothing }
+    {
+        Found {
+            relation: false,
+            input: false,
+            output: None,
+            alarm: false,
+            differs: false,
+        }
+    }
+
+    /// One more IOCRBlockRes.
+    fn with_iocr(self, block: &IocrBlockRes) -> Found
+        ensures { result ≡ with_iocr block.now self }
+    {
+        match block.iocr_type {
+            1 => Found {
+                input: true,
+                ..self
+            },
+            2 => Found {
+                output: Some(block.frame_id),
+                ..self
+            },
+            _ => self,
+        }
+    }
+
+    /// One more block.
+    fn with_block(self, block: &Block<'_>) -> Found
+        ensures { result ≡ with_block block.now self }
+    {
+        match block {
+            Block::ArBlockRes(_) => Found {
+                relation: true,
+                ..self
+            },
+            Block::IocrBlockRes(block) => self.with_iocr(block),
+            Block::AlarmCrBlockRes(_) => Found {
+                alarm: true,
+                ..self
+            },
+            Block::ModuleDiffBlock(_) => Found {
+                differs: true,
+                ..self
+            },
+            _ => self,
+        }
+    }
+
+    /// Whether all that a relation needs is there.
+    pub(crate) fn is_whole(&self) -> bool
+        ensures { result ≡ is_whole self.now }
+    {
+        self.relation && self.input && self.output.is_some() && self.alarm
+    }
+}
+
+/// What octets hold that are blocks, one behind the other, at most so many, behind what was found before. There is none where one of them
+/// does not read.
+pub(crate) fn found_in(most: usize, bytes: &[u8]) -> Option<Found>
+    ensures { result ≡ found_in most bytes.now nothing }
+{
+    let mut found = Found::nothing();
+    let mut rest = bytes;
+    for _index in 0..most {
+        if rest.is_empty() {
+            return Some(found);
+        }
+        let Ok((block, behind)) = read_block(rest) else {
+            return None;
+        };
+        found = found.with_block(&block);
+        rest = behind;
+    }
+    None
+}

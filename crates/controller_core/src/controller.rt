@@ -1,0 +1,205 @@
+//! The controller.
+ghost use Rattle.std.specs.Prelude.{◌≡◌, ◌≤◌, IfSome, length, option_map};
+ghost use Rattle.cyclic_exchange.specs.Process.{value_at};
+ghost use Rattle.controller_core.specs.Machine.{first_cyclic, fresh, interval_of, opening_of, route_of};
+
+use crate::State;
+use crate::kept::KeptAlarm;
+use block_codec::{AlarmNotification, IocrType};
+use controller_frames::{Request, Setup, send_request};
+use cyclic_data::{Consumer, PlaceKind, Provider};
+use cyclic_exchange::{CyclicExchange, Route, Statuses};
+use frame_codec::{Frame, Outbox};
+use plans::{Plan, Times};
+use pn_alarms::ControllerAlarms;
+use pn_values::Mac;
+use rpc_core::Uuid;
+use std::marker::Model;
+
+/// The status of good data (IEC 61158-6-10, 4.7.2.1.1).
+const GOOD: u8 = 0x80;
+
+/// RTATimeoutFactor and RTARetries of the plan's Connect.
+const TIMEOUT_FACTOR: u16 = 1;
+
+const RETRIES: u16 = 3;
+
+/// IOCRTagHeader and TagHeaderHigh, the FrameID of inputs, and the endpoint of the device.
+const TAG: u16 = 0xC000;
+
+const INPUT_ID: u16 = 0xC001;
+
+const REFERENCE: u16 = 1;
+
+/// FrameID of outputs before the device chose one.
+const NO_ID: u16 = 0xFFFF;
+
+/// The controller of a station. A clause sees what it was set up with, and what changes from event to event.
+#[derive(Drop)]
+pub struct Controller {
+    pub(crate) setup: Setup,
+    pub(crate) phase: State,
+    pub(crate) device: Mac,
+    /// The request that stands until it is answered.
+    pub(crate) asked: Option<Request>,
+    /// Units since it was sent.
+    pub(crate) waited: u32,
+    /// Units since the controller was made, modulo 65,536.
+    pub(crate) units: u16,
+    /// The relation stands.
+    pub(crate) stands: bool,
+    pub(crate) exchange: CyclicExchange,
+    pub(crate) alarms: ControllerAlarms,
+    pub(crate) alarm: Option<KeptAlarm>,
+}
+
+impl Model for Controller {
+    ghost use Rattle.std.specs.Prelude.{◌<◌, option_map};
+    ghost use Rattle.controller_core.specs.State.{Controlling};
+    ghost use Rattle.controller_core.specs.Alarms.{alarm_in};
+
+    ghost Value = { Controlling };
+
+    ghost view = { λ controller. record {
+      setup = controller.setup;
+      live = record {
+        phase = controller.phase;
+        device = controller.device;
+        asked = controller.asked;
+        waited = controller.waited;
+        units = controller.units;
+        stands = controller.stands;
+        cyclic = controller.exchange;
+        alarms = controller.alarms;
+        alarm = option_map alarm_in controller.alarm;
+      };
+    } };
+
+    ghost invariant = { λ controller. controller.waited < 32000 };
+}
+
+/// The statuses of a controller to which nothing was given: IOPS is bad, and IOCS is good.
+#[derive(Clone, Copy)]
+pub(crate) struct NothingGiven;
+
+impl Statuses for NothingGiven {
+    ghost use Rattle.controller_core.specs.Machine.{first_status};
+
+    ghost status_of = { λ given. first_status };
+
+    fn status(&self, kind: PlaceKind, _slot: u16, _subslot: u16) -> u8 {
+        match kind {
+            PlaceKind::Data => 0,
+            PlaceKind::Iocs => GOOD,
+        }
+    }
+}
+
+/// With whom, and under which numbers.
+pub(crate) fn route_of(device: Mac, frame_id: u16) -> Route
+    ensures { result ≡ route_of device frame_id }
+{
+    Route {
+        partner: device,
+        sent_id: frame_id,
+        sent_tag: TAG,
+        taken_id: INPUT_ID,
+        alarm_tag: TAG,
+        reference: REFERENCE,
+    }
+}
+
+/// The interval, in units of 31.25 microseconds.
+fn interval_of(times: Times) -> u32
+    requires clock { times.send_clock_factor ≤ 128 }
+    requires ratio { times.reduction_ratio ≤ 512 }
+    ensures value { result ≡ interval_of times }
+    ensures most { result ≤ 65536 }
+{
+    u32::from(times.send_clock_factor) * u32::from(times.reduction_ratio)
+}
+
+/// Opens the exchange of a plan: nothing was given, and the device is not known.
+fn open(exchange: &mut CyclicExchange, plan: &Plan)
+    ensures { exchange.new ≡ first_cyclic plan.now }
+{
+    let times = plan.times();
+    let output = plan.layout(IocrType::Output);
+    let input = plan.layout(IocrType::Input);
+    exchange.open(
+        route_of(Mac { octets: [0; 6] }, NO_ID),
+        Provider::start(times.send_clock_factor, times.reduction_ratio),
+        Consumer::new(times.data_hold_factor, interval_of(times)),
+        &output,
+        &input,
+        &NothingGiven,
+    );
+}
+
+impl Controller {
+    /// The controller of a plan, with the ARUUID of its relation, which is not zero, and the activity of its calls. Its opening frame
+    /// counts as sent.
+    pub fn new(plan: Plan, ar: Uuid, activity: Uuid) -> Controller
+        ensures { result ≡ fresh plan ar activity }
+    {
+        let mut exchange = CyclicExchange::new();
+        open(&mut exchange, &plan);
+        Controller {
+            setup: Setup { plan, ar, activity },
+            phase: State::Looking,
+            device: Mac { octets: [0; 6] },
+            asked: Some(Request::Identify),
+            waited: 0,
+            units: 0,
+            stands: false,
+            exchange,
+            alarms: ControllerAlarms::new(TIMEOUT_FACTOR, RETRIES),
+            alarm: None,
+        }
+    }
+
+    /// The Identify with which it begins.
+    #[tactic(auto, unfolding(crate::specs::Machine::opening_of))]
+    pub fn opening(&self) -> Frame
+        ensures { result.items ≡ opening_of self.now }
+    {
+        let mut outbox = Outbox::new();
+        send_request(&self.setup, self.device, Request::Identify, &mut outbox);
+        let mut frame = Frame::new();
+        frame.copy(&outbox.as_slice()[0]);
+        frame
+    }
+
+    /// The ARUUID of its relation.
+    pub fn ar(&self) -> Uuid
+        ensures { result ≡ self.now.setup.ar }
+    {
+        self.setup.ar
+    }
+
+    /// How far it is.
+    pub fn state(&self) -> State
+        ensures { result ≡ self.now.live.phase }
+    {
+        self.phase
+    }
+
+    /// The input of a submodule, if it has a place: what the last frame that was taken holds there, and zeros where none was taken, its
+    /// IOPS is not good, or the controller is over.
+    pub fn value(&self, slot: u16, subslot: u16) -> Option<&[u8]>
+        ensures value { option_map (λ value. value.now) result ≡ value_at self.now.live.cyclic slot subslot }
+        ensures short { IfSome result (λ value. length value.now ≤ 1440) }
+    {
+        self.exchange.value(slot, subslot)
+    }
+
+    /// The last alarm that was taken.
+    pub fn alarm(&self) -> Option<AlarmNotification<'_>>
+        ensures { result ≡ self.now.live.alarm }
+    {
+        match &self.alarm {
+            Some(alarm) => Some(alarm.notification()),
+            None => None,
+        }
+    }
+}

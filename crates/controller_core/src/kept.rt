@@ -1,0 +1,71 @@
+// The last alarm, as a controller keeps it.
+ghost use Rattle.std.specs.Prelude.{◌≡◌};
+ghost use Rattle.controller_core.specs.Alarms.{ack_of, alarm_in, kept_alarm};
+
+use arrayvec::ArrayVec;
+use block_codec::{AlarmAck, AlarmData, AlarmNotification};
+
+/// An alarm, away from the frame in which it came.
+#[derive(Drop)]
+pub(crate) struct KeptAlarm {
+    alarm_type: u16,
+    api: u32,
+    slot_number: u16,
+    subslot_number: u16,
+    module_ident_number: u32,
+    submodule_ident_number: u32,
+    alarm_specifier: u16,
+    alarm_data: ArrayVec<u8, 1500>,
+}
+
+impl KeptAlarm {
+    /// A copy of an alarm.
+    pub(crate) fn of(alarm: &AlarmNotification<'_>) -> KeptAlarm
+        ensures { alarm_in result ≡ kept_alarm alarm.now }
+    {
+        let octets = alarm.alarm_data.octets();
+        let size = octets.len().min(1500);
+        let mut alarm_data = ArrayVec::new();
+        let _ = alarm_data.try_extend_from_slice(&octets[..size]);
+        KeptAlarm {
+            alarm_type: alarm.alarm_type,
+            api: alarm.api,
+            slot_number: alarm.slot_number,
+            subslot_number: alarm.subslot_number,
+            module_ident_number: alarm.module_ident_number,
+            submodule_ident_number: alarm.submodule_ident_number,
+            alarm_specifier: alarm.alarm_specifier,
+            alarm_data,
+        }
+    }
+
+    /// Its block.
+    pub(crate) fn notification(&self) -> AlarmNotification<'_>
+        ensures { result ≡ alarm_in self.now }
+    {
+        AlarmNotification {
+            alarm_type: self.alarm_type,
+            api: self.api,
+            slot_number: self.slot_number,
+            subslot_number: self.subslot_number,
+            module_ident_number: self.module_ident_number,
+            submodule_ident_number: self.submodule_ident_number,
+            alarm_specifier: self.alarm_specifier,
+            alarm_data: AlarmData::new(self.alarm_data.as_slice()),
+        }
+    }
+}
+
+/// The AlarmAck of an alarm.
+pub(crate) fn ack_of(alarm: &AlarmNotification<'_>) -> AlarmAck
+    ensures { result ≡ ack_of alarm.now }
+{
+    AlarmAck {
+        alarm_type: alarm.alarm_type,
+        api: alarm.api,
+        slot_number: alarm.slot_number,
+        subslot_number: alarm.subslot_number,
+        alarm_specifier: alarm.alarm_specifier,
+        pnio_status: 0,
+    }
+}

@@ -1,0 +1,502 @@
+//! One step.
+ghost use Rattle.std.specs.Prelude.{◌≡◌, ◌<◌, ◌≤◌, ◌+◌, ◌++◌, Some, [], map};
+ghost use Rattle.arrayvec.specs.ArrayVec.{array_vec_len};
+ghost use Rattle.dcp_core.specs.Answered.{answered as answered_as};
+ghost use Rattle.rpc_core.specs.Call.{asked};
+ghost use Rattle.rpc_core.specs.Response.{answered as responded_as};
+ghost use Rattle.controller_frames.specs.Heard.{heard_of};
+ghost use Rattle.controller_frames.specs.Sent.{bytes_of};
+ghost use Rattle.controller_frames.specs.Told.{told};
+ghost use Rattle.controller_core.specs.Answers.{is_answer, is_ready};
+ghost use Rattle.controller_core.specs.Connect.{nothing, found_in as all_found};
+ghost use Rattle.controller_core.specs.State.{with_live};
+ghost use Rattle.controller_core.specs.Machine.{acks_of, addressed, alarmed, answered, asking, called, come, connected, connected_by, decided, done, due_frames, ended_by, found, given, is_again, judged, later, outputs_of, readied, ready_in as block_of_ready, related_by, released, requests_of, responded, step_of, stopped, ticked, turned, where_due, writing};
+
+use crate::alarms::{header_of, is_alarm};
+use crate::answers::{
+    cause_of, is_addressed, is_found, is_right, is_set_answer, next_sequence, phase_for, ready_in,
+    request_behind,
+};
+use crate::connect::{Found, found_in};
+use crate::controller::route_of;
+use crate::{Cause, Controller, Event, State};
+use block_codec::{AlarmNotification, ControlBlock};
+use controller_frames::{
+    Hearing, Request, heard, send_alarm_ack, send_alarm_end, send_outputs, send_ready_answer,
+    send_request,
+};
+use cyclic_data::Provider;
+use frame_codec::{Bytes, Caller, Outbox};
+use pn_alarms::{Abort, Header, Notice, PduType};
+use pn_values::Mac;
+use rpc_core::{Call, Response};
+
+/// SessionKey of the relation.
+const SESSION_KEY: u16 = 1;
+
+/// How many blocks the answer to a Connect may have: more than a frame holds.
+const MOST_BLOCKS: usize = 400;
+
+/// A request is sent again each second, from its sending on.
+const SECOND: u32 = 32_000;
+
+impl Controller {
+    /// One step: the box is emptied, and the frames that the event sends are put into it.
+    #[tactic(auto, unfolding(crate::specs::Machine::step_of))]
+    pub fn step(&mut self, event: &Event, outbox: &mut Outbox)
+        ensures state { self.new ≡ (step_of self.old event.now).controller }
+        ensures frames { map (λ frame. frame.items) outbox.new.items ≡ (step_of self.old event.now).frames }
+    {
+        outbox.clear();
+        match event {
+            Event::Frame(bytes) => self.hear(bytes, outbox),
+            Event::Tick => self.tick(outbox),
+            Event::Give(slot, subslot, value) => self.give(*slot, *subslot, value.as_slice()),
+            Event::Stop => self.stop(outbox),
+        }
+    }
+
+    // A request is sent, which stands from now on.
+    fn ask(&mut self, phase: State, request: Request, outbox: &mut Outbox)
+        requires empty { outbox.old.items ≡ [] }
+        ensures state { self.new ≡ with_live self.old (asking phase request self.old.live).live }
+        ensures frames { map (λ frame. frame.items) outbox.new.items ≡ map (bytes_of self.old.setup) (asking phase request self.old.live).sent }
+    {
+        self.phase = phase;
+        self.asked = Some(request);
+        self.waited = 0;
+        send_request(&self.setup, self.device, request, outbox);
+    }
+
+    // The controller is over, and the device is told.
+    fn release(&mut self, cause: Cause, outbox: &mut Outbox)
+        requires empty { outbox.old.items ≡ [] }
+        ensures state { self.new ≡ with_live self.old (released self.old.setup cause self.old.live).live }
+        ensures frames { map (λ frame. frame.items) outbox.new.items ≡ map (bytes_of self.old.setup) (released self.old.setup cause self.old.live).sent }
+    {
+        let sequence = next_sequence(&self.setup.plan, self.asked);
+        self.end(cause);
+        self.ask(State::Ended(cause), Request::Release(sequence), outbox);
+    }
+
+    // The application stops the controller.
+    fn stop(&mut self, outbox: &mut Outbox)
+        requires empty { outbox.old.items ≡ [] }
+        ensures state { self.new ≡ with_live self.old (stopped self.old.setup self.old.live self.old.live.phase).live }
+        ensures frames { map (λ frame. frame.items) outbox.new.items ≡ map (bytes_of self.old.setup) (stopped self.old.setup self.old.live self.old.live.phase).sent }
+    {
+        match self.phase {
+            State::Looking | State::Addressing => self.end(Cause::Stopped),
+            State::Ended(_) => {}
+            State::Connecting
+            | State::Writing
+            | State::Ending
+            | State::Waiting
+            | State::Exchanging => self.release(Cause::Stopped, outbox),
+        }
+    }
+
+    // The application gives an output.
+    fn give(&mut self, slot: u16, subslot: u16, value: &[u8])
+        ensures { self.new ≡ with_live self.old (given self.old.live slot subslot value.now) }
+    {
+        self.exchange.provide(slot, subslot, value);
+    }
+
+    // A frame comes.
+    fn hear(&mut self, bytes: &Bytes, outbox: &mut Outbox)
+        requires empty { outbox.old.items ≡ [] }
+        ensures state { self.new ≡ with_live self.old (turned self.old.setup self.old.live (heard_of self.old.setup.plan.controller bytes.now.items)).live }
+        ensures frames { map (λ frame. frame.items) outbox.new.items
+            ≡ map (bytes_of self.old.setup) (turned self.old.setup self.old.live (heard_of self.old.setup.plan.controller bytes.now.items)).sent }
+    {
+        let hearing = heard(self.setup.plan.controller(), bytes);
+        self.turn(&hearing, outbox);
+    }
+
+    // What was heard.
+    fn turn(&mut self, hearing: &Hearing<'_>, outbox: &mut Outbox)
+        requires empty { outbox.old.items ≡ [] }
+        ensures state { self.new ≡ with_live self.old (turned self.old.setup self.old.live (told hearing.now)).live }
+        ensures frames { map (λ frame. frame.items) outbox.new.items ≡ map (bytes_of self.old.setup) (turned self.old.setup self.old.live (told hearing.now)).sent }
+    {
+        match hearing {
+            Hearing::Nothing => {}
+            Hearing::Answers(source, answer) => self.hear_answer(*source, answer, outbox),
+            Hearing::Responds(response) => self.hear_response(response, outbox),
+            Hearing::Calls(caller, call) => self.hear_call(caller, call, outbox),
+            Hearing::Cyclic(source, frame_id, body) => self.hear_cyclic(*source, *frame_id, body),
+            Hearing::Alarms(source, header, notice) => {
+                self.hear_alarm(*source, header, notice, outbox)
+            }
+        }
+    }
+
+    // An answer of DCP.
+    fn hear_answer(&mut self, source: Mac, answer: &dcp_core::Response<'_>, outbox: &mut Outbox)
+        requires empty { outbox.old.items ≡ [] }
+        ensures state { self.new ≡ with_live self.old (answered self.old.setup self.old.live source (answered_as answer.now) self.old.live.phase).live }
+        ensures frames { map (λ frame. frame.items) outbox.new.items
+            ≡ map (bytes_of self.old.setup) (answered self.old.setup self.old.live source (answered_as answer.now) self.old.live.phase).sent }
+    {
+        match self.phase {
+            State::Looking => {
+                if is_found(&self.setup.plan, answer) {
+                    self.find(source, answer, outbox);
+                }
+            }
+            State::Addressing => {
+                if is_set_answer(answer) {
+                    self.hear_set(answer, outbox);
+                }
+            }
+            State::Connecting
+            | State::Writing
+            | State::Ending
+            | State::Waiting
+            | State::Exchanging
+            | State::Ended(_) => {}
+        }
+    }
+
+    // A station was found.
+    fn find(&mut self, source: Mac, answer: &dcp_core::Response<'_>, outbox: &mut Outbox)
+        requires empty { outbox.old.items ≡ [] }
+        ensures state { self.new ≡ with_live self.old (found self.old.setup self.old.live source (answered_as answer.now)).live }
+        ensures frames { map (λ frame. frame.items) outbox.new.items ≡ map (bytes_of self.old.setup) (found self.old.setup self.old.live source (answered_as answer.now)).sent }
+    {
+        if !is_right(&self.setup.plan, answer) {
+            self.end(Cause::WrongDevice);
+            return;
+        }
+        self.device = source;
+        if is_addressed(&self.setup.plan, answer) {
+            self.ask(State::Connecting, Request::Connect, outbox);
+        } else {
+            self.ask(State::Addressing, Request::Address, outbox);
+        }
+    }
+
+    // The answer to the Set of the IP suite.
+    fn hear_set(&mut self, answer: &dcp_core::Response<'_>, outbox: &mut Outbox)
+        requires empty { outbox.old.items ≡ [] }
+        ensures state { self.new ≡ with_live self.old (addressed self.old.live (answered_as answer.now)).live }
+        ensures frames { map (λ frame. frame.items) outbox.new.items ≡ map (bytes_of self.old.setup) (addressed self.old.live (answered_as answer.now)).sent }
+    {
+        if answer.is_positive() {
+            self.ask(State::Connecting, Request::Connect, outbox);
+        } else {
+            self.end(Cause::Refused);
+        }
+    }
+
+    // Whether a response is to the call that asks this.
+    fn is_answer(&self, request: Request, response: &Response<'_>) -> bool
+        ensures { result ≡ is_answer self.now.setup request response.now.header }
+    {
+        match request {
+            Request::Identify | Request::Address => false,
+            Request::Connect | Request::Write(_) | Request::PrmEnd | Request::Release(_) => {
+                response.header.activity == self.setup.activity
+                    && response.header.sequence == request.sequence(&self.setup.plan)
+            }
+        }
+    }
+
+    // A response.
+    fn hear_response(&mut self, response: &Response<'_>, outbox: &mut Outbox)
+        requires empty { outbox.old.items ≡ [] }
+        ensures state { self.new ≡ with_live self.old (responded self.old.setup self.old.live (responded_as response.now) self.old.live.asked).live }
+        ensures frames { map (λ frame. frame.items) outbox.new.items
+            ≡ map (bytes_of self.old.setup) (responded self.old.setup self.old.live (responded_as response.now) self.old.live.asked).sent }
+    {
+        let Some(request) = self.asked else {
+            return;
+        };
+        if self.is_answer(request, response) {
+            self.decide(request, response, outbox);
+        }
+    }
+
+    // The answer to what was asked: that of a Release counts whatever it says.
+    fn decide(&mut self, request: Request, response: &Response<'_>, outbox: &mut Outbox)
+        requires empty { outbox.old.items ≡ [] }
+        ensures state { self.new ≡ with_live self.old (decided self.old.setup self.old.live (responded_as response.now) request).live }
+        ensures frames { map (λ frame. frame.items) outbox.new.items ≡ map (bytes_of self.old.setup) (decided self.old.setup self.old.live (responded_as response.now) request).sent }
+    {
+        match request {
+            Request::Release(_) => self.asked = None,
+            Request::Identify
+            | Request::Address
+            | Request::Connect
+            | Request::Write(_)
+            | Request::PrmEnd => self.judge(request, response, outbox),
+        }
+    }
+
+    // The status decides.
+    fn judge(&mut self, request: Request, response: &Response<'_>, outbox: &mut Outbox)
+        requires empty { outbox.old.items ≡ [] }
+        ensures state { self.new ≡ with_live self.old (judged self.old.setup self.old.live (responded_as response.now) request).live }
+        ensures frames { map (λ frame. frame.items) outbox.new.items ≡ map (bytes_of self.old.setup) (judged self.old.setup self.old.live (responded_as response.now) request).sent }
+    {
+        if response.status.is_done() {
+            self.go_on(request, response.blocks, outbox);
+        } else {
+            self.end(Cause::Refused);
+        }
+    }
+
+    // What was asked is done.
+    fn go_on(&mut self, request: Request, blocks: &[u8], outbox: &mut Outbox)
+        requires empty { outbox.old.items ≡ [] }
+        ensures state { self.new ≡ with_live self.old (done self.old.setup self.old.live blocks.now request).live }
+        ensures frames { map (λ frame. frame.items) outbox.new.items ≡ map (bytes_of self.old.setup) (done self.old.setup self.old.live blocks.now request).sent }
+    {
+        match request {
+            Request::Identify | Request::Address => {}
+            Request::Connect => self.connect(blocks, outbox),
+            Request::Write(number) => {
+                let next = request_behind(&self.setup.plan, number);
+                self.write(next, outbox);
+            }
+            Request::PrmEnd => {
+                self.phase = State::Waiting;
+                self.asked = None;
+            }
+            Request::Release(_) => self.asked = None,
+        }
+    }
+
+    // A record is written, or the parameters are ended.
+    fn write(&mut self, request: Request, outbox: &mut Outbox)
+        requires empty { outbox.old.items ≡ [] }
+        ensures state { self.new ≡ with_live self.old (writing request self.old.live).live }
+        ensures frames { map (λ frame. frame.items) outbox.new.items ≡ map (bytes_of self.old.setup) (writing request self.old.live).sent }
+    {
+        self.ask(phase_for(request), request, outbox);
+    }
+
+    // The Connect is answered.
+    fn connect(&mut self, blocks: &[u8], outbox: &mut Outbox)
+        requires empty { outbox.old.items ≡ [] }
+        ensures state { self.new ≡ with_live self.old (connected self.old.setup self.old.live (all_found 400 blocks.now nothing)).live }
+        ensures frames { map (λ frame. frame.items) outbox.new.items ≡ map (bytes_of self.old.setup) (connected self.old.setup self.old.live (all_found 400 blocks.now nothing)).sent }
+    {
+        if let Some(found) = found_in(MOST_BLOCKS, blocks) {
+            self.connect_by(&found, outbox);
+        }
+    }
+
+    // By these blocks.
+    fn connect_by(&mut self, found: &Found, outbox: &mut Outbox)
+        requires empty { outbox.old.items ≡ [] }
+        ensures state { self.new ≡ with_live self.old (connected_by self.old.setup self.old.live found.now).live }
+        ensures frames { map (λ frame. frame.items) outbox.new.items ≡ map (bytes_of self.old.setup) (connected_by self.old.setup self.old.live found.now).sent }
+    {
+        if !found.is_whole() {
+            return;
+        }
+        if found.differs {
+            self.release(Cause::ModuleDiff, outbox);
+            return;
+        }
+        if let Some(frame_id) = found.output {
+            self.relate(frame_id, outbox);
+        }
+    }
+
+    // The relation stands.
+    fn relate(&mut self, frame_id: u16, outbox: &mut Outbox)
+        requires empty { outbox.old.items ≡ [] }
+        ensures state { self.new ≡ with_live self.old (related_by self.old.setup self.old.live (Some frame_id)).live }
+        ensures frames { map (λ frame. frame.items) outbox.new.items ≡ map (bytes_of self.old.setup) (related_by self.old.setup self.old.live (Some frame_id)).sent }
+    {
+        let times = self.setup.plan.times();
+        let provider = Provider::start(times.send_clock_factor, times.reduction_ratio);
+        self.exchange
+            .relate(route_of(self.device, frame_id), provider);
+        self.stands = true;
+        let first = Request::writing_from(&self.setup.plan, 0);
+        self.write(first, outbox);
+    }
+
+    // A call.
+    fn hear_call(&mut self, caller: &Caller, call: &Call<'_>, outbox: &mut Outbox)
+        requires empty { outbox.old.items ≡ [] }
+        ensures state { self.new ≡ with_live self.old (called self.old.setup self.old.live caller.now (asked call.now) (block_of_ready (asked call.now))).live }
+        ensures frames { map (λ frame. frame.items) outbox.new.items
+            ≡ map (bytes_of self.old.setup) (called self.old.setup self.old.live caller.now (asked call.now) (block_of_ready (asked call.now))).sent }
+    {
+        let Some(block) = ready_in(call) else {
+            return;
+        };
+        if self.is_ready(&block) {
+            self.answer_ready(caller, call, &block, outbox);
+        }
+    }
+
+    // Whether an ApplicationReady is of the relation.
+    fn is_ready(&self, block: &ControlBlock) -> bool
+        ensures { result ≡ is_ready self.now.setup block.now }
+    {
+        block.ar_uuid == self.setup.ar && block.session_key == SESSION_KEY
+    }
+
+    // ApplicationReady: data is exchanged from now on.
+    fn answer_ready(
+        &mut self,
+        caller: &Caller,
+        call: &Call<'_>,
+        block: &ControlBlock,
+        outbox: &mut Outbox,
+    )
+        requires empty { outbox.old.items ≡ [] }
+        ensures state { self.new ≡ with_live self.old (readied self.old.live caller.now (asked call.now) block.now self.old.live.phase).live }
+        ensures frames { map (λ frame. frame.items) outbox.new.items
+            ≡ map (bytes_of self.old.setup) (readied self.old.live caller.now (asked call.now) block.now self.old.live.phase).sent }
+    {
+        match self.phase {
+            State::Ending | State::Waiting => {
+                self.phase = State::Exchanging;
+                self.asked = None;
+                self.exchange.begin();
+                send_ready_answer(&self.setup, caller, call, block, outbox);
+            }
+            State::Exchanging => send_ready_answer(&self.setup, caller, call, block, outbox),
+            State::Looking
+            | State::Addressing
+            | State::Connecting
+            | State::Writing
+            | State::Ended(_) => {}
+        }
+    }
+
+    // A cyclic frame.
+    fn hear_cyclic(&mut self, source: Mac, frame_id: u16, body: &[u8])
+        ensures { self.new ≡ with_live self.old (come self.old.live source frame_id body.now) }
+    {
+        if self.stands {
+            self.exchange.receive(source, frame_id, body);
+        }
+    }
+
+    // An alarm frame.
+    fn hear_alarm(
+        &mut self,
+        source: Mac,
+        header: &Header,
+        notice: &Notice<AlarmNotification<'_>>,
+        outbox: &mut Outbox,
+    )
+        requires empty { outbox.old.items ≡ [] }
+        ensures state { self.new ≡ with_live self.old (alarmed self.old.live source header.now notice.now).live }
+        ensures frames { map (λ frame. frame.items) outbox.new.items ≡ map (bytes_of self.old.setup) (alarmed self.old.live source header.now notice.now).sent }
+    {
+        if self.stands && is_alarm(self.exchange.route(), source, header) {
+            self.hear_notice(notice, outbox);
+        }
+    }
+
+    // Timers advance. Answers whether the request is due again.
+    fn pass(&mut self) -> bool
+        ensures again { result ≡ is_again self.old.live }
+        ensures state { self.new ≡ with_live self.old (later self.old.live) }
+    {
+        self.units = self.units.wrapping_add(1);
+        if self.waited + 1 == SECOND {
+            self.waited = 0;
+            true
+        } else {
+            self.waited += 1;
+            false
+        }
+    }
+
+    // A unit of time is over.
+    fn tick(&mut self, outbox: &mut Outbox)
+        requires empty { outbox.old.items ≡ [] }
+        ensures state { self.new ≡ with_live self.old (ticked self.old.live).live }
+        ensures frames { map (λ frame. frame.items) outbox.new.items ≡ map (bytes_of self.old.setup) (ticked self.old.live).sent }
+    {
+        let is_again = self.pass();
+        if !self.stands {
+            self.send_request_again(is_again, outbox);
+            return;
+        }
+        let due = self.alarms.tick();
+        let tick = self.exchange.tick(due);
+        match tick.ending {
+            Some(reason) => self.end_by(reason, outbox),
+            None => self.send_due(tick.is_alarm, is_again, tick.is_cyclic, outbox),
+        }
+    }
+
+    // The relation ends, and the device is told why.
+    fn end_by(&mut self, reason: Abort, outbox: &mut Outbox)
+        requires empty { outbox.old.items ≡ [] }
+        ensures state { self.new ≡ with_live self.old (ended_by self.old.live reason).live }
+        ensures frames { map (λ frame. frame.items) outbox.new.items ≡ map (bytes_of self.old.setup) (ended_by self.old.live reason).sent }
+    {
+        let route = self.exchange.route();
+        let header = header_of(&self.alarms, route, PduType::Error);
+        send_alarm_end(&self.setup, route, &header, reason, outbox);
+        self.end(cause_of(reason));
+    }
+
+    // What is due with a unit is sent.
+    fn send_due(&self, is_ack: bool, is_request: bool, is_cyclic: bool, outbox: &mut Outbox)
+        requires empty { outbox.old.items ≡ [] }
+        ensures frames { map (λ frame. frame.items) outbox.new.items ≡ map (bytes_of self.now.setup) (due_frames self.now.live is_ack is_request is_cyclic) }
+    {
+        self.send_ack_again(is_ack, outbox);
+        self.send_request_again(is_request, outbox);
+        self.send_outputs(is_cyclic, outbox);
+    }
+
+    // The AlarmAck again, if it is due and there is one.
+    fn send_ack_again(&self, is_due: bool, outbox: &mut Outbox)
+        requires room { array_vec_len outbox.old < 4 }
+        ensures frames { map (λ frame. frame.items) outbox.new.items
+            ≡ map (λ frame. frame.items) outbox.old.items ++ map (bytes_of self.now.setup) (where_due is_due (acks_of self.now.live)) }
+        ensures few { array_vec_len outbox.new ≤ array_vec_len outbox.old + 1 }
+    {
+        if !is_due {
+            return;
+        }
+        let Some(ack) = self.alarms.confirming() else {
+            return;
+        };
+        let route = self.exchange.route();
+        let header = header_of(&self.alarms, route, PduType::Data);
+        send_alarm_ack(&self.setup, route, &header, &ack, outbox);
+    }
+
+    // The request again, if it is due and there is one.
+    fn send_request_again(&self, is_due: bool, outbox: &mut Outbox)
+        requires room { array_vec_len outbox.old < 4 }
+        ensures frames { map (λ frame. frame.items) outbox.new.items
+            ≡ map (λ frame. frame.items) outbox.old.items ++ map (bytes_of self.now.setup) (where_due is_due (requests_of self.now.live.device self.now.live.asked)) }
+        ensures few { array_vec_len outbox.new ≤ array_vec_len outbox.old + 1 }
+    {
+        if !is_due {
+            return;
+        }
+        let Some(request) = self.asked else {
+            return;
+        };
+        send_request(&self.setup, self.device, request, outbox);
+    }
+
+    // The outputs, if they are due.
+    fn send_outputs(&self, is_due: bool, outbox: &mut Outbox)
+        requires room { array_vec_len outbox.old < 4 }
+        ensures frames { map (λ frame. frame.items) outbox.new.items
+            ≡ map (λ frame. frame.items) outbox.old.items ++ map (bytes_of self.now.setup) (where_due is_due (outputs_of self.now.live)) }
+        ensures few { array_vec_len outbox.new ≤ array_vec_len outbox.old + 1 }
+    {
+        if is_due {
+            send_outputs(&self.setup, self.units, &self.exchange, outbox);
+        }
+    }
+}
