@@ -4,7 +4,7 @@ use Rattle.arrayvec.specs.ArrayVec.{ArrayVec}
 use Rattle.plans.specs.declared.parts.Parts.{Parts}
 use Rattle.configurator.specs.declared.fault.PlanFault.{PlanFault}
 use Rattle.configurator.specs.declared.fault.PlanFault.TheVariants.{OutOfMemory}
-use Rattle.configurator.specs.Plan.{plan_in, Refuses}
+use Rattle.configurator.specs.Planned.{IsPlanOf, IsRefused}
 use Rattle.device_frames.specs.declared.event.Event.{Event}
 use Rattle.device_frames.specs.declared.event.Event.TheVariants as event
 use Rattle.device_core.specs.State.{Station as Device, Live}
@@ -32,10 +32,20 @@ pub record Other : Type 0 where
   pub to_device : List (List ℕ)
   pub to_controller : List (List ℕ)
 
--- both ends
+-- both ends, and what plan each catalogue has
 pub record Network : Type 0 where
+  pub plans : List ℕ → Option Parts
   pub station : Station
   pub other : Other
+
+-- the same catalogues have the same plans
+abbrev pub with_ends : Network → Station → Other → Network
+with_ends network station other = record { plans = network.plans; station = station; other = other }
+
+-- what plan each catalogue has, as the configurator says: the plan of each that has one, and none of each that is refused
+pub record ArePlans (plans : List ℕ → Option Parts) : Type 0 where
+  pub known : (catalogue : List ℕ) (plan : Parts) → IsPlanOf catalogue plan → plans catalogue ≡ Some plan
+  pub refused : (catalogue : List ℕ) (fault : PlanFault) → IsRefused catalogue fault → (fault ≡ OutOfMemory) ⊎ (plans catalogue ≡ None)
 
 -- before a catalogue was read
 abbrev pub nobody : Other
@@ -127,10 +137,10 @@ octets_of frames = map (λ frame. frame.items) frames
 abbrev pub IsRun : ControllerRun → Controlling → List (ArrayVec ℕ) → List (ArrayVec ℕ) → Type 0
 IsRun run controller before after = (controller ≡ run.controller) × (octets_of after ≡ octets_of before ++ run.frames)
 
--- a catalogue was read: it has this plan, or none, for this fault, or memory was refused
+-- a catalogue was read: it has this plan, or is refused
 abbrev pub Plans : List ℕ → Other → Other → Result (Unit {0}) PlanFault → Type 0
-Plans catalogue before after (Ok done) = (plan : Parts) × (plan_in catalogue ≡ Some plan) × (after ≡ with_plan before plan)
-Plans catalogue before after (Err fault) = (fault ≡ OutOfMemory) ⊎ ((plan_in catalogue ≡ None) × Refuses catalogue fault)
+Plans catalogue before after (Ok done) = (plan : Parts) × IsPlanOf catalogue plan × (after ≡ with_plan before plan)
+Plans catalogue before after (Err fault) = IsRefused catalogue fault
 
 -- a controller was put there, if there is a plan
 abbrev pub Starts : Option Parts → Other → List ℕ → List ℕ → Other → Bool → Type 0

@@ -8,7 +8,6 @@ use Rattle.pn_values.specs.declared.settings.Settings.{Settings}
 use Rattle.settings_journal.specs.Image.{capacity}
 use Rattle.relations.specs.Link.{phase_of}
 use Rattle.plans.specs.declared.parts.Parts.{Parts}
-use Rattle.configurator.specs.Plan.{plan_in}
 use Rattle.device_frames.specs.declared.event.Event.{Event}
 use Rattle.device_frames.specs.declared.event.Event.TheVariants as event
 use Rattle.device_core.specs.declared.note.Note.TheVariants.{Done}
@@ -18,7 +17,7 @@ use Rattle.controller_core.specs.declared.event.Event.{Event as ControllerEvent}
 use Rattle.controller_core.specs.declared.event.Event.TheVariants as heard
 use Rattle.controller_core.specs.State.{Controlling}
 use Rattle.script_runner.specs.Demo.{demo_device}
-use Rattle.script_runner.specs.Ends.{Station, turned_to, Other, Network, arrived_at, cleared, controller_run, device_run, frames_for_controller, frames_for_device, nobody, printed_for, ticked_by, with_fresh, with_plan, with_run, with_sent}
+use Rattle.script_runner.specs.Ends.{Station, turned_to, Other, Network, DeviceRun, with_ends, arrived_at, cleared, controller_run, device_run, frames_for_device, nobody, printed_for, ticked_by, with_fresh, with_plan, with_run, with_sent}
 use Rattle.script_runner.specs.Line.{Command, Frame, Restart, Tick, Show, Arm, Input, Alarm, Config, Start, Give, Stop, Deliver, Line, Unfit, Skipped, Asks, Unknown, meaning_of}
 use Rattle.script_runner.specs.Show.{shown, outputs_shown, controller_shown, state_line}
 use Rattle.script_runner.specs.Text.{boot_line, moved_line, note_line, printed}
@@ -35,7 +34,7 @@ pub record Answer : Type 0 where
 -- a step of the device: a line for each frame that it sends, as long as there is no controller, and one for its note
 abbrev pub step_answer : Network → Stepped → Answer
 step_answer network step = record {
-  network = record { station = turned_to network.station step.live; other = with_sent network.other step.frames };
+  network = with_ends network (turned_to network.station step.live) (with_sent network.other step.frames);
   text = printed_for network.other.controller step.frames ++ note_line step.note;
 }
 
@@ -49,10 +48,7 @@ event_answer network event = step_answer network (step_of [] network.station.dev
 -- a restart starts the device from what is stored; no frame waits then, and the controller is as it was
 abbrev pub restart_answer : Network → Answer
 restart_answer network = record {
-  network = record {
-    station = demo_started network.station.live.values.stored network.station.live.values.room;
-    other = cleared network.other;
-  };
+  network = with_ends network (demo_started network.station.live.values.stored network.station.live.values.room) (cleared network.other);
   text = boot_line None;
 }
 
@@ -61,7 +57,7 @@ abbrev pub tick_answer : Network → ℕ → Answer
 tick_answer network units =
     let run = device_run network.station (replicate units event.Tick) in
     record {
-      network = record { station = run.station; other = ticked_by network.other.controller (with_sent network.other run.frames) units };
+      network = with_ends network run.station (ticked_by network.other.controller (with_sent network.other run.frames) units);
       text = printed_for network.other.controller run.frames ++ note_line Done;
     }
 
@@ -87,37 +83,38 @@ pub data Outcome : Type 0 where
   HasNoPlan : (catalogue : List ℕ) → Outcome
 
 -- what is at the other end is this, and the line says what the controller is at
-abbrev pub at_other : Network → Other → List ℕ → Outcome
-at_other network other text = Answers (record { network = record { station = network.station; other = other }; text = text ++ controller_shown other.controller })
+abbrev pub at_other : Network → Other → Outcome
+at_other network other = Answers (record { network = with_ends network network.station other; text = controller_shown other.controller })
 
 abbrev pub config_outcome : Network → List ℕ → Option Parts → Outcome
-config_outcome network catalogue (Some plan) = Answers (record { network = record { station = network.station; other = with_plan network.other plan }; text = printed (codes "plan ok") })
+config_outcome network catalogue (Some plan) = Answers (record { network = with_ends network network.station (with_plan network.other plan); text = printed (codes "plan ok") })
 config_outcome network catalogue None = HasNoPlan catalogue
 
 abbrev pub start_outcome : Network → List ℕ → List ℕ → Option Parts → Outcome
-start_outcome network ar activity (Some plan) = at_other network (with_fresh network.other plan ar activity) []
+start_outcome network ar activity (Some plan) = at_other network (with_fresh network.other plan ar activity)
 start_outcome network ar activity None = Refuses
 
 abbrev pub heard_outcome : Network → ControllerEvent → Option Controlling → Outcome
-heard_outcome network event (Some controller) = at_other network (with_run network.other (controller_run controller (event ∷ []))) []
+heard_outcome network event (Some controller) = at_other network (with_run network.other (controller_run controller (event ∷ [])))
 heard_outcome network event None = Refuses
 
+-- what waits for the device was handed over: it waits no longer, and what the device answered waits for the controller
+abbrev pub handed_over : Other → DeviceRun → Other
+handed_over other run = record other { to_device = []; to_controller = other.to_controller ++ run.frames }
+
 -- what waits for the device is handed over, and then what then waits for the controller: also what the device answered
-abbrev pub deliver_answer : Network → Controlling → Answer
-deliver_answer network controller =
+abbrev pub deliver_answer : Network → Answer
+deliver_answer network =
     let run = device_run network.station (frames_for_device network.other.to_device) in
-    let arriving = network.other.to_controller ++ run.frames in
-    let heard = controller_run controller (frames_for_controller arriving) in
+    let between = handed_over network.other run in
+    let after = arrived_at network.other.controller between in
     record {
-      network = record {
-        station = run.station;
-        other = record { plan = network.other.plan; controller = Some heard.controller; to_device = heard.frames; to_controller = [] };
-      };
-      text = moved_line (length network.other.to_device) (length arriving) ++ state_line heard.controller.phase;
+      network = with_ends network run.station after;
+      text = moved_line (length network.other.to_device) (length between.to_controller) ++ controller_shown after.controller;
     }
 
 abbrev pub deliver_outcome : Network → Option Controlling → Outcome
-deliver_outcome network (Some controller) = Answers (deliver_answer network controller)
+deliver_outcome network (Some controller) = Answers (deliver_answer network)
 deliver_outcome network None = Refuses
 
 -- what a command does
@@ -129,7 +126,7 @@ said network Show = Answers (show_answer network)
 said network (Arm order) = Answers (unchanged network)
 said network (Input slot subslot bytes) = Answers (event_answer network (event.Input slot subslot (handed bytes)))
 said network (Alarm slot subslot bytes) = Answers (event_answer network (event.Alarm slot subslot (handed bytes)))
-said network (Config catalogue) = config_outcome network catalogue (plan_in catalogue)
+said network (Config catalogue) = config_outcome network catalogue (network.plans catalogue)
 said network (Start ar activity) = start_outcome network ar activity network.other.plan
 said network (Give slot subslot bytes) = heard_outcome network (heard.Give slot subslot (handed bytes)) network.other.controller
 said network Stop = heard_outcome network heard.Stop network.other.controller
@@ -207,14 +204,14 @@ before_order (line ∷ lines) = if is_order (meaning_of line) then [] else line 
 abbrev pub factory_device : Station
 factory_device = demo_started factory_settings (capacity 4096)
 
-abbrev pub alone : Network
-alone = record { station = factory_device; other = nobody }
+abbrev pub alone : (List ℕ → Option Parts) → Network
+alone plans = record { plans = plans; station = factory_device; other = nobody }
 
 -- what a script prints, up to the first line that orders a failure of the flash: what its calls of the flash do to later lines is
 -- not told
-unfoldable pub output_of : List ℕ → List ℕ
-output_of input = boot_line None ++ told alone (before_order (lines input))
+unfoldable pub output_of : (List ℕ → Option Parts) → List ℕ → List ℕ
+output_of plans input = boot_line None ++ told (alone plans) (before_order (lines input))
 
 -- how it ends, if before that
-unfoldable pub end_of : List ℕ → End
-end_of input = ended 1 alone (before_order (lines input))
+unfoldable pub end_of : (List ℕ → Option Parts) → List ℕ → End
+end_of plans input = ended 1 (alone plans) (before_order (lines input))

@@ -1,5 +1,5 @@
 -- A run between two lines, and what one line does.
-use Rattle.std.specs.Prelude.{◌≡◌, ◌⊎◌, ℕ, Bool, true, false, List, [], ◌++◌, Option, Some, None, Result, Ok, Err}
+use Rattle.std.specs.Prelude.{◌≡◌, ◌⊎◌, ℕ, Bool, true, false, List, [], ◌++◌, length, Option, Some, None, Result, Ok, Err}
 use Rattle.std.specs.Io.KnownBytes.{Appends}
 use Rattle.flash_model.specs.declared.memory.MemoryFlash.{MemoryFlash}
 use Rattle.flash_model.specs.Memory.{image_of, failures_of, is_powerless, IsReliable}
@@ -12,14 +12,18 @@ use Rattle.device_core.specs.Cycle.{started}
 use Rattle.device_core.specs.Machine.{Stepped}
 use Rattle.device_core.specs.State.{State, Live}
 use Rattle.script_runner.specs.declared.fault.RunFault.{RunFault}
-use Rattle.script_runner.specs.declared.fault.RunFault.TheVariants.{Write, OutOfMemory}
-use Rattle.script_runner.specs.Line.{Command, Frame, Restart, Tick, Show, Arm, Line, Unfit, Skipped, Asks, Unknown}
+use Rattle.script_runner.specs.declared.fault.RunFault.TheVariants.{Write, OutOfMemory, Config as config}
+use Rattle.script_runner.specs.Line.{Command, Restart, Config, Line, Unfit, Skipped, Asks, Unknown}
 use Rattle.script_runner.specs.declared.session.Power.{Power}
 use Rattle.script_runner.specs.declared.session.Power.TheVariants.{On, Off, Away}
 use Rattle.script_runner.specs.Demo.{demo_device}
 use Rattle.script_runner.specs.Output.{AppendsFront}
-use Rattle.script_runner.specs.Script.{Station, turned_to, Answer, answer_of}
-use Rattle.script_runner.specs.Text.{boot_line, off_line, out_lines}
+use Rattle.controller_core.specs.State.{Controlling}
+use Rattle.arrayvec.specs.ArrayVec.{ArrayVec}
+use Rattle.script_runner.specs.Ends.{Station, turned_to, Other, Network, DeviceRun, cleared, octets_of, printed_for, with_sent}
+use Rattle.script_runner.specs.Script.{Answer, Outcome, Answers, Refuses, HasNoPlan, deliver_answer, handed_over, outcome_of}
+use Rattle.script_runner.specs.Text.{boot_line, off_line}
+use Rattle.script_runner.specs.Told.{IsUnplanned}
 
 -- this station, over a flash whose calls do not fail, and none has
 pub record Runs (station : Station) (device : State (MemoryFlash 4096)) : Type 0 where
@@ -69,23 +73,51 @@ IsBack (On device) power = IsOver device.flash power
 IsBack (Off fault flash) power = IsOver flash power
 IsBack Away power = power ≡ Away
 
--- what a line prints that is answered so
-abbrev pub text_of : Option Answer → List ℕ
-text_of None = []
-text_of (Some answer) = answer.text
+-- what a line prints that comes out so
+abbrev pub text_of : Outcome → List ℕ
+text_of (Answers answer) = answer.text
+text_of Refuses = []
+text_of (HasNoPlan catalogue) = []
 
--- a line was answered: the writer got its text, and the device runs on
-pub record IsAnswered (station : Station) (line : Line) (old new : Option (List ℕ)) (power : Power) : Type 0 where
+-- both ends are as this says
+abbrev pub Are : Network → Power → Other → Type 0
+Are network power other = IsRunning network.station power × (other ≡ network.other)
+
+-- a write failed, or memory was refused
+abbrev pub Breaks : RunFault → Type 0
+Breaks fault = (fault ≡ Write) ⊎ (fault ≡ OutOfMemory)
+
+-- that, or a catalogue has no plan
+abbrev pub IsLineFault : RunFault → Type 0
+IsLineFault fault = Breaks fault ⊎ ((n : ℕ) × (fault ≡ config n))
+
+-- what a command asks for has no plan, for this fault
+abbrev pub IsUnplannedBy : Command → RunFault → Type 0
+IsUnplannedBy (Config catalogue) fault = IsUnplanned catalogue fault
+IsUnplannedBy command fault = ⊥
+
+-- what comes of a line has no plan
+abbrev pub IsWithoutPlan : Outcome → RunFault → Type 0
+IsWithoutPlan (HasNoPlan catalogue) fault = IsUnplanned catalogue fault
+IsWithoutPlan (Answers answer) fault = ⊥
+IsWithoutPlan Refuses fault = ⊥
+
+-- a line was answered: the writer got its text, and both ends are as the answer says
+pub record IsAnswered (outcome : Outcome) (old new : Option (List ℕ)) (power : Power) (other : Other) : Type 0 where
   pub answer : Answer
-  pub is : answer_of station line ≡ Some answer
+  pub is : outcome ≡ Answers answer
   pub text : Appends old new answer.text
-  pub runs : IsRunning answer.station power
+  pub ends : Are answer.network power other
 
--- what taking a line does, by what it says: answered, refused, or ended by a write that failed or memory that was refused
-abbrev pub Takes : Station → Line → Option (List ℕ) → Option (List ℕ) → Power → Result Bool RunFault → Type 0
-Takes station line old new power (Ok true) = IsAnswered station line old new power
-Takes station line old new power (Ok false) = (answer_of station line ≡ None) × Appends old new []
-Takes station line old new power (Err fault) = ((fault ≡ Write) ⊎ (fault ≡ OutOfMemory)) × AppendsFront old new (text_of (answer_of station line))
+-- what taking a line does, by what comes of it: answered, refused, or ended by a write that failed, memory that was refused or a
+-- catalogue that has no plan
+abbrev pub Obeys : Outcome → Option (List ℕ) → Option (List ℕ) → Power → Other → Result Bool RunFault → Type 0
+Obeys outcome old new power other (Ok true) = IsAnswered outcome old new power other
+Obeys outcome old new power other (Ok false) = (outcome ≡ Refuses) × Appends old new []
+Obeys outcome old new power other (Err fault) = (Breaks fault × AppendsFront old new (text_of outcome)) ⊎ (IsWithoutPlan outcome fault × Appends old new [])
+
+abbrev pub Takes : Network → Line → Option (List ℕ) → Option (List ℕ) → Power → Other → Result Bool RunFault → Type 0
+Takes network line old new power other result = Obeys (outcome_of network line) old new power other result
 
 -- What a line prints while there is no power, where it is no restart. None where it is refused: only for its length, or for a
 -- byte that is not ASCII.
@@ -105,21 +137,16 @@ PrintsOff text old new (Ok true) = (line : List ℕ) × (text ≡ Some line) × 
 PrintsOff text old new (Ok false) = (text ≡ None) × Appends old new []
 PrintsOff text old new (Err fault) = ((fault ≡ Write) ⊎ (fault ≡ OutOfMemory)) × AppendsFront old new (or_nothing text)
 
--- power was given back, and the writer got the line of the start, or a front of it
-abbrev pub GivesBack : Power → Power → Option (List ℕ) → Option (List ℕ) → Result (Unit {0}) RunFault → Type 0
-GivesBack before after old new (Ok done) = IsBack before after × Appends old new (boot_line (refusal_of after))
-GivesBack before after old new (Err fault) = ((fault ≡ Write) ⊎ (fault ≡ OutOfMemory)) × AppendsFront old new (boot_line (refusal_of after))
+-- power was given back, no frame waits, and the writer got the line of the start, or a front of it
+abbrev pub GivesBack : Power → Other → Power → Other → Option (List ℕ) → Option (List ℕ) → Result Bool RunFault → Type 0
+GivesBack before far after farther old new (Ok true) = IsBack before after × (farther ≡ cleared far) × Appends old new (boot_line (refusal_of after))
+GivesBack before far after farther old new (Ok false) = ⊥
+GivesBack before far after farther old new (Err fault) = Breaks fault × AppendsFront old new (boot_line (refusal_of after))
 
--- a restart is a line that a script may have
-abbrev pub TakesBack : Power → Power → Option (List ℕ) → Option (List ℕ) → Result Bool RunFault → Type 0
-TakesBack before after old new (Ok true) = GivesBack before after old new (Ok tt)
-TakesBack before after old new (Ok false) = ⊥
-TakesBack before after old new (Err fault) = GivesBack before after old new (Err fault)
-
--- what taking a line does while there is no power: a restart gives it back, and no other line changes anything
-abbrev pub TakesOff : Line → Power → Power → Option (List ℕ) → Option (List ℕ) → Result Bool RunFault → Type 0
-TakesOff (Asks Restart) before after old new result = TakesBack before after old new result
-TakesOff line before after old new result = (after ≡ before) × PrintsOff (off_text line) old new result
+-- what taking a line does while there is no power: a restart gives it back, and no other line changes anything at either end
+abbrev pub TakesOff : Line → Power → Other → Power → Other → Option (List ℕ) → Option (List ℕ) → Result Bool RunFault → Type 0
+TakesOff (Asks Restart) before far after farther old new result = GivesBack before far after farther old new result
+TakesOff line before far after farther old new result = (after ≡ before) × (farther ≡ far) × PrintsOff (off_text line) old new result
 
 -- a line that is more than 'off' while there is no power: it is refused, is skipped, or gives the power back
 abbrev pub is_heard_off : Line → Bool
@@ -128,23 +155,44 @@ is_heard_off Skipped = true
 is_heard_off (Asks Restart) = true
 is_heard_off line = false
 
--- what obeying a command does, given its answer: the writer got the text and the device runs on, or a front of the text
-abbrev pub Obeys : Answer → Option (List ℕ) → Option (List ℕ) → Power → Result (Unit {0}) RunFault → Type 0
-Obeys answer old new power (Ok done) = Appends old new answer.text × IsRunning answer.station power
-Obeys answer old new power (Err fault) = ((fault ≡ Write) ⊎ (fault ≡ OutOfMemory)) × AppendsFront old new answer.text
-
--- a step was made: the device runs on, and this is rendered of it
-pub record IsStepped (station : Station) (step : Stepped) (device : State (MemoryFlash 4096)) (before now : List ℕ) (note : Note) : Type 0 where
+-- a step was made: the device runs on, and what it sent is rendered or waits
+pub record IsStepped (station : Station) (step : Stepped) (device : State (MemoryFlash 4096)) (far other : Other) (before now : List ℕ) (note : Note) : Type 0 where
   pub runs : Runs (turned_to station step.live) device
-  pub text : now ≡ before ++ out_lines step.frames
+  pub waits : other ≡ with_sent far step.frames
+  pub text : now ≡ before ++ printed_for far.controller step.frames
   pub note_is : note ≡ step.note
 
--- a command was obeyed: the device runs on, and this is rendered
-pub record IsObeyed (answer : Answer) (power : Power) (before now : List ℕ) : Type 0 where
-  pub runs : IsRunning answer.station power
+-- the same of some steps
+pub record IsRunOf (run : DeviceRun) (device : State (MemoryFlash 4096)) (far other : Other) (before now : List ℕ) : Type 0 where
+  pub runs : Runs run.station device
+  pub waits : other ≡ with_sent far run.frames
+  pub text : now ≡ before ++ printed_for far.controller run.frames
+
+-- frames were handed over to the device: it runs on, and what it sent waits behind what waited
+pub record IsHandedTo (run : DeviceRun) (device : State (MemoryFlash 4096)) (before now : List (ArrayVec ℕ)) : Type 0 where
+  pub runs : Runs run.station device
+  pub waits : octets_of now ≡ octets_of before ++ run.frames
+
+-- all that waited for it was
+pub record IsHandedOver (run : DeviceRun) (device : State (MemoryFlash 4096)) (far other : Other) (moved : ℕ) : Type 0 where
+  pub runs : Runs run.station device
+  pub waits : other ≡ handed_over far run
+  pub moved_is : moved ≡ length far.to_device
+
+-- the device did this: it runs on, the other end is as the answer says, and its text is rendered
+pub record IsDone (answer : Answer) (device : State (MemoryFlash 4096)) (other : Other) (before now : List ℕ) : Type 0 where
+  pub runs : Runs answer.network.station device
+  pub waits : other ≡ answer.network.other
   pub text : now ≡ before ++ answer.text
 
--- the device did this: it runs on, and what it sent is rendered
-pub record IsDone (answer : Answer) (device : State (MemoryFlash 4096)) (before now : List ℕ) : Type 0 where
-  pub runs : Runs answer.station device
+-- a command was obeyed: both ends are as the answer says, and its text is rendered
+pub record IsObeyed (answer : Answer) (power : Power) (other : Other) (before now : List ℕ) : Type 0 where
+  pub runs : IsRunning answer.network.station power
+  pub waits : other ≡ answer.network.other
   pub text : now ≡ before ++ answer.text
+
+-- the same of what comes of a command, and whether it is one that a script may have here
+abbrev pub Comes : Outcome → Power → Other → List ℕ → List ℕ → Bool → Type 0
+Comes (Answers answer) power other before now is = (is ≡ true) × IsObeyed answer power other before now
+Comes Refuses power other before now is = is ≡ false
+Comes (HasNoPlan catalogue) power other before now is = ⊥

@@ -100,4 +100,4 @@ state_line state = printed (codes "state " ++ state_word state)
 -- if there is one
 abbrev pub controller_shown : Option Controlling → List ℕ
 controller_shown None = []
-controller_shown (Some controller) = state_line controller.phase
+controller_shown (Some controller) = state_line controller.live.phase

@@ -1,5 +1,7 @@
 // A script, line by line.
-ghost use Rattle.std.specs.Prelude.{◌≤◌, length, IfErr};
+ghost use Rattle.std.specs.Prelude.{◌≤◌, ℕ, List, Option, length, IfErr};
+ghost use Rattle.plans.specs.declared.parts.Parts.{Parts};
+ghost use Rattle.script_runner.specs.Ends.{ArePlans};
 ghost use Rattle.script_runner.specs.Told.{IsPlayed, IsPlayFault};
 
 use crate::RunFault;
@@ -15,7 +17,7 @@ use std::io::Write;
 pub(crate) fn play<W: Write>(alloc: Global, input: &[u8], writer: &mut W) -> Result<(), RunFault>
     requires { length input.now ≤ 16777216 }
     ensures faults { IfErr result IsPlayFault }
-    ensures played { IsPlayed (W.contents writer.old) (W.contents writer.new) input.now result }
+    ensures played { (plans : List ℕ → Option Parts) → ArePlans plans → IsPlayed plans (W.contents writer.old) (W.contents writer.new) input.now result }
 {
     let mut flash = MemoryFlash::blank();
     let mut session = Session::new(alloc, &mut flash);

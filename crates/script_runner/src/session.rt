@@ -8,10 +8,10 @@ ghost use Rattle.device_frames.specs.declared.event.Event.TheVariants as event;
 ghost use Rattle.device_core.specs.Machine.{step_of};
 ghost use Rattle.controller_core.specs.declared.event.Event.TheVariants as heard;
 ghost use Rattle.script_runner.specs.Read.{line_read};
-ghost use Rattle.script_runner.specs.Ends.{Station, device_run};
-ghost use Rattle.script_runner.specs.Script.{demo_started, event_answer, handed, tick_answer};
+ghost use Rattle.script_runner.specs.Ends.{Network, Station, device_run};
+ghost use Rattle.script_runner.specs.Script.{demo_started, deliver_answer, event_answer, handed, tick_answer};
 ghost use Rattle.script_runner.specs.Show.{module_shown, outputs_shown, part_shown};
-ghost use Rattle.script_runner.specs.Session.{Runs, IsExchanged, IsRunOf, IsStepped, IsDone, at, is_heard_off};
+ghost use Rattle.script_runner.specs.Session.{Runs, IsRunOf, IsStepped, IsDone, is_heard_off};
 
 use crate::bytes::{copied, front};
 use crate::command::{self, Command, Line};
@@ -120,14 +120,13 @@ pub(crate) struct Session<'a> {
 }
 
 impl<'a> Session<'a> {
-    ghost use Rattle.script_runner.specs.Ends.{cleared, nobody};
+    ghost use Rattle.script_runner.specs.Ends.{ArePlans, cleared, nobody};
     ghost use Rattle.script_runner.specs.Line.{Command, Config, Restart, meaning_of};
     ghost use Rattle.script_runner.specs.Read.{command_read};
     ghost use Rattle.script_runner.specs.Output.{Grows};
     ghost use Rattle.script_runner.specs.Script.{arms, config_outcome, deliver_outcome, factory_device, heard_outcome, is_order, restart_answer, said, show_answer, start_outcome};
-    ghost use Rattle.script_runner.specs.Session.{Comes, IsDemo, IsLineFault, IsRunning, IsBack, IsUnplannedBy, Takes, TakesOff, GivesBack, Obeys, IsObeyed, is_off, refusal_of};
+    ghost use Rattle.script_runner.specs.Session.{Are, Comes, IsDemo, IsLineFault, IsRunning, IsBack, IsUnplannedBy, Takes, TakesOff, GivesBack, Obeys, IsObeyed, is_off, refusal_of};
     ghost use Rattle.script_runner.specs.Text.{boot_line};
-    ghost use Rattle.configurator.specs.Plan.{plan_in};
 
     /// The demo device over this flash, as it starts, and nobody at the other end.
     pub(crate) fn new(alloc: Global, flash: &'a mut MemoryFlash<4096>) -> Session<'a>
@@ -152,8 +151,8 @@ impl<'a> Session<'a> {
         writer: &mut W,
     ) -> Result<bool, RunFault>
         ensures faults { IfErr result IsLineFault }
-        ensures takes { (station : Station) → IsRunning station self.old.power → is_order (meaning_of line.now) ≡ false →
-            Takes (at station self.old.other) (meaning_of line.now) (W.contents writer.old) (W.contents writer.new) self.new.power self.new.other result }
+        ensures takes { (network : Network) → ArePlans network.plans → Are network self.old.power self.old.other → is_order (meaning_of line.now) ≡ false →
+            Takes network (meaning_of line.now) (W.contents writer.old) (W.contents writer.new) self.new.power self.new.other result }
         ensures off { is_off self.old.power ≡ true →
             TakesOff (meaning_of line.now) self.old.power self.old.other self.new.power self.new.other (W.contents writer.old) (W.contents writer.new) result }
         ensures demo { IsDemo self.old.power → IsDemo self.new.power }
@@ -175,8 +174,8 @@ impl<'a> Session<'a> {
     /// Does what a command asks for, and writes what it prints. Says whether it is one that a script may have here.
     fn obey<W: Write>(&mut self, command: Command<'_>, writer: &mut W) -> Result<bool, RunFault>
         ensures faults { IfErr result IsLineFault }
-        ensures obeys { (station : Station) → IsRunning station self.old.power → arms (command_read command.entry) ≡ false →
-            Obeys (said (at station self.old.other) (command_read command.entry)) (W.contents writer.old) (W.contents writer.new) self.new.power self.new.other result }
+        ensures obeys { (network : Network) → ArePlans network.plans → Are network self.old.power self.old.other → arms (command_read command.entry) ≡ false →
+            Obeys (said network (command_read command.entry)) (W.contents writer.old) (W.contents writer.new) self.new.power self.new.other result }
         ensures back { command_read command.entry ≡ Restart →
             GivesBack self.old.power self.old.other self.new.power self.new.other (W.contents writer.old) (W.contents writer.new) result }
         ensures demo { IsDemo self.old.power → IsDemo self.new.power }
@@ -192,8 +191,8 @@ impl<'a> Session<'a> {
 
     /// Does what a command asks for, and renders what it prints. Says whether it is one that a script may have here.
     fn answer(&mut self, command: Command<'_>) -> Result<bool, RunFault>
-        ensures obeys { (station : Station) → IsRunning station self.old.power → arms (command_read command.entry) ≡ false →
-            IfOk result (λ is. Comes (said (at station self.old.other) (command_read command.entry)) self.new.power self.new.other self.old.text.items self.new.text.items is) }
+        ensures obeys { (network : Network) → ArePlans network.plans → Are network self.old.power self.old.other → arms (command_read command.entry) ≡ false →
+            IfOk result (λ is. Comes (said network (command_read command.entry)) self.new.power self.new.other self.old.text.items self.new.text.items is) }
         ensures unplanned { IfErr result (λ fault. (fault ≡ RunFault.OutOfMemory) ⊎ IsUnplannedBy (command_read command.entry) fault) }
         ensures back { command_read command.entry ≡ Restart → IsBack self.old.power self.new.power × (self.new.other ≡ cleared self.old.other) }
         ensures printed { command_read command.entry ≡ Restart →
@@ -221,8 +220,8 @@ impl<'a> Session<'a> {
 
     /// Hands bytes to the device, as from the network, at most 1,519 of them: no frame is so long.
     fn hand_in(&mut self, bytes: &[u8]) -> Result<(), AllocError>
-        ensures obeys { (station : Station) → IsRunning station self.old.power →
-            OnOk result (IsObeyed (event_answer (at station self.old.other) (event.Frame (handed bytes.now))) self.new.power self.new.other self.old.text.items self.new.text.items) }
+        ensures obeys { (network : Network) → Are network self.old.power self.old.other →
+            OnOk result (IsObeyed (event_answer network (event.Frame (handed bytes.now))) self.new.power self.new.other self.old.text.items self.new.text.items) }
         ensures demo { IsDemo self.old.power → IsDemo self.new.power }
     {
         match &mut self.power {
@@ -242,8 +241,8 @@ impl<'a> Session<'a> {
 
     /// Gives a submodule its input, of at most 1,519 bytes: no input is so long.
     fn give(&mut self, slot: u16, subslot: u16, bytes: &[u8]) -> Result<(), AllocError>
-        ensures obeys { (station : Station) → IsRunning station self.old.power →
-            OnOk result (IsObeyed (event_answer (at station self.old.other) (event.Input slot subslot (handed bytes.now))) self.new.power self.new.other self.old.text.items self.new.text.items) }
+        ensures obeys { (network : Network) → Are network self.old.power self.old.other →
+            OnOk result (IsObeyed (event_answer network (event.Input slot subslot (handed bytes.now))) self.new.power self.new.other self.old.text.items self.new.text.items) }
         ensures demo { IsDemo self.old.power → IsDemo self.new.power }
     {
         match &mut self.power {
@@ -263,8 +262,8 @@ impl<'a> Session<'a> {
 
     /// Raises an alarm at the device, of at most 1,519 bytes: none is so long.
     fn alarm(&mut self, slot: u16, subslot: u16, bytes: &[u8]) -> Result<(), AllocError>
-        ensures obeys { (station : Station) → IsRunning station self.old.power →
-            OnOk result (IsObeyed (event_answer (at station self.old.other) (event.Alarm slot subslot (handed bytes.now))) self.new.power self.new.other self.old.text.items self.new.text.items) }
+        ensures obeys { (network : Network) → Are network self.old.power self.old.other →
+            OnOk result (IsObeyed (event_answer network (event.Alarm slot subslot (handed bytes.now))) self.new.power self.new.other self.old.text.items self.new.text.items) }
         ensures demo { IsDemo self.old.power → IsDemo self.new.power }
     {
         match &mut self.power {
@@ -284,8 +283,8 @@ impl<'a> Session<'a> {
 
     /// Takes the device's power away, and gives it back. Frames that wait are lost with it.
     fn restart(&mut self) -> Result<(), AllocError>
-        ensures obeys { (station : Station) → IsRunning station self.old.power →
-            OnOk result (IsObeyed (restart_answer (at station self.old.other)) self.new.power self.new.other self.old.text.items self.new.text.items) }
+        ensures obeys { (network : Network) → Are network self.old.power self.old.other →
+            OnOk result (IsObeyed (restart_answer network) self.new.power self.new.other self.old.text.items self.new.text.items) }
         ensures back { IsBack self.old.power self.new.power }
         ensures other { self.new.other ≡ cleared self.old.other }
         ensures printed { OnOk result (self.new.text.items ≡ self.old.text.items ++ boot_line (refusal_of self.new.power)) }
@@ -298,8 +297,8 @@ impl<'a> Session<'a> {
 
     /// Lets units of time go by at either end.
     fn tick(&mut self, units: u32) -> Result<(), AllocError>
-        ensures obeys { (station : Station) → IsRunning station self.old.power →
-            OnOk result (IsObeyed (tick_answer (at station self.old.other) units) self.new.power self.new.other self.old.text.items self.new.text.items) }
+        ensures obeys { (network : Network) → Are network self.old.power self.old.other →
+            OnOk result (IsObeyed (tick_answer network units) self.new.power self.new.other self.old.text.items self.new.text.items) }
         ensures demo { IsDemo self.old.power → IsDemo self.new.power }
     {
         match &mut self.power {
@@ -320,8 +319,8 @@ impl<'a> Session<'a> {
 
     /// Shows the settings, the relation, the lamp, the outputs and, where there is one, what the controller is at.
     fn show(&mut self) -> Result<(), AllocError>
-        ensures obeys { (station : Station) → IsRunning station self.old.power →
-            OnOk result (IsObeyed (show_answer (at station self.old.other)) self.new.power self.new.other self.old.text.items self.new.text.items) }
+        ensures obeys { (network : Network) → Are network self.old.power self.old.other →
+            OnOk result (IsObeyed (show_answer network) self.new.power self.new.other self.old.text.items self.new.text.items) }
         ensures same { self.new.power ≡ self.old.power }
     {
         match &self.power {
@@ -354,8 +353,8 @@ impl<'a> Session<'a> {
 
     /// Makes the plan of a catalogue, for the next controller.
     fn config(&mut self, catalogue: &[u8]) -> Result<bool, RunFault>
-        ensures obeys { (station : Station) → IsRunning station self.old.power →
-            IfOk result (Comes (config_outcome (at station self.old.other) catalogue.now (plan_in catalogue.now)) self.new.power self.new.other self.old.text.items self.new.text.items) }
+        ensures obeys { (network : Network) → ArePlans network.plans → Are network self.old.power self.old.other →
+            IfOk result (Comes (config_outcome network catalogue.now (network.plans catalogue.now)) self.new.power self.new.other self.old.text.items self.new.text.items) }
         ensures unplanned { IfErr result (λ fault. (fault ≡ RunFault.OutOfMemory) ⊎ IsUnplannedBy (Config catalogue.now) fault) }
         ensures same { self.new.power ≡ self.old.power }
     {
@@ -365,8 +364,8 @@ impl<'a> Session<'a> {
 
     /// Puts a controller at the other end. Says whether there is a plan for it.
     fn start(&mut self, ar: Uuid, activity: Uuid) -> Result<bool, AllocError>
-        ensures obeys { (station : Station) → IsRunning station self.old.power →
-            IfOk result (Comes (start_outcome (at station self.old.other) ar activity self.old.other.plan) self.new.power self.new.other self.old.text.items self.new.text.items) }
+        ensures obeys { (network : Network) → Are network self.old.power self.old.other →
+            IfOk result (Comes (start_outcome network ar activity network.other.plan) self.new.power self.new.other self.old.text.items self.new.text.items) }
         ensures same { self.new.power ≡ self.old.power }
     {
         if !self.other.start(ar, activity)? {
@@ -378,8 +377,8 @@ impl<'a> Session<'a> {
 
     /// Has the controller take an event of its application. Says whether there is a controller.
     fn hear(&mut self, event: &controller_core::Event) -> Result<bool, AllocError>
-        ensures obeys { (station : Station) → IsRunning station self.old.power →
-            IfOk result (Comes (heard_outcome (at station self.old.other) event.now self.old.other.controller) self.new.power self.new.other self.old.text.items self.new.text.items) }
+        ensures obeys { (network : Network) → Are network self.old.power self.old.other →
+            IfOk result (Comes (heard_outcome network event.now network.other.controller) self.new.power self.new.other self.old.text.items self.new.text.items) }
         ensures same { self.new.power ≡ self.old.power }
     {
         if !self.other.take(event)? {
@@ -391,8 +390,8 @@ impl<'a> Session<'a> {
 
     /// Hands over what waits for the device, and then what waits for the controller. Says whether there is a controller.
     fn deliver(&mut self) -> Result<bool, AllocError>
-        ensures obeys { (station : Station) → IsRunning station self.old.power →
-            IfOk result (Comes (deliver_outcome (at station self.old.other) self.old.other.controller) self.new.power self.new.other self.old.text.items self.new.text.items) }
+        ensures obeys { (network : Network) → Are network self.old.power self.old.other →
+            IfOk result (Comes (deliver_outcome network network.other.controller) self.new.power self.new.other self.old.text.items self.new.text.items) }
         ensures demo { IsDemo self.old.power → IsDemo self.new.power }
     {
         if !self.other.is_started() {
@@ -532,8 +531,8 @@ fn respond(
     other: &mut OtherEnd,
     text: &mut Vec<u8>,
 ) -> Result<(), AllocError>
-    ensures done { (station : Station) → Runs station device.old →
-        OnOk result (IsDone (event_answer (at station other.old) event.now) device.new other.new text.old.items text.new.items) }
+    ensures done { (network : Network) → Runs network.station device.old → other.old ≡ network.other →
+        OnOk result (IsDone (event_answer network event.now) device.new other.new text.old.items text.new.items) }
     ensures same { device.new.station ≡ device.old.station }
 {
     let note = step(device, event, outbox, other, text)?;
@@ -571,8 +570,8 @@ fn exchange(
     other: &mut OtherEnd,
     text: &mut Vec<u8>,
 ) -> Result<(), AllocError>
-    ensures done { (station : Station) → Runs station device.old →
-        OnOk result (IsExchanged (at station other.old) other.old.controller device.new other.new text.old.items text.new.items) }
+    ensures done { (network : Network) → Runs network.station device.old → other.old ≡ network.other →
+        OnOk result (IsDone (deliver_answer network) device.new other.new text.old.items text.new.items) }
     ensures same { device.new.station ≡ device.old.station }
 {
     let to_device = other.hand_over(device, outbox)?;

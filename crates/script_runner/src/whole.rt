@@ -1,5 +1,7 @@
 // A script from a reader to a writer.
-ghost use Rattle.std.specs.Prelude.{IfSome};
+ghost use Rattle.std.specs.Prelude.{ℕ, List, Option, IfSome};
+ghost use Rattle.plans.specs.declared.parts.Parts.{Parts};
+ghost use Rattle.script_runner.specs.Ends.{ArePlans};
 ghost use Rattle.script_runner.specs.Told.{IsWhole, IsTold};
 
 use crate::RunFault;
@@ -13,8 +15,8 @@ use std::io::{Read, Write};
 pub fn run<R: Read, W: Write>(alloc: Global, reader: &mut R, writer: &mut W) -> Result<(), RunFault>
     // A script that is too long, and only such a one, is endless input. Then, and where a read failed, nothing is written.
     ensures whole { IfSome (R.remaining reader.old) (λ input. IsWhole (W.contents writer.old) (W.contents writer.new) input result) }
-    // The output of a script is a function of its bytes, up to the first line that orders a failure of the flash.
-    ensures told { IfSome (R.remaining reader.old) (λ input. IsTold (W.contents writer.old) (W.contents writer.new) input result) }
+    // The output of a script is a function of its bytes and of what plan each catalogue has, up to the first line that orders a failure of the flash.
+    ensures told { IfSome (R.remaining reader.old) (λ input. (plans : List ℕ → Option Parts) → ArePlans plans → IsTold plans (W.contents writer.old) (W.contents writer.new) input result) }
 {
     let input = read_all(alloc, reader)?;
     play(alloc, input.as_slice(), writer)
