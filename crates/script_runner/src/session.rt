@@ -2,7 +2,7 @@
 ghost use Rattle.std.specs.Prelude.{◌≡◌, ◌⊎◌, ◌++◌, ℕ, true, false, [], IfErr, IfOk, IsErr, MatchResult, OnOk, Ok, map, replicate, take};
 ghost use Rattle.pn_values.specs.declared.settings.Settings.{Settings};
 ghost use Rattle.flash_model.specs.Image.{erased};
-ghost use Rattle.flash_model.specs.Memory.{image_of, IsReliable};
+ghost use Rattle.flash_model.specs.Memory.{image_of, is_powerless, IsReliable};
 ghost use Rattle.settings_journal.specs.Image.{StartsWith, LeftByDevice};
 ghost use Rattle.device_frames.specs.declared.event.Event.TheVariants as event;
 ghost use Rattle.device_core.specs.Machine.{step_of};
@@ -11,6 +11,7 @@ ghost use Rattle.script_runner.specs.Read.{line_read};
 ghost use Rattle.script_runner.specs.Ends.{Network, Station, device_run};
 ghost use Rattle.script_runner.specs.Script.{demo_started, deliver_answer, event_answer, handed, tick_answer};
 ghost use Rattle.script_runner.specs.Show.{module_shown, outputs_shown, part_shown};
+ghost use Rattle.script_runner.specs.Text.{lost_line};
 ghost use Rattle.script_runner.specs.Session.{Runs, IsRunOf, IsStepped, IsDone, is_heard_off};
 
 use crate::bytes::{copied, front};
@@ -121,11 +122,11 @@ pub(crate) struct Session<'a> {
 
 impl<'a> Session<'a> {
     ghost use Rattle.script_runner.specs.Ends.{ArePlans, cleared, nobody};
-    ghost use Rattle.script_runner.specs.Line.{Command, Config, Restart, meaning_of};
+    ghost use Rattle.script_runner.specs.Line.{Arm, Config, Restart, meaning_of};
     ghost use Rattle.script_runner.specs.Read.{command_read};
     ghost use Rattle.script_runner.specs.Output.{Grows};
     ghost use Rattle.script_runner.specs.Script.{arms, config_outcome, deliver_outcome, factory_device, heard_outcome, is_order, restart_answer, said, show_answer, start_outcome};
-    ghost use Rattle.script_runner.specs.Session.{Are, Comes, IsDemo, IsLineFault, IsRunning, IsBack, IsUnplannedBy, Takes, TakesOff, GivesBack, Obeys, IsObeyed, is_off, refusal_of};
+    ghost use Rattle.script_runner.specs.Session.{Are, Comes, IsArmed, IsDemo, IsLineFault, IsRunning, IsBack, IsUnplannedBy, Takes, TakesOff, GivesBack, Obeys, IsObeyed, is_off, refusal_of};
     ghost use Rattle.script_runner.specs.Text.{boot_line};
 
     /// The demo device over this flash, as it starts, and nobody at the other end.
@@ -197,6 +198,7 @@ impl<'a> Session<'a> {
         ensures back { command_read command.entry ≡ Restart → IsBack self.old.power self.new.power × (self.new.other ≡ cleared self.old.other) }
         ensures printed { command_read command.entry ≡ Restart →
             IfOk result (λ is. (is ≡ true) × (self.new.text.items ≡ self.old.text.items ++ boot_line (refusal_of self.new.power))) }
+        ensures armed { (order : Order) → command_read command.entry ≡ Arm order → IsArmed order self.old.power self.new.power }
         ensures demo { IsDemo self.old.power → IsDemo self.new.power }
     {
         match command {
@@ -342,6 +344,9 @@ impl<'a> Session<'a> {
 
     /// Tells the flash what to do to a later call.
     fn arm(&mut self, order: Order)
+        ensures armed { IsArmed order self.old.power self.new.power }
+        ensures other { self.new.other ≡ self.old.other }
+        ensures text { self.new.text.items ≡ self.old.text.items }
         ensures demo { IsDemo self.old.power → IsDemo self.new.power }
     {
         match &mut self.power {
@@ -533,6 +538,7 @@ fn respond(
 ) -> Result<(), AllocError>
     ensures done { (network : Network) → Runs network.station device.old → other.old ≡ network.other →
         OnOk result (IsDone (event_answer network event.now) device.new other.new text.old.items text.new.items) }
+    ensures lost { is_powerless device.new.flash ≡ true → OnOk result (text.new.items ≡ lost_line) }
     ensures same { device.new.station ≡ device.old.station }
 {
     let note = step(device, event, outbox, other, text)?;
@@ -572,6 +578,7 @@ fn exchange(
 ) -> Result<(), AllocError>
     ensures done { (network : Network) → Runs network.station device.old → other.old ≡ network.other →
         OnOk result (IsDone (deliver_answer network) device.new other.new text.old.items text.new.items) }
+    ensures lost { is_powerless device.new.flash ≡ true → OnOk result (text.new.items ≡ text.old.items ++ lost_line) }
     ensures same { device.new.station ≡ device.old.station }
 {
     let to_device = other.hand_over(device, outbox)?;

@@ -22,5 +22,5 @@ pub returns-in-Err-clause-back : goal.returns-in-Err-clause-back
 returns-in-Err-clause-back c = (
   c.in-Err.ensures.cause,
   λ foreign. subst IsForeign (sym c.in-Err.ensures.same) (c.in-Err.ensures.foreign foreign),
-  c.in-Err.ensures.same,
+  (c.in-Err.ensures.same, ap (λ chip. chip.armed) c.in-Err.ensures.calls),
 )
