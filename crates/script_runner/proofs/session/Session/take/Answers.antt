@@ -1,24 +1,20 @@
-use Rattle.std.proofs.Common.{◌≡◌, [], sym, ap, subst, false, ◌∙◌}
+use Rattle.std.proofs.Common.{◌≡◌, [], sym, ap, subst, false, ◌∙◌, Err, Ok, inl, inr}
 use Rattle.script_runner.specs.Read.{command_read, line_read}
-use Rattle.script_runner.specs.Script.{said, answer_of, is_order}
+use Rattle.script_runner.specs.Script.{said, outcome_of, is_order, unchanged}
+use Rattle.script_runner.specs.Session.{Obeys}
 use Rattle.script_runner.proofs.Known.{appends_none}
 use Rattle.script_runner.proofs.session.Session.take.Goals as goal
 
 pub returns-in-Skipped-clause-takes : goal.returns-in-Skipped-clause-takes
-returns-in-Skipped-clause-takes g c station running plain = record {
-  answer = record { station = station; text = [] };
-  is = ap (answer_of station) (sym c.in-Ok.ensures ∙ ap line_read c.in-Skipped.is);
+returns-in-Skipped-clause-takes g c network plans are plain = record {
+  answer = unchanged network;
+  is = ap (outcome_of network) (sym c.in-Ok.ensures ∙ ap line_read c.in-Skipped.is);
   text = appends_none _;
-  runs = running;
+  ends = are;
 }
 
 pub returns-clause-takes : goal.returns-clause-takes
-returns-clause-takes g c station running plain =
+returns-clause-takes g c network plans are plain =
     let meant = sym c.in-Ok.ensures ∙ ap line_read c.in-Asks.is in
-    let obeyed = c.in_ok-obey.ensures.obeys station running (subst (λ line. is_order line ≡ false) meant plain) in
-    record {
-      answer = said station (command_read c.in-Asks.command);
-      is = ap (answer_of station) meant;
-      text = obeyed.0;
-      runs = obeyed.1;
-    }
+    let obeyed = c.obey.ensures.obeys network plans are (subst (λ line. is_order line ≡ false) meant plain) in
+    subst (λ line. Obeys (outcome_of network line) (g.W.Write.contents c.args.writer.now) (g.W.Write.contents c.obey.new.writer) c.obey.new.self.power c.obey.new.self.other c.obey.result) (sym meant) obeyed
