@@ -5,9 +5,9 @@ ghost use Rattle.script_runner.specs.Ends.{IsRun, Station, controller_run, devic
 ghost use Rattle.script_runner.specs.Session.{IsHandedOver, IsHandedTo, Runs};
 
 use crate::bytes::copied;
-use crate::{render, show};
 use crate::copies::plan_copy;
 use crate::session::DemoDevice;
+use crate::{render, show};
 use configurator::{PlanFault, plan_from_json};
 use controller_core::{Controller, Event};
 use flash_model::Flash;
@@ -35,10 +35,10 @@ impl Model for OtherEnd {
     ghost Value = { Other };
 
     ghost view = { λ end. record {
-        plan = end.plan;
-        controller = end.controller;
-        to_device = octets_of end.to_device.items;
-        to_controller = octets_of end.to_controller.items;
+      plan = end.plan;
+      controller = end.controller;
+      to_device = octets_of end.to_device.items;
+      to_controller = octets_of end.to_controller.items;
     } };
 }
 

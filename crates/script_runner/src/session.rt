@@ -214,7 +214,9 @@ impl<'a> Session<'a> {
             }
             Command::Config(catalogue) => self.config(catalogue),
             Command::Start(ar, activity) => if_there(self.start(ar, activity)),
-            Command::Give(slot, subslot, bytes) => if_there(self.hear(&output(slot, subslot, bytes))),
+            Command::Give(slot, subslot, bytes) => if_there(self.hear(&output(
+                slot, subslot, bytes,
+            ))),
             Command::Stop => if_there(self.hear(&controller_core::Event::Stop)),
             Command::Deliver => if_there(self.deliver()),
         }
@@ -544,9 +546,16 @@ fn respond(
     let note = step(device, event, outbox, other, text)?;
     if device.flash().is_lost() {
         text.clear();
-        return text.extend_from_slice(b"power lost\n");
+        return lost(text);
     }
     render::note(note, text)
+}
+
+/// Renders that power was lost.
+fn lost(text: &mut Vec<u8>) -> Result<(), AllocError>
+    ensures { OnOk result (text.new.items ≡ text.old.items ++ lost_line) }
+{
+    text.extend_from_slice(b"power lost\n")
 }
 
 /// Makes a step for each of some units of time, and sends the frames.
@@ -583,7 +592,7 @@ fn exchange(
 {
     let to_device = other.hand_over(device, outbox)?;
     if device.flash().is_lost() {
-        return text.extend_from_slice(b"power lost\n");
+        return lost(text);
     }
     let to_controller = other.deliver()?;
     render::moved(to_device, to_controller, text)?;
