@@ -80,7 +80,6 @@ impl<F: Flash<S>, const S: usize> Model for Journal<F, S> {
 
 impl<F: Flash<S>, const S: usize> Journal<F, S> {
     /// Reads what the flash keeps, and writes nothing. A refusal hands the flash back.
-    #[tactic(auto, unfolding(crate::specs::Image::capacity))]
     pub fn boot(flash: F) -> Result<Journal<F, S>, (BootFault, F)>
         // What is read there, or what a station leaves the factory with.
         ensures starts { IfOk result (λ journal. StartsWith (F.image flash) journal.settings journal.room) }
@@ -109,19 +108,72 @@ impl<F: Flash<S>, const S: usize> Journal<F, S> {
         ensures reliable { F.is_reliable flash →
             MatchResult result (λ journal. F.is_reliable journal.flash) (λ refused. F.is_reliable refused.1 × (refused.0 ≡ BootFault.Foreign)) }
     {
-        let mut flash = flash;
-        let Ok(found) = read_start(&mut flash) else {
-            return Err((BootFault::FlashFault, flash));
+        let mut journal = Journal::unstarted(flash);
+        match journal.load() {
+            Ok(()) => Ok(journal),
+            Err(fault) => Err((fault, journal.into_flash())),
+        }
+    }
+
+    /// A journal that did not start: it stores nothing, and has read nothing yet.
+    pub fn unstarted(flash: F) -> Self
+        ensures flash { result.flash ≡ flash }
+        ensures has_failed { result.has_failed ≡ true }
+    {
+        Journal {
+            flash,
+            settings: Settings::factory(),
+            position: Position {
+                active: None,
+                generation: 0,
+                free: 0,
+            },
+            has_failed: true,
+        }
+    }
+
+    /// Starts where it lies: reads what the flash keeps, and writes nothing. After a refusal nothing is stored.
+    #[tactic(auto, unfolding(crate::specs::Image::capacity))]
+    pub fn load(&mut self) -> Result<(), BootFault>
+        // What is read there, or what a station leaves the factory with.
+        ensures starts { OnOk result (StartsWith (F.image self.old.flash) self.new.settings self.new.room) }
+        ensures fresh { OnOk result (self.new.has_failed ≡ false) }
+        ensures refused { OnErr result (self.new.has_failed ≡ true) }
+
+        // What can be read is given, unless a read fails.
+        ensures known { (settings : Settings) (room : ℕ) → StartsWith (F.image self.old.flash) settings room →
+            MatchResult result (λ _. (self.new.settings ≡ settings) × (self.new.room ≡ room)) (λ fault. fault ≡ BootFault.FlashFault) }
+        ensures left { LeftByDevice (F.image self.old.flash) → IfErr result (λ fault. fault ≡ BootFault.FlashFault) }
+
+        // Foreign is what cannot be read, and nothing else.
+        ensures foreign { IfErr result (λ fault. fault ≡ BootFault.Foreign → IsForeign (F.image self.old.flash)) }
+        ensures strange { IsForeign (F.image self.old.flash) → IsErr result }
+
+        // A flash that was never written.
+        ensures blank { F.image self.old.flash ≡ record { first = erased S; second = erased S } →
+            LeftByDevice (F.image self.old.flash) × StartsWith (F.image self.old.flash) factory_settings (capacity S) }
+        ensures ample { IsAmple S }
+
+        // Nothing is written, and FlashFault is answered where a read fails and only there.
+        ensures same { F.image self.new.flash ≡ F.image self.old.flash }
+        ensures calls { F.asked self.old.flash [] self.new.flash }
+        ensures cause { MatchResult result (λ _. F.failures self.new.flash ≡ F.failures self.old.flash)
+            (λ fault. HasBootCause fault (F.failures self.old.flash) (F.failures self.new.flash)) }
+        ensures lost { MatchResult result (λ _. F.is_lost self.new.flash ≡ false) (λ _. F.is_lost self.old.flash ≡ true → F.is_lost self.new.flash ≡ true) }
+        ensures reliable { F.is_reliable self.old.flash →
+            F.is_reliable self.new.flash × IfErr result (λ fault. fault ≡ BootFault.Foreign) }
+    {
+        self.has_failed = true;
+        let Ok(found) = read_start(&mut self.flash) else {
+            return Err(BootFault::FlashFault);
         };
         let Some(start) = found else {
-            return Err((BootFault::Foreign, flash));
+            return Err(BootFault::Foreign);
         };
-        Ok(Journal {
-            flash,
-            settings: start.settings,
-            position: start.position,
-            has_failed: false,
-        })
+        self.settings = start.settings;
+        self.position = start.position;
+        self.has_failed = false;
+        Ok(())
     }
 
     /// The settings that are stored.

@@ -1,5 +1,5 @@
 // The store: what runs beside what is stored.
-ghost use Rattle.std.specs.Prelude.{◌≡◌, ◌≤◌, ℕ, true, false, IsErr, IfOk, IfErr, MatchResult, length, [], ◌∷◌};
+ghost use Rattle.std.specs.Prelude.{◌≡◌, ◌≤◌, ℕ, true, false, IsErr, IfOk, IfErr, OnOk, OnErr, MatchResult, length, [], ◌∷◌};
 ghost use Rattle.flash_model.specs.Calls.{Arms};
 ghost use Rattle.flash_model.specs.Image.{Image, erased};
 ghost use Rattle.pn_values.specs.Settings.{factory_settings};
@@ -71,9 +71,56 @@ impl<F: Flash<S>, const S: usize> Store<F, S> {
         ensures reliable { F.is_reliable flash →
             MatchResult result (λ store. F.is_reliable store.flash) (λ refused. F.is_reliable refused.1 × (refused.0 ≡ BootFault.Foreign)) }
     {
-        let journal = Journal::boot(flash)?;
-        let running = journal.settings().copy();
-        Ok(Store { journal, running })
+        let mut store = Store::unstarted(flash);
+        match store.load() {
+            Ok(()) => Ok(store),
+            Err(fault) => Err((fault, store.into_flash())),
+        }
+    }
+
+    /// A store that did not start: it stores nothing, and has read nothing yet.
+    pub fn unstarted(flash: F) -> Self
+        ensures flash { result.flash ≡ flash }
+        ensures has_failed { result.values.has_failed ≡ true }
+    {
+        Store {
+            journal: Journal::unstarted(flash),
+            running: Settings::factory(),
+        }
+    }
+
+    /// Starts where it lies, from what the flash keeps, and writes nothing. After a refusal nothing is stored.
+    pub fn load(&mut self) -> Result<(), BootFault>
+        // What is stored runs, and nothing else.
+        ensures starts { OnOk result (StartsWith (F.image self.old.flash) self.new.values.stored self.new.values.room) }
+        ensures running { OnOk result (self.new.values.running ≡ self.new.values.stored) }
+        ensures fresh { OnOk result ((self.new.values.has_failed ≡ false) × (self.new.values.is_lost ≡ false)) }
+        ensures refused { OnErr result (self.new.values.has_failed ≡ true) }
+
+        // What can be read is given, unless a read fails.
+        ensures known { (settings : Settings) (room : ℕ) → StartsWith (F.image self.old.flash) settings room →
+            MatchResult result (λ _. (self.new.values.stored ≡ settings) × (self.new.values.room ≡ room)) (λ fault. fault ≡ BootFault.FlashFault) }
+        ensures left { LeftByDevice (F.image self.old.flash) → IfErr result (λ fault. fault ≡ BootFault.FlashFault) }
+        ensures blank { F.image self.old.flash ≡ record { first = erased S; second = erased S } →
+            LeftByDevice (F.image self.old.flash) × StartsWith (F.image self.old.flash) factory_settings (capacity S) }
+        ensures ample { IsAmple S }
+
+        // Foreign is what cannot be read, and nothing else.
+        ensures foreign { IfErr result (λ fault. fault ≡ BootFault.Foreign → IsForeign (F.image self.old.flash)) }
+        ensures strange { IsForeign (F.image self.old.flash) → IsErr result }
+
+        // Nothing is written, and FlashFault is answered where a read fails and only there.
+        ensures same { F.image self.new.flash ≡ F.image self.old.flash }
+        ensures calls { F.asked self.old.flash [] self.new.flash }
+        ensures cause { MatchResult result (λ _. F.failures self.new.flash ≡ F.failures self.old.flash)
+            (λ fault. HasBootCause fault (F.failures self.old.flash) (F.failures self.new.flash)) }
+        ensures stays_lost { OnErr result (F.is_lost self.old.flash ≡ true → F.is_lost self.new.flash ≡ true) }
+        ensures reliable { F.is_reliable self.old.flash →
+            F.is_reliable self.new.flash × IfErr result (λ fault. fault ≡ BootFault.Foreign) }
+    {
+        self.journal.load()?;
+        self.running = self.journal.settings().copy();
+        Ok(())
     }
 
     /// The settings that run.
