@@ -208,6 +208,8 @@ static inline uint32_t pn_make(pn_device *device, const pn_station *station)
 {
     if (device == NULL || station == NULL)
         return PN_NULL;
+    if ((uintptr_t)device->room % 16 != 0)
+        return PN_SMALL_ROOM;
     return pn_device_make(device->room, sizeof device->room, PN_ABI, sizeof(pn_op), station);
 }
 

@@ -19,7 +19,7 @@ use record_reads::Blocks;
 use record_writes::Taken;
 use relations::{Phase, Relation};
 use rpc_core::CallCache;
-use settings_journal::BootFault;
+use settings_journal::{BootFault, Fill};
 use settings_store::Store;
 use std::marker::Model;
 
@@ -108,6 +108,16 @@ impl<F: Flash<S>, const S: usize> Device<F, S> {
             plan: ArrayVec::new(),
             blocks: Blocks::new(),
         }
+    }
+
+    /// Fills the flash of a device that stores nothing.
+    pub fn fill<P: Fill<F>>(&mut self, from: &P)
+        requires { self.old.live.values.has_failed ≡ true }
+        ensures flash { P.post from.now self.old.flash self.new.flash }
+        ensures has_failed { self.new.live.values.has_failed ≡ true }
+        ensures station { self.new.station ≡ self.old.station }
+    {
+        self.store.fill(from);
     }
 
     /// Starts where it lies, from what the flash keeps, and writes nothing. After a refusal nothing is stored.

@@ -6,7 +6,7 @@ use frame_codec::{Frame, Outbox};
 use pn_values::{Identity, Real};
 use recorded_device::step;
 use recorded_flash::{Recorded, RecordedFlash};
-use settings_journal::BootFault;
+use settings_journal::{BootFault, Fill};
 
 /// A device, and the work of its last step that the host has not taken yet: calls of the flash, then frames.
 #[derive(Drop)]
@@ -18,6 +18,24 @@ pub struct Port {
     /// How many of the frames are taken.
     frames_taken: usize,
     is_booted: bool,
+}
+
+// The bytes of a sector of the chip.
+#[derive(Drop)]
+struct Chip<'a> {
+    sector: Sector,
+    bytes: &'a [u8],
+}
+
+impl Fill<RecordedFlash<4096>> for Chip<'_> {
+    ghost use Rattle.std.specs.Prelude.{◌≡◌, length};
+    ghost use Rattle.recorded_flash.specs.Record.{record_of, filled};
+
+    ghost post = { λ chip old new. length chip.bytes.now ≡ 4096 → record_of new ≡ filled 4096 (record_of old) chip.sector chip.bytes.now };
+
+    fn fill(&self, flash: &mut RecordedFlash<4096>) {
+        flash.put_sector(self.sector, self.bytes);
+    }
 }
 
 /// A piece of work.
@@ -53,6 +71,11 @@ impl Port {
     /// Whether all work of the last step is taken.
     pub fn is_idle(&self) -> bool {
         self.calls_left == 0 && self.frames_taken == self.outbox.len()
+    }
+
+    /// Puts the bytes of a sector of the chip into the flash, in front of the start.
+    pub fn fill(&mut self, sector: Sector, bytes: &[u8]) {
+        self.device.fill(&Chip { sector, bytes });
     }
 
     /// Starts from what the flash holds.

@@ -83,7 +83,11 @@ fn boot(port: &mut Port) -> Answer {
 // The first bytes of those that are given, as many as an event has.
 fn bytes_of(given: &[u8]) -> Bytes {
     let mut bytes = Bytes::new();
-    let length = if given.len() < 1519 { given.len() } else { 1519 };
+    let length = if given.len() < 1519 {
+        given.len()
+    } else {
+        1519
+    };
     let _ = bytes.try_extend_from_slice(&given[..length]);
     bytes
 }
@@ -122,7 +126,15 @@ fn number_of(note: Note) -> u32 {
 // The next piece of work.
 fn next(port: &mut Port, op: &mut Op) -> Answer {
     match port.next() {
-        Some(Piece::Call(Recorded::Program { sector, place, bytes })) => {
+        Some(
+            Piece::Call(
+                Recorded::Program {
+                    sector,
+                    place,
+                    bytes,
+                },
+            ),
+        ) => {
             op.work = 1;
             op.sector = sector_number(*sector);
             op.place = *place as u32;

@@ -59,7 +59,9 @@ impl Station {
             return None;
         }
         let mut station_type = ArrayVec::new();
-        let _ = station_type.try_extend_from_slice(&self.station_type[..self.station_type_length as usize]);
+        let _ = station_type.try_extend_from_slice(
+            &self.station_type[..self.station_type_length as usize],
+        );
         Some(Identity {
             mac: Mac { octets: self.mac },
             station_type,

@@ -1,10 +1,13 @@
 //! The library that firmware links: a PROFINET IO device behind two calls. `include/nandutable.h` says how they are used.
 #![tactic(auto)]
 
-use device_port::{Op, Port, SECTOR_SIZE, Station, serve};
+use device_port::{Op, Port, Station, serve};
 
 /// The version of the header.
 const ABI: u32 = 1;
+
+/// Bytes of a room.
+const ROOM: usize = 81920;
 
 /// Makes a device that did not start in the room.
 #[unsafe(no_mangle)]
@@ -18,7 +21,7 @@ pub unsafe extern "C" fn pn_device_make(
     if abi != ABI || op_size != size_of::<Op>() {
         return 2;
     }
-    if size < size_of::<Port>() {
+    if size < ROOM || size_of::<Port>() > ROOM {
         return 3;
     }
     let (Some(identity), Some(real)) = (station.identity(), station.real()) else {

@@ -1,7 +1,8 @@
 -- What a recorded flash contains, and what calls make of it.
 use Rattle.std.specs.Prelude.{◌≡◌, ◌+◌, ◌≤◌, ◌%◌, ◌^◌, ℕ, List, [], ◌∷◌, ◌++◌, length, map, drop, if◌then◌else◌, nat_lt}
 use Rattle.flash_model.specs.Calls.{Call, Programs, Erases, Arms}
-use Rattle.flash_model.specs.Image.{Image}
+use Rattle.flash_model.specs.Image.{Image, with_sector, programmed, erased}
+use Rattle.flash_model.specs.declared.flash.Sector.{Sector}
 use Rattle.flash_model.specs.Memory as memory
 use Rattle.settings_journal.specs.Cut.{AreWrites, carried_out}
 use Rattle.recorded_flash.specs.Entry.{call_of}
@@ -19,6 +20,10 @@ image_of flash = memory.image_of flash.memory
 
 abbrev pub record_of : {S : ℕ} → RecordedFlash S → Record
 record_of flash = record { image = image_of flash; recent = map call_of flash.calls.items; count = flash.count }
+
+-- the record with these bytes in a sector, over one that is erased
+abbrev pub filled : ℕ → Record → Sector → List ℕ → Record
+filled size before sector bytes = record before { image = with_sector before.image sector (programmed (erased size) 0 bytes) }
 
 -- a call behind others: at most 48 are kept, the oldest one goes
 abbrev pub pushed : List Call → Call → List Call

@@ -20,7 +20,7 @@ pub struct RecordedFlash<const S: usize> {
 
 impl<const S: usize> RecordedFlash<S> {
     ghost use Rattle.recorded_flash.specs.Entry.{call_of};
-    ghost use Rattle.recorded_flash.specs.Record.{image_of, record_of, pushed, after_one};
+    ghost use Rattle.recorded_flash.specs.Record.{image_of, record_of, pushed, after_one, filled};
 
     /// A flash with both sectors erased, of which no call is recorded.
     pub fn blank() -> Self
@@ -40,6 +40,16 @@ impl<const S: usize> RecordedFlash<S> {
         ensures size { length result.now ≡ S }
     {
         self.memory.sector(sector)
+    }
+
+    /// Puts bytes into a sector, as many as it has, and records nothing.
+    pub fn put_sector(&mut self, sector: Sector, bytes: &[u8])
+        ensures { length bytes.now ≡ S → record_of self.new ≡ filled S (record_of self.old) sector bytes.now }
+    {
+        if bytes.len() == S {
+            let _ = self.memory.erase(sector);
+            let _ = self.memory.program(sector, 0, bytes);
+        }
     }
 
     /// How many calls there ever were, modulo 2 to the 32.

@@ -11,6 +11,7 @@ ghost use Rattle.settings_journal.specs.Image.{StartsWith, IsAmple, capacity, Is
 ghost use Rattle.settings_journal.specs.Commit.{IsKept, HasBootCause, HasCommitCause};
 ghost use Rattle.settings_journal.specs.Faults.{boot_number, commit_number};
 
+use crate::Fill;
 use crate::start::{Position, read_start};
 use crate::store::store;
 use flash_model::{Flash, Order};
@@ -130,6 +131,15 @@ impl<F: Flash<S>, const S: usize> Journal<F, S> {
             },
             has_failed: true,
         }
+    }
+
+    /// Fills the flash of a journal that stores nothing.
+    pub fn fill<P: Fill<F>>(&mut self, from: &P)
+        requires { self.old.has_failed ≡ true }
+        ensures flash { P.post from.now self.old.flash self.new.flash }
+        ensures has_failed { self.new.has_failed ≡ true }
+    {
+        from.fill(&mut self.flash);
     }
 
     /// Starts where it lies: reads what the flash keeps, and writes nothing. After a refusal nothing is stored.

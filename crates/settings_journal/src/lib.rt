@@ -9,10 +9,12 @@
 
 mod access;
 mod base;
+mod fill;
 mod head;
 mod journal;
 mod slot;
 mod start;
 mod store;
 
+pub use fill::Fill;
 pub use journal::{BootFault, CommitFault, Journal};

@@ -11,7 +11,7 @@ ghost use Rattle.settings_store.specs.Carries.{Carries, CarriesItem};
 use arrayvec::ArrayVec;
 use flash_model::{Flash, Order};
 use pn_values::{BlockError, Command, SetItem, Settings};
-use settings_journal::{BootFault, CommitFault, Journal};
+use settings_journal::{BootFault, CommitFault, Fill, Journal};
 use std::marker::Model;
 
 /// The settings of a station: those that run, and those that a restart finds. A clause sees the flash and the values.
@@ -87,6 +87,15 @@ impl<F: Flash<S>, const S: usize> Store<F, S> {
             journal: Journal::unstarted(flash),
             running: Settings::factory(),
         }
+    }
+
+    /// Fills the flash of a store that stores nothing.
+    pub fn fill<P: Fill<F>>(&mut self, from: &P)
+        requires { self.old.values.has_failed ≡ true }
+        ensures flash { P.post from.now self.old.flash self.new.flash }
+        ensures has_failed { self.new.values.has_failed ≡ true }
+    {
+        self.journal.fill(from);
     }
 
     /// Starts where it lies, from what the flash keeps, and writes nothing. After a refusal nothing is stored.

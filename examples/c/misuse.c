@@ -1,0 +1,98 @@
+/* Each misuse that the header names answers its number, and changes nothing. */
+#include "nandutable.h"
+#include <stdio.h>
+#include <stdlib.h>
+
+static pn_device device, before;
+static pn_op op;
+static pn_station station, bent;
+static pn_settings settings;
+static uint8_t erased[PN_SECTOR_SIZE], foreign[PN_SECTOR_SIZE], octets[2000];
+static unsigned count;
+
+static void wants(const char *what, uint32_t answer, uint32_t wanted)
+{
+    count++;
+    if (answer != wanted || memcmp(&device, &before, sizeof device) != 0) {
+        printf("%s: answers %u, and should %u; the device is %s\n", what, (unsigned)answer, (unsigned)wanted,
+               memcmp(&device, &before, sizeof device) != 0 ? "changed" : "as it was");
+        exit(1);
+    }
+}
+
+static void keep(uint32_t answer)
+{
+    if (answer != PN_OK) {
+        printf("answers %u, and should be carried out\n", (unsigned)answer);
+        exit(1);
+    }
+    memcpy(&before, &device, sizeof device);
+}
+
+static const uint8_t set[] = {0x02, 0, 0, 0, 0, 1, 0x02, 0, 0, 0, 0, 2, 0x88, 0x92, 0xFE, 0xFD, 4, 0, 0, 0, 0, 1, 0, 0, 0, 12,
+                              2, 2, 0, 8, 0, 1, 'p', 'u', 'm', 'p', '-', '1'};
+
+int main(void)
+{
+    memset(erased, 0xFF, sizeof erased);
+    station.mac[0] = 2;
+    station.mac[5] = 1;
+    wants("no device", pn_make(NULL, &station), PN_NULL);
+    wants("no station", pn_make(&device, NULL), PN_NULL);
+    wants("another version", pn_device_make(device.room, sizeof device.room, PN_ABI + 1, sizeof(pn_op), &station), PN_BAD_ABI);
+    wants("another operation", pn_device_make(device.room, sizeof device.room, PN_ABI, sizeof(pn_op) - 4, &station), PN_BAD_ABI);
+    wants("a small room", pn_device_make(device.room, PN_DEVICE_SIZE - 1, PN_ABI, sizeof(pn_op), &station), PN_SMALL_ROOM);
+    bent.module_count = 17;
+    wants("17 modules", pn_make(&device, &bent), PN_BAD_STATION);
+    bent.module_count = 1;
+    bent.modules[0].submodule_count = 5;
+    wants("5 submodules", pn_make(&device, &bent), PN_BAD_STATION);
+    bent.modules[0].submodule_count = 1;
+    bent.modules[0].submodules[0].parameter_count = 3;
+    wants("3 parameter records", pn_make(&device, &bent), PN_BAD_STATION);
+    bent.module_count = 0;
+    bent.station_type_length = 26;
+    wants("a long station type", pn_make(&device, &bent), PN_BAD_STATION);
+    keep(pn_make(&device, &station));
+
+    wants("a frame before the start", pn_frame(&device, &op, set, sizeof set), PN_NOT_BOOTED);
+    wants("time before the start", pn_tick(&device, &op, 1), PN_NOT_BOOTED);
+    wants("an input before the start", pn_input(&device, &op, 0, 1, octets, 1), PN_NOT_BOOTED);
+    wants("an alarm before the start", pn_alarm(&device, &op, 0, 1, octets, 1), PN_NOT_BOOTED);
+    wants("work before the start", pn_next(&device, &op), PN_NOT_BOOTED);
+    wants("an output before the start", pn_output(&device, &op, 0, 1), PN_NOT_BOOTED);
+    wants("a state before the start", pn_state(&device, &op), PN_NOT_BOOTED);
+    wants("settings before the start", pn_running(&device, &op, &settings), PN_NOT_BOOTED);
+    wants("what is stored before the start", pn_stored(&device, &op, &settings), PN_NOT_BOOTED);
+    wants("no sector", pn_boot(&device, &op, NULL, erased), PN_NULL);
+    op.sector = 0;
+    wants("a short sector", pn_ask(&device, &op, PN_OP_SECTOR, erased, PN_SECTOR_SIZE - 1), PN_BAD_LENGTH);
+    op.sector = 2;
+    wants("a third sector", pn_ask(&device, &op, PN_OP_SECTOR, erased, PN_SECTOR_SIZE), PN_BAD_LENGTH);
+    if (pn_boot(&device, &op, foreign, foreign) != PN_FOREIGN)
+        return 1;
+    keep(pn_boot(&device, &op, erased, erased));
+
+    wants("a second start", pn_boot(&device, &op, erased, erased), PN_IS_BOOTED);
+    wants("no operation", pn_ask(&device, &op, 0, NULL, 0), PN_UNKNOWN);
+    wants("another operation", pn_ask(&device, &op, 12, NULL, 0), PN_UNKNOWN);
+    wants("no operation's room", pn_frame(&device, NULL, set, sizeof set), PN_NULL);
+    wants("no octets", pn_frame(&device, &op, NULL, 1), PN_NULL);
+    wants("no device for a frame", pn_frame(NULL, &op, set, sizeof set), PN_NULL);
+    wants("an output that is not plugged", pn_output(&device, &op, 9, 9), PN_NO_SLOT);
+    wants("no place for settings", pn_running(&device, &op, NULL), PN_NULL);
+    keep(pn_frame(&device, &op, octets, sizeof octets));
+    keep(pn_frame(&device, &op, octets, 0));
+    keep(pn_input(&device, &op, 0, 1, octets, sizeof octets));
+
+    keep(pn_frame(&device, &op, set, sizeof set));
+    wants("a frame in front of the work", pn_frame(&device, &op, set, sizeof set), PN_HAS_WORK);
+    wants("time in front of the work", pn_tick(&device, &op, 1), PN_HAS_WORK);
+    wants("an input in front of the work", pn_input(&device, &op, 0, 1, octets, 1), PN_HAS_WORK);
+    wants("an alarm in front of the work", pn_alarm(&device, &op, 0, 1, octets, 1), PN_HAS_WORK);
+    for (op.work = PN_ERASE; op.work != PN_NOTHING;)
+        keep(pn_next(&device, &op));
+    keep(pn_tick(&device, &op, 1000));
+    printf("%u misuses\n", count);
+    return 0;
+}
