@@ -1,0 +1,285 @@
+/* Plays a script (docs/SCRIPTS.md) through the header, and prints what `pnscript run` prints: the demo station over a chip in
+ * memory. A `cut` tears the call that this host carries out. A `fault` cannot be played, since a call that fails on the host's
+ * side is power that is lost: status 5. */
+#include "nandutable.h"
+#include <ctype.h>
+#include <stdio.h>
+#include <stdlib.h>
+
+#define LONGEST 65536
+
+static pn_device device;
+static pn_op op;
+static uint8_t chip[2][PN_SECTOR_SIZE];
+static int is_off, is_cut_armed;
+static unsigned long cut_after;
+static uint8_t cut_mask[8];
+static char sent[4 * (2 * PN_FRAME_SIZE + 5)]; /* what one step prints */
+static size_t sent_length;
+
+/* The demo station of the scripts. */
+static const pn_station station = {
+    .mac = {2, 0, 0, 0, 0, 1}, .vendor_id = 0x0123, .device_id = 0x0456, .instance = 1, .station_type_length = 7,
+    .station_type = "pn-demo", .order_id = "                    ", .serial_number = "                ",
+    .software_revision = {'V', 0, 0, 0}, .module_count = 3,
+    .modules = {{.ident = 1, .slot = 0, .submodule_count = 3,
+                 .submodules = {{.ident = 1, .subslot = 1}, {.ident = 2, .subslot = 0x8000}, {.ident = 3, .subslot = 0x8001}}},
+                {.ident = 16, .slot = 1, .submodule_count = 1, .submodules = {{.ident = 16, .subslot = 1, .input = 2}}},
+                {.ident = 32, .slot = 2, .submodule_count = 1, .submodules = {{.ident = 32, .subslot = 1, .output = 2}}}}};
+
+/* --- The chip --- */
+
+/* Whether power stays there in this call. */
+static int has_power(void)
+{
+    if (!is_cut_armed || cut_after-- != 0)
+        return 1;
+    is_cut_armed = 0;
+    return 0;
+}
+
+/* Puts what a call makes of an octet: all of it, or, where power is lost, the bits of the mask. */
+static void put(int power, uint8_t *octet, uint8_t value, size_t number)
+{
+    uint8_t mask = power ? 0xFF : cut_mask[number % 8];
+    *octet = (uint8_t)((*octet & ~mask) | (value & mask));
+}
+
+static int program(void *context, uint32_t sector, uint32_t place, const uint8_t *octets, uint32_t length)
+{
+    int power = has_power();
+    (void)context;
+    for (uint32_t i = 0; i < length; i++)
+        put(power, &chip[sector][place + i], chip[sector][place + i] & octets[i], i);
+    return !power;
+}
+
+static int erase(void *context, uint32_t sector)
+{
+    int power = has_power();
+    (void)context;
+    for (uint32_t i = 0; i < PN_SECTOR_SIZE; i++)
+        put(power, &chip[sector][i], 0xFF, i);
+    return !power;
+}
+
+static int transmit(void *context, const uint8_t *octets, uint32_t length)
+{
+    (void)context;
+    sent_length += (size_t)sprintf(sent + sent_length, "out ");
+    for (uint32_t i = 0; i < length; i++)
+        sent_length += (size_t)sprintf(sent + sent_length, "%02x", octets[i]);
+    sent_length += (size_t)sprintf(sent + sent_length, "\n");
+    return 0;
+}
+
+static const pn_host host = {NULL, program, erase, transmit};
+
+/* --- Lines --- */
+
+static void stop(const char *where, uint32_t answer)
+{
+    fprintf(stderr, "player: %s answers %u\n", where, (unsigned)answer);
+    exit(70);
+}
+
+static void boot(void)
+{
+    uint32_t answer = pn_make(&device, &station);
+    if (answer != PN_OK)
+        stop("pn_make", answer);
+    answer = pn_boot(&device, &op, chip[0], chip[1]);
+    if (answer != PN_OK && answer != PN_FOREIGN)
+        stop("pn_boot", answer);
+    is_off = answer == PN_FOREIGN;
+    puts(is_off ? "boot foreign" : "boot ok");
+}
+
+/* Carries the work of a step out. Whether power is still there. */
+static int carry_out(void)
+{
+    uint32_t answer = pn_carry_out(&device, &op, &host);
+    if (answer == PN_FLASH_FAULT) {
+        is_off = 1;
+        puts("power lost");
+        return 0;
+    }
+    if (answer != PN_OK)
+        stop("pn_carry_out", answer);
+    fwrite(sent, 1, sent_length, stdout);
+    sent_length = 0;
+    return 1;
+}
+
+static void end_of(uint32_t answer)
+{
+    static const char *const notes[] = {"done", "not-mine", "fault", "filter", "old-call", "no-relation", "stale-cycle", "refused"};
+    uint32_t note = op.note;
+    if (answer != PN_OK)
+        stop("an event", answer);
+    sent_length = 0;
+    if (carry_out())
+        printf("note %s\n", notes[note]);
+}
+
+static void tick(uint32_t units)
+{
+    for (op.units = units; op.units != 0;) {
+        uint32_t answer = pn_tick(&device, &op, op.units), left = op.units;
+        if (answer != PN_OK)
+            stop("pn_tick", answer);
+        sent_length = 0;
+        if (!carry_out())
+            return;
+        op.units = left;
+    }
+    puts("note done");
+}
+
+static void hex(const char *label, const uint8_t *octets, size_t length)
+{
+    printf("%s", label);
+    for (size_t i = 0; i < length; i++)
+        printf("%02x", octets[i]);
+    puts("");
+}
+
+static void suite(const char *label, const pn_settings *s)
+{
+    printf("%s %u.%u.%u.%u %u.%u.%u.%u %u.%u.%u.%u\n", label, s->address[0], s->address[1], s->address[2], s->address[3], s->mask[0],
+           s->mask[1], s->mask[2], s->mask[3], s->gateway[0], s->gateway[1], s->gateway[2], s->gateway[3]);
+}
+
+static void name(const char *label, const pn_settings *s)
+{
+    printf("%s %.*s\n", label, s->name_length == 0 ? 1 : (int)s->name_length, s->name_length == 0 ? "-" : (const char *)s->name);
+}
+
+static void show(void)
+{
+    static const char *const phases[] = {"none", "started", "awaiting", "exchanging"};
+    pn_settings running, stored;
+    uint32_t answer = pn_running(&device, &op, &running);
+    if (answer == PN_OK)
+        answer = pn_stored(&device, &op, &stored);
+    if (answer != PN_OK)
+        stop("settings", answer);
+    name("name", &running);
+    suite("ip", &running);
+    name("stored-name", &stored);
+    suite("stored-ip", &stored);
+    hex("im1 ", running.im1, sizeof running.im1);
+    hex("im2 ", running.im2, sizeof running.im2);
+    hex("im3 ", running.im3, sizeof running.im3);
+    hex("im4 ", running.im4, sizeof running.im4);
+    if (pn_state(&device, &op) != PN_OK)
+        stop("pn_state", 0);
+    printf("phase %s\nlamp %u\n", phases[op.phase], (unsigned)op.units);
+    for (uint32_t i = 0; i < station.module_count; i++)
+        for (uint16_t k = 0; k < station.modules[i].submodule_count; k++) {
+            const pn_submodule *submodule = &station.modules[i].submodules[k];
+            char label[32];
+            if (submodule->output == 0)
+                continue;
+            if (pn_output(&device, &op, station.modules[i].slot, submodule->subslot) != PN_OK)
+                stop("pn_output", 0);
+            snprintf(label, sizeof label, "output %u %u ", station.modules[i].slot, submodule->subslot);
+            hex(label, op.octets, op.length);
+        }
+}
+
+/* --- Words --- */
+
+/* A decimal number of at most `most`, behind one space; *at moves behind it. */
+static int number(const char **at, unsigned long most, unsigned long *value)
+{
+    const char *p = *at;
+    if (*p++ != ' ' || !isdigit((unsigned char)*p))
+        return 0;
+    for (*value = 0; isdigit((unsigned char)*p); p++) {
+        *value = *value * 10 + (unsigned long)(*p - '0');
+        if (*value > most)
+            return 0;
+    }
+    *at = p;
+    return 1;
+}
+
+/* Octets in hex up to the line's end, behind one space. How many there are; 0 where these are none. */
+static size_t octets_of(const char *p, uint8_t *octets)
+{
+    size_t length = 0;
+    if (*p++ != ' ')
+        return 0;
+    for (; *p != '\0'; p += 2) {
+        char pair[3] = {p[0], p[1], '\0'};
+        if (!isxdigit((unsigned char)p[0]) || !isxdigit((unsigned char)p[1]))
+            return 0;
+        octets[length++] = (uint8_t)strtoul(pair, NULL, 16);
+    }
+    return length;
+}
+
+static int begins(const char *line, const char *word)
+{
+    return strncmp(line, word, strlen(word)) == 0;
+}
+
+/* Plays one line that has words. Its status: 0, 3 for one that a script cannot have, 5 for one that cannot be played. */
+static int play(const char *line)
+{
+    static uint8_t octets[LONGEST];
+    unsigned long a, b;
+    const char *at = strchr(line, ' ');
+    size_t length;
+    if (strcmp(line, "restart") == 0) {
+        boot();
+    } else if (is_off) {
+        puts("off");
+    } else if (strcmp(line, "show") == 0) {
+        show();
+    } else if (at == NULL) {
+        return 3;
+    } else if (begins(line, "frame ")) {
+        if ((length = octets_of(at, octets)) == 0)
+            return 3;
+        end_of(pn_frame(&device, &op, octets, length));
+    } else if (begins(line, "tick ")) {
+        if (!number(&at, 1000000, &a) || a == 0 || *at != '\0')
+            return 3;
+        tick((uint32_t)a);
+    } else if (begins(line, "input ") || begins(line, "alarm ")) {
+        if (!number(&at, 65535, &a) || !number(&at, 65535, &b) || (length = octets_of(at, octets)) == 0)
+            return 3;
+        end_of((line[0] == 'i' ? pn_input : pn_alarm)(&device, &op, (uint16_t)a, (uint16_t)b, octets, length));
+    } else if (begins(line, "cut ")) {
+        if (!number(&at, 4294967295ul, &a) || (length = octets_of(at, octets)) == 0 || length > 8 || (length & (length - 1)) != 0)
+            return 3;
+        is_cut_armed = 1;
+        cut_after = a;
+        for (size_t i = 0; i < 8; i++)
+            cut_mask[i] = octets[i % length];
+    } else {
+        return begins(line, "fault ") ? 5 : 3;
+    }
+    return 0;
+}
+
+int main(void)
+{
+    static char line[LONGEST + 3];
+    memset(chip, 0xFF, sizeof chip);
+    boot();
+    for (unsigned long n = 1; fgets(line, sizeof line, stdin) != NULL; n++) {
+        int status;
+        line[strcspn(line, "\r\n")] = '\0';
+        if (line[0] == '\0' || line[0] == '#')
+            continue;
+        if ((status = play(line)) != 0) {
+            fflush(stdout);
+            fprintf(stderr, "player: line %lu\n", n);
+            return status;
+        }
+    }
+    return 0;
+}
