@@ -1,5 +1,5 @@
 // The device.
-ghost use Rattle.std.specs.Prelude.{◌≡◌, ◌∷◌, [], ℕ, true, false, IsErr, ◌≤◌, IfOk, IfErr, IfSome, OnOk, OnErr, MatchResult, length, option_map};
+ghost use Rattle.std.specs.Prelude.{◌≡◌, ◌∷◌, [], ℕ, true, false, IsErr, ◌≤◌, IfOk, IfErr, IfSome, MatchResult, length, option_map};
 ghost use Rattle.flash_model.specs.Calls.{Arms};
 ghost use Rattle.flash_model.specs.Image.{erased};
 ghost use Rattle.pn_values.specs.Settings.{factory_settings};
@@ -13,13 +13,12 @@ ghost use Rattle.device_core.specs.Cycle.{started};
 
 use arrayvec::ArrayVec;
 use flash_model::{Flash, Order};
-use pn_alarms::Abort;
 use pn_values::{Identity, Real, SetItem, Settings};
 use record_reads::Blocks;
 use record_writes::Taken;
 use relations::{Phase, Relation};
 use rpc_core::CallCache;
-use settings_journal::{BootFault, Fill};
+use settings_journal::BootFault;
 use settings_store::Store;
 use std::marker::Model;
 
@@ -89,71 +88,6 @@ impl<F: Flash<S>, const S: usize> Device<F, S> {
             Ok(()) => Ok(device),
             Err(fault) => Err((fault, device.into_flash())),
         }
-    }
-
-    /// A device that did not start: it stores nothing, and has read nothing yet.
-    pub fn unstarted(identity: Identity, real: Real, flash: F) -> Self
-        ensures flash { result.flash ≡ flash }
-        ensures station { result.station ≡ record { identity = identity; real = real } }
-        ensures has_failed { result.live.values.has_failed ≡ true }
-    {
-        Device {
-            identity,
-            real,
-            store: Store::unstarted(flash),
-            lamp: 0,
-            cache: CallCache::new(),
-            relation: Relation::new(),
-            units: 0,
-            plan: ArrayVec::new(),
-            blocks: Blocks::new(),
-        }
-    }
-
-    /// Fills the flash of a device that stores nothing.
-    pub fn fill<P: Fill<F>>(&mut self, from: &P)
-        requires { self.old.live.values.has_failed ≡ true }
-        ensures flash { P.post from.now self.old.flash self.new.flash }
-        ensures has_failed { self.new.live.values.has_failed ≡ true }
-        ensures station { self.new.station ≡ self.old.station }
-    {
-        self.store.fill(from);
-    }
-
-    /// Starts where it lies, from what the flash keeps, and writes nothing. After a refusal nothing is stored.
-    pub fn load(&mut self) -> Result<(), BootFault>
-        // What is stored runs, and nothing is left of an earlier cycle.
-        ensures starts { OnOk result (StartsWith (F.image self.old.flash) self.new.live.values.stored self.new.live.values.room) }
-        ensures fresh { OnOk result (self.new.live ≡ started self.new.live.values.stored self.new.live.values.room) }
-        ensures refused { OnErr result (self.new.live.values.has_failed ≡ true) }
-        ensures station { self.new.station ≡ self.old.station }
-
-        // What can be read is given, unless a read fails.
-        ensures known { (settings : Settings) (room : ℕ) → StartsWith (F.image self.old.flash) settings room →
-            MatchResult result (λ _. self.new.live ≡ started settings room) (λ fault. fault ≡ BootFault.FlashFault) }
-        ensures left { LeftByDevice (F.image self.old.flash) → IfErr result (λ fault. fault ≡ BootFault.FlashFault) }
-        ensures blank { F.image self.old.flash ≡ record { first = erased S; second = erased S } →
-            LeftByDevice (F.image self.old.flash) × StartsWith (F.image self.old.flash) factory_settings (capacity S) }
-        ensures ample { IsAmple S }
-
-        // Foreign is what cannot be read, and nothing else.
-        ensures foreign { IfErr result (λ fault. fault ≡ BootFault.Foreign → IsForeign (F.image self.old.flash)) }
-        ensures strange { IsForeign (F.image self.old.flash) → IsErr result }
-
-        // Nothing is written, and FlashFault is answered where a read fails and only there.
-        ensures same { F.image self.new.flash ≡ F.image self.old.flash }
-        ensures calls { F.asked self.old.flash [] self.new.flash }
-        ensures cause { MatchResult result (λ _. F.failures self.new.flash ≡ F.failures self.old.flash)
-            (λ fault. HasBootCause fault (F.failures self.old.flash) (F.failures self.new.flash)) }
-        ensures reliable { F.is_reliable self.old.flash →
-            F.is_reliable self.new.flash × IfErr result (λ fault. fault ≡ BootFault.Foreign) }
-    {
-        self.store.load()?;
-        self.lamp = 0;
-        self.units = 0;
-        self.cache = CallCache::new();
-        let _ = self.relation.end(Abort::Other);
-        Ok(())
     }
 
     /// The settings that run.

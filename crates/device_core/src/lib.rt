@@ -9,6 +9,7 @@ mod headline;
 mod note;
 mod run;
 mod sink;
+mod start;
 mod step;
 
 pub use device::Device;
