@@ -7,6 +7,6 @@ mod serve;
 mod station;
 
 pub use op::{Op, SECTOR_SIZE};
-pub use port::{Piece, Port};
+pub use port::{Port, Work};
 pub use serve::{Answer, serve};
 pub use station::{Module, Parameter, Station, Submodule};

@@ -1,5 +1,5 @@
 // One operation of the host.
-use crate::port::{Piece, Port};
+use crate::port::{Port, Work};
 use crate::{Op, SECTOR_SIZE};
 use device_core::{Event, Note};
 use flash_model::Sector;
@@ -125,36 +125,40 @@ fn number_of(note: Note) -> u32 {
 
 // The next piece of work.
 fn next(port: &mut Port, op: &mut Op) -> Answer {
-    match port.next() {
-        Some(
-            Piece::Call(
-                Recorded::Program {
-                    sector,
-                    place,
-                    bytes,
-                },
-            ),
-        ) => {
+    match port.work() {
+        Work::Carry(call) => put_call(call, op),
+        Work::Send(frame) => {
+            op.work = 3;
+            put(op, frame.as_slice());
+        }
+        Work::Nothing => {
+            op.work = 0;
+            op.length = 0;
+        }
+    }
+    port.advance();
+    Answer::Done
+}
+
+// A call of the flash.
+fn put_call(call: &Recorded, op: &mut Op) {
+    match call {
+        Recorded::Program {
+            sector,
+            place,
+            bytes,
+        } => {
             op.work = 1;
             op.sector = sector_number(*sector);
             op.place = *place as u32;
             put(op, bytes.as_slice());
         }
-        Some(Piece::Call(Recorded::Erase { sector })) => {
+        Recorded::Erase { sector } => {
             op.work = 2;
             op.sector = sector_number(*sector);
             op.length = 0;
         }
-        Some(Piece::Send(frame)) => {
-            op.work = 3;
-            put(op, frame.as_slice());
-        }
-        None => {
-            op.work = 0;
-            op.length = 0;
-        }
     }
-    Answer::Done
 }
 
 fn sector_number(sector: Sector) -> u32 {
