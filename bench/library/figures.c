@@ -29,14 +29,10 @@ struct line {
     uint32_t units;
 };
 
-static const char *top; /* where the caller of the library stands */
-
 static void *call(void *given)
 {
     struct line *line = given;
     static pn_settings settings;
-    const char here = 0;
-    top = &here;
     switch (line->kind) {
     case 0: pn_make(&device, &station); break;
     case 1: pn_boot(&device, &op, erased, erased); break;
@@ -51,25 +47,35 @@ static void *call(void *given)
 
 static size_t deepest[7];
 
-/* Makes a call on a stack of its own, and sees how much of its paint is gone. */
+static uint8_t *stack;
+
+/* Paints the stack below this place, makes the call, and sees how much of the paint is gone. */
+static void *painted(void *given)
+{
+    struct line *line = given;
+    uint8_t *top = (uint8_t *)__builtin_frame_address(0) - 512;
+    size_t left = 0;
+    memset(stack, 0xA5, (size_t)(top - stack));
+    call(line);
+    while (stack + left < top && stack[left] == 0xA5)
+        left++;
+    left = (size_t)(top - stack) + 512 - left;
+    if (left > deepest[line->kind])
+        deepest[line->kind] = left;
+    return NULL;
+}
+
 static void on_stack(struct line *line)
 {
-    static uint8_t *stack;
     pthread_attr_t attributes;
     pthread_t thread;
-    size_t left = 0;
     if (stack == NULL && posix_memalign((void **)&stack, 4096, DEPTH) != 0)
         exit(1);
-    memset(stack, 0xA5, DEPTH);
     pthread_attr_init(&attributes);
     pthread_attr_setstack(&attributes, stack, DEPTH);
-    if (pthread_create(&thread, &attributes, call, line) != 0)
+    if (pthread_create(&thread, &attributes, painted, line) != 0)
         exit(1);
     pthread_join(thread, NULL);
-    while (left < DEPTH && stack[left] == 0xA5)
-        left++;
-    if ((size_t)(top - (const char *)(stack + left)) > deepest[line->kind])
-        deepest[line->kind] = (size_t)(top - (const char *)(stack + left));
 }
 
 static void take_all(void (*does)(struct line *))

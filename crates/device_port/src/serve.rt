@@ -69,6 +69,7 @@ fn fill(port: &mut Port, sector: u32, given: &[u8]) -> Answer {
 }
 
 // A start.
+#[inline(never)]
 fn boot(port: &mut Port) -> Answer {
     if port.is_booted() {
         return Answer::IsBooted;
@@ -92,6 +93,7 @@ fn bytes_of(given: &[u8]) -> Bytes {
     bytes
 }
 
+#[inline(never)]
 fn frame(port: &mut Port, op: &mut Op, given: &[u8]) -> Answer {
     op.note = number_of(port.take(&Event::Frame(bytes_of(given))));
     Answer::Done
@@ -103,6 +105,7 @@ fn tick(port: &mut Port, op: &mut Op) -> Answer {
     Answer::Done
 }
 
+#[inline(never)]
 fn input(port: &mut Port, op: &mut Op, given: &[u8]) -> Answer {
     let (Ok(slot), Ok(subslot)) = (u16::try_from(op.slot), u16::try_from(op.subslot)) else {
         return Answer::NoSlot;
@@ -111,6 +114,7 @@ fn input(port: &mut Port, op: &mut Op, given: &[u8]) -> Answer {
     Answer::Done
 }
 
+#[inline(never)]
 fn alarm(port: &mut Port, op: &mut Op, given: &[u8]) -> Answer {
     let (Ok(slot), Ok(subslot)) = (u16::try_from(op.slot), u16::try_from(op.subslot)) else {
         return Answer::NoSlot;
