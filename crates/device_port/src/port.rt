@@ -5,7 +5,7 @@ ghost use Rattle.recorded_flash.specs.Entry.{call_of};
 ghost use Rattle.recorded_flash.specs.Record.{record_of, filled, image_of};
 ghost use Rattle.device_core.specs.Cycle.{started};
 ghost use Rattle.settings_journal.specs.Image.{StartsWith, IsForeign};
-ghost use Rattle.device_port.specs.State.{IsIdle, advanced};
+ghost use Rattle.device_port.specs.State.{IsIdle, IsNext, advanced};
 ghost use Rattle.device_port.specs.Steps.{Takes, Ticks};
 
 use device_core::{Device, Event, Note};
@@ -172,7 +172,9 @@ impl Port {
     }
 
     /// The next piece of work.
-    pub fn work(&self) -> Work<'_> {
+    pub fn work(&self) -> Work<'_>
+        ensures { IsNext self.now result }
+    {
         let recent = self.device.flash().recent();
         if self.calls_left > 0 {
             return Work::Carry(&recent[recent.len() - self.calls_left]);

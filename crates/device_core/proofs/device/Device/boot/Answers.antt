@@ -15,3 +15,9 @@ returns-in-Err-clause-blank g c = rw (← c.unstarted-device.ensures.flash) c.in
 
 pub returns-in-Err-clause-foreign : goal.returns-in-Err-clause-foreign
 returns-in-Err-clause-foreign g c = rw (← c.unstarted-device.ensures.flash) c.in-Err.ensures.foreign
+
+pub returns-in-Ok-clause-blank : goal.returns-in-Ok-clause-blank
+returns-in-Ok-clause-blank g c = rw (← c.unstarted-device.ensures.flash) c.in-Ok.ensures.blank
+
+pub returns-in-Err-clause-left : goal.returns-in-Err-clause-left
+returns-in-Err-clause-left g c = rw (← c.unstarted-device.ensures.flash) c.in-Err.ensures.left

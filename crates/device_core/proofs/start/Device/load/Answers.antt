@@ -7,9 +7,20 @@ pub returns-in_err-load-clause-known : goal.returns-in_err-load-clause-known
 returns-in_err-load-clause-known g c =
     let p = err_from_is_err_and c.from_residual.result c.from_residual.ensures.1 in rw (← c.self.view_is) (λ settings room starts. rw (p.1, p.2) (c.in_err-load.ensures.known settings room starts))
 
+pub returns-in_err-load-clause-left : goal.returns-in_err-load-clause-left
+returns-in_err-load-clause-left g c =
+    let p = err_from_is_err_and c.from_residual.result c.from_residual.ensures.1 in rw (← c.self.view_is) (λ left. rw (p.1, p.2) (c.in_err-load.ensures.left left))
+
+pub returns-in_err-load-clause-blank : goal.returns-in_err-load-clause-blank
+returns-in_err-load-clause-blank g c = rw (← c.self.view_is) c.in_err-load.ensures.blank
+
 pub returns-in_err-load-clause-foreign : goal.returns-in_err-load-clause-foreign
 returns-in_err-load-clause-foreign g c =
     let p = err_from_is_err_and c.from_residual.result c.from_residual.ensures.1 in rw (← c.self.view_is) (rw (p.1, p.2) c.in_err-load.ensures.foreign)
+
+pub returns-in_err-load-clause-reliable : goal.returns-in_err-load-clause-reliable
+returns-in_err-load-clause-reliable g c =
+    let p = err_from_is_err_and c.from_residual.result c.from_residual.ensures.1 in rw (← c.self.view_is) (λ reliable. rw (p.1, p.2) (c.in_err-load.ensures.reliable reliable))
 
 pub returns-clause-starts : goal.returns-clause-starts
 returns-clause-starts g c = rw (← c.self.view_is) c.in_ok-load.ensures.starts
@@ -23,4 +34,4 @@ returns-clause-strange g c = rw (← c.self.view_is) c.in_ok-load.ensures.strang
 pub returns-clause-known : goal.returns-clause-known
 returns-clause-known g c = rw (← c.self.view_is) (λ settings room starts.
     let known = c.in_ok-load.ensures.known settings room starts in
-    as_started c.in_ok-load.new.self.values _ _ settings room c.in_ok-load.ensures.running c.in_ok-load.ensures.fresh.0 c.in_ok-load.ensures.fresh.1 c.new.ensures c.end.ensures.state known.0 known.1)
+    as_started c.load.new.self.values _ _ settings room c.in_ok-load.ensures.running c.in_ok-load.ensures.fresh.0 c.in_ok-load.ensures.fresh.1 c.new-self-inside.ensures c.end.ensures.state known.0 known.1)
