@@ -1,7 +1,7 @@
 -- What the store starts with is what the device starts with.
 use Rattle.std.proofs.lemmas.Result.{err_from_is_err_and}
 use Rattle.device_core.proofs.Steps.{as_started}
-use Rattle.device_core.proofs.start.Device.load.Goals as goal
+use Rattle.device_core.proofs.device.Device.load.Goals as goal
 
 pub returns-in_err-load-clause-known : goal.returns-in_err-load-clause-known
 returns-in_err-load-clause-known g c =
