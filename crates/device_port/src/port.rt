@@ -1,5 +1,5 @@
 // A device, and the work of its last step that the host has not taken yet.
-ghost use Rattle.std.specs.Prelude.{◌≡◌, ◌≢◌, ◌-◌, ◌×◌, ◌≤◌, [], ◌∷◌, List, ℕ, true, false, IsOk, IsTrue, ◌↔◌, OnOk, OnErr, length};
+ghost use Rattle.std.specs.Prelude.{◌≡◌, ◌≢◌, ◌+◌, ◌-◌, ◌%◌, ◌^◌, ◌×◌, ◌≤◌, [], ◌∷◌, List, ℕ, true, false, IsOk, IsTrue, ◌↔◌, OnOk, OnErr, length};
 ghost use Rattle.flash_model.specs.Calls.{Call};
 ghost use Rattle.recorded_flash.specs.Entry.{call_of};
 ghost use Rattle.recorded_flash.specs.Record.{record_of, filled, image_of};
@@ -199,7 +199,8 @@ impl Port {
 
 // How many of the calls that a flash keeps were recorded since it had recorded so many.
 fn newer(before: u32, flash: &RecordedFlash<4096>) -> usize
-    ensures { result ≤ length (record_of flash.now).recent }
+    ensures most { result ≤ length (record_of flash.now).recent }
+    ensures exact { (calls : ℕ) → (record_of flash.now).count ≡ (before + calls) % 2 ^ 32 → calls ≤ length (record_of flash.now).recent → calls ≤ 48 → result ≡ calls }
 {
     let count = flash.count().wrapping_sub(before) as usize;
     let kept = flash.recent().len();
