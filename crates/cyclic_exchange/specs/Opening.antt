@@ -35,6 +35,10 @@ opened route sending hearing statuses sent taken = record {
   taken = first_taken taken;
 }
 
+-- the partner and the numbers of the frames are these from now on, and the interval is counted from now; what was given stays
+abbrev pub related : Cyclic → Route → Sending → Cyclic
+related cyclic route sending = record cyclic { route = route; sending = sending }
+
 -- data is exchanged, and the data hold time runs from now on
 abbrev pub begun_of : Cyclic → Cyclic
 begun_of cyclic = record cyclic { begun = true; hearing = record cyclic.hearing { held = 0 } }

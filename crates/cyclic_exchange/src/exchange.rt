@@ -2,7 +2,7 @@
 ghost use Rattle.std.specs.Prelude.{◌≡◌, ◌≤◌, ◌++◌, IfSome, [], false, is_some, length, option_map, replicate, unwrap_or};
 ghost use Rattle.arrayvec.specs.ArrayVec.{array_vec_len};
 ghost use Rattle.cyclic_exchange.specs.Frames.{cyclic_body};
-ghost use Rattle.cyclic_exchange.specs.Opening.{begun_of, ended_of, opened};
+ghost use Rattle.cyclic_exchange.specs.Opening.{begun_of, ended_of, opened, related};
 ghost use Rattle.cyclic_exchange.specs.Process.{given_at, provided_at, value_at};
 
 use crate::opening::fill;
@@ -90,6 +90,15 @@ impl CyclicExchange {
         fill(&mut self.sent, sent, statuses);
         self.consumer = consumer;
         self.taken.start(taken);
+    }
+
+    /// The partner and the numbers of the frames are known: they are these from now on, and the interval is counted from now. What was
+    /// given since the opening stays, so that data may be given before the partner answers.
+    pub fn relate(&mut self, route: Route, provider: Provider)
+        ensures { self.new ≡ related self.old route provider }
+    {
+        self.route = route;
+        self.provider = provider;
     }
 
     /// Data is exchanged, and the data hold time runs from now on.

@@ -4,3 +4,4 @@ pub mod Machine
 pub mod Faults
 pub mod Steps
 pub mod Cycle
+pub mod Notes

@@ -1,3 +1,6 @@
+// What became of an event.
+ghost use Rattle.device_core.specs.Notes.{note_number};
+
 /// What became of an event.
 #[derive(Clone, Copy, Debug, PartialEq, Eq)]
 pub enum Note {
@@ -17,4 +20,13 @@ pub enum Note {
     StaleCycle = 6,
     /// An input of a submodule that has none of this length, or an alarm that may not be raised now or of this submodule.
     Refused = 7,
+}
+
+impl Note {
+    /// Its number: 0 of what is done, else 1 to 7.
+    pub fn number(self) -> u8
+        ensures { result ≡ note_number self }
+    {
+        self as u8
+    }
 }

@@ -1,10 +1,11 @@
 //! What a frame is to a device.
-ghost use Rattle.std.specs.Prelude.{◌≡◌, ◌==◌, ◌&&◌, ◌||◌, IfSome, List, ℕ, nat_eq, option_map};
+ghost use Rattle.std.specs.Prelude.{◌≡◌, ◌==◌, ◌&&◌, ◌||◌, IfNone, IfSome, List, ℕ, nat_eq, option_map};
 ghost use Rattle.std.specs.Cmp.Lexicographic.{pointwise};
 ghost use Rattle.device_frames.specs.Heard.{broadcast, heard_content, heard_of, is_own as is_own_by, is_taken as is_taken_by};
 ghost use Rattle.device_frames.specs.Hearing.{heard_as, heard_in};
 ghost use Rattle.device_frames.specs.declared.event.Event.TheVariants.{Frame};
-ghost use Rattle.frame_codec.specs.Meaning.{RealTime, meaning_of};
+ghost use Rattle.frame_codec.specs.Frame.{frame_of};
+ghost use Rattle.frame_codec.specs.Meaning.{IsNoRealTime, RealTime, meaning_of};
 
 use frame_codec::{
     Bytes, DCP_GET_SET, DCP_IDENTIFY_REQUEST, Layered, RPC_PORT, RealTimeFrame, is_alarm,
@@ -24,7 +25,9 @@ const BROADCAST: Mac = Mac { octets: [0xFF; 6] };
 #[inline(always)]
 #[tactic(auto, unfolding(crate::specs::Heard::heard_of))]
 pub fn real_time_in(bytes: &Bytes) -> Option<RealTimeFrame<'_>>
-    ensures { IfSome result (λ frame. (identity : Identity) → heard_of identity (Frame bytes.now) ≡ heard_content identity frame.destination frame.source (RealTime frame.frame_id frame.body.now)) }
+    ensures found { IfSome result (λ frame. (identity : Identity) → heard_of identity (Frame bytes.now) ≡ heard_content identity frame.destination frame.source (RealTime frame.frame_id frame.body.now)) }
+    // One that is there is found.
+    ensures none { IfNone result (IsNoRealTime (frame_of bytes.now.items)) }
 {
     read_real_time(bytes.as_slice())
 }

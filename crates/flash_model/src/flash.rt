@@ -15,6 +15,15 @@ pub enum Sector {
 #[derive(Clone, Copy, Debug, PartialEq, Eq)]
 pub struct FlashFault;
 
+impl FlashFault {
+    /// Its number, 1.
+    pub fn number(self) -> u8
+        ensures { result ≡ 1 }
+    {
+        1
+    }
+}
+
 /// What a flash can be told to do to a later call, so that failures can be tried out.
 #[derive(Clone, Copy, Debug, PartialEq, Eq)]
 pub enum Order {

@@ -282,3 +282,16 @@ pub table_as : (direction : IocrType) (modules : List RealModule) (most : ℕ) (
     → table ≡ layout_in direction (data_of modules)
 table_as direction modules most objects iocs one other slice table ordered e f g n o i t =
     rw (t, n, o, i, e, f, g, asked_packed direction (data_of modules) (apart modules ordered)) refl
+
+-- ---- the places of modules
+
+pub modules_asked : (direction : IocrType) (modules : List RealModule) → AreOrdered modules
+    → asked direction (data_of modules) (map object_of (packed direction Data 0 (data_of modules)))
+    (map object_of (packed direction Iocs (octets_of direction Data (data_of modules)) (data_of modules)))
+    ≡ packed_places direction (data_of modules)
+modules_asked direction modules ordered = asked_packed direction (data_of modules) (apart modules ordered)
+
+pub modules_good : (direction : IocrType) (modules : List RealModule) → AreOrdered modules
+    → IsLayout (layout_in direction (data_of modules)).data_length direction (data_of modules) (packed_places direction (data_of modules))
+modules_good direction modules ordered =
+    packed_good direction (data_of modules) (max 40 (frame_octets direction (data_of modules))) (apart modules ordered) (below_max (frame_octets direction (data_of modules)))

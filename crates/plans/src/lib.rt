@@ -4,9 +4,11 @@
 
 mod blocks;
 mod data;
+mod laws;
 mod parts;
 mod places;
 mod plan;
 
+pub use laws::packed_places_are_asked;
 pub use parts::{Controller, Parts, PlanRecord, Station, Times};
 pub use plan::{Layouts, Plan, TooLong};

@@ -1,13 +1,14 @@
 //! The plan of a station.
-ghost use Rattle.std.specs.Prelude.{◌≡◌, ◌≤◌, length};
+ghost use Rattle.std.specs.Prelude.{◌≡◌, ◌≤◌, true, length};
 ghost use Rattle.std.specs.List.{AllByRecursion};
 ghost use Rattle.arrayvec.specs.ArrayVec.{array_vec_len};
 ghost use Rattle.connect_blocks.specs.declared.iocr.IocrType.TheVariants.{Input, Output};
+ghost use Rattle.connect_blocks.specs.ArBlock.{is_some_uuid};
 ghost use Rattle.wire.specs.Codec.{Gives};
 ghost use Rattle.plans.specs.Packed.{frame_octets, layout_in};
 ghost use Rattle.plans.specs.Parts.{AreOrdered, AreParts, data_of};
 ghost use Rattle.plans.specs.Connect.{IsRead, blocks_of, connect_of};
-ghost use Rattle.plans.specs.Plan.{IsPlan, do_frames_fit, plan_of};
+ghost use Rattle.plans.specs.Plan.{AreShort, IsPlan, do_frames_fit, plan_of};
 
 use crate::blocks::{does_connect_fit, write_alarm, write_all_expected, write_ar, write_iocr};
 use crate::data::data_of;
@@ -66,6 +67,15 @@ fn do_frames_fit(parts: &Parts) -> bool
         && frame_octets(IocrType::Output, subs.as_slice()) <= 1440
 }
 
+/// Each record has at most 64 octets: so many has a list of them room for.
+fn are_short(records: &[PlanRecord])
+    ensures { AreShort records.now }
+{
+    for entry in records {
+        let _octets = entry.data.as_slice();
+    }
+}
+
 /// The layout of a direction for what submodules have.
 fn layout_in(direction: IocrType, parts: &Parts) -> Layout
     requires short { frame_octets direction (data_of parts.now.real.modules.items) ≤ 1440 }
@@ -93,7 +103,8 @@ impl Plan {
         requires { AreParts parts }
         ensures { Gives (λ plan. plan) result (plan_of parts) }
     {
-        let _few = parts.real.modules.as_slice();
+        let _modules = parts.real.modules.as_slice();
+        are_short(parts.records.as_slice());
         if !do_frames_fit(&parts) {
             return Err(TooLong::Frame);
         }
@@ -135,9 +146,11 @@ impl Plan {
         &self.parts.real
     }
 
-    /// The records, in the order in which they are written.
+    /// The records, in the order in which they are written: at most 32, each of at most 64 octets.
     pub fn records(&self) -> &[PlanRecord]
-        ensures { result.now ≡ self.now.records.items }
+        ensures value { result.now ≡ self.now.records.items }
+        ensures few { length result.now ≤ 32 }
+        ensures short { AreShort result.now }
     {
         self.parts.records.as_slice()
     }
@@ -163,7 +176,9 @@ impl Plan {
     /// The blocks of the Connect, with this ARUUID: they fit a frame.
     #[tactic(auto, using(crate::proofs::Sizes::connect_room))]
     pub fn connect(&self, ar: &Uuid) -> ArrayVec<u8, 1372>
-        ensures { result.items ≡ connect_of self.now ar.now }
+        ensures exact { result.items ≡ connect_of self.now ar.now }
+        // Each block is read as it, whatever is behind it, where the ARUUID is not zero.
+        ensures read { is_some_uuid ar.now ≡ true → AllByRecursion IsRead (blocks_of self.now ar.now) }
     {
         let _octets = ar.into_bytes();
         let mut out = ArrayVec::new();

@@ -1,2 +1,3 @@
 pub mod Kept
 mod Held
+mod Moves

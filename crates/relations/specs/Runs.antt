@@ -3,11 +3,11 @@ use Rattle.std.specs.Prelude.{◌≡◌, ◌+◌, ◌%◌, ◌==◌, ◌<◌, �
 use Rattle.pn_alarms.specs.declared.abort.Abort.{Abort}
 use Rattle.pn_alarms.specs.declared.abort.Abort.TheVariants.{Activity, DataHold, Other}
 use Rattle.pn_alarms.specs.Sending.{Sending}
-use Rattle.relations.specs.declared.phase.Phase.TheVariants.{Exchanging}
+use Rattle.relations.specs.declared.phase.Phase.TheVariants.{Started, Awaiting, Exchanging}
 use Rattle.relations.specs.Link.{Link, phase_of, is_awaiting}
 use Rattle.relations.specs.Farewells.{farewell_of}
 use Rattle.relations.specs.Timers.{due_of, is_timed, limit_of}
-use Rattle.relations.specs.Phases.{moved, passing}
+use Rattle.relations.specs.Phases.{Judged, Parameterized, Confirmed, moved, passing}
 
 -- a unit later, and so many units later, with no other event
 abbrev pub unit_over : Option Link → Option Link
@@ -54,3 +54,13 @@ IsHeldFor = (link : Link) (units : ℕ) → link.phase ≡ Exchanging → link.f
 abbrev pub IsGivenUp : Type 0
 IsGivenUp = (link : Link) (units waited : ℕ) → link.phase ≡ Exchanging → link.flow.cyclic.begun ≡ true → link.flow.cyclic.hearing.held + (units + 1) < link.flow.cyclic.hearing.limit
     → link.flow.alarms.sender.sending.waiting ≡ Some waited → waited + (units + 1) ≡ link.flow.alarms.sender.sending.limit → EndsBehind units Other link
+
+-- ---- from phase to phase
+
+-- Whoever was in started and is in awaiting was judged by PrmEnd,
+abbrev pub IsByPrmEnd : Type 0
+IsByPrmEnd = (judged : Judged) (link : Option Link) → phase_of link ≡ Some Started → phase_of (moved judged link) ≡ Some Awaiting → judged ≡ Parameterized
+
+-- and whoever was in awaiting and is exchanging data, by the answer to ApplicationReady.
+abbrev pub IsByReady : Type 0
+IsByReady = (judged : Judged) (link : Option Link) → phase_of link ≡ Some Awaiting → phase_of (moved judged link) ≡ Some Exchanging → judged ≡ Confirmed

@@ -1,5 +1,5 @@
 -- What a unit of time, 31.25 microseconds, does to a relation.
-use Rattle.std.specs.Prelude.{◌≡◌, ◌⊎◌, ◌==◌, ◌+◌, ◌*◌, ◌&&◌, ℕ, Bool, true, false, nat_le, Option, Some, None, option_map, if◌then◌else◌}
+use Rattle.std.specs.Prelude.{◌≡◌, ◌⊎◌, ◌==◌, ◌+◌, ◌*◌, ◌&&◌, ℕ, Bool, true, false, nat_le, not, Option, Some, None, is_none, option_map, if◌then◌else◌}
 use Rattle.relations.specs.declared.phase.Phase.{Phase}
 use Rattle.relations.specs.declared.phase.Phase.TheVariants.{Started, Awaiting, Exchanging}
 use Rattle.exchanges.specs.Units.{flow_later, tick_of}
@@ -79,6 +79,10 @@ farewell_for None link = None
 -- what is due behind a unit that brought this, of the relation that stands then
 abbrev pub due_behind : Elapsed → Option Link → Due
 due_behind elapsed link = record { farewell = farewell_for elapsed.ending link; is_alarm = elapsed.is_alarm; is_ready = elapsed.is_ready; is_cyclic = elapsed.is_cyclic }
+
+-- whether nothing is to be sent
+abbrev pub brings_nothing : Elapsed → Bool
+brings_nothing elapsed = is_none elapsed.ending && (not elapsed.is_alarm && (not elapsed.is_ready && not elapsed.is_cyclic))
 
 -- the relation once it has ended for this reason, if it is to end
 abbrev pub left_behind : Option Abort → Option Link → Option Link

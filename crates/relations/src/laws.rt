@@ -1,7 +1,7 @@
 //! What holds of relations over many events.
-ghost use Rattle.relations.specs.Runs.{StandsUntil, EndsAt, IsDueEachSecond, IsGivenUp, IsHeldFor};
+ghost use Rattle.relations.specs.Runs.{StandsUntil, EndsAt, IsByPrmEnd, IsByReady, IsDueEachSecond, IsGivenUp, IsHeldFor};
 
-/// The timers, over any number of units: a law of the definitions by which `Relation::tick` is stated, and no code.
+/// The timers, over any number of units with nothing else between: a law of the definitions by which `Relation::tick` is stated, and no code.
 pub fn time_is_kept()
     // A relation of which nothing is heard stands until the last unit of its activity timer, which ends it with ERR.
     ensures stands { StandsUntil }
@@ -12,4 +12,12 @@ pub fn time_is_kept()
     ensures hold { IsHeldFor }
     // or until an alarm without an ACK is given up before.
     ensures spent { IsGivenUp }
+{}
+
+/// What leads from phase to phase: a law of the definition by which each call of a relation is stated, and no code.
+pub fn phases_are_kept()
+    // Whoever was in started and is in awaiting was judged by PrmEnd,
+    ensures ready { IsByPrmEnd }
+    // and whoever was in awaiting and exchanges data, by the answer to ApplicationReady.
+    ensures exchanging { IsByReady }
 {}

@@ -5,8 +5,8 @@ ghost use Rattle.std.specs.Prelude.{◌≡◌, ◌==◌, ◌+◌, ◌<◌, ◌�
 ghost use Rattle.pn_alarms.specs.declared.abort.Abort.TheVariants.{Activity, DataHold};
 ghost use Rattle.relations.specs.declared.phase.Phase.TheVariants.{Exchanging};
 ghost use Rattle.relations.specs.Farewells.{farewell_of};
-ghost use Rattle.relations.specs.Link.{Link, is_awaiting, phase_of};
-ghost use Rattle.relations.specs.Timers.{EndsIn, due_behind, due_of, farewell_for, is_timed, is_unheard, left_behind, nothing};
+ghost use Rattle.relations.specs.Link.{Link, is_awaiting, phase_of, taken_of};
+ghost use Rattle.relations.specs.Timers.{EndsIn, brings_nothing, due_behind, due_of, farewell_for, is_timed, is_unheard, left_behind, nothing};
 ghost use Rattle.relations.specs.Phases.{moved, passing};
 ghost use Rattle.relations.specs.Ready.{ready_of};
 
@@ -49,6 +49,7 @@ impl Elapsed {
     /// Whether nothing is to be sent.
     #[inline(always)]
     pub fn is_nothing(&self) -> bool
+        ensures value { result ≡ brings_nothing self.now }
         ensures nothing { (link : Option Link) → result ≡ true → due_behind self.now link ≡ nothing }
         ensures left { (link : Option Link) → result ≡ true → left_behind self.now.ending link ≡ link }
     {
@@ -124,6 +125,9 @@ impl Relation {
     pub fn elapse(&mut self) -> Elapsed
         ensures due { due_of self.old ≡ due_behind result self.new }
         ensures state { moved (passing self.old) self.old ≡ left_behind result.ending self.new }
+        // What still stands is in its phase and has its records, also where it is to end.
+        ensures stands { phase_of self.new ≡ phase_of self.old }
+        ensures records { taken_of self.new ≡ taken_of self.old }
         // Once data is exchanged data hold always ends it where it is over.
         ensures hold { (old : Link) → self.old ≡ Some old → old.phase ≡ Exchanging → is_unheard old ≡ true → farewell_for result.ending self.new ≡ Some (farewell_of DataHold old) }
     {

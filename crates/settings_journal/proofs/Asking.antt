@@ -1,35 +1,39 @@
 -- What the calls of a commit ask of the flash.
 use Rattle.std.proofs.Common.{ℕ, zero, suc, None, subst, ◌≡◌, ◌≢◌, ◌+◌, ◌-◌, ◌∙◌, List, [], ◌∷◌, ◌++◌, Option, Some, refl, sym, ap, false, true}
-use Rattle.std.specs.Prelude.{Result, Ok, Err}
-use Rattle.std.specs.Result.{is_err}
+use Rattle.std.specs.Prelude.{Result, Ok, Err, OnErr}
 use Rattle.std.proofs.lemmas.List.{append-nil}
 use Rattle.pn_values.specs.Command.{apply}
 use Rattle.pn_values.specs.declared.command.Command.{Command}
 use Rattle.pn_values.specs.declared.settings.Settings.{Settings}
-use Rattle.flash_model.specs.Calls.{Call}
+use Rattle.flash_model.specs.Calls.{Call, Erases}
+use Rattle.flash_model.specs.Image.{Image, IsImage, with_sector, erased}
+use Rattle.flash_model.specs.Torn.{Torn}
 use Rattle.flash_model.specs.declared.flash.Sector.{Sector}
 use Rattle.settings_journal.specs.Calls.{base_calls, slot_calls, calls_of, IsFront, IsAskedFor}
+use Rattle.settings_journal.specs.Cut.{IsCutShort, carried_out, all_carried_out}
 use Rattle.settings_journal.specs.Head.{base_of}
 use Rattle.settings_journal.specs.Image.{spare}
 use Rattle.settings_journal.specs.Slot.{entry_of}
+use Rattle.settings_journal.proofs.Writes.{sector_size}
 
--- the first of some calls and what follows
-pub front : (call : Call) (calls rest : List Call) → IsFront (call ∷ calls) (call ∷ calls ++ rest)
-front call calls rest = record { some = λ none. cc; rest = rest; whole = refl }
+-- calls that passed, one that failed, and what follows
+pub front : (old new : Image) (passed rest : List Call) (failed : Call) → IsCutShort (all_carried_out old passed) failed new
+    → IsFront old (passed ++ failed ∷ []) ((passed ++ failed ∷ []) ++ rest) new
+front old new passed rest failed left = record { passed = passed; failed = failed; are = refl; rest = rest; whole = refl; left = left }
 
 -- all of them were asked for, and the last one passed or failed
-pub asked_all : {T E : Type 0} (result : Result T E) (call : Call) (calls : List Call) → IsAskedFor result (call ∷ calls) (call ∷ calls)
-asked_all (Ok done) call calls = refl
-asked_all (Err fault) call calls = record { some = λ none. cc; rest = []; whole = sym (append-nil (call ∷ calls)) }
+pub asked_all : {T E : Type 0} (result : Result T E) (old new : Image) (passed : List Call) (last : Call) → OnErr result (IsCutShort (all_carried_out old passed) last new)
+    → IsAskedFor result old (passed ++ last ∷ []) (passed ++ last ∷ []) new
+asked_all (Ok done) old new passed last left = refl
+asked_all (Err fault) old new passed last left =
+    record { passed = passed; failed = last; are = refl; rest = []; whole = sym (append-nil (passed ++ last ∷ [])); left = left }
 
--- of a result that is known
-pub asked_done : {T E : Type 0} (result : Result T E) (all calls : List Call) → is_err result ≡ false → IsAskedFor result all calls → calls ≡ all
-asked_done (Ok done) all calls ended part = part
-asked_done (Err fault) all calls ended part = cc ended
+-- an erase of sectors of this size, cut short and carried out
+pub erase_short : (size : ℕ) (old new : Image) (sector : Sector) → IsImage size old → Torn sector 0 size (erased size) old new → IsCutShort old (Erases sector) new
+erase_short size old new sector sized torn = subst (λ n. Torn sector 0 n (erased n) old new) (sym (sector_size size old sector sized)) torn
 
-pub asked_front : {T E : Type 0} (result : Result T E) (all calls : List Call) → is_err result ≡ true → IsAskedFor result all calls → IsFront calls all
-asked_front (Ok done) all calls failed part = cc failed
-asked_front (Err fault) all calls failed part = part
+pub erase_done : (size : ℕ) (old new : Image) (sector : Sector) → IsImage size old → new ≡ with_sector old sector (erased size) → new ≡ carried_out old (Erases sector)
+erase_done size old new sector sized is = is ∙ ap (λ n. with_sector old sector (erased n)) (sym (sector_size size old sector sized))
 
 -- the calls of a commit where a slot is left
 pub calls_slot : (slots : ℕ) (active : Option Sector) (sector : Sector) (generation free number : ℕ) (before : Settings) (command : Command) (entry : List ℕ)
@@ -51,8 +55,10 @@ calls_base slots active sector generation free number before next command base n
     ap (λ t. base_calls t base) s ∙ ap (base_calls (spare active)) (b ∙ ap (λ k. base_of k next) n ∙ ap (base_of (generation + 1)) x) ∙ none_calls slots active generation free before command none
 
 -- what was asked for, in other words
-pub asked_as : {T E : Type 0} (result : Result T E) (all these calls : List Call) → all ≡ these → IsAskedFor result all calls → IsAskedFor result these calls
-asked_as result all these calls e part = subst (λ a. IsAskedFor result a calls) e part
+pub asked_as : {T E : Type 0} (result : Result T E) (old new : Image) (all these calls : List Call) → all ≡ these → IsAskedFor result old all calls new → IsAskedFor result old these calls new
+asked_as result old new all these calls e part = subst (λ a. IsAskedFor result old a calls new) e part
 
-pub failed_as : {T E : Type 0} (result : Result T E) (fault : E) (all these calls : List Call) → result ≡ Err fault → all ≡ these → IsFront calls all → IsAskedFor result these calls
-failed_as result fault all these calls is e part = subst (λ r. IsAskedFor r these calls) (sym is) (subst (IsFront calls) e part)
+pub failed_as : {T E : Type 0} (result : Result T E) (fault : E) (old new : Image) (all these calls : List Call) → result ≡ Err fault → all ≡ these → IsFront old calls all new
+    → IsAskedFor result old these calls new
+failed_as result fault old new all these calls is e part =
+    subst (λ r. IsAskedFor r old these calls new) (sym is) (subst (λ a. IsFront old calls a new) e part)

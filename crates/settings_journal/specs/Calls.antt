@@ -1,12 +1,12 @@
 -- The calls that a commit asks of the flash.
-use Rattle.std.specs.Prelude.{◌≡◌, ◌≢◌, ◌+◌, ◌-◌, ℕ, zero, suc, List, [], ◌∷◌, ◌++◌, Option, Some, None, Result, Ok, Err}
+use Rattle.std.specs.Prelude.{◌≡◌, ◌+◌, ◌-◌, ℕ, zero, suc, List, [], ◌∷◌, ◌++◌, Option, Some, None, Result, Ok, Err}
 use Rattle.pn_values.specs.Command.{apply}
 use Rattle.pn_values.specs.declared.command.Command.{Command}
 use Rattle.pn_values.specs.declared.settings.Settings.{Settings}
 use Rattle.flash_model.specs.Calls.{Call, Programs, Erases}
 use Rattle.flash_model.specs.Image.{Image}
 use Rattle.flash_model.specs.declared.flash.Sector.{Sector}
-use Rattle.settings_journal.specs.Cut.{AreSafe, AreWrites}
+use Rattle.settings_journal.specs.Cut.{AreSafe, AreWrites, IsCutShort, all_carried_out}
 use Rattle.settings_journal.specs.Head.{base_of}
 use Rattle.settings_journal.specs.Slot.{place_of, entry_of}
 use Rattle.settings_journal.specs.Image.{StartsAt, spare, slots_of, room_of}
@@ -42,20 +42,24 @@ pub record CommitCalls (image : Image) (settings : Settings) (room : ℕ) (comma
   pub writes : AreWrites calls
   pub safe : AreSafe image calls settings (apply command settings)
 
--- some of the calls, from the first one on
-pub record IsFront (calls all : List Call) : Type 0 where
-  pub some : calls ≢ []
+-- The first of the calls, up to the one that failed, and what they made of the image: those in front of it were carried out,
+-- and it was cut short.
+pub record IsFront (old : Image) (calls all : List Call) (new : Image) : Type 0 where
+  pub passed : List Call
+  pub failed : Call
+  pub are : calls ≡ passed ++ failed ∷ []
   pub rest : List Call
   pub whole : all ≡ calls ++ rest
+  pub left : IsCutShort (all_carried_out old passed) failed new
 
 -- what ended asked for all of the calls; what failed, for the first of them, up to the one that failed
-abbrev pub IsAskedFor : {T E : Type 0} → Result T E → List Call → List Call → Type 0
-IsAskedFor (Ok done) all calls = calls ≡ all
-IsAskedFor (Err fault) all calls = IsFront calls all
+abbrev pub IsAskedFor : {T E : Type 0} → Result T E → Image → List Call → List Call → Image → Type 0
+IsAskedFor (Ok done) old all calls new = calls ≡ all
+IsAskedFor (Err fault) old all calls new = IsFront old calls all new
 
 -- what a commit asked for, by its answer: all of its calls; the first of them, up to the one that failed; or none
-abbrev pub HasCommitCalls : Result (Unit {0}) CommitFault → Image → Settings → ℕ → Command → List Call → Type 0
-HasCommitCalls (Ok done) image settings room command calls = CommitCalls image settings room command calls
-HasCommitCalls (Err FlashFault) image settings room command calls = (all : List Call) × CommitCalls image settings room command all × IsFront calls all
-HasCommitCalls (Err Exhausted) image settings room command calls = calls ≡ []
-HasCommitCalls (Err Failed) image settings room command calls = calls ≡ []
+abbrev pub HasCommitCalls : Result (Unit {0}) CommitFault → Image → Settings → ℕ → Command → List Call → Image → Type 0
+HasCommitCalls (Ok done) image settings room command calls new = CommitCalls image settings room command calls
+HasCommitCalls (Err FlashFault) image settings room command calls new = (all : List Call) × CommitCalls image settings room command all × IsFront image calls all new
+HasCommitCalls (Err Exhausted) image settings room command calls new = calls ≡ []
+HasCommitCalls (Err Failed) image settings room command calls new = calls ≡ []

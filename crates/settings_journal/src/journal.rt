@@ -257,7 +257,7 @@ impl<F: Flash<S>, const S: usize> Journal<F, S> {
 
         // The calls that it asks of the flash: its own, in order, and no others.
         ensures calls { (calls : List Call) × F.asked self.old.flash calls self.new.flash
-            × HasCommitCalls result (F.image self.old.flash) self.old.settings self.old.room command.now calls }
+            × HasCommitCalls result (F.image self.old.flash) self.old.settings self.old.room command.now calls (F.image self.new.flash) }
 
         // Whichever call failed: all but the next slot is as it was, or, where no slot is left, the active sector.
         ensures apart { self.old.has_failed ≡ false → StandsApart (F.image self.old.flash) self.old.settings (F.image self.new.flash) }

@@ -30,7 +30,7 @@ pub(crate) fn store<F: Flash<S>, const S: usize>(
         Stored (F.image flash.old) (F.image flash.new) (slots_in S) position before next.now result }
     ensures calls { (before : Settings) → IsBefore (F.image flash.old) position command.now before next.now →
         (calls : List Call) × F.asked flash.old calls flash.new
-        × IsAskedFor result (calls_of (slots_in S) position.active position.generation position.free before command.now) calls }
+        × IsAskedFor result (F.image flash.old) (calls_of (slots_in S) position.active position.generation position.free before command.now) calls (F.image flash.new) }
     ensures writes { (before : Settings) → IsBefore (F.image flash.old) position command.now before next.now →
         AreWrites (calls_of (slots_in S) position.active position.generation position.free before command.now) }
     ensures cut { (before : Settings) → IsBefore (F.image flash.old) position command.now before next.now →

@@ -118,7 +118,7 @@ pub faulted : {F : Type 0} (image : F → Image) (failures : F → ℕ) (asked :
     → HasRisen (failures old.flash) (failures new.flash)
     → (LeftByDevice (image old.flash) → LeftByDevice (image new.flash))
     → (LeftByDevice (image old.flash) → IsKept (image new.flash) old.settings (apply command old.settings))
-    → (calls : List Call) → asked old.flash calls new.flash → (all : List Call) → CommitCalls (image old.flash) old.settings old.room command all → IsFront calls all → (is_lost old.flash ≡ true → is_lost new.flash ≡ true)
+    → (calls : List Call) → asked old.flash calls new.flash → (all : List Call) → CommitCalls (image old.flash) old.settings old.room command all → IsFront (image old.flash) calls all (image new.flash) → (is_lost old.flash ≡ true → is_lost new.flash ≡ true)
     → CarriesItem image failures asked (seen is_lost old running) (Ask command) Local (seen is_lost new running)
 faulted image failures asked is_lost old new running command fine failed some settings room fault left kept calls were all commit part lost =
     let outcome : Outcome = Fault (is_lost new.flash) in

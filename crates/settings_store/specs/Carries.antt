@@ -48,16 +48,16 @@ IsCausedAlone Pass before now old new = (now ≡ before) × (new.has_failed ≡ 
 IsCausedAlone (Fault is_lost) before now old new = HasRisen before now × (old.has_failed ≡ false) × (new.has_failed ≡ true)
 
 -- of the calls of a commit, all were asked for where it is done, and else the first of them, up to the one that failed
-abbrev pub IsAskedBy : Bool → List Call → List Call → Type 0
-IsAskedBy true commit calls = calls ≡ commit
-IsAskedBy false commit calls = IsFront calls commit
+abbrev pub IsAskedBy : Bool → Image → List Call → List Call → Image → Type 0
+IsAskedBy true old commit calls new = calls ≡ commit
+IsAskedBy false old commit calls new = IsFront old calls commit new
 
 -- What an accepted command asked of the flash: the calls of its commit, in order, and no others.
 pub record Asks {F : Type 0} (image : F → Image) (asked : F → List Call → F → Type 0) (one : Accepted) (old new : State F) : Type 0 where
   pub commit : List Call
   pub calls : List Call
   pub of_commit : CommitCalls (image old.flash) old.values.stored old.values.room one.command commit
-  pub part : IsAskedBy one.is_done commit calls
+  pub part : IsAskedBy one.is_done (image old.flash) commit calls (image new.flash)
   pub were : asked old.flash calls new.flash
 
 -- One item, for an outcome of its call: the values are those that it makes, the outcome has its cause in this item, the

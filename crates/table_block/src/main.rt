@@ -2,8 +2,9 @@
 //! `block_codec` makes of it: the fault, or the type, the octets left behind it, the block as it is written again, and
 //! its fields.
 //!
-//! The 936 lines of `stdin` and what `stdout` says of them come from a reference model that was written from the rules of
-//! the blocks alone and shares no line with this repository. So they pin what a definition and its code could get wrong
+//! The first 936 lines of `stdin` and what `stdout` says of them come from a reference model that was written from the rules of
+//! the blocks alone and shares no line with this repository; 16 more were bent by hand, each in a field that none of these has
+//! wrong. So they pin what a definition and its code could get wrong
 //! alike: a constant, the number of a field, the place of a bit.
 //!
 //! ```text

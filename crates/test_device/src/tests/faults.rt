@@ -70,3 +70,19 @@ fn a_start_that_cannot_read_hands_the_flash_back(rt: HostRuntime) -> Result<(), 
     assert_eq!(rt; device.running().name.as_bytes(), b"pump-1".as_slice());
     Ok(())
 }
+
+#[test]
+fn the_numbers_of_notes(rt: HostRuntime) {
+    for (note, number) in [
+        (Note::Done, 0),
+        (Note::NotMine, 1),
+        (Note::Fault, 2),
+        (Note::Filter, 3),
+        (Note::OldCall, 4),
+        (Note::NoRelation, 5),
+        (Note::StaleCycle, 6),
+        (Note::Refused, 7),
+    ] {
+        assert_eq!(rt; note.number(), number);
+    }
+}

@@ -379,6 +379,7 @@ fn version_1_has_no_slot_of_im4(rt: HostRuntime) -> Result<(), std::test::Fail> 
 
 #[test]
 fn the_numbers_of_refusals(rt: HostRuntime) {
+    assert_eq!(rt; FlashFault.number(), 1);
     for (fault, number) in [(BootFault::FlashFault, 1), (BootFault::Foreign, 2)] {
         assert_eq!(rt; fault.number(), number);
     }

@@ -1,9 +1,12 @@
 -- What each of the two calls leaves.
 use Rattle.std.proofs.Common.{◌≡◌, ◌∙◌, ◌∷◌, ◌≤◌, ◌+◌, [], ap, inl, inr, arith, subst, sym}
-use Rattle.std.proofs.lemmas.Result.{on_ok_weaker}
+use Rattle.std.specs.Prelude.{OnErr}
+use Rattle.std.proofs.lemmas.Result.{on_ok_weaker, err_from_is_err_and}
+use Rattle.flash_model.specs.Calls.{Programs}
 use Rattle.flash_model.specs.Image.{sector_of, programmed}
+use Rattle.settings_journal.specs.Cut.{IsCutShort}
 use Rattle.settings_journal.specs.Slot.{place_of, slot_at, HasEntry}
-use Rattle.settings_journal.proofs.Asking.{asked_all}
+use Rattle.settings_journal.proofs.Asking.{front, asked_all}
 use Rattle.settings_journal.proofs.Writes.{HasFront, IsInSlot, sector_with, sector_size, either, in_slot_then, in_slot_done, in_slot_torn, keeps_others, entry_closed, entry_there, slot_opened, slot_half}
 use Rattle.settings_journal.proofs.access.write_slot.Goals as goal
 use Rattle.settings_journal.proofs.access.write_slot.Given as given
@@ -70,7 +73,16 @@ returns-clause-others g c =
 pub returns-clause-calls : goal.returns-clause-calls
 returns-clause-calls g c =
     let two = g.met.F.Flash.asked_more _ _ _ _ _ c.in_ok-program.ensures.calls c.program-2.ensures.calls in
-    (_, two, asked_all c.program-2.result _ _)
+    let left = subst (λ i. OnErr c.program-2.result (IsCutShort i (Programs c.args.sector (place_of c.args.number + 255) (0 ∷ [])) (g.F.Flash.image c.program-2.new.self))) c.in_ok-program.ensures.done c.program-2.ensures.torn in
+    (_, two, asked_all c.program-2.result _ _ (Programs c.args.sector (place_of c.args.number) c.args.entry.now ∷ []) (Programs c.args.sector (place_of c.args.number + 255) (0 ∷ [])) left)
+
+pub returns-in_err-program-clause-calls : goal.returns-in_err-program-clause-calls
+returns-in_err-program-clause-calls g c =
+    let fault = err_from_is_err_and c.from_residual.result c.from_residual.ensures.1 in (
+      _,
+      c.in_err-program.ensures.calls,
+      rw fault.1 (front _ _ [] (Programs c.args.sector (place_of c.args.number + 255) (0 ∷ []) ∷ []) (Programs c.args.sector (place_of c.args.number) c.args.entry.now) c.in_err-program.ensures.torn),
+    )
 
 pub returns-in_err-program-clause-bytes : goal.returns-in_err-program-clause-bytes
 returns-in_err-program-clause-bytes g c = λ k. (c.type_inv.entry k).fits

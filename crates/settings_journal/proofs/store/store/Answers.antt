@@ -32,7 +32,7 @@ returns-in_err-write_slot-in-Some-clause-calls g c = λ before b.
     let number = ap (λ n. n - c.args.position.free) c.slots_of.ensures in
     let fault = err_from_is_err_and c.from_residual.result c.from_residual.ensures.1 in
     let asked = c.in_err-write_slot-in-Some.ensures.calls in
-    (asked.0, asked.1, failed_as _ _ _ _ _ fault.1 (calls_slot (slots_in g.row.S) _ _ c.args.position.generation _ _ before c.args.command.now _ c.in-Some.ensures.0 c.in-Some.ensures.1 number (c.as_slice.ensures.value ∙ c.encode_command-entry.ensures.value)) asked.2)
+    (asked.0, asked.1, failed_as _ _ _ _ _ _ _ fault.1 (calls_slot (slots_in g.row.S) _ _ c.args.position.generation _ _ before c.args.command.now _ c.in-Some.ensures.0 c.in-Some.ensures.1 number (c.as_slice.ensures.value ∙ c.encode_command-entry.ensures.value)) asked.2)
 
 pub returns-in_ok-write_slot-in-Some-clause-stored : goal.returns-in_ok-write_slot-in-Some-clause-stored
 returns-in_ok-write_slot-in-Some-clause-stored g c = λ before b.
@@ -60,7 +60,7 @@ returns-in_err-write_base-in-None-clause-calls g c = λ before b.
     let none = none_free _ _ before _ _ b.starts c.in-None.ensures in
     let fault = err_from_is_err_and c.from_residual-in_err-write_base-in-None.result c.from_residual-in_err-write_base-in-None.ensures.1 in
     let asked = c.in_err-write_base-in-None.ensures.calls in
-    (asked.0, asked.1, failed_as _ _ _ _ _ fault.1 (calls_base (slots_in g.row.S) _ _ c.args.position.generation _ _ before _ _ _ none c.spare_of-sector.ensures refl b.next_is bytes) asked.2)
+    (asked.0, asked.1, failed_as _ _ _ _ _ _ _ fault.1 (calls_base (slots_in g.row.S) _ _ c.args.position.generation _ _ before _ _ _ none c.spare_of-sector.ensures refl b.next_is bytes) asked.2)
 
 pub returns-in_ok-write_base-in-None-clause-stored : goal.returns-in_ok-write_base-in-None-clause-stored
 returns-in_ok-write_base-in-None-clause-stored g c = λ before b.

@@ -11,5 +11,5 @@ hear_real_time-requires g c =
 
 pub returns-in-Some-clause-steps : goal.returns-in-Some-clause-steps
 returns-in-Some-clause-steps g c =
-    let said = c.in-Some.ensures c.args.self.now.station.identity in
+    let said = c.in-Some.ensures.found c.args.self.now.station.identity in
     subst (λ heard. Steps g.F.Flash.image g.F.Flash.failures g.F.Flash.asked c.args.self.now heard (map (λ frame. frame.items) c.hear_real_time.new.outbox.items) c.hear_real_time.result c.hear_real_time.new.self) (sym said) c.hear_real_time.ensures.steps

@@ -1,0 +1,4 @@
+pub mod Heard
+pub mod Told
+pub mod Requests
+pub mod Sent

@@ -1,0 +1,120 @@
+-- What a controller sends: messages by their meaning, and the one way from them to octets.
+use Rattle.std.specs.Prelude.{ℕ, List, [], ◌∷◌, Some}
+use Rattle.pn_values.specs.declared.mac.Mac.{Mac}
+use Rattle.frame_codec.specs.declared.udp.Caller.{Caller}
+use Rattle.frame_codec.specs.declared.udp.Endpoint.{Endpoint}
+use Rattle.frame_codec.specs.Meaning.{Content, RealTime, UdpDatagram}
+use Rattle.dcp_core.specs.Writing.{request_bytes}
+use Rattle.rpc_core.specs.declared.interface.Interface.TheVariants.{Device}
+use Rattle.rpc_core.specs.Call.{Asked as Call, call_bytes}
+use Rattle.rpc_core.specs.Response.{Answered, answer_to, response_bytes}
+use Rattle.rpc_core.specs.declared.response.Status.{Status}
+use Rattle.connect_blocks.specs.declared.control.ControlBlock.{ControlBlock}
+use Rattle.record_blocks.specs.declared.alarm_ack.AlarmAck.{AlarmAck}
+use Rattle.block_codec.specs.declared.block.Block.TheVariants as is
+use Rattle.block_codec.specs.Block.{block_bytes}
+use Rattle.cyclic_data.specs.Image.{Shown}
+use Rattle.pn_alarms.specs.declared.abort.Abort.{Abort}
+use Rattle.pn_alarms.specs.declared.pdu.Header.{Header}
+use Rattle.pn_alarms.specs.declared.pdu.PduType.TheVariants.{Error}
+use Rattle.pn_alarms.specs.Abort.{abort_of}
+use Rattle.pn_alarms.specs.Format.{Said, frame_id_of, pdu_bytes}
+use Rattle.cyclic_exchange.specs.declared.route.Route.{Route}
+use Rattle.cyclic_exchange.specs.Frames.{cyclic_frame, plain_frame, tagged_frame}
+use Rattle.plans.specs.declared.parts.Parts.{Parts}
+use Rattle.plans.specs.Connect.{alarm_block}
+use Rattle.controller_frames.specs.declared.setup.Setup.{Setup}
+use Rattle.controller_frames.specs.declared.request.Request.{Request}
+use Rattle.controller_frames.specs.declared.request.Request.TheVariants as asks
+use Rattle.controller_frames.specs.Requests.{address_asked, call_for, identify_asked}
+
+-- A message: what is asked of the device, the answer to its ApplicationReady, to whom called; a cyclic frame of outputs at a CycleCounter;
+-- an AlarmAck as data, with the header that it has; the ACK or NACK that answers an alarm; or the ERR by which the controller ends its
+-- relation.
+pub data Sent : Type 0 where
+  Requests : (device : Mac) → (request : Request) → Sent
+  Agrees : (caller : Caller) → (answer : Answered) → Sent
+  Cycles : (route : Route) → (shown : Shown) → (counter : ℕ) → Sent
+  Confirms : (route : Route) → (header : Header) → (ack : AlarmAck) → Sent
+  Replies : (route : Route) → (header : Header) → Sent
+  Ends : (route : Route) → (header : Header) → (reason : Abort) → Sent
+
+-- ---- requests
+
+-- the address of all stations for Identify requests (IEC 61158-6-10, 4.3.1.3.1)
+unfoldable pub identify_multicast : Mac
+identify_multicast = record { octets = 0x01 ∷ 0x0E ∷ 0xCF ∷ 0x00 ∷ 0x00 ∷ 0x00 ∷ [] }
+
+-- the port of calls, at this address
+abbrev pub calls_at : List ℕ → Endpoint
+calls_at address = record { address = address; port = 34964 }
+
+-- a call, to the address that the plan gives the device
+abbrev pub call_frame : Setup → Mac → Call → List ℕ
+call_frame setup device call =
+    plain_frame setup.plan.controller.mac device
+    (UdpDatagram (calls_at setup.plan.controller.address) (calls_at setup.plan.station.suite.address) (call_bytes Device call))
+
+abbrev pub request_frame : Setup → Mac → Request → List ℕ
+request_frame setup device asks.Identify =
+    plain_frame setup.plan.controller.mac identify_multicast (RealTime 0xFEFE (request_bytes (identify_asked setup.plan)))
+request_frame setup device asks.Address =
+    plain_frame setup.plan.controller.mac device (RealTime 0xFEFD (request_bytes (address_asked setup.plan)))
+request_frame setup device asks.Connect = call_frame setup device (call_for setup asks.Connect)
+request_frame setup device (asks.Write number) = call_frame setup device (call_for setup (asks.Write number))
+request_frame setup device asks.PrmEnd = call_frame setup device (call_for setup asks.PrmEnd)
+request_frame setup device (asks.Release sequence) = call_frame setup device (call_for setup (asks.Release sequence))
+
+-- ---- the answer to ApplicationReady
+
+-- the block: that of the call, whose ControlCommand is Done
+abbrev pub ready_done : ControlBlock → ControlBlock
+ready_done block = record block { control_command = 8 }
+
+-- nothing went wrong
+abbrev pub done : Status
+done = record { code = 0; decode = 0; code1 = 0; code2 = 0 }
+
+-- the answer to a call with this block
+abbrev pub ready_answer : Call → ControlBlock → Answered
+ready_answer call block = answer_to call done (block_bytes (is.ApplicationReadyRes (ready_done block)))
+
+-- to the station, the address and the port that the call came from
+abbrev pub answer_frame : Setup → Caller → Answered → List ℕ
+answer_frame setup caller answer =
+    plain_frame setup.plan.controller.mac caller.mac
+    (UdpDatagram (calls_at setup.plan.controller.address) caller.endpoint (response_bytes answer))
+
+-- ---- alarms
+
+-- the PDU of an AlarmAck, and that of an ACK or NACK
+abbrev pub ack_pdu : Header → AlarmAck → Said
+ack_pdu header ack = record { header = header; body = block_bytes (is.AlarmAck ack) }
+
+abbrev pub reply_pdu : Header → Said
+reply_pdu header = record { header = header; body = [] }
+
+-- an ERR with the endpoints and the numbers of this header
+abbrev pub end_pdu : Header → Abort → Said
+end_pdu header reason = abort_of reason header.destination header.source header.send_number header.ack_number
+
+-- the frame of a PDU to the partner: of high priority
+abbrev pub alarm_frame : Setup → Route → Said → List ℕ
+alarm_frame setup route pdu =
+    tagged_frame setup.plan.controller.mac route.partner route.alarm_tag (RealTime (frame_id_of pdu.header.kind) (pdu_bytes pdu))
+
+-- an ERR is of low priority: its tag is TagHeaderLow of the plan
+abbrev pub end_frame : Setup → Route → Said → List ℕ
+end_frame setup route pdu =
+    tagged_frame setup.plan.controller.mac route.partner alarm_block.tag_header_low (RealTime (frame_id_of Error) (pdu_bytes pdu))
+
+-- ----
+
+-- the octets of a message
+abbrev pub bytes_of : Setup → Sent → List ℕ
+bytes_of setup (Requests device request) = request_frame setup device request
+bytes_of setup (Agrees caller answer) = answer_frame setup caller answer
+bytes_of setup (Cycles route shown counter) = cyclic_frame setup.plan.controller.mac route shown counter
+bytes_of setup (Confirms route header ack) = alarm_frame setup route (ack_pdu header ack)
+bytes_of setup (Replies route header) = alarm_frame setup route (reply_pdu header)
+bytes_of setup (Ends route header reason) = end_frame setup route (end_pdu header reason)

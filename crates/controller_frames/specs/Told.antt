@@ -1,0 +1,15 @@
+-- What was heard, without where it lies in memory.
+use Rattle.dcp_core.specs.Answered.{answered as answered_as}
+use Rattle.rpc_core.specs.Call.{asked}
+use Rattle.rpc_core.specs.Response.{answered}
+use Rattle.controller_frames.specs.declared.hearing.Hearing.{Hearing}
+use Rattle.controller_frames.specs.declared.hearing.Hearing.TheVariants as found
+use Rattle.controller_frames.specs.Heard.{Heard, Nothing, Answers, Responds, Calls, Cyclic, Alarms}
+
+abbrev pub told : Hearing → Heard
+told found.Nothing = Nothing
+told (found.Answers source answer) = Answers source (answered_as answer)
+told (found.Responds response) = Responds (answered response)
+told (found.Calls caller call) = Calls caller (asked call)
+told (found.Cyclic source frame_id body) = Cyclic source frame_id body.now
+told (found.Alarms source header notice) = Alarms source header notice

@@ -1,0 +1,71 @@
+//! The answer to ApplicationReady.
+ghost use Rattle.std.specs.Prelude.{◌≡◌, ◌+◌, ◌<◌, ◌++◌, ◌∷◌, [], length, map};
+ghost use Rattle.arrayvec.specs.ArrayVec.{array_vec_len};
+ghost use Rattle.rpc_core.specs.Call.{asked};
+ghost use Rattle.block_codec.specs.Block.{block_bytes};
+ghost use Rattle.controller_frames.specs.Sent.{Agrees, bytes_of, ready_answer, ready_done};
+
+use crate::Setup;
+use arrayvec::ArrayVec;
+use block_codec::{Block, ControlBlock, write_block};
+use connect_blocks::control_len;
+use frame_codec::{Caller, Endpoint, Layered, Outbox, Payload, RPC_PORT, Udp};
+use rpc_core::{Call, Datagram, Status, write_response};
+
+/// ControlCommand of what is done.
+const DONE: u16 = 8;
+
+/// Nothing went wrong.
+const NO_ERROR: Status = Status {
+    code: 0,
+    decode: 0,
+    code1: 0,
+    code2: 0,
+};
+
+/// The block of the answer to this one.
+#[tactic(auto, unfolding(block_codec::specs::Block::block_size, block_codec::specs::Block::fields_of, block_fields::specs::Fields::body, block_fields::specs::Fields::version))]
+fn done_block(block: &ControlBlock) -> ArrayVec<u8, 32>
+    ensures { result.items ≡ block_bytes (Block.ApplicationReadyRes (ready_done block.now)) }
+{
+    let done = ControlBlock {
+        control_command: DONE,
+        ..*block
+    };
+    let _size = control_len(&done);
+    let mut octets = ArrayVec::new();
+    write_block(&mut octets, &Block::ApplicationReadyRes(done));
+    octets
+}
+
+/// Puts the answer to the call ApplicationReady with this block into the box, behind what is in it: to the station, the address and the
+/// port that it came from. ControlBlockProperties is repeated.
+pub fn send_ready_answer(
+    setup: &Setup,
+    caller: &Caller,
+    call: &Call<'_>,
+    block: &ControlBlock,
+    outbox: &mut Outbox,
+)
+    requires room { array_vec_len outbox.old < 4 }
+    ensures frames { map (λ frame. frame.items) outbox.new.items
+        ≡ map (λ frame. frame.items) outbox.old.items ++ bytes_of setup.now (Agrees caller.now (ready_answer (asked call.now) block.now)) ∷ [] }
+    ensures len { array_vec_len outbox.new ≡ array_vec_len outbox.old + 1 }
+{
+    let blocks = done_block(block);
+    let mut datagram = Datagram::new();
+    write_response(&call.response(NO_ERROR, blocks.as_slice()), &mut datagram);
+    outbox.put(&Layered {
+        destination: caller.mac,
+        source: setup.plan.controller().mac,
+        tag: None,
+        payload: Payload::Udp(Udp {
+            source: Endpoint {
+                address: setup.plan.controller().address,
+                port: RPC_PORT,
+            },
+            destination: caller.endpoint,
+            body: datagram.as_slice(),
+        }),
+    });
+}

@@ -1,0 +1,169 @@
+// The calls of a start-up, and their blocks (IEC 61158-6-10, 5.2).
+ghost use Rattle.std.specs.Prelude.{◌≡◌, ◌+◌, ◌<◌, ◌≤◌, ◌++◌, ◌∷◌, [], Some, length, map};
+ghost use Rattle.std.specs.List.{slice_get};
+ghost use Rattle.arrayvec.specs.ArrayVec.{array_vec_len};
+ghost use Rattle.block_codec.specs.Block.{block_bytes};
+ghost use Rattle.controller_frames.specs.Requests.{blocks_of, call_for, control_of, header_of, object_of, write_blocks, write_of};
+ghost use Rattle.controller_frames.specs.Sent.{call_frame};
+
+use crate::{Request, Setup};
+use arrayvec::ArrayVec;
+use block_codec::{Block, ControlBlock, IodWriteReq, write_block};
+use connect_blocks::control_len;
+use frame_codec::{Endpoint, Layered, Outbox, Payload, RPC_PORT, Udp};
+use plans::{PlanRecord, Station};
+use pn_values::Mac;
+use record_blocks::iod_write_req_len;
+use rpc_core::{Call, Datagram, Header, Interface, Uuid, write_request};
+use wire::append;
+
+/// How many octets of blocks the response to a call may have.
+const ARGS_MAXIMUM: u32 = 1_372;
+
+/// ControlCommand of PrmEnd.
+const PRM_END: u16 = 1;
+
+/// ControlCommand of Release.
+const RELEASE: u16 = 4;
+
+/// The object that is asked: with instance 1, and DeviceID and VendorID of the plan.
+#[tactic(auto, unfolding(crate::specs::Requests::object_of))]
+fn object_of(station: &Station) -> Uuid
+    ensures { result ≡ object_of station.now }
+{
+    let device = station.device_id.to_be_bytes();
+    let vendor = station.vendor_id.to_be_bytes();
+    Uuid::from_bytes([
+        0xDE, 0xA0, 0x00, 0x00, 0x6C, 0x97, 0x11, 0xD1, 0x82, 0x71, 0x00, 0x01, device[0],
+        device[1], vendor[0], vendor[1],
+    ])
+}
+
+/// The header of a call.
+fn header_of(setup: &Setup, request: Request) -> Header
+    ensures { result ≡ header_of setup.now request }
+{
+    Header {
+        object: object_of(setup.plan.station()),
+        interface: Interface::Device.uuid(),
+        activity: setup.activity,
+        sequence: request.sequence(&setup.plan),
+        operation: request.operation(),
+    }
+}
+
+/// The block of a control with this ControlCommand.
+fn control_of(setup: &Setup, command: u16) -> ControlBlock
+    ensures { result ≡ control_of setup.now command }
+{
+    ControlBlock {
+        ar_uuid: setup.ar,
+        session_key: 1,
+        control_command: command,
+        control_block_properties: 0,
+    }
+}
+
+/// Appends the block of a Write, and the record behind it. There must be room.
+#[tactic(auto, unfolding(block_codec::specs::Block::block_size, block_codec::specs::Block::fields_of, block_fields::specs::Fields::body, block_fields::specs::Fields::version))]
+fn put_record(setup: &Setup, number: u16, entry: &PlanRecord, blocks: &mut ArrayVec<u8, 1372>)
+    requires few { number < 65535 }
+    requires room { array_vec_len blocks.old + 128 ≤ 1372 }
+    ensures { blocks.new.items ≡ blocks.old.items ++ write_blocks setup.now number (Some entry.now) }
+{
+    let octets = entry.data.as_slice();
+    let block = IodWriteReq {
+        seq_number: number + 1,
+        ar_uuid: setup.ar,
+        api: 0,
+        slot_number: entry.slot,
+        subslot_number: entry.subslot,
+        index: entry.index,
+        record_data_length: octets.len() as u32,
+    };
+    let _size = iod_write_req_len(&block);
+    write_block(blocks, &Block::IodWriteReq(block));
+    append(blocks, octets);
+}
+
+/// Appends the blocks of a Write, if the plan has the record. There must be room.
+fn put_write(setup: &Setup, number: u16, blocks: &mut ArrayVec<u8, 1372>)
+    requires empty { blocks.old.items ≡ [] }
+    ensures { blocks.new.items ≡ blocks_of setup.now (Request.Write number) }
+{
+    if let Some(entry) = setup.plan.records().get(number as usize) {
+        put_record(setup, number, entry, blocks);
+    }
+}
+
+/// Appends the block of PrmEnd. There must be room.
+#[tactic(auto, unfolding(block_codec::specs::Block::block_size, block_codec::specs::Block::fields_of, block_fields::specs::Fields::body, block_fields::specs::Fields::version))]
+fn put_prm_end(setup: &Setup, blocks: &mut ArrayVec<u8, 1372>)
+    requires empty { blocks.old.items ≡ [] }
+    ensures { blocks.new.items ≡ block_bytes (Block.PrmEnd (control_of setup.now 1)) }
+{
+    let block = control_of(setup, PRM_END);
+    let _size = control_len(&block);
+    write_block(blocks, &Block::PrmEnd(block));
+}
+
+/// Appends the block of a Release. There must be room.
+#[tactic(auto, unfolding(block_codec::specs::Block::block_size, block_codec::specs::Block::fields_of, block_fields::specs::Fields::body, block_fields::specs::Fields::version))]
+fn put_release(setup: &Setup, blocks: &mut ArrayVec<u8, 1372>)
+    requires empty { blocks.old.items ≡ [] }
+    ensures { blocks.new.items ≡ block_bytes (Block.Release (control_of setup.now 4)) }
+{
+    let block = control_of(setup, RELEASE);
+    let _size = control_len(&block);
+    write_block(blocks, &Block::Release(block));
+}
+
+/// The blocks of a call.
+fn put_blocks(setup: &Setup, request: Request, blocks: &mut ArrayVec<u8, 1372>)
+    requires empty { blocks.old.items ≡ [] }
+    ensures { blocks.new.items ≡ blocks_of setup.now request }
+{
+    match request {
+        Request::Identify | Request::Address => {}
+        Request::Connect => *blocks = setup.plan.connect(&setup.ar),
+        Request::Write(number) => put_write(setup, number, blocks),
+        Request::PrmEnd => put_prm_end(setup, blocks),
+        Request::Release(_) => put_release(setup, blocks),
+    }
+}
+
+/// Puts a call to the device into the box, behind what is in it.
+pub(crate) fn send_call(setup: &Setup, device: Mac, request: Request, outbox: &mut Outbox)
+    requires room { array_vec_len outbox.old < 4 }
+    ensures frames { map (λ frame. frame.items) outbox.new.items
+        ≡ map (λ frame. frame.items) outbox.old.items ++ call_frame setup.now device (call_for setup.now request) ∷ [] }
+    ensures len { array_vec_len outbox.new ≡ array_vec_len outbox.old + 1 }
+{
+    let mut blocks: ArrayVec<u8, 1372> = ArrayVec::new();
+    put_blocks(setup, request, &mut blocks);
+    let mut datagram = Datagram::new();
+    write_request(
+        &Call {
+            header: header_of(setup, request),
+            args_maximum: ARGS_MAXIMUM,
+            blocks: Some(blocks.as_slice()),
+        },
+        &mut datagram,
+    );
+    outbox.put(&Layered {
+        destination: device,
+        source: setup.plan.controller().mac,
+        tag: None,
+        payload: Payload::Udp(Udp {
+            source: Endpoint {
+                address: setup.plan.controller().address,
+                port: RPC_PORT,
+            },
+            destination: Endpoint {
+                address: setup.plan.station().suite.address(),
+                port: RPC_PORT,
+            },
+            body: datagram.as_slice(),
+        }),
+    });
+}

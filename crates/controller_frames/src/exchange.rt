@@ -1,0 +1,143 @@
+//! What a controller sends of what its relation exchanges (IEC 61158-6-10, 4.7 and 4.8).
+ghost use Rattle.std.specs.Prelude.{◌≡◌, ◌+◌, ◌<◌, ◌≤◌, ◌++◌, ◌∷◌, [], length, map, true};
+ghost use Rattle.arrayvec.specs.ArrayVec.{array_vec_len};
+ghost use Rattle.block_codec.specs.Block.{block_bytes};
+ghost use Rattle.pn_alarms.specs.declared.pdu.PduType.TheVariants.{Error};
+ghost use Rattle.pn_alarms.specs.Format.{frame_id_of, is_long, said, pdu_bytes};
+ghost use Rattle.cyclic_exchange.specs.Frames.{tagged_frame};
+ghost use Rattle.frame_codec.specs.Meaning.{RealTime};
+ghost use Rattle.controller_frames.specs.Sent.{Confirms, Cycles, Ends, Replies, bytes_of};
+
+use crate::Setup;
+use arrayvec::ArrayVec;
+use block_codec::{AlarmAck, Block, write_block};
+use cyclic_exchange::{CyclicExchange, Route, send_cyclic};
+use frame_codec::{Layered, Outbox, Payload};
+use pn_alarms::{Abort, Header, Pdu, PduType, write_pdu};
+use pn_values::Mac;
+use record_blocks::alarm_ack_len;
+
+/// TagHeaderLow of the plan's Connect: the tag of an ERR.
+const LOW_TAG: u16 = 0xA000;
+
+/// Puts the outputs at this CycleCounter into the box, behind what is in it.
+#[inline(always)]
+pub fn send_outputs(setup: &Setup, counter: u16, exchange: &CyclicExchange, outbox: &mut Outbox)
+    requires room { array_vec_len outbox.old < 4 }
+    ensures frames { map (λ frame. frame.items) outbox.new.items
+        ≡ map (λ frame. frame.items) outbox.old.items ++ bytes_of setup.now (Cycles exchange.now.route exchange.now.shown counter) ∷ [] }
+    ensures len { array_vec_len outbox.new ≡ array_vec_len outbox.old + 1 }
+{
+    send_cyclic(setup.plan.controller().mac, counter, exchange, outbox);
+}
+
+/// Puts a PDU of alarms that carries at most 28 octets into the box, behind what is in it.
+fn send_pdu(source: Mac, destination: Mac, tag: u16, pdu: &Pdu<'_>, outbox: &mut Outbox)
+    requires room { array_vec_len outbox.old < 4 }
+    requires few { length pdu.now.body.now ≤ 28 }
+    requires long { is_long pdu.now.header.kind (length pdu.now.body.now) ≡ true }
+    ensures frames { map (λ frame. frame.items) outbox.new.items
+        ≡ map (λ frame. frame.items) outbox.old.items
+        ++ tagged_frame source destination tag (RealTime (frame_id_of pdu.now.header.kind) (pdu_bytes (said pdu.now))) ∷ [] }
+    ensures len { array_vec_len outbox.new ≡ array_vec_len outbox.old + 1 }
+{
+    let mut body: ArrayVec<u8, 40> = ArrayVec::new();
+    write_pdu(&mut body, pdu);
+    outbox.put(&Layered {
+        destination,
+        source,
+        tag: Some(tag),
+        payload: Payload::RealTime {
+            frame_id: pdu.header.kind.frame_id(),
+            body: body.as_slice(),
+        },
+    });
+}
+
+/// The octets of an AlarmAck.
+#[tactic(auto, unfolding(block_codec::specs::Block::block_size, block_codec::specs::Block::fields_of, block_fields::specs::Fields::body, block_fields::specs::Fields::version))]
+fn ack_octets(ack: &AlarmAck) -> ArrayVec<u8, 28>
+    ensures { result.items ≡ block_bytes (Block.AlarmAck ack.now) }
+{
+    let _size = alarm_ack_len(ack);
+    let mut octets = ArrayVec::new();
+    write_block(&mut octets, &Block::AlarmAck(*ack));
+    octets
+}
+
+/// Puts an AlarmAck, as data with this header, into the box, behind what is in it.
+pub fn send_alarm_ack(
+    setup: &Setup,
+    route: &Route,
+    header: &Header,
+    ack: &AlarmAck,
+    outbox: &mut Outbox,
+)
+    requires room { array_vec_len outbox.old < 4 }
+    requires kind { header.now.kind ≡ PduType.Data }
+    ensures frames { map (λ frame. frame.items) outbox.new.items
+        ≡ map (λ frame. frame.items) outbox.old.items ++ bytes_of setup.now (Confirms route.now header.now ack.now) ∷ [] }
+    ensures len { array_vec_len outbox.new ≡ array_vec_len outbox.old + 1 }
+{
+    let octets = ack_octets(ack);
+    let pdu = Pdu {
+        header: *header,
+        body: octets.as_slice(),
+    };
+    send_pdu(
+        setup.plan.controller().mac,
+        route.partner,
+        route.alarm_tag,
+        &pdu,
+        outbox,
+    );
+}
+
+/// Puts the ACK or NACK of this header into the box, behind what is in it.
+pub fn send_alarm_reply(setup: &Setup, route: &Route, header: &Header, outbox: &mut Outbox)
+    requires room { array_vec_len outbox.old < 4 }
+    requires kind { is_long header.now.kind 0 ≡ true }
+    ensures frames { map (λ frame. frame.items) outbox.new.items
+        ≡ map (λ frame. frame.items) outbox.old.items ++ bytes_of setup.now (Replies route.now header.now) ∷ [] }
+    ensures len { array_vec_len outbox.new ≡ array_vec_len outbox.old + 1 }
+{
+    let pdu = Pdu {
+        header: *header,
+        body: &[],
+    };
+    send_pdu(
+        setup.plan.controller().mac,
+        route.partner,
+        route.alarm_tag,
+        &pdu,
+        outbox,
+    );
+}
+
+/// Puts the ERR for this reason, with the endpoints and the numbers of this header, into the box, behind what is in it.
+pub fn send_alarm_end(
+    setup: &Setup,
+    route: &Route,
+    header: &Header,
+    reason: Abort,
+    outbox: &mut Outbox,
+)
+    requires room { array_vec_len outbox.old < 4 }
+    ensures frames { map (λ frame. frame.items) outbox.new.items
+        ≡ map (λ frame. frame.items) outbox.old.items ++ bytes_of setup.now (Ends route.now header.now reason) ∷ [] }
+    ensures len { array_vec_len outbox.new ≡ array_vec_len outbox.old + 1 }
+{
+    let pdu = reason.pdu(
+        header.destination,
+        header.source,
+        header.send_number,
+        header.ack_number,
+    );
+    send_pdu(
+        setup.plan.controller().mac,
+        route.partner,
+        LOW_TAG,
+        &pdu,
+        outbox,
+    );
+}

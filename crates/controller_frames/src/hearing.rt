@@ -1,0 +1,139 @@
+//! What a frame says to a controller.
+ghost use Rattle.std.specs.Prelude.{◌≡◌, ◌==◌, ◌&&◌, IfSome, nat_eq};
+ghost use Rattle.std.specs.Cmp.Lexicographic.{pointwise};
+ghost use Rattle.controller_frames.specs.Heard.{heard_alarm, heard_answer, heard_body, heard_of, heard_real_time, is_to as is_to_by};
+ghost use Rattle.controller_frames.specs.Told.{told};
+ghost use Rattle.dcp_core.specs.Answer.{answer_of};
+ghost use Rattle.frame_codec.specs.Frame.{frame_of};
+ghost use Rattle.frame_codec.specs.Meaning.{IsNoRealTime};
+ghost use Rattle.pn_alarms.specs.Message.{alarm_of};
+
+use block_codec::AlarmNotification;
+use frame_codec::{
+    Bytes, Caller, DCP_GET_SET, DCP_IDENTIFY_RESPONSE, Endpoint, Layered, Payload, RPC_PORT,
+    RealTimeFrame, is_alarm, is_cyclic, read, read_real_time,
+};
+use plans::Controller;
+use pn_alarms::{Header, Notice, read_alarm};
+use pn_values::Mac;
+use rpc_core::{Call, Interface, Response, read_call, read_response};
+
+/// What a frame says to a controller, where it lies.
+#[derive(Drop)]
+pub enum Hearing<'a> {
+    /// It can't be read, is for another station or address, or of a kind that a controller does not take.
+    Nothing,
+    /// This station answers a request of DCP.
+    Answers(Mac, dcp_core::Response<'a>),
+    /// The response to a call.
+    Responds(Response<'a>),
+    /// This caller calls the controller.
+    Calls(Caller, Call<'a>),
+    /// A cyclic frame of this station: its FrameID, and what is behind it.
+    Cyclic(Mac, u16, &'a [u8]),
+    /// An alarm frame of this station.
+    Alarms(Mac, Header, Notice<AlarmNotification<'a>>),
+}
+
+/// The answer of DCP under this FrameID.
+fn heard_answer<'a>(source: Mac, frame_id: u16, body: &'a [u8]) -> Hearing<'a>
+    ensures { told result ≡ heard_answer source (answer_of frame_id body.now) }
+{
+    match dcp_core::read_answer(frame_id, body) {
+        Ok(answer) => Hearing::Answers(source, answer),
+        Err(_) => Hearing::Nothing,
+    }
+}
+
+/// The alarm frame of this station.
+fn heard_alarm<'a>(source: Mac, body: &'a [u8]) -> Hearing<'a>
+    ensures { told result ≡ heard_alarm source (alarm_of body.now) }
+{
+    match read_alarm(body) {
+        Ok((header, notice)) => Hearing::Alarms(source, header, notice),
+        Err(_) => Hearing::Nothing,
+    }
+}
+
+/// What the body of a datagram says: a call to the controller, or else a response.
+#[tactic(auto, unfolding(crate::specs::Heard::heard_body))]
+fn heard_body<'a>(caller: Caller, body: &'a [u8]) -> Hearing<'a>
+    ensures { told result ≡ heard_body caller body.now }
+{
+    if let Ok(call) = read_call(Interface::Controller, body) {
+        return match call.blocks {
+            Some(_) => Hearing::Calls(caller, call),
+            None => Hearing::Nothing,
+        };
+    }
+    match read_response(body) {
+        Ok(response) => Hearing::Responds(response),
+        Err(_) => Hearing::Nothing,
+    }
+}
+
+/// What a frame of EtherType 0x8892 to this controller says.
+#[inline(always)]
+#[tactic(auto, unfolding(crate::specs::Heard::heard_real_time))]
+fn heard_real_time<'a>(source: Mac, frame_id: u16, body: &'a [u8]) -> Hearing<'a>
+    ensures { told result ≡ heard_real_time source frame_id body.now }
+{
+    if is_cyclic(frame_id) {
+        return Hearing::Cyclic(source, frame_id, body);
+    }
+    if is_alarm(frame_id) {
+        return heard_alarm(source, body);
+    }
+    match frame_id {
+        DCP_GET_SET | DCP_IDENTIFY_RESPONSE => heard_answer(source, frame_id, body),
+        _ => Hearing::Nothing,
+    }
+}
+
+/// Whether a datagram goes to this address, and to the port of calls.
+fn is_to(address: [u8; 4], to: &Endpoint) -> bool
+    ensures { result ≡ is_to_by address to.now }
+{
+    to.address == address && to.port == RPC_PORT
+}
+
+/// What a frame says that is not of EtherType 0x8892.
+#[inline(never)]
+#[tactic(auto, unfolding(crate::specs::Heard::heard_of))]
+fn heard_datagram<'a>(controller: &Controller, bytes: &'a Bytes) -> Hearing<'a>
+    requires { IsNoRealTime (frame_of bytes.now.items) }
+    ensures { told result ≡ heard_of controller.now bytes.now.items }
+{
+    let Ok(layered) = read(bytes.as_slice()) else {
+        return Hearing::Nothing;
+    };
+    let Payload::Udp(udp) = layered.payload else {
+        return Hearing::Nothing;
+    };
+    if !layered.destination.is(&controller.mac) || !is_to(controller.address, &udp.destination) {
+        return Hearing::Nothing;
+    }
+    let caller = Caller {
+        mac: layered.source,
+        endpoint: udp.source,
+    };
+    heard_body(caller, udp.body)
+}
+
+/// What a frame says to a controller. It hangs on the octets, and on the controller's address of Ethernet and its IP address.
+#[inline(always)]
+#[tactic(auto, unfolding(crate::specs::Heard::heard_of))]
+pub fn heard<'a>(controller: &Controller, bytes: &'a Bytes) -> Hearing<'a>
+    ensures { told result ≡ heard_of controller.now bytes.now.items }
+{
+    match read_real_time(bytes.as_slice()) {
+        Some(frame) => {
+            if frame.destination.is(&controller.mac) {
+                heard_real_time(frame.source, frame.frame_id, frame.body)
+            } else {
+                Hearing::Nothing
+            }
+        }
+        None => heard_datagram(controller, bytes),
+    }
+}
