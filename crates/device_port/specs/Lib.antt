@@ -1,2 +1,3 @@
+pub mod Misuse
 pub mod State
 pub mod Steps

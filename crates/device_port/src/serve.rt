@@ -1,4 +1,8 @@
 // One operation of the host.
+ghost use Rattle.std.specs.Prelude.{◌≡◌, ◌≢◌, ◌×◌, ◌≤◌, true, false, length};
+ghost use Rattle.device_port.specs.Misuse.{IsMisuse};
+ghost use Rattle.device_port.specs.State.{IsIdle, advanced};
+
 use crate::port::{Port, Work};
 use crate::{Op, SECTOR_SIZE};
 use device_core::{Event, Note};
@@ -33,7 +37,10 @@ pub enum Answer {
 }
 
 /// Carries one operation out, with the bytes that are given.
-pub fn serve(port: &mut Port, op: &mut Op, given: &[u8]) -> Answer {
+pub fn serve(port: &mut Port, op: &mut Op, given: &[u8]) -> Answer
+    // A misuse changes nothing.
+    ensures misuse { IsMisuse result → port.new ≡ port.old }
+{
     match op.what {
         1 => fill(port, op.sector, given),
         2 => boot(port),
@@ -53,7 +60,9 @@ pub fn serve(port: &mut Port, op: &mut Op, given: &[u8]) -> Answer {
 }
 
 // The bytes of a sector of the chip, in front of a start.
-fn fill(port: &mut Port, sector: u32, given: &[u8]) -> Answer {
+fn fill(port: &mut Port, sector: u32, given: &[u8]) -> Answer
+    ensures misuse { IsMisuse result → port.new ≡ port.old }
+{
     if port.is_booted() {
         return Answer::IsBooted;
     }
@@ -70,7 +79,9 @@ fn fill(port: &mut Port, sector: u32, given: &[u8]) -> Answer {
 
 // A start.
 #[inline(never)]
-fn boot(port: &mut Port) -> Answer {
+fn boot(port: &mut Port) -> Answer
+    ensures misuse { IsMisuse result → port.new ≡ port.old }
+{
     if port.is_booted() {
         return Answer::IsBooted;
     }
@@ -94,19 +105,31 @@ fn bytes_of(given: &[u8]) -> Bytes {
 }
 
 #[inline(never)]
-fn frame(port: &mut Port, op: &mut Op, given: &[u8]) -> Answer {
+fn frame(port: &mut Port, op: &mut Op, given: &[u8]) -> Answer
+    requires booted { port.old.is_booted ≡ true }
+    requires idle { IsIdle port.old }
+    ensures misuse { IsMisuse result → port.new ≡ port.old }
+{
     op.note = number_of(port.take(&Event::Frame(bytes_of(given))));
     Answer::Done
 }
 
-fn tick(port: &mut Port, op: &mut Op) -> Answer {
+fn tick(port: &mut Port, op: &mut Op) -> Answer
+    requires booted { port.old.is_booted ≡ true }
+    requires idle { IsIdle port.old }
+    ensures misuse { IsMisuse result → port.new ≡ port.old }
+{
     op.units = port.tick(op.units);
     op.note = 0;
     Answer::Done
 }
 
 #[inline(never)]
-fn input(port: &mut Port, op: &mut Op, given: &[u8]) -> Answer {
+fn input(port: &mut Port, op: &mut Op, given: &[u8]) -> Answer
+    requires booted { port.old.is_booted ≡ true }
+    requires idle { IsIdle port.old }
+    ensures misuse { IsMisuse result → port.new ≡ port.old }
+{
     let (Ok(slot), Ok(subslot)) = (u16::try_from(op.slot), u16::try_from(op.subslot)) else {
         return Answer::NoSlot;
     };
@@ -115,7 +138,11 @@ fn input(port: &mut Port, op: &mut Op, given: &[u8]) -> Answer {
 }
 
 #[inline(never)]
-fn alarm(port: &mut Port, op: &mut Op, given: &[u8]) -> Answer {
+fn alarm(port: &mut Port, op: &mut Op, given: &[u8]) -> Answer
+    requires booted { port.old.is_booted ≡ true }
+    requires idle { IsIdle port.old }
+    ensures misuse { IsMisuse result → port.new ≡ port.old }
+{
     let (Ok(slot), Ok(subslot)) = (u16::try_from(op.slot), u16::try_from(op.subslot)) else {
         return Answer::NoSlot;
     };
@@ -124,11 +151,14 @@ fn alarm(port: &mut Port, op: &mut Op, given: &[u8]) -> Answer {
 }
 
 fn number_of(note: Note) -> u32 {
-    u32::from(note as u8)
+    u32::from(note.number())
 }
 
 // The next piece of work.
-fn next(port: &mut Port, op: &mut Op) -> Answer {
+fn next(port: &mut Port, op: &mut Op) -> Answer
+    ensures done { result ≡ Answer.Done }
+    ensures taken { port.new ≡ advanced port.old }
+{
     match port.work() {
         Work::Carry(call) => put_call(call, op),
         Work::Send(frame) => {
@@ -173,12 +203,14 @@ fn sector_number(sector: Sector) -> u32 {
 }
 
 // Bytes that an operation is answered with.
-fn put(op: &mut Op, bytes: &[u8]) {
+fn put(op: &mut Op, bytes: &[u8])
+    requires { length bytes.now ≤ 1520 }
+{
     op.octets[..bytes.len()].copy_from_slice(bytes);
     op.length = bytes.len() as u32;
 }
 
-fn output(port: &mut Port, op: &mut Op) -> Answer {
+fn output(port: &Port, op: &mut Op) -> Answer {
     let (Ok(slot), Ok(subslot)) = (u16::try_from(op.slot), u16::try_from(op.subslot)) else {
         return Answer::NoSlot;
     };
