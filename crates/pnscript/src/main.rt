@@ -1,14 +1,14 @@
 //! The program. `pnscript run` runs the script on standard input on a demo device, and writes to standard output what
-//! it prints. `pnscript plan` makes the plan of the catalogue on standard input, and writes the layouts of its cyclic frames.
+//! it prints.
 #![tactic(auto)]
 
 mod words;
 
-use script_runner::{RunFault, plan_text, run};
+use script_runner::{RunFault, run};
 use std::env;
 use std::io::{self, BufWriter, ErrorKind, Input, Write};
 use std::process::ExitCode;
-use words::{Task, task_of};
+use words::is_run;
 
 /// The status of words that ask for nothing.
 const USAGE: u8 = 64;
@@ -37,23 +37,20 @@ fn obey(rt: &HostRuntime) -> Result<bool, RunFault> {
     let words: Vec<String> = words
         .collect(rt.alloc())
         .map_err(|_| RunFault::OutOfMemory)?;
-    let Some(task) = task_of(rt.alloc(), words.as_slice())? else {
+    if !is_run(rt.alloc(), words.as_slice())? {
         return Ok(false);
-    };
-    work(rt, task)?;
+    }
+    play(rt)?;
     Ok(true)
 }
 
-/// Does a task. What the lines of a script printed is written whether a later one is refused or not.
-fn work(rt: &HostRuntime, task: Task) -> Result<(), RunFault> {
+/// Runs the script on standard input. What its lines printed is written whether a later one is refused or not.
+fn play(rt: &HostRuntime) -> Result<(), RunFault> {
     let mut reader = rt.reader();
     let Ok(mut writer) = BufWriter::new(rt.alloc(), io::writer(rt)) else {
         return Err(RunFault::OutOfMemory);
     };
-    let done = match task {
-        Task::Run => run(rt.alloc(), &mut reader, &mut writer),
-        Task::Plan => plan_text(rt.alloc(), &mut reader, &mut writer),
-    };
+    let played = run(rt.alloc(), &mut reader, &mut writer);
     writer.flush().map_err(|_| RunFault::Write)?;
-    done
+    played
 }

@@ -9,4 +9,3 @@ pub mod Show
 pub mod Script
 pub mod Told
 pub mod Session
-pub mod Planned

@@ -1,8 +1,7 @@
 // Why a run ended early.
 ghost use Rattle.std.specs.Prelude.{◌≡◌};
-ghost use Rattle.script_runner.specs.Fault.{fault_of, number_of};
+ghost use Rattle.script_runner.specs.Fault.{number_of};
 
-use configurator::PlanFault;
 use thiserror::Error;
 
 /// Why a run ended early.
@@ -21,10 +20,7 @@ pub enum RunFault {
     /// There was no memory.
     #[error("out of memory")]
     OutOfMemory,
-    /// A catalogue has no plan: the number of its fault.
-    #[error("config {0}")]
-    Config(u8),
-    /// The input is longer than 16,777,216 bytes; nothing was written.
+    /// The script is longer than 16,777,216 bytes; nothing was written.
     #[error("endless input")]
     EndlessInput,
 }
@@ -39,19 +35,7 @@ impl RunFault {
             RunFault::Write => 2,
             RunFault::Line(_) => 3,
             RunFault::OutOfMemory => 4,
-            RunFault::Config(_) => 5,
             RunFault::EndlessInput => 6,
-        }
-    }
-}
-
-impl From<PlanFault> for RunFault {
-    ghost from_gives = { λ plan fault. fault ≡ fault_of plan };
-
-    fn from(fault: PlanFault) -> RunFault {
-        match fault {
-            PlanFault::OutOfMemory => RunFault::OutOfMemory,
-            fault => RunFault::Config(fault.number()),
         }
     }
 }

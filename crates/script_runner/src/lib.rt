@@ -9,7 +9,6 @@ mod fault;
 mod input;
 mod numbers;
 mod output;
-mod plan;
 mod play;
 mod render;
 mod session;
@@ -17,5 +16,4 @@ mod show;
 mod whole;
 
 pub use fault::RunFault;
-pub use plan::plan_text;
 pub use whole::run;

@@ -11,7 +11,6 @@ mod input;
 mod lines;
 mod losses;
 mod off;
-mod plan;
 mod relation;
 mod rows;
 mod struck;
