@@ -6,4 +6,3 @@ pub mod Known
 pub mod Playing
 pub mod Decimals
 pub mod Ticking
-mod Flashes
