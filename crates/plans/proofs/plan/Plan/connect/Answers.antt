@@ -11,6 +11,6 @@ use Rattle.plans.proofs.plan.Plan.connect.Goals as goal
 pub returns-clause-read : goal.returns-clause-read
 returns-clause-read c = λ some.
     subst (λ (p : Parts). AllByRecursion IsRead (blocks_of p c.args.ar.now)) c.self.view_is
-    (all_read c.self.inside.parts c.args.ar.now c.self.invariant some c.write_ar.ensures.read c.write_iocr.ensures.read c.write_iocr-2.ensures.read c.write_alarm.ensures.read
+    (all_read c.self.inside.parts c.args.ar.now c.self.invariant some c.write_ar.ensures.read (search (c.write_iocr.ensures.read, c.write_iocr-2.ensures.read)) (search (c.write_iocr.ensures.read, c.write_iocr-2.ensures.read)) c.write_alarm.ensures.read
     (subst (λ (modules : List RealModule). AllByRecursion (λ entry. IsExpectedSubmoduleBlockReq (expected_block entry)) modules → AllByRecursion IsRead (expected_blocks modules))
     c.as_slice.ensures.value c.write_all_expected.ensures.read))
