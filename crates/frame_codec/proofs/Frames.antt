@@ -9,9 +9,9 @@ use Rattle.frame_codec.specs.declared.fault.FrameFault.TheVariants.{TooLong}
 use Rattle.frame_codec.specs.Meaning.{Content, RealTime, ArpPacket, UdpDatagram, Meaning}
 use Rattle.frame_codec.specs.Arp.{arp_head, operation, holder, arp_packet}
 use Rattle.frame_codec.specs.Internet.{size_behind, internet_size, internet_way, internet_header, udp_header, udp, packet}
-use Rattle.frame_codec.specs.Frame.{profinet, address_resolution, internet, mac, tag_and_type, link, real_time, arp, datagram, content_under, content_size, content_with, link_of, layers, longest, IsFrame, FitsFrame, frame_of, frame_bytes, padding_of, with_behind, type_of}
+use Rattle.frame_codec.specs.Frame.{profinet, address_resolution, internet, mac, tag_and_type, link, real_time, arp, datagram, content_under, content_size, content_with, link_of, layers, longest, IsFrame, FitsFrame, frame_of, frame_bytes, padding_of, with_behind, type_of, IsReadBack}
 use Rattle.wire.proofs.Wholes.{loose_behind}
-use Rattle.frame_codec.proofs.Layers.{link_sound, arp_packet_onward, packet_onward, content_under_sound, layers_sound}
+use Rattle.frame_codec.proofs.Layers.{link_sound, arp_packet_onward, packet_onward, content_under_sound, layers_sound, layers_onward}
 
 -- ---- reading
 
@@ -55,6 +55,13 @@ frame_again bytes meaning frame =
     let h = link_in bytes meaning frame.spelled in
     let short : length bytes ≤ longest h.header.tag = subst (λ (tag : Option ℕ). length bytes ≤ longest tag) (sym h.tag) frame.short in
     rw (h.reads, le-ltb _ _ short) (layers_sound.again bytes meaning frame.spelled)
+
+-- with more behind it, up to the limit, a frame is one of the same meaning with that behind
+pub frame_behind : (first more bytes : List ℕ) (meaning : Meaning) → IsFrame first meaning → bytes ≡ first ++ more → length bytes ≤ longest meaning.tag → IsFrame bytes (with_behind meaning more)
+frame_behind first more bytes meaning frame e short = record {
+  spelled = subst (λ (xs : List ℕ). layers.Spells xs (with_behind meaning more)) (sym e) (layers_onward first more meaning frame.spelled);
+  short = short;
+}
 
 -- ---- writing
 
@@ -163,4 +170,15 @@ is_sent meaning written frame room fits e f =
           let long : length (layers.write meaning) + length (padding_of meaning ++ more) ≤ longest meaning.tag =
           omega (arith, short, length-append (padding_of meaning) more, length-replicate {A = ℕ} (60 - length (layers.write meaning)) 0, padded) in
           rw parts (written_is_frame meaning (padding_of meaning ++ more) fits long);
+    }
+
+-- what fits and is sent is read back
+pub read_back : (meaning : Meaning) → FitsFrame meaning → layers.Fits meaning → IsReadBack meaning
+unfolding frame_bytes
+read_back meaning room fits =
+    let s = is_sent meaning (layers.write meaning) (frame_bytes meaning) room fits refl refl in
+    record {
+      least = s.least;
+      most = s.most;
+      again = λ more short. frame_again _ _ (s.behind more short);
     }

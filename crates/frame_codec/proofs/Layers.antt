@@ -1,12 +1,14 @@
 -- The layers of a frame are sound formats.
-use Rattle.std.proofs.Common.{◌≡◌, ℕ, ◌+◌, ◌==◌, List, [], ◌++◌, Option, Some, None, refl, ap, sym, ◌∙◌, append_assoc, arith}
-use Rattle.wire.specs.Codec.{Codec, IsSound, IsSoundWhole, IsOnward}
+use Rattle.std.proofs.Common.{◌≡◌, ℕ, ◌+◌, ◌==◌, Bool, true, false, List, [], ◌++◌, Option, Some, None, refl, ap, sym, ◌∙◌, append_assoc, arith}
+use Rattle.wire.specs.Codec.{Codec, Whole, IsSound, IsSoundWhole, IsOnward}
 use Rattle.wire.specs.Formats.{number, ◌⨾◌}
+use Rattle.wire.specs.Whole.{pick, refused}
 use Rattle.wire.proofs.Fields.{raw_sound, raw_onward, number_sound, number_onward}
-use Rattle.wire.proofs.Joined.{then_by_sound, then_by_onward, seen_sound, seen_onward, when_sound, unchecked_sound, unchecked_onward}
+use Rattle.wire.proofs.Joined.{then_by_sound, then_by_onward, seen_sound, seen_onward, when_sound, when_onward, unchecked_sound, unchecked_onward}
 use Rattle.wire.proofs.Judged.{checked_sound, checked_onward, fixed_sound, fixed_onward, allowed_sound, named_sound, named_onward, variant_sound}
 use Rattle.wire.proofs.Kept.{kept_sound, kept_onward, cut_sound, cut_onward}
-use Rattle.wire.proofs.Wholes.{everything_sound, refused_sound, ends_by_sound, seen_whole_sound, pick_sound, loose_sound}
+use Rattle.wire.proofs.Wholes.{everything_sound, refused_sound, ends_by_sound, seen_whole_sound, pick_sound, loose_sound, loose_behind}
+use Rattle.pn_values.specs.declared.mac.Mac.{Mac}
 use Rattle.frame_codec.specs.declared.link.Link.{Link}
 use Rattle.frame_codec.specs.declared.arp.Arp.{Arp}
 use Rattle.frame_codec.specs.declared.arp.ArpOperation.{ArpOperation}
@@ -16,10 +18,10 @@ use Rattle.frame_codec.specs.declared.internet.InternetHeader.{InternetHeader}
 use Rattle.frame_codec.specs.declared.udp.UdpHeader.{UdpHeader}
 use Rattle.frame_codec.specs.declared.fault.FrameFault.{FrameFault}
 use Rattle.frame_codec.specs.declared.fault.FrameFault.TheVariants as fault
-use Rattle.frame_codec.specs.Meaning.{Content, RealTime, ArpPacket, UdpDatagram}
+use Rattle.frame_codec.specs.Meaning.{Content, RealTime, ArpPacket, UdpDatagram, Meaning}
 use Rattle.frame_codec.specs.Arp.{operation_of, number_of_operation, operation, arp_head, holder, arp_packet}
 use Rattle.frame_codec.specs.Internet.{size_behind, internet_size, no_fragment, internet_way, internet_header, udp_header, udp, passes, segment, inside, packet}
-use Rattle.frame_codec.specs.Frame.{vlan, profinet, address_resolution, internet, mac, tag_and_type_of, parts_of_tag, tag_and_type, link, real_time_in, real_time, arp_in, arp, packet_in, datagram_in, datagram, content_under, layers}
+use Rattle.frame_codec.specs.Frame.{vlan, profinet, address_resolution, internet, mac, tag_and_type_of, parts_of_tag, tag_and_type, link, real_time_in, real_time, arp_in, arp, packet_in, datagram_in, datagram, content_under, content_with, layers, with_behind}
 
 -- ---- the link header
 
@@ -39,6 +41,20 @@ tag_and_type_sound = seen_sound tag_and_type_of parts_of_tag _ back (then_by_sou
 pub link_sound : IsSound link
 unfolding link
 link_sound = seen_sound _ _ _ (λ header. refl) (then_by_sound _ _ mac_sound (λ _. then_by_sound _ _ mac_sound (λ _. tag_and_type_sound)))
+
+mac_onward : IsOnward mac
+unfolding mac
+mac_onward = seen_onward _ (λ (address : Mac). address.octets) _ (raw_onward fault.TooShort 6)
+
+tag_and_type_onward : IsOnward tag_and_type
+unfolding tag_and_type
+tag_and_type_onward = seen_onward tag_and_type_of parts_of_tag _ (then_by_onward _ _ (number_onward fault.TooShort 2)
+    (λ first. when_onward (number fault.TooShort 2 ⨾ number fault.TooShort 2) (first == vlan) (then_by_onward _ _ (number_onward fault.TooShort 2) (λ _. number_onward fault.TooShort 2))))
+
+pub link_onward : IsOnward link
+unfolding link
+link_onward = seen_onward _ (λ (header : Link). (header.destination, (header.source, (header.tag, header.ether_type)))) _
+    (then_by_onward _ _ mac_onward (λ _. then_by_onward _ _ mac_onward (λ _. tag_and_type_onward)))
 
 -- ---- ARP
 
@@ -194,6 +210,55 @@ content_under_sound ether_type =
 pub layers_sound : IsSoundWhole layers
 unfolding layers
 layers_sound = seen_whole_sound _ _ _ (λ meaning. refl) (ends_by_sound _ _ link_sound (λ (header : Link). content_under_sound header.ether_type))
+
+-- ---- more behind what is spelled
+
+-- what spells a content spells, with more behind it, that content with that behind
+record IsBehind (whole : Whole FrameFault Content) : Type 0 where
+  behind : (bytes : List ℕ) (content : Content) (more : List ℕ) → whole.Spells bytes content → whole.Spells (bytes ++ more) (content_with content more)
+
+real_time_behind : IsBehind real_time
+unfolding real_time
+real_time_behind = record {
+  behind = λ bytes content more s. (
+    (s.0.0, s.0.1 ++ more),
+    ap (λ (c : Content). content_with c more) s.1,
+    (s.2.0 ++ more, (number_onward fault.TooShort 2).onward bytes s.0.0 s.2.0 more s.2.1, ap (λ (xs : List ℕ). xs ++ more) s.2.2),
+  );
+}
+
+arp_behind : IsBehind arp
+unfolding arp
+arp_behind = record {
+  behind = λ bytes content more s. (s.0, ap (λ (c : Content). content_with c more) s.1, loose_behind arp_packet bytes s.0 more arp_packet_onward s.2);
+}
+
+datagram_behind : IsBehind datagram
+unfolding datagram
+datagram_behind = record {
+  behind = λ bytes content more s. (s.0, ap (λ (c : Content). content_with c more) s.1, loose_behind packet bytes s.0 more packet_onward s.2);
+}
+
+refused_behind : (blame : FrameFault) → IsBehind (refused blame)
+refused_behind blame = record { behind = λ bytes content more s. absurd s }
+
+pick_behind : (test : Bool) (one other : Whole FrameFault Content) → IsBehind one → IsBehind other → IsBehind (pick test one other)
+pick_behind true one other first second = first
+pick_behind false one other first second = second
+
+content_under_behind : (ether_type : ℕ) → IsBehind (content_under ether_type)
+content_under_behind ether_type =
+    pick_behind (ether_type == vlan) _ _ (refused_behind fault.Tag) (pick_behind (ether_type == profinet) _ _ real_time_behind
+    (pick_behind (ether_type == address_resolution) _ _ arp_behind (pick_behind (ether_type == internet) _ _ datagram_behind (refused_behind fault.EtherType))))
+
+-- so do the layers
+pub layers_onward : (bytes more : List ℕ) (meaning : Meaning) → layers.Spells bytes meaning → layers.Spells (bytes ++ more) (with_behind meaning more)
+unfolding layers
+layers_onward bytes more meaning s = (
+  (s.0.0, content_with s.0.1 more),
+  ap (λ (m : Meaning). with_behind m more) s.1,
+  (s.2.0 ++ more, link_onward.onward bytes s.0.0 s.2.0 more s.2.1, (content_under_behind s.0.0.ether_type).behind s.2.0 s.0.1 more s.2.2),
+)
 
 -- ---- what two writers append
 

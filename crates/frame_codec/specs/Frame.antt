@@ -1,5 +1,5 @@
 -- The frames of Ethernet (IEEE 802.3), with at most one VLAN tag (IEEE 802.1Q), that carry PROFINET, ARP or UDP in IPv4.
-use Rattle.std.specs.Prelude.{◌+◌, ◌-◌, ◌≤◌, ◌==◌, ℕ, List, [], ◌++◌, length, replicate, Option, Some, None, Result, Err, nat_lt, if◌then◌else◌}
+use Rattle.std.specs.Prelude.{◌+◌, ◌-◌, ◌≤◌, ◌==◌, ℕ, List, [], ◌++◌, length, replicate, Option, Some, None, Result, Err, nat_lt, if◌then◌else◌, ◌≡◌, Ok}
 use Rattle.pn_values.specs.declared.mac.Mac.{Mac}
 use Rattle.wire.specs.Codec.{Codec, Whole, ◌>>=◌}
 use Rattle.wire.specs.Formats.{raw, number, then_by, ◌⨾◌, seen, when}
@@ -175,3 +175,10 @@ content_with (UdpDatagram source destination body) more = UdpDatagram source des
 -- the meaning of a frame with more bytes behind it
 abbrev pub with_behind : Meaning → List ℕ → Meaning
 with_behind meaning more = record meaning { content = content_with meaning.content more }
+
+-- The frame that is sent for a meaning has 60 octets or more and no more than a frame may have. It is read as that meaning with its padding behind it,
+-- and so it is with more behind it, up to the limit.
+pub record IsReadBack (meaning : Meaning) : Type 0 where
+  pub least : 60 ≤ length (frame_bytes meaning)
+  pub most : length (frame_bytes meaning) ≤ longest meaning.tag
+  pub again : (more : List ℕ) → length (frame_bytes meaning) + length more ≤ longest meaning.tag → frame_of (frame_bytes meaning ++ more) ≡ Ok (with_behind meaning (padding_of meaning ++ more))

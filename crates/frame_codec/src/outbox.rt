@@ -2,7 +2,7 @@
 ghost use Rattle.std.specs.Prelude.{◌≡◌, ◌+◌, ◌<◌, ◌≤◌, ◌==◌, [], ◌∷◌, ◌++◌, length};
 ghost use Rattle.arrayvec.specs.ArrayVec.{array_vec_len};
 ghost use Rattle.frame_codec.specs.Meaning.{meaning_in, meaning_of};
-ghost use Rattle.frame_codec.specs.Frame.{FitsFrame, frame_bytes};
+ghost use Rattle.frame_codec.specs.Frame.{FitsFrame, IsReadBack, frame_bytes};
 
 use crate::writing::{fill, fill_pieces};
 use crate::{Frame, Layered, Pieces};
@@ -75,6 +75,8 @@ impl Outbox {
         requires fits { FitsFrame (meaning_of layered.now) }
         // The others stay, and each octet of the new one.
         ensures items { self.new.items ≡ self.old.items ++ record { items = frame_bytes (meaning_of layered.now) } ∷ [] }
+        // It is read back.
+        ensures again { IsReadBack (meaning_of layered.now) }
         ensures len { array_vec_len self.new ≡ array_vec_len self.old + 1 }
     {
         let frame = &mut self.frames[self.used];
@@ -91,6 +93,8 @@ impl Outbox {
         requires fits { FitsFrame (meaning_in pieces.now) }
         // The others stay, and each octet of the new one.
         ensures items { self.new.items ≡ self.old.items ++ record { items = frame_bytes (meaning_in pieces.now) } ∷ [] }
+        // It is read back.
+        ensures again { IsReadBack (meaning_in pieces.now) }
         ensures len { array_vec_len self.new ≡ array_vec_len self.old + 1 }
     {
         let written = &mut self.frames[self.used];

@@ -2,10 +2,10 @@
 //!
 //! `inline(always)` stands where instructions were counted (`bench/figures/exchange.py`): what each frame of an exchange takes is one
 //! piece, and what is rare, `inline(never)`, stands outside of it.
-ghost use Rattle.std.specs.Prelude.{◌≡◌, IfNone, IfOk, IfSome, Ok};
+ghost use Rattle.std.specs.Prelude.{◌≡◌, ◌≤◌, ◌++◌, List, ℕ, length, IfNone, IfOk, IfSome, Ok};
 ghost use Rattle.wire.specs.Codec.{Gives};
 ghost use Rattle.frame_codec.specs.Meaning.{IsNoRealTime, Meaning, content_of, meaning_as, meaning_of};
-ghost use Rattle.frame_codec.specs.Frame.{IsFrame, arp, content_under, datagram, real_time, frame_of};
+ghost use Rattle.frame_codec.specs.Frame.{IsFrame, arp, content_under, datagram, real_time, frame_of, longest, with_behind};
 
 use crate::arp::{ADDRESS_RESOLUTION, arp_at};
 use crate::internet::{INTERNET, internet_header_at};
@@ -108,6 +108,9 @@ pub fn read(bytes: &[u8]) -> Result<Layered<'_>, FrameFault>
     ensures found { IfOk result (λ layered. IsFrame bytes.now (meaning_of layered)) }
     // What is spelled so is read, and as nothing else.
     ensures only { (meaning : Meaning) → IsFrame bytes.now meaning → Gives meaning_of result (Ok meaning) }
+    // With anything behind it, up to the limit, it is read as the same, and under EtherType 0x8892 with that behind.
+    ensures behind { (first more : List ℕ) (meaning : Meaning) → IsFrame first meaning → bytes.now ≡ first ++ more → length bytes.now ≤ longest meaning.tag →
+        Gives meaning_of result (Ok (with_behind meaning more)) }
     // Which fault it is.
     ensures exact { Gives meaning_of result (frame_of bytes.now) }
 {

@@ -5,7 +5,7 @@
 ghost use Rattle.std.specs.Prelude.{◌≡◌, ◌+◌, ◌-◌, ◌≢◌, ◌≤◌, List, ℕ, [], ◌++◌, length, replicate, Ok};
 ghost use Rattle.arrayvec.specs.ArrayVec.{array_vec_len};
 ghost use Rattle.frame_codec.specs.Meaning.{UdpDatagram, content_of, meaning_in, meaning_of};
-ghost use Rattle.frame_codec.specs.Frame.{IsFrame, FitsFrame, content_size, content_under, datagram, frame_of, frame_bytes, layers, link, longest, padding_of, real_time, tag_and_type, type_of, vlan, with_behind};
+ghost use Rattle.frame_codec.specs.Frame.{IsFrame, FitsFrame, content_size, content_under, datagram, frame_of, frame_bytes, layers, link, longest, padding_of, real_time, tag_and_type, type_of, vlan, with_behind, IsReadBack};
 
 use crate::arp::{ADDRESS_RESOLUTION, put_arp};
 use crate::internet::{INTERNET, InternetHeader, put_internet_header};
@@ -144,6 +144,7 @@ pub(crate) fn fill(frame: &mut Frame, layered: &Layered)
     ensures sent { frame.new.items ≡ layers.write (meaning_of layered.now) ++ padding_of (meaning_of layered.now) }
     ensures exact { frame.new.items ≡ frame_bytes (meaning_of layered.now) }
     ensures fits { layers.Fits (meaning_of layered.now) }
+    ensures again { IsReadBack (meaning_of layered.now) }
 {
     put_layers(frame, layered);
     pad(frame);
@@ -155,6 +156,7 @@ pub(crate) fn fill(frame: &mut Frame, layered: &Layered)
 fn put_body(frame: &mut Frame, pieces: &Pieces)
     requires room { array_vec_len frame.old + content_size (meaning_in pieces.now).content ≤ 1518 }
     ensures items { frame.new.items ≡ frame.old.items ++ real_time.write (meaning_in pieces.now).content }
+    ensures fits { real_time.Fits (meaning_in pieces.now).content }
 {
     frame.append_u16(pieces.frame_id);
     frame.append(pieces.front);
@@ -166,7 +168,8 @@ fn put_body(frame: &mut Frame, pieces: &Pieces)
 pub(crate) fn fill_pieces(frame: &mut Frame, pieces: &Pieces)
     requires empty { array_vec_len frame.old ≡ 0 }
     requires room { FitsFrame (meaning_in pieces.now) }
-    ensures { frame.new.items ≡ frame_bytes (meaning_in pieces.now) }
+    ensures exact { frame.new.items ≡ frame_bytes (meaning_in pieces.now) }
+    ensures again { IsReadBack (meaning_in pieces.now) }
 {
     let header = Link {
         destination: pieces.destination,
