@@ -7,7 +7,7 @@ ghost use Rattle.pn_values.specs.declared.settings.Settings.{Settings};
 ghost use Rattle.settings_journal.specs.Commit.{HasBootCause};
 ghost use Rattle.settings_journal.specs.Image.{StartsWith, IsAmple, capacity, IsForeign, LeftByDevice};
 ghost use Rattle.relations.specs.Exchanged.{output_in};
-ghost use Rattle.relations.specs.Link.{phase_of, taken_of};
+ghost use Rattle.relations.specs.Link.{phase_of, taken_of, uuid_of};
 ghost use Rattle.relations.specs.Outputs.{output_of};
 ghost use Rattle.device_core.specs.Cycle.{started};
 
@@ -17,7 +17,7 @@ use pn_values::{Identity, Real, SetItem, Settings};
 use record_reads::Blocks;
 use record_writes::Taken;
 use relations::{Phase, Relation};
-use rpc_core::CallCache;
+use rpc_core::{CallCache, Uuid};
 use settings_journal::BootFault;
 use settings_store::Store;
 use std::marker::Model;
@@ -118,6 +118,13 @@ impl<F: Flash<S>, const S: usize> Device<F, S> {
         ensures { result ≡ phase_of self.now.live.rest.link }
     {
         self.relation.phase()
+    }
+
+    /// The ARUUID of the application relation, if there is one.
+    pub fn ar(&self) -> Option<&Uuid>
+        ensures { option_map (λ uuid. uuid.now) result ≡ uuid_of self.now.live.rest.link }
+    {
+        self.relation.uuid()
     }
 
     /// The parameter records that the relation took, in their order.
