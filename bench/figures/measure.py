@@ -74,6 +74,8 @@ STARTS = 10
 
 # Octets of a device in memory without the two sectors of its flash, and of the largest frame on the stack of a step.
 MOST_IN_MEMORY = 40 * 1024
+# Octets of the plan of a station.
+MOST_OF_A_PLAN = 8 * 1024
 MOST_ON_THE_STACK = 16 * 1024
 SECTORS = 2 * 4096
 
@@ -233,16 +235,18 @@ def print_journal(bench):
 
 
 def print_room(program, bench):
-    """How large a device is, and the largest frame on the stack of a step. Says whether they keep their bounds."""
+    """How large a device is, and a plan, and the largest frame on the stack of a step. Says whether they keep their bounds."""
     said = subprocess.run([bench], capture_output=True, text=True, check=True).stderr
-    device, flash = map(int, re.findall(r"\d+", said))
+    device, flash, plan = map(int, re.findall(r"\d+", said))
     print(f"a device in memory: {device} octets, of which {SECTORS} are the sectors of its flash and {flash - SECTORS} else of it: "
           f"{device - SECTORS} (at most {MOST_IN_MEMORY})")
+    print(f"a plan in memory: {plan} octets (at most {MOST_OF_A_PLAN})")
     known = launcher()
     below = "|".join(known.stands_on("device_core", known.crates(), []))
     octets, name = blocks.largest_frame(program, rf"\S*(?:{below})::|script_runner::session::step")
     print(f"the largest frame on the stack of a step: {octets} octets, of {name} (at most {MOST_ON_THE_STACK})")
     is_small = keeps("a device in memory", device - SECTORS, MOST_IN_MEMORY)
+    is_small = keeps("a plan in memory", plan, MOST_OF_A_PLAN) and is_small
     return keeps("the largest frame", octets, MOST_ON_THE_STACK) and is_small
 
 

@@ -2,9 +2,10 @@
 """Each allocation of the built program's run failing in turn, until none is left to fail.
 
 The answer has to be `pnscript: out of memory`, status 4 and a front of the output, or the unchanged output. The scripts
-are the program's stored run and the examples. Needs a C compiler (cc) and the GNU C library.
+are the program's stored run and the examples; the catalogues are those of the examples, of which want of memory has to leave no
+output. Needs a C compiler (cc) and the GNU C library.
 
-Use: bench/gate/allocations.py [PROGRAM]   (the proved one if left out). Prints a line for each script, with how many allocations
+Use: bench/gate/allocations.py [PROGRAM]   (the proved one if left out). Prints a line for each of them, with how many allocations
 were refused in turn; its status is 1 if an answer is wrong.
 """
 
@@ -26,23 +27,24 @@ def read(path):
         return file.read()
 
 
-def run(program, script, environment):
-    return subprocess.run([program, "run"], input=script, capture_output=True, env=environment)
+def run(program, word, text, environment):
+    return subprocess.run([program, word], input=text, capture_output=True, env=environment)
 
 
-def is_right(answer, whole):
+def is_right(answer, word, whole):
     is_unchanged = (answer.returncode, answer.stdout, answer.stderr) == (0, whole, b"")
     is_refused = (answer.returncode, answer.stderr) == (4, b"pnscript: out of memory\n")
-    return is_unchanged or (is_refused and whole.startswith(answer.stdout))
+    is_front = whole.startswith(answer.stdout) if word == "run" else answer.stdout == b""
+    return is_unchanged or (is_refused and is_front)
 
 
-def fail_each(program, shim, mark, script, whole):
+def fail_each(program, shim, mark, word, text, whole):
     """How many allocations were refused in turn, how many runs ended out of memory and how many answers were wrong."""
     refused = short = wrong = 0
     while True:
         environment = {"LD_PRELOAD": shim, "FAIL_ALLOC": str(refused + 1), "FAIL_MARK": mark}
-        answer = run(program, script, environment)
-        if not is_right(answer, whole):
+        answer = run(program, word, text, environment)
+        if not is_right(answer, word, whole):
             print(f"allocation {refused + 1}: status {answer.returncode}, {answer.stderr!r}, {answer.stdout[-80:]!r}")
             wrong += 1
         if not os.path.exists(mark):
@@ -59,15 +61,17 @@ def main(words):
     need("cc")
     program = words[0] if words else proved()
     stored = read(os.path.join(CRATE, "stdin"))
-    scripts = [("the stored run", stored, read(os.path.join(CRATE, "stdout")))]
+    texts = [("the stored run", "run", stored, read(os.path.join(CRATE, "stdout")))]
     for path in sorted(glob.glob(os.path.join(TOP, "examples", "*.txt"))):
-        scripts.append((os.path.basename(path), read(path), run(program, read(path), {}).stdout))
+        texts.append((os.path.basename(path), "run", read(path), run(program, "run", read(path), {}).stdout))
+    for path in sorted(glob.glob(os.path.join(TOP, "examples", "catalogue", "*.json"))):
+        texts.append((os.path.basename(path), "plan", read(path), read(path[:-len("json")] + "layouts")))
     all_wrong = 0
     with tempfile.TemporaryDirectory() as folder:
         shim, mark = os.path.join(folder, "fail_alloc.so"), os.path.join(folder, "mark")
         subprocess.run(["cc", "-O2", "-shared", "-fPIC", "-o", shim, os.path.join(HERE, "fail_alloc.c")], check=True)
-        for name, script, whole in scripts:
-            refused, short, wrong = fail_each(program, shim, mark, script, whole)
+        for name, word, text, whole in texts:
+            refused, short, wrong = fail_each(program, shim, mark, word, text, whole)
             all_wrong += wrong
             print(f"{name}: {refused} allocations failed in turn: {short} out of memory, "
                   f"{refused - short - wrong} with the output unchanged, {wrong} wrong")

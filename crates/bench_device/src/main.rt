@@ -1,9 +1,11 @@
-//! Says on standard error how large a device is in memory, over the flash of the scripts, and how large that flash
-//! (bench/figures/measure.py). Standard output, which the gate compares, stays empty: the figures change with each part of a device.
+//! Says on standard error how large a device is in memory, over the flash of the scripts, how large that flash, and how large the plan
+//! of a station (bench/figures/measure.py). Standard output, which the gate compares, stays empty: the figures change with each part of
+//! a device.
 #![tactic(auto)]
 
 use device_core::Device;
 use flash_model::MemoryFlash;
+use plans::Plan;
 use std::{io, mem};
 
 /// Octets of a sector of the scripts' device.
@@ -11,8 +13,9 @@ const SECTOR: usize = 4096;
 
 fn main(rt: HostRuntime) -> io::Result<()> {
     eprintln!(rt;
-        "in memory: a device {} octets, its flash {}",
+        "in memory: a device {} octets, its flash {}, a plan {}",
         mem::size_of::<Device<MemoryFlash<SECTOR>, SECTOR>>(),
-        mem::size_of::<MemoryFlash<SECTOR>>()
+        mem::size_of::<MemoryFlash<SECTOR>>(),
+        mem::size_of::<Plan>()
     )
 }

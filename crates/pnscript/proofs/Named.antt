@@ -1,27 +1,54 @@
 -- Which command one word behind the program's name is.
-use Rattle.std.proofs.Common.{◌≡◌, Bool, true, false, List, [], ◌∷◌, Option, Some, None, option_map, ◌||◌, if◌then◌else◌, ap, ap₂, ◌∙◌, refl, codes, Bor}
-use Rattle.std.specs.Option.{option_eq, option_map_or}
+use Rattle.std.proofs.Common.{◌≡◌, Bool, true, false, List, [], ◌∷◌, Option, Some, None, option_map, option_and_then, is_some, subst, ◌||◌, if◌then◌else◌, ap, ap₂, ◌∙◌, refl, codes, Bor}
 use Rattle.std.specs.Str.{bytes_eq}
+use Rattle.std.proofs.lemmas.Slice.Eq.{bytes_eq-Decides}
 use Rattle.clap.specs.Walk.{Held, Names, Outcome, Rule, Step, Walk, Text, Row, after_flag, after_step, arg_by_index, done, idle, long_or_other, plain, refused, short_or_plain, stop_after, subcommand_met, subcommand_or_other, to_positional, trailing, waits, walk_from, walked, nothing_held}
 use Rattle.clap.specs.Lexer.{long_of, short_of}
 use Rattle.clap.specs.Words.{App, new_app, with_subcommand, built, subcommand_of, is_simple, takes}
 use Rattle.clap.specs.Simple.{entered, names_of}
 use Rattle.clap.proofs.OnLiterals.{clap_on_literals}
+use Rattle.pnscript.specs.declared.words.Task.{Task}
+use Rattle.pnscript.specs.declared.words.Task.TheVariants.{Run, Plan}
+use Rattle.pnscript.specs.Words.{is_word, task_named}
 
--- the program, with its one command
+-- the program, with its two commands
+abbrev run_alone : App
+run_alone = with_subcommand (new_app (codes "pnscript")) (new_app (codes "run")).top
+
 abbrev pub program : App
-program = with_subcommand (new_app (codes "pnscript")) (new_app (codes "run")).top
+program = with_subcommand run_alone (new_app (codes "plan")).top
 
-pub is_program : (above command all : App) → all ≡ with_subcommand above command.top → above ≡ new_app (codes "pnscript") → command ≡ new_app (codes "run") → all ≡ program
-is_program above command all adds above_is command_is = adds ∙ ap₂ with_subcommand above_is (ap (λ (a : App). a.top) command_is)
+pub is_program : (above run one plan all : App) → one ≡ with_subcommand above run.top → above ≡ new_app (codes "pnscript") → run ≡ new_app (codes "run") → all ≡ with_subcommand one plan.top → plan ≡ new_app (codes "plan") → all ≡ program
+is_program above run one plan all adds above_is run_is adds_on plan_is =
+    let one_is : one ≡ run_alone = adds ∙ ap₂ with_subcommand above_is (ap (λ (a : App). a.top) run_is) in
+    adds_on ∙ ap₂ with_subcommand one_is (ap (λ (a : App). a.top) plan_is)
 
 pub is_simple_program : is_simple program ≡ true
 unfolding clap_on_literals
 is_simple_program = refl
 
-pub takes_run : (name : Text) → takes program (name ∷ codes "run" ∷ []) ≡ true
+takes_run : (name : Text) → takes program (name ∷ codes "run" ∷ []) ≡ true
 unfolding clap_on_literals
 takes_run name = refl
+
+takes_plan : (name : Text) → takes program (name ∷ codes "plan" ∷ []) ≡ true
+unfolding clap_on_literals
+takes_plan name = refl
+
+-- the first of two commands that a word is
+abbrev first_of : Bool → Bool → Option Task
+first_of run plan = if run then Some Run else if plan then Some Plan else None
+
+takes_one : (name word : Text) (run plan : Bool) → bytes_eq (codes "run") word ≡ run → bytes_eq (codes "plan") word ≡ plan → is_some (first_of run plan) ≡ true → takes program (name ∷ word ∷ []) ≡ true
+takes_one name word true plan is_run is_plan some =
+    subst (λ (text : Text). takes program (name ∷ text ∷ []) ≡ true) ((bytes_eq-Decides (codes "run") word).0 is_run) (takes_run name)
+takes_one name word false true is_run is_plan some =
+    subst (λ (text : Text). takes program (name ∷ text ∷ []) ≡ true) ((bytes_eq-Decides (codes "plan") word).0 is_plan) (takes_plan name)
+takes_one name word false false is_run is_plan some = cc
+
+-- a word that names a task is taken
+pub takes_word : (name word : Text) → is_word word ≡ true → takes program (name ∷ word ∷ []) ≡ true
+takes_word name word some = takes_one name word (bytes_eq (codes "run") word) (bytes_eq (codes "plan") word) refl refl some
 
 -- a command, with no word behind it
 abbrev alone : Text → Text × List Text
@@ -66,30 +93,30 @@ stops_after : (rules : List Rule) (names : Names) (word : Text)
 unfolding walked
 stops_after rules names word = stops rules word (subcommand_met names idle word)
 
--- whether the command that was met is `run`
-abbrev pub is_run_met : Option (Text × List Row) → Bool
-is_run_met met = option_map_or (λ p. bytes_eq p.0 (codes "run")) met false
+-- the task that the command that was met names
+abbrev pub task_met : Option (Text × List Row) → Option Task
+task_met met = option_and_then (λ p. task_named p.0) met
 
-pick : (run help : Bool)
-    → is_run_met (entered (built program) (option_map alone (option_map (λ (s : Text × List Text). s.0)
-    (if run || false then Some (codes "run", []) else (if help || false then Some (codes "help", []) else None))))) ≡ run
+pick : (run plan help : Bool)
+    → task_met (entered (built program) (option_map alone (option_map (λ (s : Text × List Text). s.0)
+    (if run || false then Some (codes "run", []) else (if plan || false then Some (codes "plan", []) else (if help || false then Some (codes "help", []) else None)))))) ≡ first_of run plan
 unfolding clap_on_literals
-pick true help = refl
-pick false true = refl
-pick false false = refl
+pick true plan help = refl
+pick false true help = refl
+pick false false true = refl
+pick false false false = refl
 
--- one word behind the program's name is the command `run` where it is that word
-pub run_is_met : (name word : Text) → is_run_met (subcommand_of program (name ∷ word ∷ [])) ≡ bytes_eq (codes "run") word
+-- one word behind the program's name is the command that it names
+pub task_is_met : (name word : Text) → task_met (subcommand_of program (name ∷ word ∷ [])) ≡ task_named word
 unfolding clap_on_literals
-run_is_met name word =
-    ap (λ stop. is_run_met (entered (built program) stop)) (stops_after (built program).top.rules (names_of (built program)) word) ∙ pick (bytes_eq (codes "run") word) (bytes_eq (codes "help") word)
+task_is_met name word =
+    ap (λ stop. task_met (entered (built program) stop)) (stops_after (built program).top.rules (names_of (built program)) word) ∙ pick (bytes_eq (codes "run") word) (bytes_eq (codes "plan") word) (bytes_eq (codes "help") word)
 
--- the answer to whether the name of the command that was met is `run`
-pub is_same_name : {A : Type 0} (command : A → Text × List Row) (met : Option A) (name : Option (Bor Text)) (run : Bor Text)
-    → option_map (λ (n : Bor Text). n.now) name ≡ option_map (λ (m : A). (command m).0) met → run.now ≡ codes "run"
-    → option_eq (λ (a b : Bor Text). bytes_eq a.now b.now) name (Some run) ≡ is_run_met (option_map command met)
-is_same_name command None None run same is = refl
-is_same_name command None (Some name) run same is = cc
-is_same_name command (Some met) None run same is = cc
-is_same_name command (Some met) (Some name) run same is =
-    ap₂ bytes_eq (ap (λ (n : Option Text). option_map_or (λ t. t) n []) same) is
+-- the task of the name of the command that was met is that of the command
+pub is_same_task : {A : Type 0} (command : A → Text × List Row) (met : Option A) (name : Option (Bor Text))
+    → option_map (λ (n : Bor Text). n.now) name ≡ option_map (λ (m : A). (command m).0) met
+    → option_and_then (λ (n : Bor Text). task_named n.now) name ≡ task_met (option_map command met)
+is_same_task command None None same = refl
+is_same_task command None (Some name) same = cc
+is_same_task command (Some met) None same = cc
+is_same_task command (Some met) (Some name) same = ap (λ (n : Option Text). option_and_then task_named n) same

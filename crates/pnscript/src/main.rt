@@ -1,14 +1,14 @@
 //! The program. `pnscript run` runs the script on standard input on a demo device, and writes to standard output what
-//! it prints.
+//! it prints. `pnscript plan` makes the plan of the catalogue on standard input, and writes the layouts of its cyclic frames.
 #![tactic(auto)]
 
 mod words;
 
-use script_runner::{RunFault, run};
+use script_runner::{RunFault, plan_text, run};
 use std::env;
 use std::io::{self, BufWriter, ErrorKind, Input, Write};
 use std::process::ExitCode;
-use words::is_run;
+use words::{Task, task_of};
 
 /// The status of words that ask for nothing.
 const USAGE: u8 = 64;
@@ -37,20 +37,23 @@ fn obey(rt: &HostRuntime) -> Result<bool, RunFault> {
     let words: Vec<String> = words
         .collect(rt.alloc())
         .map_err(|_| RunFault::OutOfMemory)?;
-    if !is_run(rt.alloc(), words.as_slice())? {
+    let Some(task) = task_of(rt.alloc(), words.as_slice())? else {
         return Ok(false);
-    }
-    play(rt)?;
+    };
+    work(rt, task)?;
     Ok(true)
 }
 
-/// Runs the script on standard input. What its lines printed is written whether a later one is refused or not.
-fn play(rt: &HostRuntime) -> Result<(), RunFault> {
+/// Does a task. What the lines of a script printed is written whether a later one is refused or not.
+fn work(rt: &HostRuntime, task: Task) -> Result<(), RunFault> {
     let mut reader = rt.reader();
     let Ok(mut writer) = BufWriter::new(rt.alloc(), io::writer(rt)) else {
         return Err(RunFault::OutOfMemory);
     };
-    let played = run(rt.alloc(), &mut reader, &mut writer);
+    let done = match task {
+        Task::Run => run(rt.alloc(), &mut reader, &mut writer),
+        Task::Plan => plan_text(rt.alloc(), &mut reader, &mut writer),
+    };
     writer.flush().map_err(|_| RunFault::Write)?;
-    played
+    done
 }

@@ -1,35 +1,55 @@
 // The words of the command line.
-ghost use Rattle.std.specs.Prelude.{◌≡◌, ℕ, List, [], ◌∷◌, IfOk, IfErr, codes, map, string_bytes};
-ghost use Rattle.std.specs.Str.{bytes_eq};
+ghost use Rattle.std.specs.Prelude.{◌≡◌, ℕ, true, List, [], ◌∷◌, IfOk, IfErr, codes, map, option_and_then, string_bytes};
 ghost use Rattle.clap.specs.Words.{kind_of};
-ghost use Rattle.pnscript.specs.Words.{asks_for_run};
+ghost use Rattle.pnscript.specs.Words.{is_word, task_asked, task_named};
 
 use clap::error::ErrorKind;
 use clap::{Command, Error};
 use script_runner::RunFault;
 use std::alloc::Global;
 
-/// Whether the words, the program's name the first of them, are those of a run: `run`, and nothing else.
-pub(crate) fn is_run(alloc: Global, words: &[String]) -> Result<bool, RunFault>
-    ensures answer { IfOk result (λ is_run. is_run ≡ asks_for_run (map string_bytes words.now)) }
+/// What the program does.
+#[derive(Clone, Copy)]
+pub(crate) enum Task {
+    /// Runs the script on standard input.
+    Run,
+    /// Makes the plan of the catalogue on standard input.
+    Plan,
+}
+
+/// What the words, the program's name the first of them, ask for: `run` or `plan`, and nothing else.
+pub(crate) fn task_of(alloc: Global, words: &[String]) -> Result<Option<Task>, RunFault>
+    ensures answer { IfOk result (λ task. task ≡ task_asked (map string_bytes words.now)) }
     ensures fault { IfErr result (λ fault. fault ≡ RunFault.OutOfMemory) }
 {
     if words.len() != 2 {
-        return Ok(false);
+        return Ok(None);
     }
     match command_in(alloc, words) {
-        Ok(is_run) => Ok(is_run),
+        Ok(task) => Ok(task),
         Err(error) if error.kind() == ErrorKind::OutOfMemory => Err(RunFault::OutOfMemory),
-        Err(_) => Ok(false),
+        Err(_) => Ok(None),
     }
 }
 
-// Whether the one word behind the program's name is the command `run`. Where it is, only memory can be wanting.
-fn command_in(alloc: Global, words: &[String]) -> Result<bool, Error>
-    ensures met { IfOk result (λ is_run. (program word : List ℕ) → map string_bytes words.now ≡ program ∷ word ∷ [] → is_run ≡ bytes_eq (codes "run") word) }
-    ensures passes { IfErr result (λ error. (program : List ℕ) → map string_bytes words.now ≡ program ∷ codes "run" ∷ [] → kind_of error ≡ ErrorKind.OutOfMemory) }
+// Which command the one word behind the program's name is. Where it is one, only memory can be wanting.
+fn command_in(alloc: Global, words: &[String]) -> Result<Option<Task>, Error>
+    ensures met { IfOk result (λ task. (program word : List ℕ) → map string_bytes words.now ≡ program ∷ word ∷ [] → task ≡ task_named word) }
+    ensures passes { IfErr result (λ error. (program word : List ℕ) → is_word word ≡ true → map string_bytes words.now ≡ program ∷ word ∷ [] → kind_of error ≡ ErrorKind.OutOfMemory) }
 {
-    let command = Command::new(alloc, "pnscript").subcommand(Command::new(alloc, "run"))?;
+    let alone = Command::new(alloc, "pnscript").subcommand(Command::new(alloc, "run"))?;
+    let command = alone.subcommand(Command::new(alloc, "plan"))?;
     let matches = command.try_get_matches_from(words)?;
-    Ok(matches.subcommand_name() == Some("run"))
+    Ok(task_in(matches.subcommand_name()))
+}
+
+// The task of a command, where one was met.
+fn task_in(name: Option<&str>) -> Option<Task>
+    ensures { result ≡ option_and_then (λ word. task_named word.now) name.entry }
+{
+    match name {
+        Some("run") => Some(Task::Run),
+        Some("plan") => Some(Task::Plan),
+        _ => None,
+    }
 }

@@ -6,3 +6,4 @@ pub mod Known
 pub mod Playing
 pub mod Decimals
 pub mod Ticking
+mod Flashes

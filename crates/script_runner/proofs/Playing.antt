@@ -134,7 +134,7 @@ done_obeyed answer device before now done = record { runs = done.runs; text = do
 -- what was rendered was written
 pub obeyed_puts : (answer : Answer) (power : Power) (text : List ℕ) (old new : Option (List ℕ)) (result : Result (Unit {0}) RunFault) → IsObeyed answer power [] text → Puts old new text result → Obeys answer old new power result
 obeyed_puts answer power text old new (Ok done) obeyed puts = (subst (Appends old new) obeyed.text puts, obeyed.runs)
-obeyed_puts answer power text old new (Err fault) obeyed puts = (puts.0, subst (AppendsFront old new) obeyed.text puts.1)
+obeyed_puts answer power text old new (Err fault) obeyed puts = (inl puts.0, subst (AppendsFront old new) obeyed.text puts.1)
 
 -- a run that broke off
 pub played_broken : (old new : Option (List ℕ)) (input : List ℕ) (fault : RunFault) → (fault ≡ Write) ⊎ (fault ≡ OutOfMemory) → AppendsFront old new (output_of input) → IsPlayed old new input (Err fault)

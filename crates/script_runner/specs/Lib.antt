@@ -9,3 +9,4 @@ pub mod Show
 pub mod Script
 pub mod Told
 pub mod Session
+pub mod Planned

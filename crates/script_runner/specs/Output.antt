@@ -1,8 +1,8 @@
 -- What a writer gets.
-use Rattle.std.specs.Prelude.{◌≡◌, ◌⊎◌, ℕ, List, ◌++◌, Option, Result, Ok, Err}
+use Rattle.std.specs.Prelude.{◌≡◌, ℕ, List, ◌++◌, Option, Result, Ok, Err}
 use Rattle.std.specs.Io.KnownBytes.{Appends}
 use Rattle.script_runner.specs.declared.fault.RunFault.{RunFault}
-use Rattle.script_runner.specs.declared.fault.RunFault.TheVariants.{Write, OutOfMemory}
+use Rattle.script_runner.specs.declared.fault.RunFault.TheVariants.{Write}
 
 -- the writer got a front of the text
 pub record AppendsFront (old new : Option (List ℕ)) (text : List ℕ) : Type 0 where
@@ -15,7 +15,7 @@ pub record AppendsFront (old new : Option (List ℕ)) (text : List ℕ) : Type 0
 abbrev pub Grows : Option (List ℕ) → Option (List ℕ) → Type 0
 Grows old new = (text : List ℕ) × Appends old new text
 
--- the writer got the text, or a front of it before a write failed or memory was refused
+-- the writer got the text, or a front of it before a write failed
 abbrev pub Puts : Option (List ℕ) → Option (List ℕ) → List ℕ → Result (Unit {0}) RunFault → Type 0
 Puts old new text (Ok done) = Appends old new text
-Puts old new text (Err fault) = ((fault ≡ Write) ⊎ (fault ≡ OutOfMemory)) × AppendsFront old new text
+Puts old new text (Err fault) = (fault ≡ Write) × AppendsFront old new text

@@ -1,8 +1,12 @@
 -- A run between two lines, and what one line does.
-use Rattle.std.specs.Prelude.{◌≡◌, ◌⊎◌, ℕ, Bool, true, false, List, [], ◌++◌, Option, Some, None, Result, Ok, Err}
+use Rattle.std.specs.Prelude.{◌≡◌, ◌⊎◌, ℕ, Bool, true, false, List, [], ◌∷◌, ◌++◌, Option, Some, None, Result, Ok, Err}
 use Rattle.std.specs.Io.KnownBytes.{Appends}
 use Rattle.flash_model.specs.declared.memory.MemoryFlash.{MemoryFlash}
-use Rattle.flash_model.specs.Memory.{image_of, failures_of, is_powerless, IsReliable}
+use Rattle.flash_model.specs.declared.flash.Order.{Order}
+use Rattle.flash_model.specs.Asked.{IsAsked}
+use Rattle.flash_model.specs.Calls.{Arms}
+use Rattle.flash_model.specs.Fate.{against_writes}
+use Rattle.flash_model.specs.Memory.{armed_in, image_of, failures_of, is_powerless, IsReliable}
 use Rattle.settings_journal.specs.Commit.{HasBootCause}
 use Rattle.settings_journal.specs.Image.{StartsWith, IsForeign, LeftByDevice}
 use Rattle.settings_journal.specs.declared.journal.BootFault.{BootFault}
@@ -53,15 +57,27 @@ IsDemo (On device) = device.station ≡ demo_device
 IsDemo (Off fault flash) = Unit {0}
 IsDemo Away = ⊥
 
--- The demo device was started over this flash, of which no byte has changed: it runs what is stored, and nothing is left of an
+-- The same flash: no byte of it has changed, and what is armed against its program and erase calls is armed still. A read may have
+-- spent an order to reads.
+abbrev pub IsSameFlash : MemoryFlash 4096 → MemoryFlash 4096 → Type 0
+IsSameFlash old new = (image_of new ≡ image_of old) × (against_writes (armed_in new) ≡ against_writes (armed_in old))
+
+-- The demo device was started over this flash, which is the same still: it runs what is stored, and nothing is left of an
 -- earlier cycle; or its start was refused, for a cause of its own. A flash is foreign where it cannot be read.
 abbrev pub IsOver : MemoryFlash 4096 → Power → Type 0
 IsOver flash (On device) =
     IsDemo (On device) × (device.live ≡ started device.live.values.stored device.live.values.room)
-    × StartsWith (image_of device.flash) device.live.values.stored device.live.values.room × (image_of device.flash ≡ image_of flash)
+    × StartsWith (image_of device.flash) device.live.values.stored device.live.values.room × IsSameFlash flash device.flash
 IsOver flash (Off fault left) =
-    HasBootCause fault (failures_of flash) (failures_of left) × (fault ≡ Foreign → IsForeign (image_of left)) × (image_of left ≡ image_of flash)
+    HasBootCause fault (failures_of flash) (failures_of left) × (fault ≡ Foreign → IsForeign (image_of left)) × IsSameFlash flash left
 IsOver flash Away = ⊥
+
+-- The flash was told this, and nothing else of the run changed.
+abbrev pub IsArmed : Order → Power → Power → Type 0
+IsArmed order (On old) (On new) = (new.station ≡ old.station) × (new.live ≡ old.live) × IsAsked old.flash (Arms order ∷ []) new.flash
+IsArmed order (Off fault old) (Off still new) = (still ≡ fault) × IsAsked old (Arms order ∷ []) new
+IsArmed order Away Away = Unit {0}
+IsArmed order old new = ⊥
 
 -- the flash has power again, and the demo device was started over it
 abbrev pub IsBack : Power → Power → Type 0

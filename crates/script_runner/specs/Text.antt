@@ -21,6 +21,10 @@ boot_line (Some Foreign) = printed (codes "boot foreign")
 abbrev pub off_line : List ℕ
 off_line = printed (codes "off")
 
+-- power was lost in an event
+abbrev pub lost_line : List ℕ
+lost_line = printed (codes "power lost")
+
 -- a frame that is sent, in hex
 unfoldable pub out_line : List ℕ → List ℕ
 out_line frame = printed (codes "out " ++ encode_lower frame)

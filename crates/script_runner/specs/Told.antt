@@ -3,7 +3,7 @@ use Rattle.std.specs.Prelude.{◌≡◌, ◌<◌, ◌≤◌, ◌⊎◌, ℕ, tru
 use Rattle.std.specs.Io.KnownBytes.{Appends, Keeps}
 use Rattle.std.specs.Str.Lines.{lines}
 use Rattle.script_runner.specs.declared.fault.RunFault.{RunFault}
-use Rattle.script_runner.specs.declared.fault.RunFault.TheVariants.{Read, Write, Line, OutOfMemory, EndlessInput}
+use Rattle.script_runner.specs.declared.fault.RunFault.TheVariants.{Read, Write, Line, OutOfMemory, Config, EndlessInput}
 use Rattle.script_runner.specs.Output.{AppendsFront}
 use Rattle.script_runner.specs.Script.{output_of, refused_line, has_order}
 
@@ -16,6 +16,7 @@ Plays old new input (Err (Line n)) = Appends old new (output_of input) × (refus
 Plays old new input (Err Write) = AppendsFront old new (output_of input)
 Plays old new input (Err OutOfMemory) = AppendsFront old new (output_of input)
 Plays old new input (Err Read) = ⊥
+Plays old new input (Err (Config n)) = ⊥
 Plays old new input (Err EndlessInput) = ⊥
 
 -- A line orders a failure of the flash and none before it is refused: all that these print was written, and then more.
@@ -41,6 +42,7 @@ IsWhole old new input (Err EndlessInput) = Keeps old new × (limit < length inpu
 IsWhole old new input (Err OutOfMemory) = Unit {0}
 IsWhole old new input (Ok done) = length input ≤ limit
 IsWhole old new input (Err (Line n)) = length input ≤ limit
+IsWhole old new input (Err (Config n)) = length input ≤ limit
 IsWhole old new input (Err Write) = length input ≤ limit
 
 -- Of the same: what was written of its output.
@@ -50,6 +52,7 @@ IsTold old new input (Err EndlessInput) = Keeps old new
 IsTold old new input (Err OutOfMemory) = IsPlayed old new input (Err OutOfMemory)
 IsTold old new input (Ok done) = IsPlayed old new input (Ok done)
 IsTold old new input (Err (Line n)) = IsPlayed old new input (Err (Line n))
+IsTold old new input (Err (Config n)) = IsPlayed old new input (Err (Config n))
 IsTold old new input (Err Write) = IsPlayed old new input (Err Write)
 
 -- a fault of a script that was read
@@ -58,4 +61,5 @@ IsPlayFault Read = ⊥
 IsPlayFault Write = Unit {0}
 IsPlayFault (Line n) = Unit {0}
 IsPlayFault OutOfMemory = Unit {0}
+IsPlayFault (Config n) = ⊥
 IsPlayFault EndlessInput = ⊥

@@ -1,7 +1,8 @@
 // Why a run ended early.
 ghost use Rattle.std.specs.Prelude.{◌≡◌};
-ghost use Rattle.script_runner.specs.Fault.{number_of};
+ghost use Rattle.script_runner.specs.Fault.{fault_of, number_of};
 
+use configurator::PlanFault;
 use thiserror::Error;
 
 /// Why a run ended early.
@@ -20,7 +21,10 @@ pub enum RunFault {
     /// There was no memory.
     #[error("out of memory")]
     OutOfMemory,
-    /// The script is longer than 16,777,216 bytes; nothing was written.
+    /// A catalogue has no plan: the number of its fault.
+    #[error("config {0}")]
+    Config(u8),
+    /// The input is longer than 16,777,216 bytes; nothing was written.
     #[error("endless input")]
     EndlessInput,
 }
@@ -35,7 +39,19 @@ impl RunFault {
             RunFault::Write => 2,
             RunFault::Line(_) => 3,
             RunFault::OutOfMemory => 4,
+            RunFault::Config(_) => 5,
             RunFault::EndlessInput => 6,
+        }
+    }
+}
+
+impl From<PlanFault> for RunFault {
+    ghost from_gives = { λ plan fault. fault ≡ fault_of plan };
+
+    fn from(fault: PlanFault) -> RunFault {
+        match fault {
+            PlanFault::OutOfMemory => RunFault::OutOfMemory,
+            fault => RunFault::Config(fault.number()),
         }
     }
 }

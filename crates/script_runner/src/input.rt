@@ -1,4 +1,4 @@
-// The whole of a script, read before anything is done.
+// The whole of the input, read before anything is done.
 ghost use Rattle.std.specs.Prelude.{◌≡◌, ◌<◌, ◌≤◌, ◌⊎◌, ◌+◌, ◌++◌, length, IfOk, IfErr, IfSome};
 
 use crate::RunFault;

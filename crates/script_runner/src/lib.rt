@@ -9,6 +9,7 @@ mod fault;
 mod input;
 mod numbers;
 mod output;
+mod plan;
 mod play;
 mod render;
 mod session;
@@ -16,4 +17,5 @@ mod show;
 mod whole;
 
 pub use fault::RunFault;
+pub use plan::plan_text;
 pub use whole::run;

@@ -2,13 +2,14 @@
 ghost use Rattle.std.specs.Prelude.{◌≡◌, ◌⊎◌, ◌++◌, ℕ, true, false, [], IfErr, IfOk, OnOk, map, take};
 ghost use Rattle.pn_values.specs.declared.settings.Settings.{Settings};
 ghost use Rattle.flash_model.specs.Image.{erased};
-ghost use Rattle.flash_model.specs.Memory.{image_of, IsReliable};
+ghost use Rattle.flash_model.specs.Memory.{image_of, is_powerless, IsReliable};
 ghost use Rattle.settings_journal.specs.Image.{StartsWith, LeftByDevice};
 ghost use Rattle.device_frames.specs.declared.event.Event.TheVariants as event;
 ghost use Rattle.device_core.specs.Machine.{step_of};
 ghost use Rattle.script_runner.specs.Read.{line_read};
 ghost use Rattle.script_runner.specs.Script.{Station, demo_started, step_answer, ticked};
 ghost use Rattle.script_runner.specs.Show.{module_shown, outputs_shown, part_shown};
+ghost use Rattle.script_runner.specs.Text.{lost_line};
 ghost use Rattle.script_runner.specs.Session.{Runs, IsStepped, IsDone, is_heard_off};
 
 use crate::bytes::{copied, front};
@@ -115,11 +116,11 @@ pub(crate) struct Session<'a> {
 }
 
 impl<'a> Session<'a> {
-    ghost use Rattle.script_runner.specs.Line.{Frame, Restart, Tick, Show, Input, Alarm, meaning_of};
+    ghost use Rattle.script_runner.specs.Line.{Arm, Frame, Restart, Tick, Show, Input, Alarm, meaning_of};
     ghost use Rattle.script_runner.specs.Read.{command_read};
     ghost use Rattle.script_runner.specs.Output.{Grows};
     ghost use Rattle.script_runner.specs.Script.{said, factory_device, arms, is_order};
-    ghost use Rattle.script_runner.specs.Session.{IsDemo, IsRunning, IsBack, Takes, TakesOff, GivesBack, Obeys, IsObeyed, is_off, refusal_of};
+    ghost use Rattle.script_runner.specs.Session.{IsArmed, IsDemo, IsRunning, IsBack, Takes, TakesOff, GivesBack, Obeys, IsObeyed, is_off, refusal_of};
     ghost use Rattle.script_runner.specs.Text.{boot_line};
 
     /// The demo device over this flash, as it starts.
@@ -188,6 +189,7 @@ impl<'a> Session<'a> {
         ensures back { command_read command.entry ≡ Restart → IsBack self.old.power self.new.power }
         ensures printed { command_read command.entry ≡ Restart →
             OnOk result (self.new.text.items ≡ self.old.text.items ++ boot_line (refusal_of self.new.power)) }
+        ensures armed { (order : Order) → command_read command.entry ≡ Arm order → IsArmed order self.old.power self.new.power }
         ensures demo { IsDemo self.old.power → IsDemo self.new.power }
     {
         match command {
@@ -306,6 +308,7 @@ impl<'a> Session<'a> {
 
     /// Tells the flash what to do to a later call.
     fn arm(&mut self, order: Order)
+        ensures armed { IsArmed order self.old.power self.new.power }
         ensures demo { IsDemo self.old.power → IsDemo self.new.power }
     {
         match &mut self.power {
@@ -410,6 +413,7 @@ fn respond(
 ) -> Result<(), AllocError>
     ensures done { (station : Station) → Runs station device.old →
         OnOk result (IsDone (step_answer station (step_of [] station.device station.live event.now)) device.new text.old.items text.new.items) }
+    ensures lost { is_powerless device.new.flash ≡ true → OnOk result (text.new.items ≡ lost_line) }
     ensures same { device.new.station ≡ device.old.station }
 {
     let note = step(device, event, outbox, text)?;

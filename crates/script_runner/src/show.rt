@@ -70,7 +70,8 @@ fn octets(octets: [u8; 4], text: &mut Vec<u8>) -> Result<(), AllocError>
     number(u32::from(octets[3]), text)
 }
 
-fn number(number: u32, text: &mut Vec<u8>) -> Result<(), AllocError>
+/// A decimal number. This is no line of its own.
+pub(crate) fn number(number: u32, text: &mut Vec<u8>) -> Result<(), AllocError>
     ensures { OnOk result (text.new.items ≡ text.old.items ++ decimal number) }
 {
     let mut buffer = Buffer::new();

@@ -11,6 +11,7 @@ mod input;
 mod lines;
 mod losses;
 mod off;
+mod plan;
 mod relation;
 mod rows;
 mod struck;

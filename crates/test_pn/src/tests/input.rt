@@ -7,11 +7,11 @@ use std::test::Fail;
 
 /// A reader of one byte, over and over.
 #[derive(Drop)]
-struct Repeated {
-    byte: u8,
-    left: u64,
-    at_once: usize,
-    reads: u64,
+pub(super) struct Repeated {
+    pub(super) byte: u8,
+    pub(super) left: u64,
+    pub(super) at_once: usize,
+    pub(super) reads: u64,
 }
 
 impl Read for Repeated {
@@ -33,8 +33,8 @@ impl Read for Repeated {
 
 /// A reader that fails at its second read.
 #[derive(Drop)]
-struct Broken {
-    is_first: bool,
+pub(super) struct Broken {
+    pub(super) is_first: bool,
 }
 
 impl Read for Broken {
@@ -50,8 +50,8 @@ impl Read for Broken {
 
 /// A writer with room for 10 bytes.
 #[derive(Drop)]
-struct Narrow {
-    taken: ArrayVec<u8, 10>,
+pub(super) struct Narrow {
+    pub(super) taken: ArrayVec<u8, 10>,
 }
 
 impl Write for Narrow {
@@ -133,6 +133,7 @@ fn texts(rt: HostRuntime) -> Result<(), Fail> {
         (RunFault::Write, 2, "write"),
         (RunFault::Line(70_000), 3, "line 70000"),
         (RunFault::OutOfMemory, 4, "out of memory"),
+        (RunFault::Config(11), 5, "config 11"),
         (RunFault::EndlessInput, 6, "endless input"),
     ];
     for (fault, number, text) in cases {

@@ -11,8 +11,8 @@ unfolding output_of
 returns-in_err-put g c =
     let p = err_from_is_err_and c.from_residual.result c.from_residual.ensures.1 in
     rw (p.1, p.2) (record {
-      faults = play_fault _ c.in_err-put.ensures.0;
-      played = played_broken _ _ c.args.input.now _ c.in_err-put.ensures.0 (front_longer _ _ _ _ c.in_err-put.ensures.1);
+      faults = play_fault _ (inl c.in_err-put.ensures.0);
+      played = played_broken _ _ c.args.input.now _ (inl c.in_err-put.ensures.0) (front_longer _ _ _ _ c.in_err-put.ensures.1);
     })
 
 pub loop-rest-init : goal.loop-rest-init

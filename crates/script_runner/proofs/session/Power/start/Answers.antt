@@ -1,5 +1,5 @@
 use Rattle.std.proofs.Common.{subst, sym, ◌∙◌, ap}
-use Rattle.settings_journal.specs.Image.{LeftByDevice, IsForeign}
+use Rattle.settings_journal.specs.Image.{LeftByDevice, IsForeign, StartsWith}
 use Rattle.script_runner.proofs.session.Power.start.Goals as goal
 
 pub returns-in-Ok-clause-stored : goal.returns-in-Ok-clause-stored
@@ -22,5 +22,13 @@ pub returns-in-Err-clause-back : goal.returns-in-Err-clause-back
 returns-in-Err-clause-back c = (
   c.in-Err.ensures.cause,
   λ foreign. subst IsForeign (sym c.in-Err.ensures.same) (c.in-Err.ensures.foreign foreign),
-  c.in-Err.ensures.same,
+  (c.in-Err.ensures.same, ap (λ chip. chip.armed) c.in-Err.ensures.calls),
+)
+
+pub returns-in-Ok-clause-back : goal.returns-in-Ok-clause-back
+returns-in-Ok-clause-back c = (
+  rw (c.identity.ensures, c.real.ensures) at c.in-Ok.ensures.station,
+  c.in-Ok.ensures.fresh,
+  subst (λ image. StartsWith image c.in-Ok.device.live.values.stored c.in-Ok.device.live.values.room) (sym c.in-Ok.ensures.same) c.in-Ok.ensures.starts,
+  (c.in-Ok.ensures.same, ap (λ chip. chip.armed) c.in-Ok.ensures.calls),
 )

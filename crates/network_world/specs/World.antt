@@ -1,0 +1,126 @@
+-- Both ends of a network, and the worlds that moves make.
+use Rattle.std.specs.Prelude.{◌≡◌, ◌++◌, ◌&&◌, ℕ, Bool, true, false, not, List, [], ◌∷◌, slice_get, Option, Some, None, Result, Ok, Err}
+use Rattle.flash_model.specs.Calls.{Call}
+use Rattle.flash_model.specs.Image.{Image}
+use Rattle.frame_codec.specs.declared.fault.FrameFault.{FrameFault}
+use Rattle.frame_codec.specs.FrameId.{is_cyclic}
+use Rattle.frame_codec.specs.Meaning.{Meaning, Content, RealTime, ArpPacket, UdpDatagram}
+use Rattle.frame_codec.specs.Frame.{frame_of}
+use Rattle.call_blocks.specs.Naming.{is_relation}
+use Rattle.relations.specs.Link.{uuid_of}
+use Rattle.device_frames.specs.declared.event.Event.TheVariants.{Frame}
+use Rattle.device_frames.specs.Heard.{Heard, Ticks, Given, Raised, heard_of}
+use Rattle.device_core.specs.declared.note.Note.{Note}
+use Rattle.device_core.specs.State.{State}
+use Rattle.device_core.specs.Steps.{Steps}
+use Rattle.controller_core.specs.declared.state.State.{State as ControllerState}
+use Rattle.controller_core.specs.declared.state.State.TheVariants.{Looking, Addressing, Connecting, Writing, Ending, Waiting, Exchanging, Ended}
+use Rattle.controller_core.specs.declared.event.Event.{Event as ControllerEvent}
+use Rattle.controller_core.specs.declared.event.Event.TheVariants as controller
+use Rattle.controller_core.specs.State.{Controlling}
+use Rattle.controller_core.specs.Machine.{step_of}
+use Rattle.network_world.specs.declared.moves.End.{End}
+use Rattle.network_world.specs.declared.moves.End.TheVariants.{Device, Controller}
+use Rattle.network_world.specs.declared.moves.Move.{Move}
+use Rattle.network_world.specs.declared.moves.Move.TheVariants as move
+use Rattle.network_world.specs.Sent.{Sent}
+
+-- a device over a flash, its controller, and the octets of each frame that either ever sent, the first one first
+pub record World (F : Type 0) : Type 0 where
+  pub device : State F
+  pub controller : Controlling
+  pub sent : List (List ℕ)
+
+-- the world of these
+abbrev pub world_of : {F : Type 0} → State F → Controlling → Sent → World F
+world_of device controller sent = record { device = device; controller = controller; sent = sent.frames }
+
+-- ---- which frames are skipped
+
+abbrev pub is_cyclic_content : Content → Bool
+is_cyclic_content (RealTime frame_id body) = is_cyclic frame_id
+is_cyclic_content (ArpPacket arp) = false
+is_cyclic_content (UdpDatagram source destination body) = false
+
+abbrev pub is_cyclic_read : Result Meaning FrameFault → Bool
+is_cyclic_read (Ok meaning) = is_cyclic_content meaning.content
+is_cyclic_read (Err fault) = false
+
+-- whether octets are a cyclic frame, to whomever it goes
+unfoldable pub is_cyclic_frame : List ℕ → Bool
+is_cyclic_frame octets = is_cyclic_read (frame_of octets)
+
+abbrev pub is_ended : ControllerState → Bool
+is_ended Looking = false
+is_ended Addressing = false
+is_ended Connecting = false
+is_ended Writing = false
+is_ended Ending = false
+is_ended Waiting = false
+is_ended Exchanging = false
+is_ended (Ended cause) = true
+
+-- whether an end has left the relation of this controller: the device that has none, or one of another ARUUID, and a controller that
+-- ended
+abbrev pub has_left : {F : Type 0} → State F → Controlling → End → Bool
+has_left device controller Device = not (is_relation (uuid_of device.live.rest.link) controller.setup.ar)
+has_left device controller Controller = is_ended controller.live.phase
+
+-- whether a frame that comes to an end is skipped
+abbrev pub is_skipped : {F : Type 0} → State F → Controlling → End → List ℕ → Bool
+is_skipped device controller end octets = is_cyclic_frame octets && has_left device controller end
+
+-- ---- what a move does
+
+-- A device heard this, whatever its flash did: it made a step, and what it sent stands behind all that was sent.
+pub record IsHeard {F : Type 0} (image : F → Image) (failures : F → ℕ) (asked : F → List Call → F → Type 0) (before : State F) (sent : List (List ℕ)) (heard : Heard) (after : State F) (all : List (List ℕ)) : Type 0 where
+  pub frames : List (List ℕ)
+  pub note : Note
+  pub steps : Steps image failures asked before heard frames note after
+  pub behind : all ≡ sent ++ frames
+
+-- The device heard this, and nothing else changed.
+pub record AtDevice {F : Type 0} (image : F → Image) (failures : F → ℕ) (asked : F → List Call → F → Type 0) (before : World F) (heard : Heard) (after : World F) : Type 0 where
+  pub hears : IsHeard image failures asked before.device before.sent heard after.device after.sent
+  pub controller : after.controller ≡ before.controller
+
+-- the controller took an event, and nothing else changed
+abbrev pub at_controller : {F : Type 0} → World F → ControllerEvent → World F
+at_controller before event = record {
+  device = before.device;
+  controller = (step_of before.controller event).controller;
+  sent = before.sent ++ (step_of before.controller event).frames;
+}
+
+-- octets come to an end from the network, or were skipped
+abbrev pub Comes : {F : Type 0} → (F → Image) → (F → ℕ) → (F → List Call → F → Type 0) → Bool → World F → End → List ℕ → World F → Type 0
+Comes image failures asked true before end octets after = after ≡ before
+Comes image failures asked false before Device octets after =
+    AtDevice image failures asked before (heard_of before.device.station.identity (Frame (record { items = octets }))) after
+Comes image failures asked false before Controller octets after = after ≡ at_controller before (controller.Frame (record { items = octets }))
+
+-- a frame comes to an end, if there is one
+abbrev pub Delivers : {F : Type 0} → (F → Image) → (F → ℕ) → (F → List Call → F → Type 0) → Option (List ℕ) → World F → End → World F → Type 0
+Delivers image failures asked None before end after = after ≡ before
+Delivers image failures asked (Some octets) before end after =
+    Comes image failures asked (is_skipped before.device before.controller end octets) before end octets after
+
+-- a unit of time is over at an end
+abbrev pub Passes : {F : Type 0} → (F → Image) → (F → ℕ) → (F → List Call → F → Type 0) → World F → End → World F → Type 0
+Passes image failures asked before Device after = AtDevice image failures asked before Ticks after
+Passes image failures asked before Controller after = after ≡ at_controller before controller.Tick
+
+-- a move is made
+abbrev pub Happens : {F : Type 0} → (F → Image) → (F → ℕ) → (F → List Call → F → Type 0) → World F → Move → World F → Type 0
+Happens image failures asked before (move.Deliver end number) after = Delivers image failures asked (slice_get before.sent number) before end after
+Happens image failures asked before (move.Tick end) after = Passes image failures asked before end after
+Happens image failures asked before (move.Input slot subslot value) after = AtDevice image failures asked before (Given slot subslot value.items) after
+Happens image failures asked before (move.Alarm slot subslot octets) after = AtDevice image failures asked before (Raised slot subslot octets.items) after
+Happens image failures asked before (move.Give slot subslot value) after = after ≡ at_controller before (controller.Give slot subslot value)
+Happens image failures asked before move.Stop after = after ≡ at_controller before controller.Stop
+
+-- moves are made, one behind the other: a world that they allow
+abbrev pub Played : {F : Type 0} → (F → Image) → (F → ℕ) → (F → List Call → F → Type 0) → World F → List Move → World F → Type 0
+Played image failures asked before [] after = after ≡ before
+Played {F} image failures asked before (one ∷ moves) after =
+    (next : World F) × Happens image failures asked before one next × Played image failures asked next moves after

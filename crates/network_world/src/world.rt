@@ -1,0 +1,246 @@
+//! Both ends, and every frame that either ever sent.
+ghost use Rattle.std.specs.Prelude.{◌≡◌, ◌≤◌, ◌<◌, ◌++◌, ◌∷◌, [], ℕ, length, option_map, slice_get, take, OnErr, OnOk};
+ghost use Rattle.controller_core.specs.Machine.{opening_of, step_of};
+ghost use Rattle.device_frames.specs.Heard.{heard_of};
+ghost use Rattle.network_world.specs.World.{Comes, Delivers, Happens, IsHeard, Passes, Played, is_cyclic_frame, is_ended, is_skipped, world_of};
+
+use crate::sent::SentFrames;
+use crate::{End, Move};
+use call_blocks::is_relation;
+use controller_core::{Controller, Event as ControllerEvent, State};
+use device_core::{Device, Event as DeviceEvent};
+use flash_model::Flash;
+use frame_codec::{Bytes, Frame, Outbox, is_cyclic, read_real_time};
+use std::alloc::{AllocError, Global};
+use std::marker::Model;
+
+/// A device, its controller, and every frame that either ever sent. The device has the flash that it was given, which may fail and
+/// may lose power.
+#[derive(Drop)]
+pub struct World<F: Flash<S>, const S: usize> {
+    device: Device<F, S>,
+    controller: Controller,
+    sent: SentFrames,
+}
+
+impl<F: Flash<S>, const S: usize> Model for World<F, S> {
+    ghost use Rattle.network_world.specs.World.{World, world_of};
+
+    ghost Value = { World F };
+
+    ghost view = { λ world. world_of world.device world.controller world.sent };
+}
+
+/// The same octets, as an event has them.
+fn bytes_of(octets: &[u8]) -> Bytes
+    requires { length octets.now ≤ 1519 }
+    ensures { result.items ≡ octets.now }
+{
+    let mut bytes = Bytes::new();
+    let _ = bytes.try_extend_from_slice(octets);
+    bytes
+}
+
+/// Whether this is a cyclic frame, to whomever it goes.
+#[tactic(auto, unfolding(crate::specs::World::is_cyclic_frame))]
+fn is_cyclic_frame(octets: &[u8]) -> bool
+    ensures { result ≡ is_cyclic_frame octets.now }
+{
+    match read_real_time(octets) {
+        Some(frame) => is_cyclic(frame.frame_id),
+        None => false,
+    }
+}
+
+/// Whether a controller has left its relation.
+fn is_ended(state: State) -> bool
+    ensures { result ≡ is_ended state }
+{
+    matches!(state, State::Ended(_))
+}
+
+/// Whether a frame that comes to an end is skipped: a cyclic frame to an end that has left the relation of this controller.
+fn is_skipped<F: Flash<S>, const S: usize>(
+    device: &Device<F, S>,
+    controller: &Controller,
+    end: End,
+    octets: &[u8],
+) -> bool
+    ensures { result ≡ is_skipped device.now controller.now end octets.now }
+{
+    if !is_cyclic_frame(octets) {
+        return false;
+    }
+    match end {
+        End::Device => !is_relation(device.ar(), &controller.ar()),
+        End::Controller => is_ended(controller.state()),
+    }
+}
+
+/// An event at the device. There is room for what it sends.
+fn happen_at_device<F: Flash<S>, const S: usize>(
+    device: &mut Device<F, S>,
+    sent: &mut SentFrames,
+    event: &DeviceEvent,
+)
+    requires room { 4 ≤ sent.old.room }
+    ensures { IsHeard F.image F.failures F.asked device.old sent.old.frames (heard_of device.old.station.identity event.now) device.new sent.new.frames }
+{
+    let mut outbox = Outbox::new();
+    let _ = device.step(event, &mut outbox);
+    sent.keep(&outbox);
+}
+
+/// An event at the controller. There is room for what it sends.
+fn happen_at_controller(controller: &mut Controller, sent: &mut SentFrames, event: &ControllerEvent)
+    requires room { 4 ≤ sent.old.room }
+    ensures state { controller.new ≡ (step_of controller.old event.now).controller }
+    ensures frames { sent.new.frames ≡ sent.old.frames ++ (step_of controller.old event.now).frames }
+{
+    let mut outbox = Outbox::new();
+    controller.step(event, &mut outbox);
+    sent.keep(&outbox);
+}
+
+/// A frame comes to an end, unless it is skipped.
+fn come<F: Flash<S>, const S: usize>(
+    device: &mut Device<F, S>,
+    controller: &mut Controller,
+    sent: &mut SentFrames,
+    end: End,
+    bytes: Bytes,
+)
+    requires room { 4 ≤ sent.old.room }
+    ensures { Comes F.image F.failures F.asked (is_skipped device.old controller.old end bytes.items) (world_of device.old controller.old sent.old) end bytes.items (world_of device.new controller.new sent.new) }
+{
+    if is_skipped(device, controller, end, bytes.as_slice()) {
+        return;
+    }
+    match end {
+        End::Device => happen_at_device(device, sent, &DeviceEvent::Frame(bytes)),
+        End::Controller => happen_at_controller(controller, sent, &ControllerEvent::Frame(bytes)),
+    }
+}
+
+/// A unit of time is over at an end.
+fn pass<F: Flash<S>, const S: usize>(
+    device: &mut Device<F, S>,
+    controller: &mut Controller,
+    sent: &mut SentFrames,
+    end: End,
+)
+    requires room { 4 ≤ sent.old.room }
+    ensures { Passes F.image F.failures F.asked (world_of device.old controller.old sent.old) end (world_of device.new controller.new sent.new) }
+{
+    match end {
+        End::Device => happen_at_device(device, sent, &DeviceEvent::Tick),
+        End::Controller => happen_at_controller(controller, sent, &ControllerEvent::Tick),
+    }
+}
+
+/// The frame of this number comes to an end, if there is one.
+fn deliver<F: Flash<S>, const S: usize>(
+    device: &mut Device<F, S>,
+    controller: &mut Controller,
+    sent: &mut SentFrames,
+    end: End,
+    number: usize,
+)
+    requires room { 4 ≤ sent.old.room }
+    ensures { Delivers F.image F.failures F.asked (slice_get sent.old.frames number) (world_of device.old controller.old sent.old) end (world_of device.new controller.new sent.new) }
+{
+    let bytes = match sent.at(number) {
+        Some(frame) => bytes_of(frame.as_slice()),
+        None => return,
+    };
+    come(device, controller, sent, end, bytes);
+}
+
+/// A move is made. There is room for what it sends.
+fn happen<F: Flash<S>, const S: usize>(
+    device: &mut Device<F, S>,
+    controller: &mut Controller,
+    sent: &mut SentFrames,
+    one: &Move,
+)
+    requires room { 4 ≤ sent.old.room }
+    ensures { Happens F.image F.failures F.asked (world_of device.old controller.old sent.old) one.now (world_of device.new controller.new sent.new) }
+{
+    match one {
+        Move::Deliver(end, number) => deliver(device, controller, sent, *end, *number),
+        Move::Tick(end) => pass(device, controller, sent, *end),
+        Move::Input(slot, subslot, value) => {
+            let input = DeviceEvent::Input(*slot, *subslot, bytes_of(value.as_slice()));
+            happen_at_device(device, sent, &input);
+        }
+        Move::Alarm(slot, subslot, octets) => {
+            let alarm = DeviceEvent::Alarm(*slot, *subslot, bytes_of(octets.as_slice()));
+            happen_at_device(device, sent, &alarm);
+        }
+        Move::Give(slot, subslot, value) => {
+            let output = ControllerEvent::Give(*slot, *subslot, bytes_of(value.as_slice()));
+            happen_at_controller(controller, sent, &output);
+        }
+        Move::Stop => happen_at_controller(controller, sent, &ControllerEvent::Stop),
+    }
+}
+
+impl<F: Flash<S>, const S: usize> World<F, S> {
+    /// A world in which nothing was sent but the frame with which the controller begins. It takes no memory.
+    pub fn new(alloc: Global, device: Device<F, S>, controller: Controller) -> Self
+        ensures { result ≡ record { device = device; controller = controller; sent = opening_of controller ∷ [] } }
+    {
+        let opening = controller.opening();
+        World {
+            device,
+            controller,
+            sent: SentFrames::new(alloc, opening),
+        }
+    }
+
+    /// The device.
+    pub fn device(&self) -> &Device<F, S>
+        ensures { result.now ≡ self.now.device }
+    {
+        &self.device
+    }
+
+    /// Its controller.
+    pub fn controller(&self) -> &Controller
+        ensures { result.now ≡ self.now.controller }
+    {
+        &self.controller
+    }
+
+    /// The frame of this number, of all that either end ever sent, if there is one. They are numbered from 0, in the order in which
+    /// they were sent.
+    pub fn sent(&self, number: usize) -> Option<&Frame>
+        ensures { option_map (λ frame. frame.now.items) result ≡ slice_get self.now.sent number }
+    {
+        self.sent.at(number)
+    }
+
+    /// Plays moves, one behind the other, whatever the flash does. For want of memory it ends in front of a move, and the moves before
+    /// it stand.
+    pub fn play(&mut self, moves: &[Move]) -> Result<(), AllocError>
+        // Each move does what it is, one behind the other.
+        ensures played { OnOk result (Played F.image F.failures F.asked self.old moves.now self.new) }
+        // So do those of a front, where memory ends.
+        ensures front { OnErr result ((count : ℕ) × (count < length moves.now) × Played F.image F.failures F.asked self.old (take count moves.now) self.new) }
+    {
+        for one in moves {
+            self.make(one)?;
+        }
+        Ok(())
+    }
+
+    // One move, where there is memory for all that it may send.
+    fn make(&mut self, one: &Move) -> Result<(), AllocError>
+        ensures made { OnOk result (Happens F.image F.failures F.asked self.old one.now self.new) }
+        ensures same { OnErr result (self.new ≡ self.old) }
+    {
+        self.sent.make_room()?;
+        happen(&mut self.device, &mut self.controller, &mut self.sent, one);
+        Ok(())
+    }
+}

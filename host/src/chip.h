@@ -1,0 +1,30 @@
+/* The flash of a station, in a file: both sectors, one behind the other. What a call asked is on the disk when it returns. */
+#ifndef HOST_CHIP_H
+#define HOST_CHIP_H
+
+#include "nandutable.h"
+#include <stdint.h>
+
+struct chip {
+    int fd;
+    const char *path;
+    int is_new; /* the file was made by this start */
+    uint8_t sectors[2][PN_SECTOR_SIZE];
+    uint64_t programs;
+    uint64_t erases;
+    uint64_t faults;
+};
+
+/* Opens the file, or makes one of erased sectors, and locks it for this process alone. Ends the program with a sentence where it
+ * cannot. */
+void chip_open(struct chip *chip, const char *path);
+
+/* Reads both sectors, and writes what was read back: what a device starts from is then on the disk, also where the process before
+ * this one died, or a write failed, between the system's memory and the disk. 0, or 1 where the file cannot be read or written. */
+int chip_settle(struct chip *chip);
+
+/* Turns ones to zeros from `place` on, and erases a sector to ones. 0, or 1 where the disk does not hold it for certain. */
+int chip_program(struct chip *chip, uint32_t sector, uint32_t place, const uint8_t *octets, uint32_t length);
+int chip_erase(struct chip *chip, uint32_t sector);
+
+#endif

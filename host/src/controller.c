@@ -1,0 +1,582 @@
+/* nandutable-controller: the controller of a station on a network interface, by the plan of a catalogue. */
+#define _GNU_SOURCE
+#include "histogram.h"
+#include "lines.h"
+#include "naming.h"
+#include "reasons.h"
+#include "say.h"
+#include "station.h"
+#include "ticker.h"
+#include "wake.h"
+#include "wire.h"
+#include "words.h"
+#include <errno.h>
+#include <getopt.h>
+#include <inttypes.h>
+#include <stdio.h>
+#include <stdlib.h>
+#include <string.h>
+#include <sys/random.h>
+
+#define VERSION "0.1.0"
+
+#define SECOND 1000000000ull
+/* Until the relation is asked for only requests are due, one a second. */
+#define IDLE_PERIOD 10000000ull /* nanoseconds */
+#define IDLE_MOST 32000u        /* units */
+#define LONGEST_PERIOD 1000000ull
+#define FRAMES_AT_ONCE 64
+/* A Release is waited for so long, and the status is written so often. */
+#define RELEASE_WAITS (SECOND / 5)
+#define STATUS_EACH (SECOND / 4)
+
+struct options {
+    const char *interface;
+    const char *plan;
+    const char *socket;
+    uint8_t assigned[6]; /* who is given the station's name first */
+    int has_assigned;
+    int is_list;
+    uint64_t period; /* nanoseconds; 0: that of the plan */
+    int realtime;
+};
+
+struct controller {
+    pn_controller room;
+    pn_op op;
+    pn_host host;
+    pn_plan plan;
+    struct wire wire;
+    struct ticker ticker;
+    struct wake wake;
+    struct lines lines;
+    struct places inputs;
+    struct places outputs;
+    struct reasons reasons;
+    uint64_t interval; /* of cyclic frames, in nanoseconds */
+    uint64_t period;
+    /* What was told last. */
+    uint32_t state;
+    uint32_t cause;
+    pn_op alarm;
+    /* Statistics. */
+    struct histogram intervals; /* between frames that came */
+    struct histogram jitter;    /* how far these are from the plan's */
+    uint64_t last_cyclic;       /* when one came, 0 for none */
+    uint16_t last_counter;
+    uint64_t lost;
+    uint64_t cyclic;
+    uint64_t next_look;
+    int is_missing_told; /* that nobody answers to the name */
+    uint64_t ends_at;    /* 0 while it is not over */
+};
+
+static const char *const states[] = {"", "looking", "addressing", "connecting", "writing", "ending", "waiting", "exchanging", "ended"};
+static const char *const causes[] = {
+    "",
+    "the station is of another VendorID or DeviceID than the plan says",
+    "the device refused a request",
+    "what is plugged in the device is not what the plan expects",
+    "no cyclic frame of the device came within the data hold time",
+    "the device ended the relation",
+    "the device did not acknowledge an alarm's AlarmAck",
+    "stopped",
+};
+
+static int transmit(void *context, const uint8_t *octets, uint32_t length)
+{
+    return wire_send(&((struct controller *)context)->wire, octets, length);
+}
+
+/* The library is used as its header says, so that none of its other answers can come. */
+static void must(uint32_t answer, const char *call)
+{
+    if (answer != PN_OK)
+        fail(STATUS_SOFTWARE, "%s answers %u: the library and this program do not fit", call, (unsigned)answer);
+}
+
+/* Sends what the step before has. A frame that does not go out is sent again by the controller, as one that is lost on the wire. */
+static void send_all(struct controller *controller)
+{
+    uint32_t answer = pn_controller_send(&controller->room, &controller->op, &controller->host);
+    if (answer != PN_NOT_SENT)
+        must(answer, "pn_controller_send");
+}
+
+/* --- What is told --- */
+
+static void tell_octets(char *text, size_t size, const char *label, const uint8_t *octets, size_t length)
+{
+    int head = snprintf(text, size, "%s ", label);
+    if (head > 0 && (size_t)head + 2 * length + 1 <= size)
+        words_hex(text + head, octets, length);
+}
+
+static void look_at_inputs(struct controller *controller)
+{
+    for (unsigned i = 0; i < controller->inputs.count; i++) {
+        struct place *place = &controller->inputs.list[i];
+        pn_op *op = &controller->op;
+        char label[32], text[2 * STATION_DATA + 64];
+        must(pn_controller_value(&controller->room, op, place->slot, place->subslot), "pn_controller_value");
+        if (op->length != place->length || memcmp(op->octets, place->octets, place->length) == 0)
+            continue;
+        memcpy(place->octets, op->octets, place->length);
+        snprintf(label, sizeof label, "input %u %u", place->slot, place->subslot);
+        tell_octets(text, sizeof text, label, place->octets, place->length);
+        lines_tell(&controller->lines, "%s", text);
+    }
+}
+
+/* The last alarm, where it is another than the one that was told. */
+static void look_at_alarm(struct controller *controller)
+{
+    pn_op *op = &controller->op, *told = &controller->alarm;
+    char label[64], text[2 * PN_OP_SIZE + 96];
+    if (pn_controller_alarm(&controller->room, op) != PN_OK)
+        return;
+    if (told->length == op->length && told->note == op->note && told->slot == op->slot && told->subslot == op->subslot && told->units == op->units &&
+        memcmp(told->octets, op->octets, op->length) == 0)
+        return;
+    *told = *op;
+    snprintf(label, sizeof label, "alarm %u %u %u %u", (unsigned)op->note, (unsigned)op->slot, (unsigned)op->subslot, (unsigned)op->units);
+    tell_octets(text, sizeof text, label, op->octets, op->length);
+    lines_tell(&controller->lines, "%s", text);
+}
+
+static void tell_end(struct controller *controller)
+{
+    char why[256];
+    reasons_words(&controller->reasons, controller->cause, why, sizeof why);
+    lines_tell(&controller->lines, "ended %u: %s%s", (unsigned)controller->cause, causes[controller->cause < 8 ? controller->cause : 0], why);
+}
+
+static void look_at_state(struct controller *controller)
+{
+    must(pn_controller_state(&controller->room, &controller->op), "pn_controller_state");
+    if (controller->op.phase == controller->state)
+        return;
+    controller->state = controller->op.phase;
+    controller->cause = controller->op.note;
+    ticker_pace(&controller->ticker, controller->state < PN_CONNECTING ? IDLE_PERIOD : controller->period);
+    if (controller->state != PN_ENDED) {
+        lines_tell(&controller->lines, "state %s", states[controller->state]);
+        return;
+    }
+    tell_end(controller);
+    look_at_inputs(controller);
+    /* These two ends are told to the device by a Release; its answer is waited for. */
+    controller->ends_at = ticker_now() + (controller->cause == PN_STOPPED || controller->cause == PN_MODULE_DIFF ? RELEASE_WAITS : 0);
+}
+
+static void status_line(const struct controller *controller, char *text, size_t size)
+{
+    const struct histogram *intervals = &controller->intervals;
+    snprintf(text, size, "%s %.*s | %" PRIu64 " frames | interval %u us, p99 %u, max %" PRIu64 " | jitter p99 %u us | lost %" PRIu64,
+             states[controller->state], (int)controller->plan.name_length, (const char *)controller->plan.name, controller->cyclic,
+             histogram_within(intervals, 500), histogram_within(intervals, 990), (intervals->most + 500) / 1000,
+             histogram_within(&controller->jitter, 990), controller->lost);
+}
+
+/* --- Events --- */
+
+static void take_time(struct controller *controller)
+{
+    uint32_t due = ticker_due(&controller->ticker, controller->state < PN_CONNECTING ? IDLE_MOST : PN_MOST_DEBT), left;
+    if (due == 0)
+        return;
+    while (due != 0) {
+        must(pn_controller_tick(&controller->room, &controller->op, due), "pn_controller_tick");
+        left = controller->op.units;
+        send_all(controller);
+        due = left;
+    }
+    look_at_state(controller);
+}
+
+/* Counts a cyclic frame: how long after the one before it came, and how many are missing between them by their CycleCounter. */
+static void count_cyclic(struct controller *controller, const uint8_t *octets, size_t length)
+{
+    uint64_t now = ticker_now(), apart = now - controller->last_cyclic, units = controller->interval / PN_UNIT_NS;
+    uint16_t counter = (uint16_t)(octets[length - 4] << 8 | octets[length - 3]);
+    uint16_t passed = (uint16_t)(counter - controller->last_counter);
+    controller->cyclic++;
+    if (controller->last_cyclic != 0) {
+        histogram_put(&controller->intervals, apart);
+        histogram_put(&controller->jitter, apart > controller->interval ? apart - controller->interval : controller->interval - apart);
+        if (passed < 0x8000 && passed > units)
+            controller->lost += passed / units - 1;
+    }
+    controller->last_cyclic = now;
+    controller->last_counter = counter;
+}
+
+/* The octets that a cyclic frame of the device has from its destination on. What trails is padding. */
+static size_t cyclic_length(const struct controller *controller, const uint8_t *octets, size_t length)
+{
+    size_t data = 0, at = wire_frame_id_at(octets, length);
+    for (uint32_t i = 0; i < controller->plan.module_count; i++)
+        for (uint16_t k = 0; k < controller->plan.modules[i].submodule_count; k++) {
+            const pn_submodule *part = &controller->plan.modules[i].submodules[k];
+            data += (part->input != 0 || part->output == 0 ? part->input + 1u : 0u) + (part->output != 0 ? 1u : 0u);
+        }
+    return at + 2 + (data < 40 ? 40 : data) + 4;
+}
+
+static void take_frame(struct controller *controller, const uint8_t *octets, size_t length)
+{
+    int is_cyclic = wire_is_cyclic(octets, length);
+    uint32_t before = controller->state;
+    must(pn_controller_frame(&controller->room, &controller->op, octets, length), "pn_controller_frame");
+    send_all(controller);
+    if (is_cyclic && memcmp(octets, controller->plan.controller_mac, 6) == 0 && cyclic_length(controller, octets, length) <= length)
+        count_cyclic(controller, octets, cyclic_length(controller, octets, length));
+    if (!is_cyclic)
+        reasons_hear(&controller->reasons, octets, length);
+    look_at_state(controller);
+    if (is_cyclic)
+        look_at_inputs(controller);
+    else if (before == PN_EXCHANGED)
+        look_at_alarm(controller);
+    if (before == PN_ENDED && reasons_is_response(octets, length))
+        controller->ends_at = ticker_now();
+}
+
+static void take_frames(struct controller *controller)
+{
+    static uint8_t octets[WIRE_FRAME];
+    size_t length;
+    /* Frames that wait came before the time that is handed in behind them: a program that was held up must not take its partner for
+     * silent. Not all at once, so that a flood of them does not hold up the time. Until something is due at a unit of time many of them
+     * are handed in at once, and then in front of the frame. */
+    for (int i = 0; i < FRAMES_AT_ONCE && wire_receive(&controller->wire, octets, &length); i++) {
+        if (controller->state < PN_CONNECTING)
+            take_time(controller);
+        take_frame(controller, octets, length);
+    }
+}
+
+static void stop(struct controller *controller)
+{
+    must(pn_controller_stop(&controller->room, &controller->op), "pn_controller_stop");
+    send_all(controller);
+    look_at_state(controller);
+}
+
+/* --- Lines --- */
+
+static void statistics(struct controller *controller, void (*tell)(struct lines *, const char *, ...))
+{
+    struct lines *lines = &controller->lines;
+    const struct histogram *intervals = &controller->intervals;
+    tell(lines, "statistics seconds %" PRIu64, (ticker_now() - controller->ticker.started) / SECOND);
+    tell(lines, "frames received %" PRIu64 " sent %" PRIu64 " not-sent %" PRIu64 " missed %" PRIu64, controller->wire.received, controller->wire.sent,
+         controller->wire.not_sent, wire_missed(&controller->wire));
+    tell(lines, "cyclic received %" PRIu64 " lost %" PRIu64, controller->cyclic, controller->lost);
+    tell(lines, "time units %" PRIu64 " forgotten %" PRIu64 " stalls %" PRIu64 " most-at-once %" PRIu64, controller->ticker.given,
+         controller->ticker.forgotten, controller->ticker.stalls, controller->ticker.longest);
+    tell(lines, "interval count %" PRIu64 " p50 %u p99 %u max %" PRIu64 " us", intervals->total, histogram_within(intervals, 500),
+         histogram_within(intervals, 990), (intervals->most + 500) / 1000);
+    tell(lines, "jitter p50 %u p99 %u max %" PRIu64 " us", histogram_within(&controller->jitter, 500), histogram_within(&controller->jitter, 990),
+         (controller->jitter.most + 500) / 1000);
+    tell(lines, "lines lost %" PRIu64, lines_lost(lines));
+}
+
+static void show_places(struct controller *controller, const char *what, const struct places *places)
+{
+    for (unsigned i = 0; i < places->count; i++) {
+        const struct place *place = &places->list[i];
+        char label[32], text[2 * STATION_DATA + 64];
+        snprintf(label, sizeof label, "%s %u %u", what, place->slot, place->subslot);
+        tell_octets(text, sizeof text, label, place->octets, place->length);
+        lines_answer(&controller->lines, "%s", text);
+    }
+}
+
+static void show(struct controller *controller)
+{
+    char text[256];
+    status_line(controller, text, sizeof text);
+    lines_answer(&controller->lines, "state %s", states[controller->state]);
+    lines_answer(&controller->lines, "status %s", text);
+    show_places(controller, "input", &controller->inputs);
+    show_places(controller, "give", &controller->outputs);
+}
+
+static void help(struct lines *lines)
+{
+    lines_answer(lines, "give SLOT SUBSLOT HEX   gives the output of a submodule");
+    lines_answer(lines, "show                    state, status, inputs and outputs");
+    lines_answer(lines, "statistics              counts since the start");
+    lines_answer(lines, "stop                    releases the relation and ends the program");
+}
+
+static void take_give(struct controller *controller, char *words[])
+{
+    uint8_t octets[STATION_DATA];
+    unsigned long slot, subslot;
+    long length = words_octets(words[3], octets, sizeof octets);
+    struct place *place;
+    if (!words_number(words[1], 65535, &slot) || !words_number(words[2], 65535, &subslot) || length < 0) {
+        lines_answer(&controller->lines, "wrong: give SLOT SUBSLOT HEX");
+        return;
+    }
+    place = station_place(&controller->outputs, (uint16_t)slot, (uint16_t)subslot);
+    if (place == NULL)
+        lines_answer(&controller->lines, "wrong: slot %lu subslot %lu has no output", slot, subslot);
+    else if (place->length != length)
+        lines_answer(&controller->lines, "wrong: the output of slot %lu subslot %lu has %u octets", slot, subslot, place->length);
+    else {
+        memcpy(place->octets, octets, (size_t)length);
+        must(pn_controller_give(&controller->room, &controller->op, place->slot, place->subslot, place->octets, place->length), "pn_controller_give");
+        send_all(controller);
+        lines_answer(&controller->lines, "state %s", states[controller->state]);
+    }
+}
+
+static void take_line(void *context, char *line)
+{
+    struct controller *controller = context;
+    char *words[4];
+    int count = words_part(line, words, 4);
+    if (count == 0)
+        return;
+    if (count == 4 && strcmp(words[0], "give") == 0)
+        take_give(controller, words);
+    else if (count == 1 && strcmp(words[0], "show") == 0)
+        show(controller);
+    else if (count == 1 && strcmp(words[0], "statistics") == 0)
+        statistics(controller, lines_answer);
+    else if (count == 1 && strcmp(words[0], "help") == 0)
+        help(&controller->lines);
+    else if (count == 1 && strcmp(words[0], "stop") == 0)
+        controller->wake.is_ended = 1;
+    else
+        lines_answer(&controller->lines, "wrong: no such line; `help` lists them");
+}
+
+/* --- The program --- */
+
+static void usage(void)
+{
+    puts("Usage: nandutable-controller IFACE PLAN.json [--assign MAC] [--socket PATH] [--period US] [--realtime N]\n"
+         "       nandutable-controller IFACE --list\n"
+         "\n"
+         "A PROFINET IO controller on the network interface IFACE. It finds the station of the plan by its name, gives it its address, makes\n"
+         "the relation, writes its records, and exchanges data until it is stopped.\n"
+         "\n"
+         "  PLAN.json        a catalogue in JSON, as `pnscript plan` reads it\n"
+         "  --list           prints a line for each station that answers within a second, and ends\n"
+         "  --assign MAC     first gives the station with this MAC address the name of the plan, to be kept\n"
+         "  --socket PATH    lines go in and out over this unix socket, and not over the standard streams\n"
+         "  --period US      time is handed in so often, 31 to 10000 microseconds (default: the plan's interval, at most 1000)\n"
+         "  --realtime N     runs by this priority, 1 to 99, of the first-in first-out scheduler\n"
+         "  --help, --version\n"
+         "\n"
+         "It takes the capability CAP_NET_RAW: run it as root, or once `setcap cap_net_raw+ep nandutable-controller`.\n"
+         "\n"
+         "Examples:\n"
+         "  nandutable-controller eth1 --list\n"
+         "  nandutable-controller eth1 pump.json --assign 02:00:00:00:00:01\n"
+         "  nandutable-controller eth1 pump.json\n"
+         "  echo 'give 2 1 00ff' | nandutable-controller eth1 pump.json\n"
+         "\n"
+         "Lines that it takes: `give SLOT SUBSLOT HEX`, `show`, `statistics`, `stop`, `help`. SIGUSR1 has it tell its statistics; SIGTERM\n"
+         "stops it, and a second one ends it at once. Its status is the cause of its end: 1 another device, 2 refused, 3 other modules,\n"
+         "4 data hold, 5 ended by the device, 6 an alarm without answer, 7 stopped; 64 and more: it did not begin.");
+}
+
+static _Noreturn void misused(const char *why, const char *word)
+{
+    fail(STATUS_USAGE, "%s%s (nandutable-controller --help)", why, word);
+}
+
+static void take_option(struct options *options, int option, const char *word)
+{
+    unsigned long number;
+    switch (option) {
+    case 'u': options->socket = word; return;
+    case 'l': options->is_list = 1; return;
+    case 'a':
+        if (!words_mac(word, options->assigned))
+            misused("--assign takes six octets in hex between colons: ", word);
+        options->has_assigned = 1;
+        return;
+    case 'p':
+        if (!words_number(word, 10000, &number) || number < 31)
+            misused("--period takes 31 to 10000 microseconds: ", word);
+        options->period = number * 1000;
+        return;
+    case 'r':
+        if (!words_number(word, 99, &number) || number < 1)
+            misused("--realtime takes 1 to 99: ", word);
+        options->realtime = (int)number;
+        return;
+    default: misused("there is no such option, or its word is missing", "");
+    }
+}
+
+static void read_words(struct options *options, int count, char *words[])
+{
+    static const struct option known[] = {{"socket", required_argument, NULL, 'u'}, {"period", required_argument, NULL, 'p'},
+                                          {"realtime", required_argument, NULL, 'r'}, {"help", no_argument, NULL, 'h'},
+                                          {"list", no_argument, NULL, 'l'},       {"assign", required_argument, NULL, 'a'},
+                                          {"version", no_argument, NULL, 'v'},        {NULL, 0, NULL, 0}};
+    int option;
+    memset(options, 0, sizeof *options);
+    opterr = 0;
+    while ((option = getopt_long(count, words, "h", known, NULL)) != -1) {
+        if (option == 'h') {
+            usage();
+            exit(0);
+        }
+        if (option == 'v') {
+            puts("nandutable-controller " VERSION);
+            exit(0);
+        }
+        take_option(options, option, optarg);
+    }
+    if (optind + (options->is_list ? 1 : 2) != count)
+        misused(options->is_list ? "name a network interface, and nothing else" : "name a network interface and a plan, and nothing else", "");
+    options->interface = words[optind];
+    options->plan = options->is_list ? NULL : words[optind + 1];
+}
+
+/* Says who is there, and ends. */
+static _Noreturn void list(struct controller *controller, const char *interface)
+{
+    wire_open(&controller->wire, interface);
+    if (naming_list(&controller->wire) == 0)
+        fail(STATUS_NO_INPUT, "no station answers on %s", interface);
+    exit(0);
+}
+
+/* Gives a station the name of the plan. */
+static void assign(struct controller *controller, const uint8_t mac[6])
+{
+    const pn_plan *plan = &controller->plan;
+    int answer = naming_assign(&controller->wire, plan->controller_mac, mac, plan->name, plan->name_length);
+    if (answer < 0)
+        fail(STATUS_NO_INPUT, "no station answers at %02x:%02x:%02x:%02x:%02x:%02x (--list says who is there)", mac[0], mac[1], mac[2], mac[3], mac[4], mac[5]);
+    if (answer > 0)
+        fail(PN_WAS_REFUSED, "the station does not take the name, BlockError %d: %s", answer, reasons_block_error((uint8_t)answer));
+}
+
+static void open_all(struct controller *controller, const struct options *options)
+{
+    const pn_plan *plan = &controller->plan;
+    controller->host = (pn_host){controller, NULL, NULL, transmit};
+    station_plan(&controller->plan, options->plan);
+    station_places(&controller->inputs, plan->modules, plan->module_count, OF_INPUT);
+    station_places(&controller->outputs, plan->modules, plan->module_count, OF_OUTPUT);
+    controller->interval = (uint64_t)plan->send_clock_factor * plan->reduction_ratio * PN_UNIT_NS;
+    controller->period = options->period != 0                     ? options->period
+                         : controller->interval < LONGEST_PERIOD ? controller->interval
+                                                                 : LONGEST_PERIOD;
+    wire_open(&controller->wire, options->interface);
+    wire_take(&controller->wire, plan->controller_mac);
+    if (options->has_assigned)
+        assign(controller, options->assigned);
+    lines_open(&controller->lines, options->socket);
+    if (options->realtime != 0)
+        wake_realtime(options->realtime);
+    wake_open(&controller->wake);
+}
+
+/* A number that nobody else uses: a UUID of version 4. */
+static void make_uuid(uint8_t uuid[16])
+{
+    if (getrandom(uuid, 16, 0) != 16)
+        fail(STATUS_SYSTEM, "the system gives no random numbers: %s", strerror(errno));
+    uuid[6] = (uint8_t)((uuid[6] & 0x0F) | 0x40);
+    uuid[8] = (uint8_t)((uuid[8] & 0x3F) | 0x80);
+}
+
+static void begin(struct controller *controller)
+{
+    const pn_plan *plan = &controller->plan;
+    const uint8_t *mac = plan->controller_mac;
+    const char *other = wire_with_address(plan->controller_address);
+    uint8_t ar[16], activity[16];
+    make_uuid(ar);
+    make_uuid(activity);
+    must(pn_controller_start(&controller->room, plan, ar, activity), "pn_controller_start");
+    ticker_open(&controller->ticker);
+    ticker_pace(&controller->ticker, IDLE_PERIOD);
+    lines_tell(&controller->lines, "controller %02x:%02x:%02x:%02x:%02x:%02x on %s, for the station '%.*s', interval %" PRIu64 " us", mac[0], mac[1], mac[2],
+               mac[3], mac[4], mac[5], controller->wire.name, (int)plan->name_length, (const char *)plan->name, controller->interval / 1000);
+    if (other != NULL)
+        lines_tell(&controller->lines, "warning: the kernel has the controller's address on %s and answers for it too: remove it (`ip address del`)", other);
+    if (!controller->wire.is_up)
+        lines_tell(&controller->lines, "link down (`ip link set %s up`)", controller->wire.name);
+    send_all(controller);
+    look_at_state(controller);
+}
+
+static void look_around(struct controller *controller)
+{
+    char text[256];
+    int change;
+    if (ticker_now() < controller->next_look)
+        return;
+    controller->next_look = ticker_now() + STATUS_EACH;
+    change = wire_look(&controller->wire);
+    if (change != 0)
+        lines_tell(&controller->lines, change > 0 ? "link up" : "link down");
+    if (ticker_tells(&controller->ticker))
+        lines_tell(&controller->lines, "stall: %" PRIu64 " units of time were forgotten since the start, in %" PRIu64 " stalls", controller->ticker.forgotten,
+                   controller->ticker.stalls);
+    if (controller->state == PN_LOOKING && !controller->is_missing_told && ticker_now() - controller->ticker.started > 3 * SECOND) {
+        controller->is_missing_told = 1;
+        lines_tell(&controller->lines, "nobody answers to the name '%.*s' yet (--list says who is there, --assign MAC gives a station this name)",
+                   (int)controller->plan.name_length, (const char *)controller->plan.name);
+    }
+    status_line(controller, text, sizeof text);
+    lines_status(&controller->lines, text);
+    controller->wake.has_lines = 1; /* what waits for a reader is written on */
+}
+
+/* A stop is asked for once; then the Release is waited for, and the second time not. */
+static int is_over(struct controller *controller)
+{
+    if (controller->wake.is_ended && controller->state == PN_ENDED)
+        return 1;
+    if (controller->wake.is_ended) {
+        controller->wake.is_ended = 0;
+        stop(controller);
+    }
+    return controller->ends_at != 0 && ticker_now() >= controller->ends_at;
+}
+
+static void run(struct controller *controller)
+{
+    while (!is_over(controller)) {
+        wake_wait(&controller->wake, &controller->wire, &controller->ticker, &controller->lines);
+        take_frames(controller);
+        take_time(controller);
+        if (controller->wake.has_lines) {
+            controller->wake.has_lines = 0;
+            lines_take(&controller->lines, take_line, controller);
+        }
+        if (controller->wake.is_asked) {
+            controller->wake.is_asked = 0;
+            statistics(controller, lines_tell);
+        }
+        look_around(controller);
+    }
+}
+
+int main(int count, char *words[])
+{
+    static struct controller controller;
+    struct options options;
+    say_as("nandutable-controller");
+    read_words(&options, count, words);
+    if (options.is_list)
+        list(&controller, options.interface);
+    open_all(&controller, &options);
+    begin(&controller);
+    run(&controller);
+    lines_close(&controller.lines);
+    return (int)controller.cause;
+}

@@ -1,0 +1,131 @@
+#define _GNU_SOURCE
+#include "naming.h"
+#include "ticker.h"
+#include <poll.h>
+#include <stdio.h>
+#include <string.h>
+
+#define SECOND 1000000000ull
+#define LEAST_FRAME 60u
+#define BLOCKS_AT 26u /* behind addresses, EtherType, FrameID and the header of DCP */
+
+enum { SERVICE_SET = 4, SERVICE_IDENTIFY = 5 };
+enum { FRAME_SET = 0xFEFD, FRAME_IDENTIFY = 0xFEFE, FRAME_IDENTIFIED = 0xFEFF };
+
+/* Numbers of requests; a controller's are 1 and 2. */
+#define XID 0x4E414D45u
+
+/* The header of a request up to its blocks. */
+static void put_head(uint8_t *frame, const uint8_t target[6], const uint8_t source[6], unsigned id, unsigned service, unsigned delay, size_t blocks)
+{
+    const uint8_t head[] = {0x88, 0x92, (uint8_t)(id >> 8), (uint8_t)id, (uint8_t)service, 0, XID >> 24, XID >> 16 & 0xFF, XID >> 8 & 0xFF, XID & 0xFF,
+                            0, (uint8_t)delay, (uint8_t)(blocks >> 8), (uint8_t)blocks};
+    memcpy(frame, target, 6);
+    memcpy(frame + 6, source, 6);
+    memcpy(frame + 12, head, sizeof head);
+}
+
+/* The next answer to such a request until a time. Whether one came. */
+static int next_answer(struct wire *wire, unsigned id, unsigned service, uint64_t until, uint8_t octets[WIRE_FRAME], size_t *length)
+{
+    static const uint8_t xid[] = {XID >> 24, XID >> 16 & 0xFF, XID >> 8 & 0xFF, XID & 0xFF};
+    for (uint64_t now = ticker_now(); now < until; now = ticker_now()) {
+        struct pollfd one = {.fd = wire->fd, .events = POLLIN};
+        poll(&one, 1, (int)((until - now) / 1000000) + 1);
+        while (wire_receive(wire, octets, length))
+            if (*length >= BLOCKS_AT && wire_frame_id_at(octets, *length) == 14 && octets[14] == id >> 8 && octets[15] == (id & 0xFF) &&
+                octets[16] == service && octets[17] != 0 && memcmp(octets + 18, xid, sizeof xid) == 0)
+                return 1;
+    }
+    return 0;
+}
+
+/* The contents of a block of an answer, or none. */
+static const uint8_t *find_block(const uint8_t *octets, size_t length, unsigned option, unsigned suboption, size_t *size)
+{
+    for (size_t at = BLOCKS_AT; at + 4 <= length; at += 4 + *size + *size % 2) {
+        *size = (size_t)(octets[at + 2] << 8 | octets[at + 3]);
+        if (*size > length - at - 4)
+            return NULL;
+        if (octets[at] == option && octets[at + 1] == suboption)
+            return octets + at + 4;
+        if (octets[at] == 0)
+            return NULL; /* padding */
+    }
+    return NULL;
+}
+
+/* What stands behind a block's BlockInfo, or nothing. */
+static const uint8_t *value_of(const uint8_t *octets, size_t length, unsigned option, unsigned suboption, size_t *size)
+{
+    const uint8_t *found = find_block(octets, length, option, suboption, size);
+    if (found == NULL || *size < 2) {
+        *size = 0;
+        return NULL;
+    }
+    *size -= 2;
+    return found + 2;
+}
+
+/* A text from the wire is shown with a dot for what is no letter. */
+static void show_text(char *shown, size_t room, const uint8_t *text, size_t size)
+{
+    size_t count = size < room - 1 ? size : room - 1;
+    for (size_t i = 0; i < count; i++)
+        shown[i] = text[i] >= ' ' && text[i] <= '~' ? (char)text[i] : '.';
+    shown[count] = '\0';
+}
+
+static void show_station(const uint8_t *octets, size_t length)
+{
+    char name[241], type[32];
+    size_t name_size, type_size, ids_size, suite_size;
+    const uint8_t *name_at = value_of(octets, length, 2, 2, &name_size), *type_at = value_of(octets, length, 2, 1, &type_size);
+    const uint8_t *ids = value_of(octets, length, 2, 3, &ids_size), *suite = value_of(octets, length, 1, 2, &suite_size), *mac = octets + 6;
+    show_text(name, sizeof name, name_at, name_size);
+    show_text(type, sizeof type, type_at, type_size);
+    printf("%02x:%02x:%02x:%02x:%02x:%02x  name '%s'  type '%s'", mac[0], mac[1], mac[2], mac[3], mac[4], mac[5], name, type);
+    if (ids_size >= 4)
+        printf("  VendorID %u DeviceID %u", ids[0] << 8 | ids[1], ids[2] << 8 | ids[3]);
+    if (suite_size >= 4)
+        printf("  address %u.%u.%u.%u", suite[0], suite[1], suite[2], suite[3]);
+    puts("");
+}
+
+unsigned naming_list(struct wire *wire)
+{
+    static const uint8_t group[6] = {0x01, 0x0E, 0xCF, 0, 0, 0}, all[] = {0xFF, 0xFF, 0, 0};
+    static uint8_t octets[WIRE_FRAME];
+    uint8_t frame[LEAST_FRAME] = {0};
+    uint64_t until = ticker_now() + SECOND;
+    size_t length;
+    unsigned count = 0;
+    put_head(frame, group, wire->hardware, FRAME_IDENTIFY, SERVICE_IDENTIFY, 1, sizeof all);
+    memcpy(frame + BLOCKS_AT, all, sizeof all);
+    wire_send(wire, frame, sizeof frame);
+    for (; next_answer(wire, FRAME_IDENTIFIED, SERVICE_IDENTIFY, until, octets, &length); count++)
+        show_station(octets, length);
+    return count;
+}
+
+int naming_assign(struct wire *wire, const uint8_t source[6], const uint8_t mac[6], const uint8_t *name, size_t length)
+{
+    static uint8_t octets[WIRE_FRAME];
+    uint8_t frame[LEAST_FRAME + 256] = {0};
+    size_t blocks = 6 + length + length % 2, came, size = 0;
+    const uint8_t head[] = {2, 2, (uint8_t)((length + 2) >> 8), (uint8_t)(length + 2), 0, 1 /* to be kept */};
+    const uint8_t *said;
+    if (length > 240)
+        return -1;
+    put_head(frame, mac, source, FRAME_SET, SERVICE_SET, 0, blocks);
+    memcpy(frame + BLOCKS_AT, head, sizeof head);
+    memcpy(frame + BLOCKS_AT + sizeof head, name, length);
+    for (int times = 0; times < 3; times++) {
+        wire_send(wire, frame, BLOCKS_AT + blocks < LEAST_FRAME ? LEAST_FRAME : BLOCKS_AT + blocks);
+        if (!next_answer(wire, FRAME_SET, SERVICE_SET, ticker_now() + SECOND, octets, &came))
+            continue;
+        said = find_block(octets, came, 5, 4, &size);
+        return said != NULL && size >= 3 ? said[2] : 1;
+    }
+    return -1;
+}

@@ -1,0 +1,95 @@
+#include "station.h"
+#include "say.h"
+#include <errno.h>
+#include <stdio.h>
+#include <stdlib.h>
+#include <string.h>
+
+/* A catalogue is some thousand octets; what is longer is none. */
+#define CATALOGUE_MOST (4u << 20)
+
+void station_demo(pn_station *station)
+{
+    static const pn_station demo = {
+        .vendor_id = 0x0123, .device_id = 0x0456, .instance = 1, .station_type_length = 7, .station_type = "pn-demo",
+        .order_id = "                    ", .serial_number = "                ", .software_revision = {'V', 0, 0, 0}, .module_count = 3,
+        .modules = {{.ident = 1, .slot = 0, .submodule_count = 3,
+                     .submodules = {{.ident = 1, .subslot = 1}, {.ident = 2, .subslot = 0x8000}, {.ident = 3, .subslot = 0x8001}}},
+                    {.ident = 16, .slot = 1, .submodule_count = 1, .submodules = {{.ident = 16, .subslot = 1, .input = 2}}},
+                    {.ident = 32, .slot = 2, .submodule_count = 1, .submodules = {{.ident = 32, .subslot = 1, .output = 2}}}}};
+    *station = demo;
+}
+
+static uint8_t *read_whole(const char *path, size_t *length)
+{
+    FILE *file = fopen(path, "rb");
+    uint8_t *text = malloc(CATALOGUE_MOST + 1);
+    if (file == NULL)
+        fail(STATUS_NO_INPUT, "the catalogue '%s' cannot be opened: %s", path, strerror(errno));
+    if (text == NULL)
+        fail(STATUS_SYSTEM, "out of memory");
+    *length = fread(text, 1, CATALOGUE_MOST + 1, file);
+    if (ferror(file))
+        fail(STATUS_INPUT, "the catalogue '%s' cannot be read: %s", path, strerror(errno));
+    if (*length > CATALOGUE_MOST)
+        fail(STATUS_DATA, "'%s' is no catalogue: it has more than %u octets", path, CATALOGUE_MOST);
+    fclose(file);
+    return text;
+}
+
+static const char *fault_words(uint32_t fault)
+{
+    static const char *const words[] = {
+        [PN_PLAN_JSON] = "the text is no JSON",
+        [PN_PLAN_MISSING_KEY] = "a key is missing",
+        [PN_PLAN_WRONG_KIND] = "a value is of another kind than its key wants",
+        [PN_PLAN_NUMBER] = "a number is out of its range, or what it names is not there or there twice",
+        [PN_PLAN_NOT_ALLOWED] = "a module of Slots is not allowed in its slot (AllowedInSlots, FixedInSlots, PhysicalSlots)",
+        [PN_PLAN_TOO_MANY] = "there are too many slots, submodules or records (slots 0 to 15, 4 submodules a slot, 32 records)",
+        [PN_PLAN_FRAME_LONG] = "a cyclic frame would hold more than 1,440 octets (IOData of all submodules)",
+        [PN_PLAN_CONNECT_LONG] = "the Connect would be longer than a frame (too many submodules)",
+        [PN_PLAN_NAME] = "a NameOfStation is not valid (letters a to z, digits, hyphens; labels of at most 63 joined by dots)",
+        [PN_PLAN_ADDRESS] = "an IPAddress, SubnetMask, Gateway or MAC is not valid",
+        [PN_PLAN_MEMORY] = "out of memory",
+    };
+    return fault < sizeof words / sizeof words[0] && words[fault] != NULL ? words[fault] : "it gives no plan";
+}
+
+void station_plan(pn_plan *plan, const char *path)
+{
+    char where[256];
+    size_t length;
+    uint8_t *text = read_whole(path, &length);
+    uint32_t fault = pn_plan_read(plan, text, length);
+    if (fault != PN_OK && pn_plan_where(text, length, where, sizeof where) != 0)
+        fail(STATUS_DATA, "'%s': fault %u at %s: %s", path, (unsigned)fault, where, fault_words(fault));
+    if (fault != PN_OK)
+        fail(STATUS_DATA, "'%s': fault %u: %s", path, (unsigned)fault, fault_words(fault));
+    free(text);
+}
+
+void station_places(struct places *places, const pn_module *modules, uint32_t count, enum direction direction)
+{
+    places->count = 0;
+    for (uint32_t i = 0; i < count; i++)
+        for (uint16_t k = 0; k < modules[i].submodule_count; k++) {
+            const pn_submodule *part = &modules[i].submodules[k];
+            uint16_t length = direction == OF_INPUT ? part->input : part->output;
+            struct place *place = &places->list[places->count];
+            if (length == 0 || length > STATION_DATA)
+                continue;
+            memset(place, 0, sizeof *place);
+            place->slot = modules[i].slot;
+            place->subslot = part->subslot;
+            place->length = length;
+            places->count++;
+        }
+}
+
+struct place *station_place(struct places *places, uint16_t slot, uint16_t subslot)
+{
+    for (unsigned i = 0; i < places->count; i++)
+        if (places->list[i].slot == slot && places->list[i].subslot == subslot)
+            return &places->list[i];
+    return NULL;
+}

@@ -1,0 +1,38 @@
+/* What a device is, and the places of its data. */
+#ifndef HOST_STATION_H
+#define HOST_STATION_H
+
+#include "nandutable_controller.h"
+
+#define STATION_PLACES (PN_MODULES * PN_SUBMODULES)
+#define STATION_DATA 1440 /* octets of a place */
+
+/* A submodule that has data of one direction, and the data. */
+struct place {
+    uint16_t slot;
+    uint16_t subslot;
+    uint16_t length;
+    int is_given;
+    uint8_t octets[STATION_DATA];
+};
+
+struct places {
+    unsigned count;
+    struct place list[STATION_PLACES];
+};
+
+enum direction { OF_INPUT, OF_OUTPUT };
+
+/* The demo station: two octets of input in slot 1, and two of output in slot 2. */
+void station_demo(pn_station *station);
+
+/* Reads a catalogue. Ends the program with a sentence where it gives no plan. */
+void station_plan(pn_plan *plan, const char *path);
+
+/* The submodules that have data of a direction. */
+void station_places(struct places *places, const pn_module *modules, uint32_t count, enum direction direction);
+
+/* The place of a submodule, or none. */
+struct place *station_place(struct places *places, uint16_t slot, uint16_t subslot);
+
+#endif

@@ -1,0 +1,74 @@
+#define _GNU_SOURCE
+#include "ticker.h"
+#include "nandutable.h"
+#include "say.h"
+#include <errno.h>
+#include <string.h>
+#include <sys/timerfd.h>
+#include <time.h>
+#include <unistd.h>
+
+#define SECOND 1000000000ull
+#define TOLD_EACH (10 * SECOND)
+
+uint64_t ticker_now(void)
+{
+    struct timespec time;
+    clock_gettime(CLOCK_MONOTONIC, &time);
+    return (uint64_t)time.tv_sec * SECOND + (uint64_t)time.tv_nsec;
+}
+
+void ticker_open(struct ticker *ticker)
+{
+    memset(ticker, 0, sizeof *ticker);
+    ticker->fd = timerfd_create(CLOCK_MONOTONIC, TFD_NONBLOCK | TFD_CLOEXEC);
+    if (ticker->fd < 0)
+        fail(STATUS_SYSTEM, "the system gives no timer: %s", strerror(errno));
+    ticker->started = ticker_now();
+}
+
+void ticker_pace(struct ticker *ticker, uint64_t period)
+{
+    uint64_t first = ticker_now() + period;
+    struct itimerspec times = {
+        .it_value = {(time_t)(first / SECOND), (long)(first % SECOND)},
+        .it_interval = {(time_t)(period / SECOND), (long)(period % SECOND)},
+    };
+    if (ticker->period == period)
+        return;
+    if (timerfd_settime(ticker->fd, TFD_TIMER_ABSTIME, &times, NULL) != 0)
+        fail(STATUS_SYSTEM, "the timer is refused: %s", strerror(errno));
+    ticker->period = period;
+}
+
+void ticker_wait_again(struct ticker *ticker)
+{
+    uint64_t times;
+    /* What it answers says nothing that the clock does not say better. */
+    if (read(ticker->fd, &times, sizeof times) < 0 && errno != EAGAIN && errno != EINTR)
+        fail(STATUS_SYSTEM, "the timer cannot be read: %s", strerror(errno));
+}
+
+uint32_t ticker_due(struct ticker *ticker, uint32_t most)
+{
+    uint64_t due = (ticker_now() - ticker->started) / PN_UNIT_NS - ticker->given;
+    ticker->given += due;
+    if (due > ticker->longest)
+        ticker->longest = due;
+    if (due > most) {
+        ticker->stalls++;
+        ticker->forgotten += due - most;
+        due = most;
+    }
+    return (uint32_t)due;
+}
+
+int ticker_tells(struct ticker *ticker)
+{
+    uint64_t now = ticker_now();
+    if (ticker->stalls == ticker->told || (ticker->told_at != 0 && now - ticker->told_at < TOLD_EACH))
+        return 0;
+    ticker->told = ticker->stalls;
+    ticker->told_at = now;
+    return 1;
+}

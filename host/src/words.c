@@ -1,0 +1,82 @@
+#include "words.h"
+#include <ctype.h>
+#include <string.h>
+
+int words_number(const char *word, unsigned long most, unsigned long *value)
+{
+    unsigned long sum = 0;
+    if (*word == '\0')
+        return 0;
+    for (; *word != '\0'; word++) {
+        if (!isdigit((unsigned char)*word))
+            return 0;
+        sum = sum * 10 + (unsigned long)(*word - '0');
+        if (sum > most)
+            return 0;
+    }
+    *value = sum;
+    return 1;
+}
+
+static int digit(char letter)
+{
+    if (letter >= '0' && letter <= '9')
+        return letter - '0';
+    letter = (char)tolower((unsigned char)letter);
+    return letter >= 'a' && letter <= 'f' ? letter - 'a' + 10 : -1;
+}
+
+long words_octets(const char *word, uint8_t *octets, size_t most)
+{
+    size_t length = strlen(word);
+    if (length % 2 != 0 || length / 2 > most)
+        return -1;
+    for (size_t i = 0; i < length / 2; i++) {
+        int high = digit(word[2 * i]), low = digit(word[2 * i + 1]);
+        if (high < 0 || low < 0)
+            return -1;
+        octets[i] = (uint8_t)(high << 4 | low);
+    }
+    return (long)(length / 2);
+}
+
+int words_mac(const char *word, uint8_t mac[6])
+{
+    if (strlen(word) != 17)
+        return 0;
+    for (int i = 0; i < 6; i++) {
+        int high = digit(word[3 * i]), low = digit(word[3 * i + 1]);
+        char behind = word[3 * i + 2];
+        if (high < 0 || low < 0 || (i < 5 && behind != ':' && behind != '-'))
+            return 0;
+        mac[i] = (uint8_t)(high << 4 | low);
+    }
+    return 1;
+}
+
+int words_part(char *line, char *words[], int most)
+{
+    static const char blanks[] = " \t\r\n";
+    int count = 0;
+    for (;;) {
+        line += strspn(line, blanks);
+        if (*line == '\0')
+            return count;
+        if (count == most)
+            return -1;
+        words[count++] = line;
+        line += strcspn(line, blanks);
+        if (*line != '\0')
+            *line++ = '\0';
+    }
+}
+
+void words_hex(char *text, const uint8_t *octets, size_t length)
+{
+    static const char digits[] = "0123456789abcdef";
+    for (size_t i = 0; i < length; i++) {
+        text[2 * i] = digits[octets[i] >> 4];
+        text[2 * i + 1] = digits[octets[i] & 15];
+    }
+    text[2 * length] = '\0';
+}

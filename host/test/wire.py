@@ -1,0 +1,273 @@
+"""A wire between two network namespaces, programs on it whose lines are read as they come, and frames without any library."""
+
+import ctypes
+import os
+import re
+import socket
+import struct
+import subprocess
+import sys
+import threading
+import time
+
+HERE = os.path.dirname(os.path.realpath(__file__))
+HOST = os.path.dirname(HERE)
+TOP = os.path.dirname(HOST)
+BUILD = os.path.join(HOST, "build")
+
+DEVICE = bytes.fromhex("020000000001")
+TOOL = bytes.fromhex("020000000002")
+GROUP = bytes.fromhex("010ecf000000")
+CLONE_NEWNET = 0x40000000
+SO_RCVBUFFORCE = 33
+
+
+class NoWire(Exception):
+    """Namespaces or a wire between them cannot be made here."""
+
+
+def command(*words):
+    ran = subprocess.run(words, capture_output=True, text=True)
+    if ran.returncode != 0:
+        raise NoWire(f"{' '.join(words)}: {ran.stderr.strip() or ran.returncode}")
+    return ran.stdout
+
+
+class Wire:
+    """Two namespaces, `device` with the interface d0 and `controller` with c0, and a cable between them."""
+
+    def __init__(self, tag=""):
+        self.device, self.controller = (f"nandutable-{os.getpid()}{tag}-{end}" for end in ("d", "c"))
+        self.made = []
+
+    def __enter__(self):
+        try:
+            if os.geteuid() != 0:
+                raise NoWire("this takes root")
+            for name in (self.device, self.controller):
+                command("ip", "netns", "add", name)
+                self.made.append(name)
+                # Else the kernel's own packets of IPv6 are on the wire too.
+                self.within(name, "sh", "-c", "echo 1 > /proc/sys/net/ipv6/conf/default/disable_ipv6; :")
+            self.plug()
+        except (NoWire, OSError) as fault:
+            self.__exit__()
+            raise NoWire(str(fault)) from None
+        return self
+
+    def plug(self):
+        command("ip", "link", "add", "d0", "netns", self.device, "type", "veth", "peer", "name", "c0", "netns", self.controller)
+        for name, interface, mac in ((self.device, "d0", DEVICE), (self.controller, "c0", TOOL)):
+            command("ip", "-n", name, "link", "set", interface, "address", mac.hex(":"), "up")
+        time.sleep(0.05)
+
+    def within(self, name, *words):
+        return command("ip", "netns", "exec", name, *words)
+
+    def link(self, end, *words):
+        command("ip", "-n", self.device if end == "d0" else self.controller, "link", *words)
+
+    def __exit__(self, *_):
+        for name in self.made:
+            subprocess.run(["ip", "netns", "del", name], capture_output=True)
+        self.made = []
+
+    def socket(self, end="c0"):
+        """A packet socket at an end."""
+        libc = ctypes.CDLL(None, use_errno=True)
+        with open("/proc/self/ns/net", "rb") as home, open(f"/run/netns/{self.device if end == 'd0' else self.controller}", "rb") as there:
+            if libc.setns(there.fileno(), CLONE_NEWNET) != 0:
+                raise NoWire(f"setns: {os.strerror(ctypes.get_errno())}")
+            try:
+                made = socket.socket(socket.AF_PACKET, socket.SOCK_RAW, socket.htons(3))
+                made.setsockopt(socket.SOL_SOCKET, SO_RCVBUFFORCE, 4 << 20)
+                made.bind((end, 3))
+            finally:
+                libc.setns(home.fileno(), CLONE_NEWNET)
+        return made
+
+
+class Program:
+    """A program in a namespace. Its lines are kept with the time at which they came."""
+
+    def __init__(self, wire, end, *words, name=None, environment=None, kind=""):
+        program = name or ("nandutable-device" if end == "d0" else "nandutable-controller")
+        place = wire.device if end == "d0" else wire.controller
+        path = program if os.sep in program else os.path.join(BUILD, kind, program)
+        self.words = ["ip", "netns", "exec", place, path, *words]
+        self.lines, self.seen, self.is_open = [], 0, True
+        self.news = threading.Condition()
+        self.process = subprocess.Popen(self.words, stdin=subprocess.PIPE, stdout=subprocess.PIPE, stderr=subprocess.PIPE,
+                                        env={**os.environ, **(environment or {})})
+        self.fault = b""
+        self.readers = [threading.Thread(target=self.read, daemon=True), threading.Thread(target=self.read_fault, daemon=True)]
+        for reader in self.readers:
+            reader.start()
+
+    def read(self):
+        for line in self.process.stdout:
+            with self.news:
+                self.lines.append((time.time(), line.decode().rstrip("\n")))
+                self.news.notify_all()
+        with self.news:
+            self.is_open = False
+            self.news.notify_all()
+
+    def read_fault(self):
+        self.fault = self.process.stderr.read()
+
+    def text(self):
+        return "\n".join(line for _, line in self.lines) + self.fault.decode(errors="replace")
+
+    def expect(self, pattern, seconds=10):
+        """The next line, behind those that were expected before, that is so from its beginning on."""
+        ends = time.monotonic() + seconds
+        with self.news:
+            while True:
+                while self.seen < len(self.lines):
+                    self.seen += 1
+                    found = re.match(pattern, self.lines[self.seen - 1][1])
+                    if found:
+                        return found
+                left = ends - time.monotonic()
+                if left <= 0 or not self.is_open:
+                    break
+                self.news.wait(left)
+        raise AssertionError(f"no line '{pattern}' of {os.path.basename(self.words[4])}:\n{self.text()}")
+
+    def has(self, pattern):
+        """Whether some line is so."""
+        with self.news:
+            return any(re.match(pattern, line) for _, line in self.lines)
+
+    def sees(self, pattern, seconds=10):
+        """Waits until some line is so, wherever it stands."""
+        ends = time.monotonic() + seconds
+        while not self.has(pattern):
+            if time.monotonic() > ends or not self.is_open:
+                raise AssertionError(f"no line '{pattern}' of {os.path.basename(self.words[4])}:\n{self.text()}")
+            time.sleep(0.01)
+
+    def say(self, line):
+        self.process.stdin.write(line.encode() + b"\n")
+        self.process.stdin.flush()
+
+    def ask(self, line, pattern, seconds=10):
+        self.say(line)
+        return self.expect(pattern, seconds)
+
+    def end(self, number=15, seconds=10):
+        """Sends a signal and waits. The status."""
+        if self.process.poll() is None:
+            self.process.send_signal(number)
+        return self.wait(seconds)
+
+    def wait(self, seconds=10):
+        try:
+            status = self.process.wait(seconds)
+        except subprocess.TimeoutExpired:
+            self.process.kill()
+            raise AssertionError(f"{os.path.basename(self.words[4])} does not end:\n{self.text()}") from None
+        for reader in self.readers:
+            reader.join(5)
+        for stream in (self.process.stdin, self.process.stdout, self.process.stderr):
+            try:
+                stream.close()
+            except OSError:
+                pass
+        return status
+
+    def processor_seconds(self):
+        with open(f"/proc/{self.process.pid}/stat", encoding="ascii") as file:
+            fields = file.read().rpartition(")")[2].split()
+        return (int(fields[11]) + int(fields[12])) / os.sysconf("SC_CLK_TCK")
+
+
+class Tap(Program):
+    """A capture of an end, to a file."""
+
+    def __init__(self, wire, end, path):
+        super().__init__(wire, end, end, path, name=os.path.join(BUILD, "tap"))
+        self.path = path
+        self.expect("ready")
+
+    def close(self):
+        time.sleep(0.15)
+        return self.end()
+
+
+def read_capture(path):
+    """The frames of a capture: seconds, octets."""
+    with open(path, "rb") as file:
+        octets = file.read()
+    at, frames = 24, []
+    while at + 16 <= len(octets):
+        seconds, nanoseconds, length, _ = struct.unpack_from("<4I", octets, at)
+        frames.append((seconds + nanoseconds / 1e9, octets[at + 16:at + 16 + length]))
+        at += 16 + length
+    return frames
+
+
+# ---- frames
+
+def dcp(frame_id, service, xid, blocks, target=DEVICE, kind=0, source=TOOL):
+    head = target + source + struct.pack(">HHBBIHH", 0x8892, frame_id, service, kind, xid, 1, len(blocks))
+    return (head + blocks).ljust(60, b"\0")
+
+
+def block(option, suboption, octets):
+    return bytes((option, suboption)) + struct.pack(">H", len(octets)) + octets + bytes(len(octets) % 2)
+
+
+def set_name(name, xid, qualifier=1):
+    return dcp(0xFEFD, 4, xid, block(2, 2, struct.pack(">H", qualifier) + name.encode()))
+
+
+def identify(name, xid):
+    return dcp(0xFEFE, 5, xid, block(2, 2, name.encode()), GROUP)
+
+
+def identify_all(xid):
+    return dcp(0xFEFE, 5, xid, block(255, 255, b""), GROUP)
+
+
+def answer(link, frame, frame_id, seconds=5.0):
+    """Sends a request of DCP, and gives the answer with its Xid; None where none comes."""
+    link.send(frame)
+    ends = time.monotonic() + seconds
+    while (left := ends - time.monotonic()) > 0:
+        link.settimeout(left)
+        try:
+            came = link.recv(2048)
+        except TimeoutError:
+            return None
+        if came[12:16] == b"\x88\x92" + struct.pack(">H", frame_id) and came[17] != 0 and came[18:22] == frame[18:22]:
+            return came
+    return None
+
+
+def drain(link):
+    """What came and was not read."""
+    link.settimeout(0)
+    found = []
+    while True:
+        try:
+            found.append(link.recv(2048))
+        except BlockingIOError:
+            return found
+
+
+def blocks_of(came):
+    """Blocks of an answer of DCP, by option and suboption."""
+    at, found = 26, {}
+    ends = 26 + struct.unpack_from(">H", came, 24)[0]
+    while at + 4 <= ends:
+        option, suboption, length = struct.unpack_from(">BBH", came, at)
+        found[option, suboption] = came[at + 4:at + 4 + length]
+        at += 4 + length + length % 2
+    return found
+
+
+def refuse(program, text):
+    print(f"{program}: {text}", file=sys.stderr)
+    return 64

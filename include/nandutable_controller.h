@@ -1,0 +1,262 @@
+/* nandutable: the controller of a station, and the plan that it follows.
+ *
+ * The controller finds the station of its plan by its name, gives it its address, makes the relation, writes the records of the plan,
+ * and exchanges data. Like the device it owns no memory but the room that it is given, takes none, calls nothing back and keeps no
+ * time of its own. All of its calls come from one thread at a time.
+ *
+ *     static pn_plan plan;
+ *     static pn_controller controller;
+ *     static pn_op op;
+ *     pn_plan_read(&plan, text, length);                       // from a catalogue in JSON; this call alone takes memory
+ *     pn_controller_start(&controller, &plan, ar, activity);
+ *     for (;;) {
+ *         pn_controller_send(&controller, &op, &host);         // takes all frames: the first one is there from the start
+ *         pn_controller_frame(&controller, &op, octets, length); // or pn_controller_tick, pn_controller_give, pn_controller_stop
+ *     }
+ *
+ * The calls of the controller lie in libnandutable-controller.a, pn_plan_read in libnandutable-plan.a. What is behind them are the
+ * proved sources as plain Rust; this edge to C is not proved.
+ *
+ * Under the MIT licence or the Apache License 2.0, as you choose. */
+#ifndef NANDUTABLE_CONTROLLER_H
+#define NANDUTABLE_CONTROLLER_H
+
+#include "nandutable.h"
+
+#ifdef __cplusplus
+extern "C" {
+#endif
+
+/* Octets of the room of a controller; it stands on a multiple of 16. */
+#define PN_CONTROLLER_SIZE 40960u
+/* Parameter records of a plan. */
+#define PN_RECORDS 32u
+
+/* What the functions below answer beside the numbers of nandutable.h. Behind it nothing has changed. */
+enum { PN_BAD_PLAN = 14 /* a part of the plan is out of its range or too long, or the ARUUID is zero */ };
+
+/* How far a controller is (pn_op.phase). */
+enum {
+    PN_LOOKING = 1,    /* for the station, by its name */
+    PN_ADDRESSING = 2, /* gives it its IP suite */
+    PN_CONNECTING = 3, /* asks for the relation */
+    PN_WRITING = 4,    /* writes the records of the plan */
+    PN_ENDING = 5,     /* ends the parameters */
+    PN_WAITING = 6,    /* for ApplicationReady */
+    PN_EXCHANGED = 7,  /* exchanges data */
+    PN_ENDED = 8       /* is over: pn_op.note says why */
+};
+
+/* Why a controller ended (pn_op.note). */
+enum {
+    PN_WRONG_DEVICE = 1,  /* the station is of another VendorID or DeviceID */
+    PN_WAS_REFUSED = 2,   /* the device refused a request */
+    PN_MODULE_DIFF = 3,   /* what is plugged is not what the plan expects */
+    PN_DATA_HOLD = 4,     /* no cyclic frame came within the data hold time */
+    PN_ABORTED = 5,       /* the device ended the relation */
+    PN_ALARM_RETRIES = 6, /* the device did not acknowledge an AlarmAck */
+    PN_STOPPED = 7        /* pn_controller_stop */
+};
+
+/* Why a catalogue gives no plan, as pn_plan_read answers it: the first fault. */
+enum {
+    PN_PLAN_JSON = 1,          /* the text is no JSON */
+    PN_PLAN_MISSING_KEY = 2,
+    PN_PLAN_WRONG_KIND = 3,    /* a value is of another kind than its key wants */
+    PN_PLAN_NUMBER = 4,        /* a number is out of its range, or what it names is not there or there twice */
+    PN_PLAN_NOT_ALLOWED = 5,   /* a module is not allowed in its slot */
+    PN_PLAN_TOO_MANY = 6,      /* slots, submodules or records */
+    PN_PLAN_FRAME_LONG = 7,    /* a cyclic frame would hold more than 1,440 octets */
+    PN_PLAN_CONNECT_LONG = 8,  /* the Connect would be longer than a frame */
+    PN_PLAN_NAME = 9,          /* a station name is not valid */
+    PN_PLAN_ADDRESS = 10,      /* an address is not valid */
+    PN_PLAN_MEMORY = 11,       /* out of memory */
+    PN_PLAN_NULL = 12          /* a pointer is null, or the plan has another size than the library's */
+};
+
+/* A parameter record that the controller writes at start-up: at most 64 octets. */
+typedef struct pn_record {
+    uint16_t slot;
+    uint16_t subslot;
+    uint16_t index;
+    uint16_t length;
+    uint8_t octets[64];
+} pn_record;
+
+/* The plan of a station. */
+typedef struct pn_plan {
+    uint8_t name[240];            /* NameOfStation of the device */
+    uint8_t controller_name[240]; /* and of the controller */
+    uint32_t name_length;
+    uint32_t controller_name_length;
+    uint8_t address[4]; /* the IP suite that the device is given */
+    uint8_t mask[4];
+    uint8_t gateway[4];
+    uint8_t controller_address[4];
+    uint8_t controller_mac[6];
+    uint16_t vendor_id;
+    uint16_t device_id;
+    uint16_t send_clock_factor; /* 1 to 128, in units of PN_UNIT_NS */
+    uint16_t reduction_ratio;   /* 1 to 512: send_clock_factor times this is the interval of cyclic frames */
+    uint16_t data_hold_factor;  /* 1 to 7,680 intervals */
+    uint32_t station_type_length; /* more than 25: too long for a device, and station_type has nothing */
+    uint8_t station_type[28];     /* DeviceVendorValue */
+    uint32_t module_count;        /* 1 to PN_MODULES, in the order of the slots */
+    uint32_t record_count;        /* at most PN_RECORDS, in the order in which they are written */
+    pn_module modules[PN_MODULES];
+    pn_record records[PN_RECORDS];
+} pn_plan;
+
+/* The room of a controller. What is in it is the library's alone. */
+typedef struct pn_controller {
+#if defined(__cplusplus)
+    alignas(16) unsigned char room[PN_CONTROLLER_SIZE];
+#else
+    _Alignas(16) unsigned char room[PN_CONTROLLER_SIZE];
+#endif
+} pn_controller;
+
+#if defined(__cplusplus)
+static_assert(sizeof(pn_plan) == 4272, "another layout than the library's");
+#else
+_Static_assert(sizeof(pn_plan) == 4272, "another layout than the library's");
+#endif
+
+/* --- The calls. Use the functions below them. --- */
+uint32_t pn_plan_make(const uint8_t *text, size_t length, size_t size, pn_plan *plan);
+uint32_t pn_plan_where(const uint8_t *text, size_t length, char *where, size_t size);
+uint32_t pn_controller_make(void *room, size_t size, uint32_t abi, size_t op_size, const pn_plan *plan, const uint8_t ar[16],
+                            const uint8_t activity[16]);
+uint32_t pn_controller_step(void *room, pn_op *op, const uint8_t *given, size_t length);
+
+/* Reads the catalogue of a station, whose keys are those of GSDML. PN_OK, or a number of PN_PLAN_JSON and so on. */
+static inline uint32_t pn_plan_read(pn_plan *plan, const uint8_t *text, size_t length)
+{
+    return pn_plan_make(text, length, sizeof *plan, plan);
+}
+
+/* For a message: at which key the first fault of a catalogue stands, as `Project.Slots[1].Slot`, with a zero behind it. 0 where it
+ * stands at none. pn_plan_where (above) is used as it is. */
+
+/* The station that a plan expects, for a device that is to be it: what a catalogue does not say (the MAC address, texts of I&M0)
+ * is left as it was. */
+static inline void pn_plan_station(const pn_plan *plan, pn_station *station)
+{
+    station->vendor_id = plan->vendor_id;
+    station->device_id = plan->device_id;
+    station->station_type_length = (uint16_t)(plan->station_type_length > 25 ? 26 : plan->station_type_length);
+    memcpy(station->station_type, plan->station_type, sizeof station->station_type);
+    station->module_count = plan->module_count;
+    memcpy(station->modules, plan->modules, sizeof station->modules);
+}
+
+/* Makes the controller of a plan, and copies the plan. `ar` names its relation, `activity` its calls: numbers of 16 octets that
+ * nobody else uses (UUIDs). Its first frame waits to be taken.
+ * PN_NULL, PN_BAD_ABI, PN_SMALL_ROOM, PN_BAD_PLAN. */
+static inline uint32_t pn_controller_start(pn_controller *controller, const pn_plan *plan, const uint8_t ar[16], const uint8_t activity[16])
+{
+    if (controller == NULL)
+        return PN_NULL;
+    return pn_controller_make(controller->room, sizeof controller->room, PN_ABI, sizeof(pn_op), plan, ar, activity);
+}
+
+/* One operation, with octets that are given; null ones are none. */
+static inline uint32_t pn_controller_ask(pn_controller *controller, pn_op *op, uint32_t what, const uint8_t *given, size_t length)
+{
+    static const uint8_t none[1] = {0};
+    if (controller == NULL || op == NULL || (given == NULL && length != 0))
+        return PN_NULL;
+    op->what = what;
+    return pn_controller_step(controller->room, op, given == NULL ? none : given, length);
+}
+
+/* --- Events. Each wants all frames of the one before to be taken, else PN_HAS_WORK. --- */
+
+/* A frame came in: its octets from the destination address on, without the check sequence. */
+static inline uint32_t pn_controller_frame(pn_controller *controller, pn_op *op, const uint8_t *octets, size_t length)
+{
+    return pn_controller_ask(controller, op, 3, octets, length);
+}
+
+/* `units` units of time went by (PN_UNIT_NS each). It stops behind a unit that sends something or ends the controller: `units` of
+ * the operation is how many are left then. Take the frames, and give the rest again. */
+static inline uint32_t pn_controller_tick(pn_controller *controller, pn_op *op, uint32_t units)
+{
+    if (op == NULL)
+        return PN_NULL;
+    op->units = units;
+    return pn_controller_ask(controller, op, 4, NULL, 0);
+}
+
+/* The application gives the output of a submodule: exactly its octets, else nothing changes. It may be given before data is
+ * exchanged, and is kept. */
+static inline uint32_t pn_controller_give(pn_controller *controller, pn_op *op, uint16_t slot, uint16_t subslot, const uint8_t *octets,
+                                          size_t length)
+{
+    if (op == NULL)
+        return PN_NULL;
+    op->slot = slot;
+    op->subslot = subslot;
+    return pn_controller_ask(controller, op, 5, octets, length);
+}
+
+/* The application stops the controller: the relation is released. */
+static inline uint32_t pn_controller_stop(pn_controller *controller, pn_op *op)
+{
+    return pn_controller_ask(controller, op, 13, NULL, 0);
+}
+
+/* Hands out the next frame of the last event, each once: `work` is PN_SEND, or PN_NOTHING behind the last. */
+static inline uint32_t pn_controller_next(pn_controller *controller, pn_op *op)
+{
+    return pn_controller_ask(controller, op, 7, NULL, 0);
+}
+
+/* Takes all frames and sends them by the host's `send`. PN_NULL, PN_NOT_SENT (a frame was lost, as it could be on the wire). */
+static inline uint32_t pn_controller_send(pn_controller *controller, pn_op *op, const pn_host *host)
+{
+    uint32_t answer, sent = PN_OK;
+    if (host == NULL)
+        return PN_NULL;
+    for (;;) {
+        answer = pn_controller_next(controller, op);
+        if (answer != PN_OK)
+            return answer;
+        if (op->work != PN_SEND)
+            return sent;
+        if (host->send(host->context, op->octets, op->length) != 0)
+            sent = PN_NOT_SENT;
+    }
+}
+
+/* --- What a controller tells --- */
+
+/* The input of a submodule, in `octets`: what the last cyclic frame that was taken holds for it; zeros where none was, where the
+ * device calls it bad, and once the controller is over. PN_NO_SLOT. */
+static inline uint32_t pn_controller_value(pn_controller *controller, pn_op *op, uint16_t slot, uint16_t subslot)
+{
+    if (op == NULL)
+        return PN_NULL;
+    op->slot = slot;
+    op->subslot = subslot;
+    return pn_controller_ask(controller, op, 8, NULL, 0);
+}
+
+/* How far it is (`phase`), and why it ended (`note`). */
+static inline uint32_t pn_controller_state(pn_controller *controller, pn_op *op)
+{
+    return pn_controller_ask(controller, op, 9, NULL, 0);
+}
+
+/* The last alarm that was taken: `slot`, `subslot`, its type in `note`, its AlarmSpecifier in `units`, its data in `octets`.
+ * PN_NO_SLOT where none was. */
+static inline uint32_t pn_controller_alarm(pn_controller *controller, pn_op *op)
+{
+    return pn_controller_ask(controller, op, 12, NULL, 0);
+}
+
+#ifdef __cplusplus
+}
+#endif
+
+#endif
