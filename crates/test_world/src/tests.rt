@@ -47,7 +47,10 @@ fn real() -> Real {
         ..RealModule::default()
     };
     let mut inputs = sub(1, 16, 2, 0);
-    inputs.parameters.push(ParameterRecord { index: 1, length: 4 });
+    inputs.parameters.push(ParameterRecord {
+        index: 1,
+        length: 4,
+    });
     input.submodules.push(inputs);
     real.modules.push(input);
     let mut output = RealModule {
