@@ -159,7 +159,7 @@ void chip_open(struct chip *chip, const char *path)
 int chip_settle(struct chip *chip)
 {
     for (unsigned i = 0; i < 2; i++) {
-        off_t place = (off_t)(i * PN_SECTOR_SIZE);
+        off_t place = (off_t)i * PN_SECTOR_SIZE;
         if (read_at(chip->fd, chip->sectors[i], PN_SECTOR_SIZE, place) != 0)
             return 1;
         if (write_durably(chip->fd, chip->sectors[i], PN_SECTOR_SIZE, place) != 0)
@@ -171,7 +171,7 @@ int chip_settle(struct chip *chip)
 /* Carries what the sector is to hold out. */
 static int carry(struct chip *chip, uint32_t sector, uint32_t place, uint32_t length)
 {
-    if (write_durably(chip->fd, chip->sectors[sector] + place, length, (off_t)(sector * PN_SECTOR_SIZE + place)) == 0)
+    if (write_durably(chip->fd, chip->sectors[sector] + place, length, (off_t)sector * PN_SECTOR_SIZE + place) == 0)
         return 0;
     chip->faults++;
     return 1;

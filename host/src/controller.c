@@ -26,6 +26,9 @@
 #define IDLE_MOST 32000u        /* units */
 #define LONGEST_PERIOD 1000000ull
 #define FRAMES_AT_ONCE 64
+/* FrameIDs: of a Set, and of the cyclic frames that the controller asks a device for. */
+#define FRAME_SET 0xFEFDu
+#define FRAME_INPUT 0xC001u
 /* A Release is waited for so long, and the status is written so often. */
 #define RELEASE_WAITS (SECOND / 5)
 #define STATUS_EACH (SECOND / 4)
@@ -53,6 +56,7 @@ struct controller {
     struct places inputs;
     struct places outputs;
     struct reasons reasons;
+    uint8_t device[6]; /* whom it asked last, by a Set of DCP */
     uint64_t interval; /* of cyclic frames, in nanoseconds */
     uint64_t period;
     /* What was told last. */
@@ -85,7 +89,10 @@ static const char *const causes[] = {
 
 static int transmit(void *context, const uint8_t *octets, uint32_t length)
 {
-    return wire_send(&((struct controller *)context)->wire, octets, length);
+    struct controller *controller = context;
+    if (wire_frame_id(octets, length) == FRAME_SET)
+        memcpy(controller->device, octets, sizeof controller->device);
+    return wire_send(&controller->wire, octets, length);
 }
 
 /* The library is used as its header says, so that none of its other answers can come. */
@@ -151,6 +158,22 @@ static void tell_end(struct controller *controller)
     lines_tell(&controller->lines, "ended %u: %s%s", (unsigned)controller->cause, causes[controller->cause < 8 ? controller->cause : 0], why);
 }
 
+static void status_line(const struct controller *controller, char *text, size_t size)
+{
+    const struct histogram *intervals = &controller->intervals;
+    snprintf(text, size, "%s %.*s | %" PRIu64 " frames | interval %u us, p99 %u, max %" PRIu64 " | jitter p99 %u us | lost %" PRIu64,
+             states[controller->state], (int)controller->plan.name_length, (const char *)controller->plan.name, controller->cyclic,
+             histogram_within(intervals, 500), histogram_within(intervals, 990), (intervals->most + 500) / 1000,
+             histogram_within(&controller->jitter, 990), controller->lost);
+}
+
+static void keep_status(struct controller *controller)
+{
+    char text[256];
+    status_line(controller, text, sizeof text);
+    lines_status(&controller->lines, text);
+}
+
 static void look_at_state(struct controller *controller)
 {
     must(pn_controller_state(&controller->room, &controller->op), "pn_controller_state");
@@ -159,6 +182,7 @@ static void look_at_state(struct controller *controller)
     controller->state = controller->op.phase;
     controller->cause = controller->op.note;
     ticker_pace(&controller->ticker, controller->state < PN_CONNECTING ? IDLE_PERIOD : controller->period);
+    keep_status(controller);
     if (controller->state != PN_ENDED) {
         lines_tell(&controller->lines, "state %s", states[controller->state]);
         return;
@@ -167,15 +191,6 @@ static void look_at_state(struct controller *controller)
     look_at_inputs(controller);
     /* These two ends are told to the device by a Release; its answer is waited for. */
     controller->ends_at = ticker_now() + (controller->cause == PN_STOPPED || controller->cause == PN_MODULE_DIFF ? RELEASE_WAITS : 0);
-}
-
-static void status_line(const struct controller *controller, char *text, size_t size)
-{
-    const struct histogram *intervals = &controller->intervals;
-    snprintf(text, size, "%s %.*s | %" PRIu64 " frames | interval %u us, p99 %u, max %" PRIu64 " | jitter p99 %u us | lost %" PRIu64,
-             states[controller->state], (int)controller->plan.name_length, (const char *)controller->plan.name, controller->cyclic,
-             histogram_within(intervals, 500), histogram_within(intervals, 990), (intervals->most + 500) / 1000,
-             histogram_within(&controller->jitter, 990), controller->lost);
 }
 
 /* --- Events --- */
@@ -223,13 +238,20 @@ static size_t cyclic_length(const struct controller *controller, const uint8_t *
     return at + 2 + (data < 40 ? 40 : data) + 4;
 }
 
+/* Whether a frame is a whole cyclic one of the relation, as far as that is seen from outside: others are not counted. */
+static int is_of_relation(const struct controller *controller, const uint8_t *octets, size_t length)
+{
+    return wire_frame_id(octets, length) == FRAME_INPUT && memcmp(octets, controller->plan.controller_mac, 6) == 0 &&
+           memcmp(octets + 6, controller->device, sizeof controller->device) == 0 && cyclic_length(controller, octets, length) <= length;
+}
+
 static void take_frame(struct controller *controller, const uint8_t *octets, size_t length)
 {
     int is_cyclic = wire_is_cyclic(octets, length);
     uint32_t before = controller->state;
     must(pn_controller_frame(&controller->room, &controller->op, octets, length), "pn_controller_frame");
     send_all(controller);
-    if (is_cyclic && memcmp(octets, controller->plan.controller_mac, 6) == 0 && cyclic_length(controller, octets, length) <= length)
+    if (is_of_relation(controller, octets, length))
         count_cyclic(controller, octets, cyclic_length(controller, octets, length));
     if (!is_cyclic)
         reasons_hear(&controller->reasons, octets, length);
@@ -365,7 +387,8 @@ static void usage(void)
          "A PROFINET IO controller on the network interface IFACE. It finds the station of the plan by its name, gives it its address, makes\n"
          "the relation, writes its records, and exchanges data until it is stopped.\n"
          "\n"
-         "  PLAN.json        a catalogue in JSON, as `pnscript plan` reads it\n"
+         "  PLAN.json        a catalogue in JSON, as `pnscript plan` reads it: host/demo/pump.json is one, installed\n"
+         "                   share/doc/nandutable/pump.json\n"
          "  --list           prints a line for each station that answers within a second, and ends\n"
          "  --assign MAC     first gives the station with this MAC address the name of the plan, to be kept\n"
          "  --socket PATH    lines go in and out over this unix socket, and not over the standard streams\n"
@@ -515,7 +538,6 @@ static void begin(struct controller *controller)
 
 static void look_around(struct controller *controller)
 {
-    char text[256];
     int change;
     if (ticker_now() < controller->next_look)
         return;
@@ -531,8 +553,7 @@ static void look_around(struct controller *controller)
         lines_tell(&controller->lines, "nobody answers to the name '%.*s' yet (--list says who is there, --assign MAC gives a station this name)",
                    (int)controller->plan.name_length, (const char *)controller->plan.name);
     }
-    status_line(controller, text, sizeof text);
-    lines_status(&controller->lines, text);
+    keep_status(controller);
     controller->wake.has_lines = 1; /* what waits for a reader is written on */
 }
 
@@ -577,6 +598,7 @@ int main(int count, char *words[])
     open_all(&controller, &options);
     begin(&controller);
     run(&controller);
+    keep_status(&controller);
     lines_close(&controller.lines);
     return (int)controller.cause;
 }

@@ -155,6 +155,12 @@ static void warn_of_kernel(struct device *device, const pn_settings *settings)
                    settings->address[0], settings->address[1], settings->address[2], settings->address[3], interface);
 }
 
+static int is_same_suite(const pn_settings *one, const pn_settings *other)
+{
+    return memcmp(one->address, other->address, sizeof one->address) == 0 && memcmp(one->mask, other->mask, sizeof one->mask) == 0 &&
+           memcmp(one->gateway, other->gateway, sizeof one->gateway) == 0;
+}
+
 static void look_at_settings(struct device *device, int is_first)
 {
     pn_settings now;
@@ -164,7 +170,7 @@ static void look_at_settings(struct device *device, int is_first)
         tell_name("name", &now, text, sizeof text);
         lines_tell(&device->lines, "%s", text);
     }
-    if (is_first || memcmp(now.address, device->settings.address, 12) != 0) {
+    if (is_first || !is_same_suite(&now, &device->settings)) {
         tell_suite("ip", &now, text, sizeof text);
         lines_tell(&device->lines, "%s", text);
         warn_of_kernel(device, &now);
@@ -405,7 +411,8 @@ static void usage(void)
          "\n"
          "  --flash FILE     the flash: 8,192 octets; made where there is none. One process a file\n"
          "  --station FILE   a catalogue in JSON, as `pnscript plan` reads it: identity and modules. Without: the demo station, with two\n"
-         "                   octets of input in slot 1 and two of output in slot 2\n"
+         "                   octets of input in slot 1 and two of output in slot 2, as in host/demo/pump.json, installed\n"
+         "                   share/doc/nandutable/pump.json\n"
          "  --mac MAC        the device's MAC address, where it is not to be the interface's\n"
          "  --socket PATH    lines go in and out over this unix socket, and not over the standard streams\n"
          "  --period US      time is handed in so often while a relation stands, 31 to 10000 microseconds; at least as often as the\n"

@@ -2,6 +2,7 @@
 #include "lines.h"
 #include "say.h"
 #include <errno.h>
+#include <fcntl.h>
 #include <stdarg.h>
 #include <stdio.h>
 #include <string.h>
@@ -77,6 +78,20 @@ static void let_in(struct lines *lines)
 
 /* --- Opening --- */
 
+/* A terminal or a pipe is opened once more, so that a write never waits for its reader: the stream itself may be shared with other
+ * programs, which would not wait then either. Where it cannot be opened, the stream. */
+static int without_waiting(int fd)
+{
+    struct stat found;
+    char path[32];
+    int again;
+    if (fstat(fd, &found) != 0 || (!S_ISCHR(found.st_mode) && !S_ISFIFO(found.st_mode)))
+        return fd;
+    snprintf(path, sizeof path, "/proc/self/fd/%d", fd);
+    again = open(path, O_WRONLY | O_NONBLOCK | O_NOCTTY | O_CLOEXEC);
+    return again < 0 ? fd : again;
+}
+
 void lines_open(struct lines *lines, const char *path)
 {
     memset(lines, 0, sizeof *lines);
@@ -89,7 +104,7 @@ void lines_open(struct lines *lines, const char *path)
         return;
     }
     lines->talkers[0].in = STDIN_FILENO;
-    lines->talkers[0].out = STDOUT_FILENO;
+    lines->talkers[0].out = without_waiting(STDOUT_FILENO);
     lines->is_terminal = isatty(STDOUT_FILENO) == 1;
 }
 
@@ -110,7 +125,7 @@ static int is_ready(int fd)
     return poll(&one, 1, 0) == 1 && (one.revents & POLLOUT) != 0 && (one.revents & (POLLERR | POLLHUP)) == 0;
 }
 
-/* Writes what waits, as far as it is taken. The streams are not set to 'without waiting': others may share them. */
+/* Writes what waits, as far as it is taken. */
 static void flush(struct talker *talker)
 {
     while (talker->kept_length != 0 && talker->out != NOBODY) {
@@ -119,7 +134,7 @@ static void flush(struct talker *talker)
         if (length > talker->kept_length)
             length = talker->kept_length;
         if (length > 512)
-            length = 512; /* a pipe that is ready takes so many whole */
+            length = 512; /* a stream that could not be opened once more takes so many whole where it is ready, if it is a pipe */
         if (!is_ready(talker->out))
             return;
         done = write(talker->out, talker->kept + talker->kept_first, length);

@@ -86,7 +86,7 @@ static void show_station(const uint8_t *octets, size_t length)
     show_text(type, sizeof type, type_at, type_size);
     printf("%02x:%02x:%02x:%02x:%02x:%02x  name '%s'  type '%s'", mac[0], mac[1], mac[2], mac[3], mac[4], mac[5], name, type);
     if (ids_size >= 4)
-        printf("  VendorID %u DeviceID %u", ids[0] << 8 | ids[1], ids[2] << 8 | ids[3]);
+        printf("  VendorID %d DeviceID %d", ids[0] << 8 | ids[1], ids[2] << 8 | ids[3]);
     if (suite_size >= 4)
         printf("  address %u.%u.%u.%u", suite[0], suite[1], suite[2], suite[3]);
     puts("");
@@ -122,7 +122,7 @@ int naming_assign(struct wire *wire, const uint8_t source[6], const uint8_t mac[
     memcpy(frame + BLOCKS_AT + sizeof head, name, length);
     for (int times = 0; times < 3; times++) {
         wire_send(wire, frame, BLOCKS_AT + blocks < LEAST_FRAME ? LEAST_FRAME : BLOCKS_AT + blocks);
-        if (!next_answer(wire, FRAME_SET, SERVICE_SET, ticker_now() + SECOND, octets, &came))
+        if (!next_answer(wire, FRAME_SET, SERVICE_SET, ticker_now() + SECOND, octets, &came) || memcmp(octets + 6, mac, 6) != 0)
             continue;
         said = find_block(octets, came, 5, 4, &size);
         return said != NULL && size >= 3 ? said[2] : 1;

@@ -23,9 +23,10 @@ void station_demo(pn_station *station)
 static uint8_t *read_whole(const char *path, size_t *length)
 {
     FILE *file = fopen(path, "rb");
-    uint8_t *text = malloc(CATALOGUE_MOST + 1);
+    uint8_t *text;
     if (file == NULL)
         fail(STATUS_NO_INPUT, "the catalogue '%s' cannot be opened: %s", path, strerror(errno));
+    text = malloc(CATALOGUE_MOST + 1);
     if (text == NULL)
         fail(STATUS_SYSTEM, "out of memory");
     *length = fread(text, 1, CATALOGUE_MOST + 1, file);

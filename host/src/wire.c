@@ -133,7 +133,7 @@ static const struct tpacket_auxdata *told(struct msghdr *message)
 /* Puts a tag back behind both addresses. */
 static void put_tag(uint8_t *octets, size_t *length, const struct tpacket_auxdata *aux)
 {
-    unsigned type = aux->tp_status & TP_STATUS_VLAN_TPID_VALID ? aux->tp_vlan_tpid : TYPE_TAG;
+    unsigned type = (aux->tp_status & TP_STATUS_VLAN_TPID_VALID) != 0 ? aux->tp_vlan_tpid : TYPE_TAG;
     memmove(octets + 16, octets + 12, *length - 12);
     octets[12] = (uint8_t)(type >> 8);
     octets[13] = (uint8_t)type;
@@ -245,6 +245,12 @@ size_t wire_frame_id_at(const uint8_t *octets, size_t length)
     if (length < at + 2 || octets[at - 2] != TYPE_PROFINET >> 8 || octets[at - 1] != (TYPE_PROFINET & 0xFF))
         return 0;
     return at;
+}
+
+unsigned wire_frame_id(const uint8_t *octets, size_t length)
+{
+    size_t at = wire_frame_id_at(octets, length);
+    return at == 0 ? 0 : (unsigned)(octets[at] << 8 | octets[at + 1]);
 }
 
 int wire_is_cyclic(const uint8_t *octets, size_t length)

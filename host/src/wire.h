@@ -49,6 +49,9 @@ const char *wire_with_address(const uint8_t address[4]);
 /* Whether an octet string is a cyclic frame: its FrameID is in a range of cyclic data. */
 int wire_is_cyclic(const uint8_t *octets, size_t length);
 
+/* The FrameID of a frame, 0 where it has none. */
+unsigned wire_frame_id(const uint8_t *octets, size_t length);
+
 /* Where the FrameID of a frame stands, behind a tag if it has one; 0 where it has none. */
 size_t wire_frame_id_at(const uint8_t *octets, size_t length);
 

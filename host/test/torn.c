@@ -1,20 +1,49 @@
-/* Preloaded in front of a device (LD_PRELOAD), this takes the power away inside a call of its flash. Two words of the environment:
+/* Preloaded in front of a device (LD_PRELOAD), this takes the power away inside a call of its flash, or tells what is asked of the system.
+ * Three words of the environment:
  *
  *   TORN=K:SEED   the K-th write (from 0, those of the start counted) reaches the disk in part, each bit by the seed, and the process
  *                 is killed in it
- *   FAILS=K:N     N syncs from the K-th on answer that the disk failed (N 0: all of them) */
+ *   FAILS=K:N     N syncs from the K-th on answer that the disk failed (N 0: all of them)
+ *   ORDER=FILE    a line for each write, sync, new name and frame, in their order */
 #define _GNU_SOURCE
 #include <dlfcn.h>
 #include <errno.h>
+#include <fcntl.h>
 #include <signal.h>
+#include <stdarg.h>
 #include <stdint.h>
 #include <stdio.h>
 #include <stdlib.h>
 #include <string.h>
+#include <sys/socket.h>
+#include <sys/stat.h>
 #include <sys/types.h>
 #include <unistd.h>
 
 static unsigned long writes, syncs;
+
+/* The system's own function of a name. */
+static uintptr_t next(const char *name)
+{
+    return (uintptr_t)dlsym(RTLD_NEXT, name);
+}
+
+static void tell(const char *format, ...) __attribute__((format(printf, 1, 2)));
+
+static void tell(const char *format, ...)
+{
+    static int fd = -2;
+    va_list values;
+    if (fd == -2) {
+        const char *path = getenv("ORDER");
+        fd = path == NULL ? -1 : open(path, O_WRONLY | O_CREAT | O_APPEND | O_CLOEXEC, 0600);
+    }
+    if (fd < 0)
+        return;
+    va_start(values, format);
+    vdprintf(fd, format, values);
+    va_end(values);
+}
 
 static int read_pair(const char *name, unsigned long *first, unsigned long *second)
 {
@@ -40,18 +69,19 @@ static void tear(int fd, const uint8_t *octets, size_t length, off_t place, uint
         uint8_t mask = kind == 0 ? drawn(&seed) : (i < whole) == (kind == 1) ? 0xFF : 0;
         torn[i] = (uint8_t)((torn[i] & ~mask) | (octets[i] & mask));
     }
-    if (((ssize_t(*)(int, const void *, size_t, off_t))(uintptr_t)dlsym(RTLD_NEXT, "pwrite"))(fd, torn, length, place) != (ssize_t)length)
+    if (((ssize_t(*)(int, const void *, size_t, off_t))next("pwrite"))(fd, torn, length, place) != (ssize_t)length)
         abort();
 }
 
 ssize_t pwrite(int fd, const void *octets, size_t length, off_t place)
 {
     unsigned long at, seed;
+    tell("write %lld %zu\n", (long long)place, length);
     if (read_pair("TORN", &at, &seed) && writes++ == at) {
         tear(fd, octets, length, place, seed);
         kill(getpid(), SIGKILL);
     }
-    return ((ssize_t(*)(int, const void *, size_t, off_t))(uintptr_t)dlsym(RTLD_NEXT, "pwrite"))(fd, octets, length, place);
+    return ((ssize_t(*)(int, const void *, size_t, off_t))next("pwrite"))(fd, octets, length, place);
 }
 
 ssize_t pwrite64(int fd, const void *octets, size_t length, off_t place)
@@ -62,6 +92,7 @@ ssize_t pwrite64(int fd, const void *octets, size_t length, off_t place)
 int fdatasync(int fd)
 {
     unsigned long at, count;
+    tell("sync\n");
     if (read_pair("FAILS", &at, &count)) {
         unsigned long now = syncs++;
         if (now >= at && (count == 0 || now < at + count)) {
@@ -69,5 +100,26 @@ int fdatasync(int fd)
             return -1;
         }
     }
-    return ((int (*)(int))(uintptr_t)dlsym(RTLD_NEXT, "fdatasync"))(fd);
+    return ((int (*)(int))next("fdatasync"))(fd);
+}
+
+int fsync(int fd)
+{
+    struct stat found;
+    tell("sync %s\n", fstat(fd, &found) == 0 && S_ISDIR(found.st_mode) ? "of the folder" : "of the new file");
+    return ((int (*)(int))next("fsync"))(fd);
+}
+
+int rename(const char *from, const char *to)
+{
+    tell("new name\n");
+    return ((int (*)(const char *, const char *))next("rename"))(from, to);
+}
+
+ssize_t send(int fd, const void *octets, size_t length, int flags)
+{
+    const uint8_t *frame = octets;
+    if (length >= 16)
+        tell("frame %02x%02x %02x%02x\n", frame[12], frame[13], frame[14], frame[15]);
+    return ((ssize_t(*)(int, const void *, size_t, int))next("send"))(fd, octets, length, flags);
 }

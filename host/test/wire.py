@@ -26,8 +26,8 @@ class NoWire(Exception):
     """Namespaces or a wire between them cannot be made here."""
 
 
-def command(*words):
-    ran = subprocess.run(words, capture_output=True, text=True)
+def command(*words, environment=None):
+    ran = subprocess.run(words, capture_output=True, text=True, env=environment)
     if ran.returncode != 0:
         raise NoWire(f"{' '.join(words)}: {ran.stderr.strip() or ran.returncode}")
     return ran.stdout
@@ -38,7 +38,7 @@ class Wire:
 
     def __init__(self, tag=""):
         self.device, self.controller = (f"nandutable-{os.getpid()}{tag}-{end}" for end in ("d", "c"))
-        self.made = []
+        self.made, self.programs = [], []
 
     def __enter__(self):
         try:
@@ -68,6 +68,11 @@ class Wire:
         command("ip", "-n", self.device if end == "d0" else self.controller, "link", *words)
 
     def __exit__(self, *_):
+        # What a test that went wrong left running.
+        for program in self.programs:
+            if program.process.poll() is None:
+                program.process.kill()
+                program.process.wait()
         for name in self.made:
             subprocess.run(["ip", "netns", "del", name], capture_output=True)
         self.made = []
@@ -99,6 +104,7 @@ class Program:
         self.news = threading.Condition()
         self.process = subprocess.Popen(self.words, stdin=subprocess.PIPE, stdout=subprocess.PIPE, stderr=subprocess.PIPE,
                                         env={**os.environ, **(environment or {})})
+        wire.programs.append(self)
         self.fault = b""
         self.readers = [threading.Thread(target=self.read, daemon=True), threading.Thread(target=self.read_fault, daemon=True)]
         for reader in self.readers:
@@ -194,6 +200,21 @@ class Tap(Program):
     def close(self):
         time.sleep(0.15)
         return self.end()
+
+
+def talk_to(path, seconds=5):
+    """The socket over which a program takes lines, once it listens there."""
+    talker = socket.socket(socket.AF_UNIX)
+    talker.settimeout(seconds)
+    ends = time.monotonic() + seconds
+    while True:
+        try:
+            talker.connect(path)
+            return talker
+        except OSError:
+            if time.monotonic() > ends:
+                raise
+            time.sleep(0.02)
 
 
 def read_capture(path):
