@@ -1,7 +1,7 @@
 #!/usr/bin/env python3
-"""Counts the instructions of making the plan of a catalogue, for each octet of its text, at three sizes and four kinds of text: modules
-as a maker writes them, modules of a few keys, lists of slots, and texts under keys that nobody reads. Each has a plan. What the program
-does at an empty text is taken off. Its status is 1 where a figure passes its bound.
+"""Counts the instructions of making the plan of a catalogue, for each octet of its text, at three sizes and kinds of text that are long in
+one thing each: modules as a maker writes them, modules of two keys, the lists by which modules are let into slots, what is put into slots,
+and what nobody reads. What the program does at an empty text is taken off. Its status is 1 where a figure passes its bound.
 
 Needs valgrind. Use: bench/figures/plans.py [PROGRAM]   (the proved one if left out)
 """
@@ -32,7 +32,7 @@ def whole_module(number):
 
 
 def short_module(number):
-    return {"ID": f"{number}", "ModuleIdentNumber": 1}
+    return {"ID": f"{number:04}", "ModuleIdentNumber": 1}
 
 
 def with_modules(module):
@@ -41,16 +41,59 @@ def with_modules(module):
     return add
 
 
+def reference(catalogue, number):
+    return catalogue["DeviceAccessPointItem"]["ModuleItemRef"][number]
+
+
+def with_parameters(catalogue, number):
+    """Of a module that stands in no slot: there they are not too many."""
+    if number == 0:
+        part = {"Subslot": 1, "SubmoduleIdentNumber": 1, "ParameterRecordDataItem": []}
+        catalogue["ModuleItem"].append({"ID": "LONG", "ModuleIdentNumber": 1, "VirtualSubmoduleItem": [part]})
+    catalogue["ModuleItem"][-1]["VirtualSubmoduleItem"][0]["ParameterRecordDataItem"].append({"Index": number, "Length": 1})
+
+
 def with_slots(catalogue, number):
-    catalogue["DeviceAccessPointItem"]["ModuleItemRef"][0]["AllowedInSlots"].append(number % 32_768)
+    reference(catalogue, 0)["AllowedInSlots"].append(number % 32_768)
+
+
+def with_physical(catalogue, number):
+    catalogue["DeviceAccessPointItem"]["PhysicalSlots"].insert(0, 0)
+    reference(catalogue, 0).setdefault("FixedInSlots", []).append(1)
+
+
+def with_fixed(catalogue, number):
+    reference(catalogue, 0).setdefault("FixedInSlots", []).append(1)
+    reference(catalogue, 1).setdefault("FixedInSlots", []).append(2)
+
+
+def with_references(catalogue, number):
+    catalogue["DeviceAccessPointItem"]["ModuleItemRef"].insert(0, {"ModuleItemTarget": "IN3"})
+    for _ in range(10):
+        reference(catalogue, -2).setdefault("FixedInSlots", []).append(1)
+
+
+def with_entries(catalogue, number):
+    """As many slots as entries: there are too many."""
+    slot = number + 3
+    catalogue["DeviceAccessPointItem"]["PhysicalSlots"].append(slot)
+    reference(catalogue, 0)["AllowedInSlots"].append(slot)
+    catalogue["Project"]["Slots"].append({"Slot": slot, "ModuleItemTarget": "IN2"})
 
 
 def with_words(catalogue, number):
     catalogue[f"Text-{number}"] = "what a tool may keep of a device \u2014 and nobody reads"
 
 
-KINDS = [("modules of a maker", with_modules(whole_module)), ("modules of two keys", with_modules(short_module)),
-         ("slots in a list", with_slots), ("other keys", with_words)]
+def with_keys(catalogue, number):
+    catalogue[f"{number}"] = 0
+
+
+# What each is long in, and the status.
+KINDS = [("modules of a maker", with_modules(whole_module), 0), ("modules of two keys", with_modules(short_module), 0),
+         ("parameter records", with_parameters, 0), ("slots in a list", with_slots, 0), ("fixed slots of many", with_physical, 0),
+         ("fixed slots of two", with_fixed, 0), ("references", with_references, 0), ("slots that are used", with_entries, 5),
+         ("other keys", with_words, 0), ("short keys", with_keys, 0)]
 
 
 def text_of(add, size):
@@ -83,9 +126,9 @@ def main(words):
     need("valgrind")
     program = words[0] if words else proved()
     nothing, wrong = total(program, b"", 5), 0
-    for name, add in KINDS:
+    for name, add, status in KINDS:
         for size in SIZES:
-            figure = (total(program, text_of(add, size), 0) - nothing) / size
+            figure = (total(program, text_of(add, size), status) - nothing) / size
             wrong += figure > BOUND
             print(f"plan, {name}, {size:,} octets: {figure:.0f} instructions an octet (at most {BOUND})")
     return 1 if wrong else 0

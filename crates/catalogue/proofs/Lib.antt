@@ -1,3 +1,4 @@
 pub mod Chains
-pub mod Within
+pub mod Ids
 pub mod InRange
+pub mod Within

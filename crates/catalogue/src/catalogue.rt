@@ -6,7 +6,7 @@ ghost use Rattle.catalogue.specs.Catalogues.{Catalogue, Found, Refuses, identity
 ghost use Rattle.catalogue.specs.Kept.{IsInRange};
 
 use crate::access_point::access_point;
-use crate::entry::list;
+use crate::module::modules_at;
 use crate::project::project_of;
 use crate::tree::{member_at, word_at};
 use crate::{AccessPoint, CatalogueFault, ModuleItem, Project, TreeFault};
@@ -65,7 +65,7 @@ pub fn read_tree(alloc: Global, tree: &Value) -> Result<Catalogue, TreeFault>
     let identity = identity(tree)?;
     let point = member_at(tree, "DeviceAccessPointItem")?;
     let access_point = access_point(alloc, point)?;
-    let modules = list(alloc, &(), tree, "ModuleItem")?;
+    let modules = modules_at(alloc, tree, "ModuleItem")?;
     let item = member_at(tree, "Project")?;
     let least_interval = least_interval(&access_point);
     let project = project_of(alloc, item, least_interval, &modules)?;

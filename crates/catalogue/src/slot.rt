@@ -6,8 +6,8 @@ ghost use Rattle.catalogue.specs.Submodules.{Submodule};
 ghost use Rattle.catalogue.specs.Modules.{submodules_of};
 ghost use Rattle.catalogue.specs.Slots.{Record, Slot, record_item, slot_item, records_of, octets_at, length_of, parameters_of};
 
-use crate::entry::{Entry, list};
-use crate::tree::{string, text, whole_at, word_at};
+use crate::entry::{Entry, each_of};
+use crate::tree::{items_at, string, text, whole_at, word_at};
 use crate::{ModuleItem, ParameterItem, SubmoduleItem, TreeFault};
 use hex::FromHexError;
 use serde_json::Value;
@@ -112,7 +112,8 @@ impl Entry<Vec<SubmoduleItem>> for RecordItem {
     }
 }
 
-/// The records of a slot, of a module with these submodules.
+/// The records of a slot, of a module with these submodules. Where there are none, no module is looked for.
+#[tactic(auto, unfolding(crate::specs::Reader::list_at))]
 fn records_of(
     alloc: Global,
     tree: &Value,
@@ -121,13 +122,17 @@ fn records_of(
 ) -> Result<Vec<RecordItem>, TreeFault>
     ensures { Reads (λ records. records.items) result (records_of modules.now.items target.now (view tree.now)) }
 {
+    let trees = items_at(tree, "Records")?;
+    if trees.is_empty() {
+        return Ok(Vec::new(alloc));
+    }
     for module in modules {
         if module.id.as_str() == target {
-            return list(alloc, &module.submodules, tree, "Records");
+            return each_of(alloc, &module.submodules, trees);
         }
     }
     let none = Vec::new(alloc);
-    list(alloc, &none, tree, "Records")
+    each_of(alloc, &none, trees)
 }
 
 impl Entry<Vec<ModuleItem>> for SlotItem {

@@ -1,3 +1,5 @@
+pub mod Alike
 pub mod Dotted
 pub mod Rising
+pub mod Steps
 pub mod Whole

@@ -3,7 +3,6 @@ use Rattle.std.specs.Prelude.{◌&&◌, ℕ, Bool, true, List, length, nat_le, s
 use Rattle.std.specs.List.{list_all}
 use Rattle.catalogue.specs.Submodules.{Submodule}
 use Rattle.catalogue.specs.Slots.{Slot}
-use Rattle.catalogue.specs.AccessPoints.{Reference}
 use Rattle.catalogue.specs.Catalogues.{Catalogue}
 use Rattle.configurator.specs.Standing.{Stands, all_slots, stands_in}
 

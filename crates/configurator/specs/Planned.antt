@@ -10,7 +10,7 @@ use Rattle.catalogue.specs.Slots.{Record, Slot}
 use Rattle.catalogue.specs.Catalogues.{Catalogue, Found, Refuses}
 use Rattle.configurator.specs.declared.addresses.Addresses.{Addresses}
 use Rattle.configurator.specs.declared.fault.PlanFault.{PlanFault}
-use Rattle.configurator.specs.declared.fault.PlanFault.TheVariants.{NotAllowedInSlot, TooManySlots, FrameTooLong, ConnectTooLong, Name, Address}
+use Rattle.configurator.specs.declared.fault.PlanFault.TheVariants.{NotAllowedInSlot, TooManySlots, FrameTooLong, ConnectTooLong, Name, Address, OutOfMemory}
 use Rattle.configurator.specs.Fault.{of_catalogue}
 use Rattle.configurator.specs.Addresses.{AreAddresses, AreNamed}
 use Rattle.configurator.specs.Allowed.{are_allowed}
@@ -60,7 +60,7 @@ pub record ArePartsOf (found : Catalogue) (parts : Parts) : Type 0 where
   pub made : parts ≡ parts_of found addressed.addresses
 
 -- the plan of a catalogue, or its first fault: a name, an address, a module that is not allowed in its slot, too many things, a
--- frame or the Connect too long
+-- frame or the Connect too long; memory may be refused
 abbrev pub Judged : Catalogue → Result Parts PlanFault → Type 0
 Judged found (Ok parts) = ArePartsOf found parts × (plan_of parts ≡ Ok parts)
 Judged found (Err Name) = ¬ AreNamed found.project
@@ -69,6 +69,7 @@ Judged found (Err NotAllowedInSlot) = IsAddressed found × (are_allowed found �
 Judged found (Err TooManySlots) = IsAddressed found × (are_allowed found ≡ true) × (are_few found ≡ false)
 Judged found (Err FrameTooLong) = (parts : Parts) × ArePartsOf found parts × (plan_of parts ≡ Err long.Frame)
 Judged found (Err ConnectTooLong) = (parts : Parts) × ArePartsOf found parts × (plan_of parts ≡ Err long.Connect)
+Judged found (Err OutOfMemory) = Unit {0}
 Judged found (Err fault) = ⊥
 
 -- a text is JSON of a tree that is a catalogue of this plan

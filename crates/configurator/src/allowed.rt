@@ -1,22 +1,12 @@
 //! Whether each module may stand in its slot.
-ghost use Rattle.std.specs.Prelude.{◌≡◌};
-ghost use Rattle.std.specs.List.{list_any, list_all};
-ghost use Rattle.catalogue.specs.Modules.{has_id};
-ghost use Rattle.configurator.specs.Allowed.{are_allowed, are_once, has_other, is_fixed_well, is_in, may_all_stand, may_stand, takes, uses_of};
+ghost use Rattle.std.specs.Prelude.{◌≡◌, ◌&&◌, IfOk};
+ghost use Rattle.std.specs.List.{list_all};
+ghost use Rattle.configurator.specs.Allowed.{are_allowed, are_once, is_in, uses_of};
+ghost use Rattle.configurator.specs.Known.{fixed_by, is_fixed_open, is_no_other, is_open, number_in, physical_in, stands_well, taken_by};
 
-use catalogue::{AccessPoint, Catalogue, ModuleItem, ModuleReference, SlotItem};
-
-/// Whether a module with this ID is in the catalogue.
-fn has_id(modules: &[ModuleItem], target: &str) -> bool
-    ensures { result ≡ has_id target.now modules.now }
-{
-    for module in modules {
-        if module.id.as_str() == target {
-            return true;
-        }
-    }
-    false
-}
+use crate::known::Known;
+use catalogue::{Catalogue, ModuleReference, SlotItem};
+use std::alloc::{AllocError, Global};
 
 /// Whether one of these slots is this one.
 pub(crate) fn is_in(slots: &[u64], slot: u64) -> bool
@@ -25,71 +15,78 @@ pub(crate) fn is_in(slots: &[u64], slot: u64) -> bool
     slots.iter().any(|other| *other == slot)
 }
 
-/// Whether the device has this slot.
-fn is_physical(slots: &[u16], slot: u64) -> bool
-    ensures { result ≡ is_in slot slots.now }
+/// Whether no other module is fixed in a slot.
+fn is_no_other(fixed: Option<usize>, number: usize) -> bool
+    ensures { result ≡ is_no_other number fixed }
 {
-    slots.iter().any(|other| *other as u64 == slot)
-}
-
-/// Whether the module may be put into this slot, or is fixed there.
-fn takes(reference: &ModuleReference, slot: u64, target: &str) -> bool
-    ensures { result ≡ takes slot target.now reference.now }
-{
-    reference.target.as_str() == target
-        && (is_in(reference.allowed_in.as_slice(), slot)
-            || is_in(reference.fixed_in.as_slice(), slot))
-}
-
-/// Whether one of the modules that may be put into this slot or are fixed there is this one.
-fn is_taken(references: &[ModuleReference], slot: u64, target: &str) -> bool
-    ensures { result ≡ list_any (takes slot target.now) references.now }
-{
-    for reference in references {
-        if takes(reference, slot, target) {
-            return true;
-        }
+    match fixed {
+        Some(other) => other == number,
+        None => true,
     }
-    false
 }
 
-/// Whether another module is fixed in this slot.
-fn has_other(reference: &ModuleReference, slot: u64, target: &str) -> bool
-    ensures { result ≡ has_other slot target.now reference.now }
-{
-    reference.target.as_str() != target && is_in(reference.fixed_in.as_slice(), slot)
-}
-
-/// Whether one of these modules is another and fixed in this slot.
-fn have_other(references: &[ModuleReference], slot: u64, target: &str) -> bool
-    ensures { result ≡ list_any (has_other slot target.now) references.now }
-{
-    for reference in references {
-        if has_other(reference, slot, target) {
-            return true;
-        }
-    }
-    false
-}
-
-/// Whether a module may stand in a slot.
-#[tactic(auto, unfolding(crate::specs::Allowed::may_stand))]
-fn may_stand(point: &AccessPoint, modules: &[ModuleItem], slot: u64, target: &str) -> bool
-    ensures { result ≡ may_stand point.now modules.now slot target.now }
+/// Whether the device has a slot, it is not that of the access point, and no other module is fixed there.
+fn is_open(known: &Known, number: usize, slot: u64) -> bool
+    ensures { result ≡ is_open (physical_in known.now) (fixed_by known.now) number slot }
 {
     slot != 0
-        && is_physical(point.physical_slots.as_slice(), slot)
-        && has_id(modules, target)
-        && is_taken(point.references.as_slice(), slot, target)
-        && !have_other(point.references.as_slice(), slot, target)
+        && known.physical.contains(&slot)
+        && is_no_other(known.fixed.get(&slot).copied(), number)
 }
 
-/// Whether what is put into slots may stand there.
-fn may_all_stand(point: &AccessPoint, modules: &[ModuleItem], slots: &[SlotItem]) -> bool
-    ensures { result ≡ may_all_stand point.now modules.now slots.now }
+/// The same of slots.
+fn are_all_open(known: &Known, number: usize, slots: &[u64]) -> bool
+    ensures { result ≡ list_all (is_open (physical_in known.now) (fixed_by known.now) number) slots.now }
+{
+    for slot in slots {
+        if !is_open(known, number, *slot) {
+            return false;
+        }
+    }
+    true
+}
+
+/// Whether a module may stand where it is fixed.
+fn is_fixed_open(known: &Known, reference: &ModuleReference) -> bool
+    ensures { result ≡ is_fixed_open (physical_in known.now) (fixed_by known.now) (number_in known.now) reference.now }
+{
+    let slots = reference.fixed_in.as_slice();
+    match known.number(reference.target.as_str()) {
+        Some(number) => are_all_open(known, number, slots),
+        None => slots.is_empty(),
+    }
+}
+
+/// Whether all modules may stand where they are fixed.
+fn are_fixed_open(known: &Known, references: &[ModuleReference]) -> bool
+    ensures { result ≡ list_all (is_fixed_open (physical_in known.now) (fixed_by known.now) (number_in known.now)) references.now }
+{
+    for reference in references {
+        if !is_fixed_open(known, reference) {
+            return false;
+        }
+    }
+    true
+}
+
+/// Whether a module may stand in the slot into which it is put.
+fn stands_well(known: &Known, entry: &SlotItem) -> bool
+    ensures { result ≡ stands_well (physical_in known.now) (fixed_by known.now) (taken_by known.now) (number_in known.now) entry.now }
+{
+    match known.number(entry.target.as_str()) {
+        Some(number) => {
+            is_open(known, number, entry.slot) && known.taken.contains(&(entry.slot, number))
+        }
+        None => false,
+    }
+}
+
+/// Whether all may.
+fn do_all_stand(known: &Known, slots: &[SlotItem]) -> bool
+    ensures { result ≡ list_all (stands_well (physical_in known.now) (fixed_by known.now) (taken_by known.now) (number_in known.now)) slots.now }
 {
     for entry in slots {
-        if !may_stand(point, modules, entry.slot, entry.target.as_str()) {
+        if !stands_well(known, entry) {
             return false;
         }
     }
@@ -121,55 +118,19 @@ fn are_once(slots: &[SlotItem]) -> bool
     true
 }
 
-/// Whether a module may stand in these slots.
-fn may_stand_in(point: &AccessPoint, modules: &[ModuleItem], slots: &[u64], target: &str) -> bool
-    ensures { result ≡ list_all (λ slot. may_stand point.now modules.now slot target.now) slots.now }
+/// Whether the fixed modules stand in open slots, those that are put into slots stand well, and each slot is named once.
+fn is_allowed(known: &Known, references: &[ModuleReference], slots: &[SlotItem]) -> bool
+    ensures { result ≡ (list_all (is_fixed_open (physical_in known.now) (fixed_by known.now) (number_in known.now)) references.now && list_all (stands_well (physical_in known.now) (fixed_by known.now) (taken_by known.now) (number_in known.now)) slots.now && are_once slots.now) }
 {
-    for slot in slots {
-        if !may_stand(point, modules, *slot, target) {
-            return false;
-        }
-    }
-    true
-}
-
-/// Whether a module may stand where it is fixed.
-fn is_fixed_well(point: &AccessPoint, modules: &[ModuleItem], reference: &ModuleReference) -> bool
-    ensures { result ≡ is_fixed_well point.now modules.now reference.now }
-{
-    may_stand_in(
-        point,
-        modules,
-        reference.fixed_in.as_slice(),
-        reference.target.as_str(),
-    )
-}
-
-/// Whether all modules may stand where they are fixed.
-fn are_fixed_well(
-    point: &AccessPoint,
-    modules: &[ModuleItem],
-    references: &[ModuleReference],
-) -> bool
-    ensures { result ≡ list_all (is_fixed_well point.now modules.now) references.now }
-{
-    for reference in references {
-        if !is_fixed_well(point, modules, reference) {
-            return false;
-        }
-    }
-    true
+    are_fixed_open(known, references) && do_all_stand(known, slots) && are_once(slots)
 }
 
 /// Whether each module may stand in its slot.
-#[tactic(auto, unfolding(crate::specs::Allowed::are_allowed))]
-pub(crate) fn are_allowed(catalogue: &Catalogue) -> bool
-    ensures { result ≡ are_allowed catalogue.now }
+pub(crate) fn are_allowed(alloc: Global, catalogue: &Catalogue) -> Result<bool, AllocError>
+    ensures { IfOk result (λ allowed. allowed ≡ are_allowed catalogue.now) }
 {
-    let point = &catalogue.access_point;
-    let modules = catalogue.modules.as_slice();
+    let known = Known::of(alloc, catalogue)?;
+    let references = catalogue.access_point.references.as_slice();
     let slots = catalogue.project.slots.as_slice();
-    may_all_stand(point, modules, slots)
-        && are_once(slots)
-        && are_fixed_well(point, modules, point.references.as_slice())
+    Ok(is_allowed(&known, references, slots))
 }

@@ -1,9 +1,11 @@
 //! Why a text gives no plan.
 ghost use Rattle.std.specs.Prelude.{◌≡◌};
+ghost use Rattle.configurator.specs.declared.fault.PlanFault.TheVariants.{OutOfMemory};
 ghost use Rattle.configurator.specs.Fault.{number_of, of_catalogue, of_length};
 
 use catalogue::CatalogueFault;
 use plans::TooLong;
+use std::alloc::AllocError;
 use thiserror::Error;
 
 /// Why a text gives no plan. The first four are found in the order of the keys; then, over the whole, `Name` comes first, and
@@ -54,6 +56,14 @@ impl From<CatalogueFault> for PlanFault {
             CatalogueFault::Number => PlanFault::Number,
             CatalogueFault::OutOfMemory => PlanFault::OutOfMemory,
         }
+    }
+}
+
+impl From<AllocError> for PlanFault {
+    ghost from_gives = { λ _ fault. fault ≡ OutOfMemory };
+
+    fn from(_error: AllocError) -> PlanFault {
+        PlanFault::OutOfMemory
     }
 }
 

@@ -6,6 +6,7 @@ mod addresses;
 mod allowed;
 mod fault;
 mod few;
+mod known;
 mod names;
 mod plan;
 mod records;

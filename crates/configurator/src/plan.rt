@@ -51,7 +51,12 @@ fn parts_of(catalogue: &Catalogue, names: Names, addresses: Addresses) -> Parts
 }
 
 /// The plan of a catalogue whose names and addresses are valid, or its first fault over the rest.
-fn planned(catalogue: &Catalogue, names: Names, addresses: Addresses) -> Result<Plan, PlanFault>
+fn planned(
+    alloc: Global,
+    catalogue: &Catalogue,
+    names: Names,
+    addresses: Addresses,
+) -> Result<Plan, PlanFault>
     requires kept { IsInRange catalogue.now }
     requires named { AreNamed catalogue.now.project }
     requires station { names.station ≡ catalogue.now.project.station.name }
@@ -59,7 +64,7 @@ fn planned(catalogue: &Catalogue, names: Names, addresses: Addresses) -> Result<
     requires addressed { AreAddresses catalogue.now.project addresses }
     ensures { Judged catalogue.now result }
 {
-    if !are_allowed(catalogue) {
+    if !are_allowed(alloc, catalogue)? {
         return Err(PlanFault::NotAllowedInSlot);
     }
     if !are_few(catalogue) {
@@ -72,7 +77,7 @@ fn planned(catalogue: &Catalogue, names: Names, addresses: Addresses) -> Result<
 }
 
 /// The plan of a catalogue, or its first fault over the whole.
-fn plan_of(catalogue: &Catalogue) -> Result<Plan, PlanFault>
+fn plan_of(alloc: Global, catalogue: &Catalogue) -> Result<Plan, PlanFault>
     requires { IsInRange catalogue.now }
     ensures { Judged catalogue.now result }
 {
@@ -84,7 +89,7 @@ fn plan_of(catalogue: &Catalogue) -> Result<Plan, PlanFault>
         Some(addresses) => addresses,
         None => return Err(PlanFault::Address),
     };
-    planned(catalogue, names, addresses)
+    planned(alloc, catalogue, names, addresses)
 }
 
 /// The plan of the catalogue that a text of JSON is (the keys are GSDML's), or its first fault.
@@ -96,5 +101,5 @@ pub fn plan_from_json(alloc: Global, text: &[u8]) -> Result<Plan, PlanFault>
         Ok(catalogue) => catalogue,
         Err(fault) => return Err(PlanFault::from(fault)),
     };
-    plan_of(&catalogue)
+    plan_of(alloc, &catalogue)
 }

@@ -15,6 +15,7 @@ mod string;
 mod vec;
 
 pub mod alloc;
+pub mod collections;
 #[cfg(feature = "std")]
 pub mod env;
 #[cfg(feature = "std")]

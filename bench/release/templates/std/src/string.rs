@@ -1,6 +1,7 @@
 //! A text whose growth can fail.
 
 use crate::alloc::{AllocError, Global};
+use core::borrow::Borrow;
 use core::fmt;
 use core::ops::Deref;
 
@@ -76,6 +77,12 @@ impl Deref for String {
     type Target = str;
 
     fn deref(&self) -> &str {
+        &self.text
+    }
+}
+
+impl Borrow<str> for String {
+    fn borrow(&self) -> &str {
         &self.text
     }
 }

@@ -1,8 +1,0 @@
-use Rattle.std.proofs.Common.{◌≡◌, drop}
-use Rattle.configurator.specs.Allowed.{has_other}
-use Rattle.std.specs.List.{list_any}
-use Rattle.configurator.proofs.allowed.have_other.Given as goal
-
--- what is found in all is found in what is left
-abbrev pub invariant-loop-reference : goal.invariant-loop-reference
-invariant-loop-reference l = list_any (has_other l.slot l.target) l.references ≡ list_any (has_other l.slot l.target) (drop l.reference-index l.references)
