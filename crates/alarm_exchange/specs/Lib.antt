@@ -1,3 +1,4 @@
 pub mod Line
 pub mod World
 pub mod Shown
+pub mod Laws

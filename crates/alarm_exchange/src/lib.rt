@@ -3,5 +3,7 @@
 #![tactic(auto)]
 
 mod exchange;
+mod laws;
 
 pub use exchange::{Exchange, Kept, Move};
+pub use laws::alarms_are_taken_in_order;

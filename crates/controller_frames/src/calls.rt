@@ -39,8 +39,8 @@ fn object_of(station: &Station) -> Uuid
     ])
 }
 
-/// The header of a call.
-fn header_of(setup: &Setup, request: Request) -> Header
+/// The header of the call that asks for this: of the object, the activity and the number of the start-up.
+pub fn header_of(setup: &Setup, request: Request) -> Header
     ensures { result ≡ header_of setup.now request }
 {
     Header {

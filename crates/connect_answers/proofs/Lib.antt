@@ -1,0 +1,4 @@
+pub mod Responses
+pub mod Heard
+pub mod Found
+pub mod Answered

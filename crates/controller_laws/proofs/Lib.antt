@@ -1,0 +1,4 @@
+pub mod Whole
+pub mod Ended
+pub mod Quiet
+pub mod Alarms
