@@ -1,0 +1,5 @@
+pub mod Holds
+pub mod Goes
+pub mod Kept
+pub mod Law
+pub mod Given
