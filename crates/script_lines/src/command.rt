@@ -16,14 +16,14 @@ use std::alloc::AllocError;
 use uuid::Uuid;
 
 /// How many bytes a line may have, what ends it not counted.
-pub(crate) const LONGEST_LINE: usize = 65_536;
+const LONGEST_LINE: usize = 65_536;
 
 /// For how many units a line may let time go by.
 const MOST_TICKS: u32 = 1_000_000;
 
 /// What a script asks for.
 #[derive(Clone, Copy)]
-pub(crate) enum Command<'a> {
+pub enum Command<'a> {
     /// Hand these bytes to the device, as from the network.
     Frame(&'a [u8]),
     /// Take the device's power away, and give it back.
@@ -52,7 +52,7 @@ pub(crate) enum Command<'a> {
 
 /// What a line is.
 #[derive(Clone, Copy)]
-pub(crate) enum Line<'a> {
+pub enum Line<'a> {
     /// Too long, or not ASCII.
     Unfit,
     /// Empty, or a comment.
@@ -64,7 +64,7 @@ pub(crate) enum Line<'a> {
 }
 
 /// The words of a line.
-pub(crate) enum Words<'a> {
+enum Words<'a> {
     One(&'a [u8]),
     Two(&'a [u8], &'a [u8]),
     Three(&'a [u8], &'a [u8], &'a [u8]),
@@ -73,7 +73,7 @@ pub(crate) enum Words<'a> {
 }
 
 /// What some bytes are up to a separator, and what they are behind it.
-pub(crate) fn cut_at(bytes: &[u8], separator: u8) -> (&[u8], Option<&[u8]>)
+fn cut_at(bytes: &[u8], separator: u8) -> (&[u8], Option<&[u8]>)
     ensures shorter { IfSome result.1 (λ rest. length rest.now < length bytes.now) }
     ensures parts { slice_split (λ b. b == separator) bytes.now ≡ result.0.now ∷ behind separator (option_copied result.1) }
 {
@@ -92,7 +92,7 @@ fn place_of(bytes: &[u8], wanted: u8) -> Option<usize>
 }
 
 /// The first line of some bytes, without what ends it, and what follows it.
-pub(crate) fn first_line(bytes: &[u8]) -> (&[u8], &[u8])
+pub fn first_line(bytes: &[u8]) -> (&[u8], &[u8])
     requires { bytes.now ≢ [] }
     ensures lines { lines bytes.now ≡ result.0.now ∷ lines result.1.now }
     ensures shorter { length result.1.now < length bytes.now }
@@ -118,7 +118,7 @@ fn without_return(line: &[u8]) -> &[u8]
 }
 
 /// The words of a line, which single spaces part.
-pub(crate) fn words_in(line: &[u8]) -> Words<'_>
+fn words_in(line: &[u8]) -> Words<'_>
     ensures { AreWords line.now result }
 {
     let (first, rest) = cut_at(line, b' ');
@@ -142,7 +142,7 @@ pub(crate) fn words_in(line: &[u8]) -> Words<'_>
 
 /// What a line means. `buffer` is for the bytes of a frame.
 #[tactic(auto, unfolding(crate::specs::Line::meaning_of))]
-pub(crate) fn meaning<'a>(line: &'a [u8], buffer: &'a mut Vec<u8>) -> Result<Line<'a>, AllocError>
+pub fn meaning<'a>(line: &'a [u8], buffer: &'a mut Vec<u8>) -> Result<Line<'a>, AllocError>
     ensures { IfOk result (λ meaning. line_read meaning ≡ meaning_of line.now) }
 {
     if line.is_empty() {

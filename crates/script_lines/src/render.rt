@@ -1,4 +1,4 @@
-// The lines that are printed. Each function appends one of them to a text.
+//! The lines that are printed. Each function appends one of them to a text.
 ghost use Rattle.std.specs.Prelude.{◌≡◌, ◌≤◌, ◌++◌, length, OnOk, decimal, map};
 ghost use Rattle.hex.specs.Hex.{encode_lower};
 ghost use Rattle.script_lines.specs.Text.{boot_line, out_line, moved_line, out_lines, note_line, note_word};
@@ -11,7 +11,7 @@ use settings_journal::BootFault;
 use std::alloc::AllocError;
 
 /// How a start ended.
-pub(crate) fn boot(refused: Option<BootFault>, text: &mut Vec<u8>) -> Result<(), AllocError>
+pub fn boot(refused: Option<BootFault>, text: &mut Vec<u8>) -> Result<(), AllocError>
     ensures { OnOk result (text.new.items ≡ text.old.items ++ boot_line refused) }
 {
     match refused {
@@ -23,7 +23,7 @@ pub(crate) fn boot(refused: Option<BootFault>, text: &mut Vec<u8>) -> Result<(),
 
 /// A frame that is sent.
 #[tactic(auto, unfolding(crate::specs::Text::out_line))]
-pub(crate) fn out(frame: &Frame, text: &mut Vec<u8>) -> Result<(), AllocError>
+fn out(frame: &Frame, text: &mut Vec<u8>) -> Result<(), AllocError>
     ensures { OnOk result (text.new.items ≡ text.old.items ++ out_line frame.now.items) }
 {
     text.extend_from_slice(b"out ")?;
@@ -43,7 +43,7 @@ pub(crate) fn hex_digits(bytes: &[u8], text: &mut Vec<u8>) -> Result<(), AllocEr
 }
 
 /// Frames that are sent, the first of them first.
-pub(crate) fn outs(frames: &[Frame], text: &mut Vec<u8>) -> Result<(), AllocError>
+pub fn outs(frames: &[Frame], text: &mut Vec<u8>) -> Result<(), AllocError>
     ensures { OnOk result (text.new.items ≡ text.old.items ++ out_lines (map (λ frame. frame.items) frames.now)) }
 {
     for frame in frames {
@@ -54,7 +54,7 @@ pub(crate) fn outs(frames: &[Frame], text: &mut Vec<u8>) -> Result<(), AllocErro
 
 /// What became of an event.
 #[tactic(auto, unfolding(crate::specs::Text::note_line))]
-pub(crate) fn note(note: Note, text: &mut Vec<u8>) -> Result<(), AllocError>
+pub fn note(note: Note, text: &mut Vec<u8>) -> Result<(), AllocError>
     ensures { OnOk result (text.new.items ≡ text.old.items ++ note_line note) }
 {
     text.extend_from_slice(b"note ")?;
@@ -79,7 +79,7 @@ fn word(note: Note) -> &'static [u8]
 
 /// How many frames were handed over: to the device, and to the controller.
 #[tactic(auto, unfolding(crate::specs::Text::moved_line))]
-pub(crate) fn moved(
+pub fn moved(
     to_device: usize,
     to_controller: usize,
     text: &mut Vec<u8>,

@@ -1,4 +1,4 @@
-// The lines that show the settings, the relation and the lamp. Each function appends one of them to a text.
+//! The lines that show the settings, the relation, the lamp and what the controller is at. Each function appends one of them to a text.
 ghost use Rattle.std.specs.Prelude.{◌≡◌, ◌++◌, ◌≤◌, length, OnOk, decimal};
 ghost use Rattle.script_lines.specs.Show.{name_line, suite_line, dotted, text_line, phase_line, phase_word, lamp_line, output_line, shown, state_line, state_word};
 
@@ -11,7 +11,7 @@ use std::alloc::AllocError;
 
 /// All of the lines: what runs, beside the name and the suite that are stored, what the application relation waits for, and
 /// for how long the lamp still flashes.
-pub(crate) fn all(
+pub fn all(
     running: &Settings,
     stored: &Settings,
     phase: Option<Phase>,
@@ -72,7 +72,7 @@ fn octets(octets: [u8; 4], text: &mut Vec<u8>) -> Result<(), AllocError>
 }
 
 /// A decimal number. This is no line of its own.
-pub(crate) fn number(number: u32, text: &mut Vec<u8>) -> Result<(), AllocError>
+pub fn number(number: u32, text: &mut Vec<u8>) -> Result<(), AllocError>
     ensures { OnOk result (text.new.items ≡ text.old.items ++ decimal number) }
 {
     let mut buffer = Buffer::new();
@@ -123,7 +123,7 @@ fn lamp_units(units: u32, text: &mut Vec<u8>) -> Result<(), AllocError>
 
 /// The output of a submodule, in hex.
 #[tactic(auto, unfolding(crate::specs::Show::output_line))]
-pub(crate) fn output(
+pub fn output(
     slot: u16,
     subslot: u16,
     value: &[u8],
@@ -143,7 +143,7 @@ pub(crate) fn output(
 
 /// What the controller is at.
 #[tactic(auto, unfolding(crate::specs::Show::state_line))]
-pub(crate) fn state(state: State, text: &mut Vec<u8>) -> Result<(), AllocError>
+pub fn state(state: State, text: &mut Vec<u8>) -> Result<(), AllocError>
     ensures { OnOk result (text.new.items ≡ text.old.items ++ state_line state) }
 {
     text.extend_from_slice(b"state ")?;

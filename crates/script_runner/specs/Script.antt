@@ -16,9 +16,9 @@ then_told Refuses later = []
 then_told (HasNoPlan catalogue) later = []
 
 -- what lines print, up to the first that is refused
-abbrev pub told : Network → List (List ℕ) → List ℕ
-told network [] = []
-told network (line ∷ lines) = then_told (outcome_of network (meaning_of line)) (λ next. told next lines)
+abbrev pub told : (List ℕ → Option Parts) → Network → List (List ℕ) → List ℕ
+told plans network [] = []
+told plans network (line ∷ lines) = then_told (outcome_of plans network (meaning_of line)) (λ next. told plans next lines)
 
 -- how lines end: all of them were answered, this one is none that a script may have there, or this catalogue has no plan
 pub data End : Type 0 where
@@ -33,9 +33,9 @@ then_ended Refuses n later = Refused n
 then_ended (HasNoPlan catalogue) n later = Unplanned catalogue
 
 -- how lines end of which the first has the number n
-abbrev pub ended : ℕ → Network → List (List ℕ) → End
-ended n network [] = AllDone
-ended n network (line ∷ lines) = then_ended (outcome_of network (meaning_of line)) n (λ next. ended (n + 1) next lines)
+abbrev pub ended : (List ℕ → Option Parts) → ℕ → Network → List (List ℕ) → End
+ended plans n network [] = AllDone
+ended plans n network (line ∷ lines) = then_ended (outcome_of plans network (meaning_of line)) n (λ next. ended plans (n + 1) next lines)
 
 -- whether one of some lines orders a failure of the flash
 abbrev pub has_order : List (List ℕ) → Bool
@@ -49,11 +49,11 @@ before_order (line ∷ lines) = if is_order (meaning_of line) then [] else line 
 -- what a script prints, up to the first line that orders a failure of the flash: what its calls of the flash do to later lines is
 -- not told
 unfoldable pub output_of : (List ℕ → Option Parts) → List ℕ → List ℕ
-output_of plans input = boot_line None ++ told (alone plans) (before_order (lines input))
+output_of plans input = boot_line None ++ told plans alone (before_order (lines input))
 
 -- how it ends, if before that
 unfoldable pub end_of : (List ℕ → Option Parts) → List ℕ → End
-end_of plans input = ended 1 (alone plans) (before_order (lines input))
+end_of plans input = ended plans 1 alone (before_order (lines input))
 
 -- what plans the catalogues of some lines have is known here
 abbrev pub AllRight : (List ℕ → Option Parts) → List (List ℕ) → Type 0

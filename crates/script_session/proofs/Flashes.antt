@@ -4,9 +4,9 @@ use Rattle.flash_model.specs.declared.memory.MemoryFlash.{MemoryFlash}
 use Rattle.flash_model.specs.Fate.{against_writes}
 use Rattle.flash_model.specs.Memory.{armed_in, image_of, failures_of}
 use Rattle.settings_journal.specs.Commit.{HasBootCause}
-use Rattle.script_runner.specs.declared.session.Power.{Power}
-use Rattle.script_runner.specs.declared.session.Power.TheVariants.{On, Off, Away}
-use Rattle.script_runner.specs.Session.{IsOver}
+use Rattle.script_session.specs.declared.power.Power.{Power}
+use Rattle.script_session.specs.declared.power.Power.TheVariants.{On, Off, Away}
+use Rattle.script_session.specs.Power.{IsOver}
 
 -- a flash with the same bytes, the same count of failures and the same order is the same to what was started over it
 pub over_same : (old new : MemoryFlash 4096) (power : Power) → image_of new ≡ image_of old → failures_of new ≡ failures_of old → armed_in new ≡ armed_in old

@@ -12,7 +12,7 @@ use Rattle.device_core.specs.Machine.{step_of}
 use Rattle.controller_core.specs.declared.event.Event.{Event as ControllerEvent}
 use Rattle.controller_core.specs.declared.event.Event.TheVariants as heard
 use Rattle.controller_core.specs.State.{Controlling}
-use Rattle.controller_core.specs.Machine.{step_of as controller_step, fresh, opening_of}
+use Rattle.controller_core.specs.Machine.{Stepped as ControllerRun, step_of as controller_step, fresh, opening_of}
 use Rattle.script_lines.specs.Text.{out_lines}
 
 -- a device without its flash: what it is, and what changes
@@ -32,15 +32,13 @@ pub record Other : Type 0 where
   pub to_device : List (List ℕ)
   pub to_controller : List (List ℕ)
 
--- both ends, and what plan each catalogue has
+-- both ends
 pub record Network : Type 0 where
-  pub plans : List ℕ → Option Parts
   pub station : Station
   pub other : Other
 
--- the same catalogues have the same plans
-abbrev pub with_ends : Network → Station → Other → Network
-with_ends network station other = record { plans = network.plans; station = station; other = other }
+abbrev pub with_ends : Station → Other → Network
+with_ends station other = record { station = station; other = other }
 
 -- what plan a catalogue has is known here, as the configurator says: its plan where it has one, and none where it is refused
 pub record IsRightFor (plans : List ℕ → Option Parts) (catalogue : List ℕ) : Type 0 where
@@ -66,10 +64,6 @@ device_run station (event ∷ events) =
     record { station = later.station; frames = step.frames ++ later.frames }
 
 -- at the controller
-pub record ControllerRun : Type 0 where
-  pub controller : Controlling
-  pub frames : List (List ℕ)
-
 abbrev pub controller_run : Controlling → List ControllerEvent → ControllerRun
 controller_run controller [] = record { controller = controller; frames = [] }
 controller_run controller (event ∷ events) =
@@ -150,4 +144,4 @@ Starts (Some plan) before ar activity after started = (started ≡ true) × (aft
 -- the controller took an event, if there is one
 abbrev pub Hears : Option Controlling → Other → ControllerEvent → Other → Bool → Type 0
 Hears None before event after heard = heard ≡ false
-Hears (Some controller) before event after heard = (heard ≡ true) × (after ≡ with_run before (controller_run controller (event ∷ [])))
+Hears (Some controller) before event after heard = (heard ≡ true) × (after ≡ with_run before (controller_step controller event))

@@ -15,9 +15,10 @@ use Rattle.device_core.specs.Machine.{Stepped, step_of}
 use Rattle.device_core.specs.Cycle.{started}
 use Rattle.controller_core.specs.declared.event.Event.{Event as ControllerEvent}
 use Rattle.controller_core.specs.declared.event.Event.TheVariants as heard
+use Rattle.controller_core.specs.Machine.{step_of as controller_step}
 use Rattle.controller_core.specs.State.{Controlling}
 use Rattle.script_session.specs.Demo.{demo_device}
-use Rattle.script_session.specs.Ends.{Station, turned_to, Other, Network, DeviceRun, with_ends, arrived_at, cleared, controller_run, device_run, frames_for_device, nobody, printed_for, ticked_by, with_fresh, with_plan, with_run, with_sent}
+use Rattle.script_session.specs.Ends.{Station, turned_to, Other, Network, DeviceRun, with_ends, arrived_at, cleared, device_run, frames_for_device, nobody, printed_for, ticked_by, with_fresh, with_plan, with_run, with_sent}
 use Rattle.script_lines.specs.Line.{Command, Frame, Restart, Tick, Show, Arm, Input, Alarm, Config, Start, Give, Stop, Deliver, Line, Unfit, Skipped, Asks, Unknown, meaning_of}
 use Rattle.script_lines.specs.Show.{shown, outputs_shown, controller_shown, state_line}
 use Rattle.script_lines.specs.Text.{boot_line, moved_line, note_line, printed}
@@ -34,7 +35,7 @@ pub record Answer : Type 0 where
 -- a step of the device: a line for each frame that it sends, as long as there is no controller, and one for its note
 abbrev pub step_answer : Network → Stepped → Answer
 step_answer network step = record {
-  network = with_ends network (turned_to network.station step.live) (with_sent network.other step.frames);
+  network = with_ends (turned_to network.station step.live) (with_sent network.other step.frames);
   text = printed_for network.other.controller step.frames ++ note_line step.note;
 }
 
@@ -48,7 +49,7 @@ event_answer network event = step_answer network (step_of [] network.station.dev
 -- a restart starts the device from what is stored; no frame waits then, and the controller is as it was
 abbrev pub restart_answer : Network → Answer
 restart_answer network = record {
-  network = with_ends network (demo_started network.station.live.values.stored network.station.live.values.room) (cleared network.other);
+  network = with_ends (demo_started network.station.live.values.stored network.station.live.values.room) (cleared network.other);
   text = boot_line None;
 }
 
@@ -57,7 +58,7 @@ abbrev pub tick_answer : Network → ℕ → Answer
 tick_answer network units =
     let run = device_run network.station (replicate units event.Tick) in
     record {
-      network = with_ends network run.station (ticked_by network.other.controller (with_sent network.other run.frames) units);
+      network = with_ends run.station (ticked_by network.other.controller (with_sent network.other run.frames) units);
       text = printed_for network.other.controller run.frames ++ note_line Done;
     }
 
@@ -84,10 +85,10 @@ pub data Outcome : Type 0 where
 
 -- what is at the other end is this, and the line says what the controller is at
 abbrev pub at_other : Network → Other → Outcome
-at_other network other = Answers (record { network = with_ends network network.station other; text = controller_shown other.controller })
+at_other network other = Answers (record { network = with_ends network.station other; text = controller_shown other.controller })
 
 abbrev pub config_outcome : Network → List ℕ → Option Parts → Outcome
-config_outcome network catalogue (Some plan) = Answers (record { network = with_ends network network.station (with_plan network.other plan); text = printed (codes "plan ok") })
+config_outcome network catalogue (Some plan) = Answers (record { network = with_ends network.station (with_plan network.other plan); text = printed (codes "plan ok") })
 config_outcome network catalogue None = HasNoPlan catalogue
 
 abbrev pub start_outcome : Network → List ℕ → List ℕ → Option Parts → Outcome
@@ -95,7 +96,7 @@ start_outcome network ar activity (Some plan) = at_other network (with_fresh net
 start_outcome network ar activity None = Refuses
 
 abbrev pub heard_outcome : Network → ControllerEvent → Option Controlling → Outcome
-heard_outcome network event (Some controller) = at_other network (with_run network.other (controller_run controller (event ∷ [])))
+heard_outcome network event (Some controller) = at_other network (with_run network.other (controller_step controller event))
 heard_outcome network event None = Refuses
 
 -- what waits for the device was handed over: it waits no longer, and what the device answered waits for the controller
@@ -109,7 +110,7 @@ deliver_answer network =
     let between = handed_over network.other run in
     let after = arrived_at network.other.controller between in
     record {
-      network = with_ends network run.station after;
+      network = with_ends run.station after;
       text = moved_line (length network.other.to_device) (length between.to_controller) ++ controller_shown after.controller;
     }
 
@@ -117,27 +118,27 @@ abbrev pub deliver_outcome : Network → Option Controlling → Outcome
 deliver_outcome network (Some controller) = Answers (deliver_answer network)
 deliver_outcome network None = Refuses
 
--- what a command does
-unfoldable pub said : Network → Command → Outcome
-said network (Frame bytes) = Answers (event_answer network (event.Frame (handed bytes)))
-said network Restart = Answers (restart_answer network)
-said network (Tick units) = Answers (tick_answer network units)
-said network Show = Answers (show_answer network)
-said network (Arm order) = Answers (unchanged network)
-said network (Input slot subslot bytes) = Answers (event_answer network (event.Input slot subslot (handed bytes)))
-said network (Alarm slot subslot bytes) = Answers (event_answer network (event.Alarm slot subslot (handed bytes)))
-said network (Config catalogue) = config_outcome network catalogue (network.plans catalogue)
-said network (Start ar activity) = start_outcome network ar activity network.other.plan
-said network (Give slot subslot bytes) = heard_outcome network (heard.Give slot subslot (handed bytes)) network.other.controller
-said network Stop = heard_outcome network heard.Stop network.other.controller
-said network Deliver = deliver_outcome network network.other.controller
+-- what a command does, by the plans of catalogues
+unfoldable pub said : (List ℕ → Option Parts) → Network → Command → Outcome
+said plans network (Frame bytes) = Answers (event_answer network (event.Frame (handed bytes)))
+said plans network Restart = Answers (restart_answer network)
+said plans network (Tick units) = Answers (tick_answer network units)
+said plans network Show = Answers (show_answer network)
+said plans network (Arm order) = Answers (unchanged network)
+said plans network (Input slot subslot bytes) = Answers (event_answer network (event.Input slot subslot (handed bytes)))
+said plans network (Alarm slot subslot bytes) = Answers (event_answer network (event.Alarm slot subslot (handed bytes)))
+said plans network (Config catalogue) = config_outcome network catalogue (plans catalogue)
+said plans network (Start ar activity) = start_outcome network ar activity network.other.plan
+said plans network (Give slot subslot bytes) = heard_outcome network (heard.Give slot subslot (handed bytes)) network.other.controller
+said plans network Stop = heard_outcome network heard.Stop network.other.controller
+said plans network Deliver = deliver_outcome network network.other.controller
 
 -- what comes of a line
-abbrev pub outcome_of : Network → Line → Outcome
-outcome_of network Skipped = Answers (unchanged network)
-outcome_of network (Asks command) = said network command
-outcome_of network Unfit = Refuses
-outcome_of network Unknown = Refuses
+abbrev pub outcome_of : (List ℕ → Option Parts) → Network → Line → Outcome
+outcome_of plans network Skipped = Answers (unchanged network)
+outcome_of plans network (Asks command) = said plans network command
+outcome_of plans network Unfit = Refuses
+outcome_of plans network Unknown = Refuses
 
 -- a command that orders a failure of the flash
 abbrev pub arms : Command → Bool
@@ -165,5 +166,5 @@ is_order Unknown = false
 abbrev pub factory_device : Station
 factory_device = demo_started factory_settings (capacity 4096)
 
-abbrev pub alone : (List ℕ → Option Parts) → Network
-alone plans = record { plans = plans; station = factory_device; other = nobody }
+abbrev pub alone : Network
+alone = with_ends factory_device nobody

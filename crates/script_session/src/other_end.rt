@@ -1,5 +1,6 @@
 // The other end of the wire: the controller, and what waits between the two ends.
-ghost use Rattle.std.specs.Prelude.{◌≡◌, ◌++◌, ◌∷◌, [], OnOk, IfOk, replicate};
+ghost use Rattle.std.specs.Prelude.{◌≡◌, ◌++◌, OnOk, IfOk, replicate};
+ghost use Rattle.controller_core.specs.Machine.{step_of};
 ghost use Rattle.controller_core.specs.declared.event.Event.TheVariants as event;
 ghost use Rattle.script_session.specs.Ends.{IsRun, Station, controller_run, device_run, frames_for_controller, frames_for_device, octets_of};
 ghost use Rattle.script_session.specs.Session.{IsHandedOver, Runs};
@@ -189,7 +190,7 @@ fn step(
     outbox: &mut Outbox,
     to_device: &mut Vec<Frame>,
 ) -> Result<(), AllocError>
-    ensures { OnOk result (IsRun (controller_run controller.old (event.now ∷ [])) controller.new to_device.old.items to_device.new.items) }
+    ensures { OnOk result (IsRun (step_of controller.old event.now) controller.new to_device.old.items to_device.new.items) }
 {
     controller.step(event, outbox);
     append(outbox.as_slice(), to_device)

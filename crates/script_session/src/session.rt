@@ -17,7 +17,7 @@ use crate::power::Power;
 use configurator::PlanFault;
 use controller_core::Event as ControllerEvent;
 use device_core::{Event, Note};
-use flash_model::{Lent, MemoryFlash, Order};
+use flash_model::{Flash, Lent, MemoryFlash, Order};
 use frame_codec::Outbox;
 use script_lines::{Command, Line, meaning, render, show};
 use std::alloc::{AllocError, Global};
@@ -44,7 +44,8 @@ impl<'a> Model for Session<'a> {
 }
 
 impl<'a> Session<'a> {
-    ghost use Rattle.std.specs.Prelude.{false};
+    ghost use Rattle.std.specs.Prelude.{ℕ, List, Option, false};
+    ghost use Rattle.plans.specs.declared.parts.Parts.{Parts};
     ghost use Rattle.flash_model.specs.Image.{erased};
     ghost use Rattle.flash_model.specs.Memory.{image_of, IsReliable};
     ghost use Rattle.script_lines.specs.Line.{Arm, Asks, Restart, meaning_of};
@@ -78,8 +79,8 @@ impl<'a> Session<'a> {
         text: &mut Vec<u8>,
     ) -> Result<bool, PlanFault>
         // Both ends become what the line makes of them, and its text is printed, where the flash does not fail.
-        ensures takes { (network : Network) → AreRightFor network.plans (meaning_of line.now) → Are network self.old → is_order (meaning_of line.now) ≡ false →
-            Obeys (outcome_of network (meaning_of line.now)) self.new text.old.items text.new.items result }
+        ensures takes { (plans : List ℕ → Option Parts) (network : Network) → AreRightFor plans (meaning_of line.now) → Are network self.old → is_order (meaning_of line.now) ≡ false →
+            Obeys (outcome_of plans network (meaning_of line.now)) self.new text.old.items text.new.items result }
         // While there is no power a line does nothing but a restart.
         ensures off { is_off self.old.power ≡ true → TakesOff (meaning_of line.now) self.old self.new text.old.items text.new.items result }
         ensures demo { IsDemo self.old.power → IsDemo self.new.power }
@@ -98,8 +99,8 @@ impl<'a> Session<'a> {
 
     /// Does what a command asks for, and renders what it prints. Says whether it is one that a script may have here.
     fn answer(&mut self, command: Command<'_>, text: &mut Vec<u8>) -> Result<bool, PlanFault>
-        ensures obeys { (network : Network) → AreRightFor network.plans (Asks (command_read command.entry)) → Are network self.old → arms (command_read command.entry) ≡ false →
-            Obeys (said network (command_read command.entry)) self.new text.old.items text.new.items result }
+        ensures obeys { (plans : List ℕ → Option Parts) (network : Network) → AreRightFor plans (Asks (command_read command.entry)) → Are network self.old → arms (command_read command.entry) ≡ false →
+            Obeys (said plans network (command_read command.entry)) self.new text.old.items text.new.items result }
         ensures back { command_read command.entry ≡ Restart → GivesBack self.old self.new text.old.items text.new.items result }
         ensures armed { (order : Order) → command_read command.entry ≡ Arm order → IsArmed order self.old.power self.new.power }
         ensures demo { IsDemo self.old.power → IsDemo self.new.power }
@@ -274,8 +275,8 @@ impl<'a> Session<'a> {
 
     /// Makes the plan of a catalogue, for the next controller.
     fn config(&mut self, catalogue: &[u8], text: &mut Vec<u8>) -> Result<bool, PlanFault>
-        ensures obeys { (network : Network) → IsRightFor network.plans catalogue.now → Are network self.old →
-            Obeys (config_outcome network catalogue.now (network.plans catalogue.now)) self.new text.old.items text.new.items result }
+        ensures obeys { (plans : List ℕ → Option Parts) (network : Network) → IsRightFor plans catalogue.now → Are network self.old →
+            Obeys (config_outcome network catalogue.now (plans catalogue.now)) self.new text.old.items text.new.items result }
         ensures same { self.new.power ≡ self.old.power }
     {
         self.other.plan(catalogue)?;

@@ -1,10 +1,10 @@
 use Rattle.std.proofs.Common.{◌≡◌, ◌++◌, lit<, lit≤, refl, subst, sym, ap, ◌∙◌, None}
 use Rattle.std.proofs.lemmas.Result.{on_ok_weaker}
-use Rattle.script_runner.specs.Ends.{cleared}
-use Rattle.script_runner.specs.Session.{IsRunning}
-use Rattle.script_runner.specs.Text.{boot_line}
-use Rattle.script_runner.proofs.Playing.{unrefused}
-use Rattle.script_runner.proofs.session.Session.restart.Goals as goal
+use Rattle.script_session.specs.Ends.{cleared}
+use Rattle.script_session.specs.Power.{IsRunning}
+use Rattle.script_lines.specs.Text.{boot_line}
+use Rattle.script_session.proofs.Obeying.{unrefused}
+use Rattle.script_session.proofs.session.Session.restart.Goals as goal
 
 pub returns-clause-obeys : goal.returns-clause-obeys
 returns-clause-obeys c network are =
@@ -13,5 +13,5 @@ returns-clause-obeys c network are =
     on_ok_weaker c.boot.result (λ text. record {
       runs = runs;
       waits = c.clear.ensures ∙ ap cleared are.1;
-      text = text ∙ ap (λ refused. c.args.self.now.text.items ++ boot_line refused) unrefused;
+      text = text ∙ ap (λ refused. c.args.text.now.items ++ boot_line refused) unrefused;
     }) c.boot.ensures

@@ -1,7 +1,7 @@
 use Rattle.std.proofs.Common.{subst, sym, ◌∙◌}
 use Rattle.settings_journal.specs.Image.{LeftByDevice, StartsWith}
-use Rattle.script_runner.proofs.Flashes.{over_same}
-use Rattle.script_runner.proofs.session.Power.with_power.Goals as goal
+use Rattle.script_session.proofs.Flashes.{over_same}
+use Rattle.script_session.proofs.power.Power.with_power.Goals as goal
 
 pub returns-clause-runs : goal.returns-clause-runs
 returns-clause-runs c settings room reliable left starts =

@@ -1,8 +1,8 @@
 -- the outputs so far, and those of what is left
 use Rattle.std.proofs.Common.{◌≡◌, ◌++◌, drop}
 use Rattle.std.specs.Prelude.{flat_map}
-use Rattle.script_runner.specs.Show.{module_shown}
-use Rattle.script_runner.proofs.session.outputs.Given as goal
+use Rattle.script_lines.specs.Show.{module_shown}
+use Rattle.script_session.proofs.outputs.outputs.Given as goal
 
 abbrev pub invariant-loop-entry : goal.invariant-loop-entry
 invariant-loop-entry l =

@@ -1,9 +1,9 @@
 use Rattle.std.proofs.Common.{subst, sym}
 use Rattle.flash_model.specs.Memory.{image_of, IsReliable}
 use Rattle.settings_journal.specs.Image.{LeftByDevice, StartsWith}
-use Rattle.script_runner.specs.Script.{demo_started}
-use Rattle.script_runner.specs.Session.{Runs, IsRunning}
-use Rattle.script_runner.proofs.session.Power.restart.Goals as goal
+use Rattle.script_session.specs.Said.{demo_started}
+use Rattle.script_session.specs.Power.{Runs, IsRunning}
+use Rattle.script_session.proofs.power.Power.restart.Goals as goal
 
 pub returns-in-On-clause-runs : goal.returns-in-On-clause-runs
 returns-in-On-clause-runs c station running =

@@ -1,8 +1,8 @@
 -- the outputs so far, and those of what is left
 use Rattle.std.proofs.Common.{◌≡◌, ◌++◌, drop}
 use Rattle.std.specs.Prelude.{flat_map}
-use Rattle.script_runner.specs.Show.{part_shown}
-use Rattle.script_runner.proofs.session.module_outputs.Given as goal
+use Rattle.script_lines.specs.Show.{part_shown}
+use Rattle.script_session.proofs.outputs.module_outputs.Given as goal
 
 abbrev pub invariant-loop-part : goal.invariant-loop-part
 invariant-loop-part l =

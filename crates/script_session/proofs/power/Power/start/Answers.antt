@@ -1,6 +1,6 @@
 use Rattle.std.proofs.Common.{subst, sym, ◌∙◌, ap}
 use Rattle.settings_journal.specs.Image.{LeftByDevice, IsForeign, StartsWith}
-use Rattle.script_runner.proofs.session.Power.start.Goals as goal
+use Rattle.script_session.proofs.power.Power.start.Goals as goal
 
 pub returns-in-Ok-clause-stored : goal.returns-in-Ok-clause-stored
 returns-in-Ok-clause-stored c settings room reliable left starts =

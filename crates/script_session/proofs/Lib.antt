@@ -1,0 +1,3 @@
+pub mod Flashes
+pub mod Obeying
+pub mod Ticking
