@@ -5,7 +5,7 @@ ghost use Rattle.std.specs.Option.{option_map, option_copied};
 ghost use Rattle.std.specs.Str.Lines.{lines, strip_carriage_return};
 ghost use Rattle.hex.specs.Hex.{decode_of};
 ghost use Rattle.uuid.specs.Text.{parsed};
-ghost use Rattle.script_lines.specs.Line.{behind, AreWords, bytes_of, catalogue_in, command_of, meaning_of, words_of, bare, bare_of_both, with_one, with_two, with_three, ordered, start_of, ticks_of, mask_of, strike_of};
+ghost use Rattle.script_lines.specs.Line.{behind, AreWords, bytes_of, catalogue_in, command_in, command_of, meaning_of, words_of, bare, bare_of_both, with_one, with_two, with_three, ordered, start_of, ticks_of, mask_of, strike_of};
 ghost use Rattle.script_lines.specs.Numbers.{number_of};
 ghost use Rattle.script_lines.specs.Read.{command_read, line_read};
 
@@ -140,9 +140,9 @@ fn words_in(line: &[u8]) -> Words<'_>
     }
 }
 
-/// What a line means. `buffer` is for the bytes of a frame.
+/// What a line means. `buffer` is for the bytes that it spells.
 #[tactic(auto, unfolding(crate::specs::Line::meaning_of))]
-pub fn meaning<'a>(line: &'a [u8], buffer: &'a mut Vec<u8>) -> Result<Line<'a>, AllocError>
+pub fn meaning<'a>(line: &[u8], buffer: &'a mut Vec<u8>) -> Result<Line<'a>, AllocError>
     ensures { IfOk result (λ meaning. line_read meaning ≡ meaning_of line.now) }
 {
     if line.is_empty() {
@@ -154,13 +154,29 @@ pub fn meaning<'a>(line: &'a [u8], buffer: &'a mut Vec<u8>) -> Result<Line<'a>, 
     if line[0] == b'#' {
         return Ok(Line::Skipped);
     }
-    if let Some(catalogue) = catalogue_in(line) {
-        return Ok(Line::Asks(Command::Config(catalogue)));
-    }
-    match asked_by(words_in(line), buffer)? {
+    match asked(line, buffer)? {
         Some(command) => Ok(Line::Asks(command)),
         None => Ok(Line::Unknown),
     }
+}
+
+/// What a line asks for: a plan, or what its words say.
+fn asked<'a>(line: &[u8], buffer: &'a mut Vec<u8>) -> Result<Option<Command<'a>>, AllocError>
+    ensures { IfOk result (λ command. option_map command_read command ≡ command_in (catalogue_in line.now) (words_of line.now)) }
+{
+    match catalogue_in(line) {
+        Some(catalogue) => Ok(Some(Command::Config(kept(catalogue, buffer)?))),
+        None => asked_by(words_in(line), buffer),
+    }
+}
+
+/// Keeps bytes of a line.
+fn kept<'a>(bytes: &[u8], buffer: &'a mut Vec<u8>) -> Result<&'a [u8], AllocError>
+    ensures { IfOk result (λ kept. kept.now ≡ bytes.now) }
+{
+    buffer.clear();
+    buffer.extend_from_slice(bytes)?;
+    Ok(buffer.as_slice())
 }
 
 /// The catalogue of a line `config`, which is the rest of the line and not empty.

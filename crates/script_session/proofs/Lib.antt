@@ -1,3 +1,4 @@
+mod Copies
 pub mod Flashes
 pub mod Obeying
 pub mod Ticking
