@@ -154,9 +154,10 @@ pub fn meaning<'a>(line: &[u8], buffer: &'a mut Vec<u8>) -> Result<Line<'a>, All
     if line[0] == b'#' {
         return Ok(Line::Skipped);
     }
-    match asked(line, buffer)? {
-        Some(command) => Ok(Line::Asks(command)),
-        None => Ok(Line::Unknown),
+    match asked(line, buffer) {
+        Ok(Some(command)) => Ok(Line::Asks(command)),
+        Ok(None) => Ok(Line::Unknown),
+        Err(error) => Err(error),
     }
 }
 

@@ -91,10 +91,11 @@ impl<'a> Session<'a> {
         if self.power.is_off() && !is_heard_without_power(&meaning) {
             return always(text.extend_from_slice(b"off\n"));
         }
-        let Line::Asks(command) = meaning else {
-            return Ok(matches!(meaning, Line::Skipped));
-        };
-        self.answer(command, text)
+        match meaning {
+            Line::Asks(command) => self.answer(command, text),
+            Line::Skipped => Ok(true),
+            Line::Unfit | Line::Unknown => Ok(false),
+        }
     }
 
     /// Does what a command asks for, and renders what it prints. Says whether it is one that a script may have here.
