@@ -1,5 +1,5 @@
 -- The two ends of the wire between two lines, and what waits between them.
-use Rattle.std.specs.Prelude.{◌≡◌, ◌⊎◌, ℕ, Bool, true, false, Result, Ok, Err, List, [], ◌∷◌, ◌++◌, map, replicate, Option, Some, None}
+use Rattle.std.specs.Prelude.{◌≡◌, ◌≢◌, ◌⊎◌, ℕ, Bool, true, false, Result, Ok, Err, List, [], ◌∷◌, ◌++◌, map, replicate, Option, Some, None}
 use Rattle.arrayvec.specs.ArrayVec.{ArrayVec}
 use Rattle.plans.specs.declared.parts.Parts.{Parts}
 use Rattle.configurator.specs.declared.fault.PlanFault.{PlanFault}
@@ -44,6 +44,14 @@ with_ends station other = record { station = station; other = other }
 pub record IsRightFor (plans : List ℕ → Option Parts) (catalogue : List ℕ) : Type 0 where
   pub planned : (plan : Parts) → IsPlanOf catalogue plan → plans catalogue ≡ Some plan
   pub refused : (fault : PlanFault) → IsRefused catalogue fault → (fault ≡ OutOfMemory) ⊎ (plans catalogue ≡ None)
+
+-- A table of plans is right for a catalogue if it has a plan of it, and so if it has none and the catalogue is refused for another
+-- cause than want of memory: a catalogue has one plan at most, and one that has a plan is refused for want of memory alone.
+abbrev pub KnowsThePlan : Type 0
+KnowsThePlan = (plans : List ℕ → Option Parts) (catalogue : List ℕ) (plan : Parts) → IsPlanOf catalogue plan → plans catalogue ≡ Some plan → IsRightFor plans catalogue
+
+abbrev pub KnowsTheRefusal : Type 0
+KnowsTheRefusal = (plans : List ℕ → Option Parts) (catalogue : List ℕ) (fault : PlanFault) → IsRefused catalogue fault → fault ≢ OutOfMemory → plans catalogue ≡ None → IsRightFor plans catalogue
 
 -- before a catalogue was read
 abbrev pub nobody : Other

@@ -6,10 +6,12 @@ mod bytes;
 mod copies;
 mod demo;
 mod device;
+mod laws;
 mod other_end;
 mod outputs;
 mod power;
 mod session;
 mod waiting;
 
+pub use laws::plans_are_known;
 pub use session::Session;

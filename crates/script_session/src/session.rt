@@ -1,5 +1,5 @@
 //! What a run holds from line to line.
-ghost use Rattle.std.specs.Prelude.{◌≡◌, ◌++◌, IfOk, IsErr, MatchResult, OnOk, Ok, true, tt};
+ghost use Rattle.std.specs.Prelude.{◌≡◌, ◌++◌, IfOk, IsErr, MatchResult, OnOk, Ok, true};
 ghost use Rattle.controller_core.specs.declared.event.Event.TheVariants as heard;
 ghost use Rattle.device_frames.specs.declared.event.Event.TheVariants as event;
 ghost use Rattle.configurator.specs.declared.fault.PlanFault.TheVariants as plan_fault;
@@ -99,6 +99,7 @@ impl<'a> Session<'a> {
     }
 
     /// Does what a command asks for, and renders what it prints. Says whether it is one that a script may have here.
+    #[tactic(auto, using(crate::proofs::Obeying::always_obeys, crate::proofs::Obeying::if_there_obeys), unfolding(crate::specs::Said::said))]
     fn answer(&mut self, command: Command<'_>, text: &mut Vec<u8>) -> Result<bool, PlanFault>
         ensures obeys { (plans : List ℕ → Option Parts) (network : Network) → AreRightFor plans (Asks (command_read command.entry)) → Are network self.old → arms (command_read command.entry) ≡ false →
             Obeys (said plans network (command_read command.entry)) self.new text.old.items text.new.items result }

@@ -54,7 +54,7 @@ impl Write for Filling {
 
 /// A start-up whose output has more octets than the writers below have room for.
 fn long(alloc: Global) -> Result<String, Fail> {
-    Ok(started_up(alloc, "show\nshow\nshow\nstop\ndeliver\n")?)
+    Ok(started_up(alloc, "show\nshow\nshow\nshow\nstop\ndeliver\n")?)
 }
 
 #[test]
