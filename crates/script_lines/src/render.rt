@@ -79,11 +79,7 @@ fn word(note: Note) -> &'static [u8]
 
 /// How many frames were handed over: to the device, and to the controller.
 #[tactic(auto, unfolding(crate::specs::Text::moved_line))]
-pub fn moved(
-    to_device: usize,
-    to_controller: usize,
-    text: &mut Vec<u8>,
-) -> Result<(), AllocError>
+pub fn moved(to_device: usize, to_controller: usize, text: &mut Vec<u8>) -> Result<(), AllocError>
     ensures { OnOk result (text.new.items ≡ text.old.items ++ moved_line to_device to_controller) }
 {
     text.extend_from_slice(b"moved ")?;

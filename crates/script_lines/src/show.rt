@@ -123,12 +123,7 @@ fn lamp_units(units: u32, text: &mut Vec<u8>) -> Result<(), AllocError>
 
 /// The output of a submodule, in hex.
 #[tactic(auto, unfolding(crate::specs::Show::output_line))]
-pub fn output(
-    slot: u16,
-    subslot: u16,
-    value: &[u8],
-    text: &mut Vec<u8>,
-) -> Result<(), AllocError>
+pub fn output(slot: u16, subslot: u16, value: &[u8], text: &mut Vec<u8>) -> Result<(), AllocError>
     requires { length value.now ≤ 1518 }
     ensures { OnOk result (text.new.items ≡ text.old.items ++ output_line slot subslot value.now) }
 {

@@ -1,5 +1,6 @@
 -- Lines, one after another.
 use Rattle.std.proofs.Common.{◌≡◌, ◌||◌, ◌⊎◌, inl, inr, ℕ, ◌+◌, ◌≤◌, List, [], ◌∷◌, ◌++◌, Option, Some, None, length, refl, sym, ap, subst, arith, ◌∙◌, Result, Ok, Err, Bool, true, false, if◌then◌else◌, append-nil, append_assoc}
+use Rattle.std.proofs.lemmas.Bool.{false≢true}
 use Rattle.std.specs.Io.KnownBytes.{Appends}
 use Rattle.std.specs.Str.Lines.{lines}
 use Rattle.plans.specs.declared.parts.Parts.{Parts}
@@ -66,12 +67,12 @@ right_at plans rest line later right e plain = subst (AllRight plans) (left_plai
 -- what comes of a line that a script may have here
 came_answered : (outcome : Outcome) (held : Held) (text : List ℕ) → Comes outcome held [] text true → (answer : Answer) × (outcome ≡ Answers answer) × IsObeyed answer held [] text
 came_answered (Answers answer) held text comes = (answer, refl, comes.1)
-came_answered Refuses held text comes = cc
+came_answered Refuses held text comes = absurd (false≢true (sym comes))
 came_answered (HasNoPlan catalogue) held text comes = absurd comes
 
 -- and of one that it may not
 came_refused : (outcome : Outcome) (held : Held) (text : List ℕ) → Comes outcome held [] text false → outcome ≡ Refuses
-came_refused (Answers answer) held text comes = absurd (cc : ⊥)
+came_refused (Answers answer) held text comes = absurd (false≢true comes.0)
 came_refused Refuses held text comes = refl
 came_refused (HasNoPlan catalogue) held text comes = absurd comes
 
@@ -155,6 +156,13 @@ played_all plans old new held number rest input (inl playing) e =
       playing.1.ordered ∙ ap has_order none,
     )
 played_all plans old new held number rest input (inr more) e = inr more
+
+-- a write that failed
+pub write_plays : (fault : RunFault) → fault ≡ Write → IsPlayFault fault
+write_plays fault write = rw write tt
+
+pub played_write : (plans : List ℕ → Option Parts) (old new : Option (List ℕ)) (input : List ℕ) (fault : RunFault) → fault ≡ Write → AppendsFront old new (output_of plans input) → IsPlayed plans old new input (Err fault)
+played_write plans old new input fault write front = rw write (inl front)
 
 pub no_bytes : (bytes : List ℕ) → length bytes ≡ 0 → bytes ≡ []
 no_bytes [] e = refl

@@ -1,5 +1,6 @@
 -- What comes of a line that a script may have at some times alone, and of units of time and frames that wait.
 use Rattle.std.proofs.Common.{◌≡◌, inl, inr, ℕ, List, ◌++◌, Bool, true, false, Option, Some, None, Err, length, is_some, replicate, append_assoc, refl, sym, ap, subst, ◌∙◌}
+use Rattle.std.proofs.lemmas.Bool.{false≢true}
 use Rattle.flash_model.specs.declared.memory.MemoryFlash.{MemoryFlash}
 use Rattle.plans.specs.declared.parts.Parts.{Parts}
 use Rattle.configurator.specs.declared.fault.PlanFault.{PlanFault}
@@ -45,11 +46,11 @@ start_is network far other ar activity started same = subst (λ o. Starts o.plan
 
 start_none : (plan : Option Parts) (network : Network) (far other : Other) (ar activity : List ℕ) (held : Held) (before now : List ℕ) → Starts plan far ar activity other false → Comes (start_outcome network ar activity plan) held before now false
 start_none None network far other ar activity held before now starts = refl
-start_none (Some plan) network far other ar activity held before now starts = absurd (cc : ⊥)
+start_none (Some plan) network far other ar activity held before now starts = absurd (false≢true starts.0)
 
 start_some : (plan : Option Parts) (network : Network) (other : Other) (ar activity : List ℕ) (power : Power) (before now : List ℕ) → Starts plan network.other ar activity other true → IsRunning network.station power → now ≡ before ++ controller_shown other.controller
     → Comes (start_outcome network ar activity plan) (record { power = power; other = other }) before now true
-start_some None network other ar activity power before now starts runs text = absurd (cc : ⊥)
+start_some None network other ar activity power before now starts runs text = absurd (false≢true (sym starts))
 start_some (Some plan) network other ar activity power before now starts runs text =
     (refl, record { runs = runs; waits = starts.1; text = text ∙ ap (λ o. before ++ controller_shown o.controller) starts.1 })
 
@@ -67,11 +68,11 @@ hear_is network far other event heard same = subst (λ o. Hears o.controller o e
 
 hear_none : (controller : Option Controlling) (network : Network) (far other : Other) (event : ControllerEvent) (held : Held) (before now : List ℕ) → Hears controller far event other false → Comes (heard_outcome network event controller) held before now false
 hear_none None network far other event held before now hears = refl
-hear_none (Some controller) network far other event held before now hears = absurd (cc : ⊥)
+hear_none (Some controller) network far other event held before now hears = absurd (false≢true hears.0)
 
 hear_some : (controller : Option Controlling) (network : Network) (other : Other) (event : ControllerEvent) (power : Power) (before now : List ℕ) → Hears controller network.other event other true → IsRunning network.station power → now ≡ before ++ controller_shown other.controller
     → Comes (heard_outcome network event controller) (record { power = power; other = other }) before now true
-hear_some None network other event power before now hears runs text = absurd (cc : ⊥)
+hear_some None network other event power before now hears runs text = absurd (false≢true (sym hears))
 hear_some (Some controller) network other event power before now hears runs text =
     (refl, record { runs = runs; waits = hears.1; text = text ∙ ap (λ o. before ++ controller_shown o.controller) hears.1 })
 
@@ -86,10 +87,10 @@ hear_answered network far other event power before now same hears = hear_some ne
 
 deliver_none : (controller : Option Controlling) (network : Network) (held : Held) (before now : List ℕ) → is_some controller ≡ false → Comes (deliver_outcome network controller) held before now false
 deliver_none None network held before now none = refl
-deliver_none (Some controller) network held before now none = absurd (cc : ⊥)
+deliver_none (Some controller) network held before now none = absurd (false≢true (sym none))
 
 deliver_some : (controller : Option Controlling) (network : Network) (held : Held) (before now : List ℕ) → is_some controller ≡ true → IsObeyed (deliver_answer network) held before now → Comes (deliver_outcome network controller) held before now true
-deliver_some None network held before now some obeyed = absurd (cc : ⊥)
+deliver_some None network held before now some obeyed = absurd (false≢true some)
 deliver_some (Some controller) network held before now some obeyed = (refl, obeyed)
 
 pub deliver_refused : (network : Network) (far : Other) (held : Held) (before now : List ℕ) → far ≡ network.other → is_some far.controller ≡ false → Comes (deliver_outcome network network.other.controller) held before now false

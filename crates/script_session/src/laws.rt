@@ -8,5 +8,4 @@ pub fn plans_are_known()
     ensures planned { KnowsThePlan }
     // So is one that has none for a catalogue which is refused, and not for want of memory.
     ensures refused { KnowsTheRefusal }
-{
-}
+{}

@@ -165,13 +165,7 @@ impl<'a> Session<'a> {
         match &mut self.power {
             Power::On(device) => {
                 let event = Event::Input(slot, subslot, copied(front(bytes, 1519)));
-                respond(
-                    device,
-                    &event,
-                    &mut self.outbox,
-                    &mut self.other,
-                    text,
-                )
+                respond(device, &event, &mut self.outbox, &mut self.other, text)
             }
             Power::Off(_, _) | Power::Away => text.extend_from_slice(b"off\n"),
         }
@@ -192,13 +186,7 @@ impl<'a> Session<'a> {
         match &mut self.power {
             Power::On(device) => {
                 let event = Event::Alarm(slot, subslot, copied(front(bytes, 1519)));
-                respond(
-                    device,
-                    &event,
-                    &mut self.outbox,
-                    &mut self.other,
-                    text,
-                )
+                respond(device, &event, &mut self.outbox, &mut self.other, text)
             }
             Power::Off(_, _) | Power::Away => text.extend_from_slice(b"off\n"),
         }
@@ -226,13 +214,7 @@ impl<'a> Session<'a> {
     {
         match &mut self.power {
             Power::On(device) => {
-                ticks(
-                    device,
-                    units,
-                    &mut self.outbox,
-                    &mut self.other,
-                    text,
-                )?;
+                ticks(device, units, &mut self.outbox, &mut self.other, text)?;
                 self.other.ticks(units)?;
                 render::note(Note::Done, text)
             }
@@ -248,13 +230,7 @@ impl<'a> Session<'a> {
         match &self.power {
             Power::On(device) => {
                 let (phase, lamp) = (device.phase(), device.lamp());
-                show::all(
-                    device.running(),
-                    device.stored(),
-                    phase,
-                    lamp,
-                    text,
-                )?;
+                show::all(device.running(), device.stored(), phase, lamp, text)?;
                 outputs(device, text)?;
                 self.other.show(text)
             }
@@ -331,12 +307,7 @@ impl<'a> Session<'a> {
         ensures demo { IsDemo self.old.power → IsDemo self.new.power }
     {
         match &mut self.power {
-            Power::On(device) => exchange(
-                device,
-                &mut self.outbox,
-                &mut self.other,
-                text,
-            ),
+            Power::On(device) => exchange(device, &mut self.outbox, &mut self.other, text),
             Power::Off(_, _) | Power::Away => text.extend_from_slice(b"off\n"),
         }
     }

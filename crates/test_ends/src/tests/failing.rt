@@ -74,7 +74,13 @@ fn each_of_the_first_reads_fails(rt: HostRuntime) -> Result<(), Fail> {
 }
 
 /// With this room the first octets of the output are written, and then a write fails.
-fn fills(rt: &impl Abort, alloc: Global, script: &[u8], whole: &[u8], room: usize) -> Result<(), Fail> {
+fn fills(
+    rt: &impl Abort,
+    alloc: Global,
+    script: &[u8],
+    whole: &[u8],
+    room: usize,
+) -> Result<(), Fail> {
     let mut writer = Filling {
         taken: Vec::new(alloc),
         room,

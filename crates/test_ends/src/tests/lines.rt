@@ -56,7 +56,12 @@ fn a_second_controller_stands_behind_what_waits(rt: HostRuntime) -> Result<(), F
 #[test]
 fn what_waits_is_lost_in_a_restart(rt: HostRuntime) -> Result<(), Fail> {
     let lines = "tick 32\nrestart\ndeliver\n";
-    prints_behind(&rt, rt.alloc(), lines, "note done\nboot ok\nmoved 0 0\nstate exchanging\n")
+    prints_behind(
+        &rt,
+        rt.alloc(),
+        lines,
+        "note done\nboot ok\nmoved 0 0\nstate exchanging\n",
+    )
 }
 
 #[test]

@@ -41,7 +41,9 @@ fn a_name_is_set_behind_a_stop_alone(rt: HostRuntime) -> Result<(), Fail> {
 #[test]
 fn other_modules_end_the_controller(rt: HostRuntime) -> Result<(), Fail> {
     let alloc = rt.alloc();
-    let script = format!(in alloc; "{SET_PUMP_1}\n{OTHER_MODULES}\n{START}\ndeliver\ndeliver\ndeliver\ndeliver\nshow\n")?;
+    let script = format!(in alloc;
+        "{SET_PUMP_1}\n{OTHER_MODULES}\n{START}\ndeliver\ndeliver\ndeliver\ndeliver\nshow\n"
+    )?;
     let after = shown(alloc, "pump-1", SUITE, "none", "ended 3")?;
     let wanted = format!(in alloc;
         "boot ok\n{SET_DONE}plan ok\nstate looking\nmoved 1 1\nstate addressing\nmoved 1 1\nstate connecting\nmoved 1 1\nstate ended 3\nmoved 1 1\nstate ended 3\n{after}"
@@ -67,8 +69,7 @@ fn data_hold_runs_out(rt: HostRuntime) -> Result<(), Fail> {
 
 #[test]
 fn an_alarm_is_over_with_its_answer(rt: HostRuntime) -> Result<(), Fail> {
-    let lines =
-        "alarm 1 1 aabb\nalarm 1 1 cc\ndeliver\ndeliver\ndeliver\nalarm 1 1 cc\n";
+    let lines = "alarm 1 1 aabb\nalarm 1 1 cc\ndeliver\ndeliver\ndeliver\nalarm 1 1 cc\n";
     let wanted =
         "note done\nnote refused\nmoved 0 1\nstate exchanging\nmoved 2 1\nstate exchanging\nmoved 0 0\nstate exchanging\nnote done\n";
     prints_behind(&rt, rt.alloc(), lines, wanted)
