@@ -1,5 +1,5 @@
 pub mod Coming
-mod Copies
+mod PlanAgain
 mod OnePlan
 pub mod Flashes
 pub mod Obeying

@@ -6,7 +6,8 @@ ghost use Rattle.device_core.specs.Machine.{step_of};
 ghost use Rattle.script_lines.specs.Text.{lost_line};
 ghost use Rattle.script_session.specs.Ends.{Network, Station, device_run};
 ghost use Rattle.script_session.specs.Said.{deliver_answer, event_answer};
-ghost use Rattle.script_session.specs.Session.{IsDone, IsRunOf, IsTurned, Runs};
+ghost use Rattle.script_session.specs.Power.{Runs};
+ghost use Rattle.script_session.specs.Session.{IsDone, IsRunOf, IsTurned};
 
 use crate::device::step;
 use crate::other_end::OtherEnd;

@@ -4,7 +4,8 @@ ghost use Rattle.device_frames.specs.declared.event.Event.TheVariants as event;
 ghost use Rattle.device_core.specs.Machine.{step_of};
 ghost use Rattle.script_session.specs.Ends.{Station, device_run, frames_for_device, octets_of};
 ghost use Rattle.script_session.specs.Said.{handed};
-ghost use Rattle.script_session.specs.Session.{IsHandedTo, IsStepped, Runs};
+ghost use Rattle.script_session.specs.Power.{Runs};
+ghost use Rattle.script_session.specs.Session.{IsHandedTo, IsStepped};
 
 use crate::bytes::{copied, front};
 use crate::power::DemoDevice;

@@ -3,7 +3,8 @@ ghost use Rattle.std.specs.Prelude.{◌≡◌, ◌++◌, OnOk, IfOk, replicate};
 ghost use Rattle.controller_core.specs.Machine.{step_of};
 ghost use Rattle.controller_core.specs.declared.event.Event.TheVariants as event;
 ghost use Rattle.script_session.specs.Ends.{IsRun, Station, controller_run, device_run, frames_for_controller, frames_for_device, octets_of};
-ghost use Rattle.script_session.specs.Session.{IsHandedOver, Runs};
+ghost use Rattle.script_session.specs.Power.{Runs};
+ghost use Rattle.script_session.specs.Session.{IsHandedOver};
 
 use crate::bytes::copied;
 use crate::copies::plan_copy;

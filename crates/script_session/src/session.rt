@@ -52,7 +52,7 @@ impl<'a> Session<'a> {
     ghost use Rattle.script_lines.specs.Read.{command_read};
     ghost use Rattle.script_lines.specs.Text.{boot_line};
     ghost use Rattle.script_session.specs.Ends.{IsRightFor, cleared, nobody};
-    ghost use Rattle.script_session.specs.Said.{arms, config_outcome, deliver_outcome, event_answer, factory_device, heard_outcome, is_order, outcome_of, restart_answer, said, show_answer, start_outcome, tick_answer};
+    ghost use Rattle.script_session.specs.Said.{arms, config_outcome, deliver_answer, deliver_outcome, event_answer, factory_device, heard_outcome, is_order, outcome_of, restart_answer, said, show_answer, start_outcome, tick_answer};
     ghost use Rattle.script_session.specs.Power.{IsArmed, IsBack, IsDemo, IsRunning, is_off, refusal_of};
     ghost use Rattle.script_session.specs.Session.{Are, AreRightFor, Comes, IsObeyed, Obeys};
     ghost use Rattle.script_session.specs.Off.{GivesBack, TakesOff};
