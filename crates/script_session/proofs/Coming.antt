@@ -1,9 +1,11 @@
 -- What comes of a line that a script may have at some times alone, and of units of time and frames that wait.
-use Rattle.std.proofs.Common.{◌≡◌, inl, inr, ℕ, List, ◌++◌, Bool, true, false, Option, Some, None, Err, length, is_some, replicate, append_assoc, refl, sym, ap, subst, ◌∙◌}
+use Rattle.std.proofs.Common.{◌≡◌, ◌⊎◌, inl, inr, ℕ, List, ◌++◌, codes, Bool, true, false, Option, Some, None, Result, Ok, Err, OnOk, IsErr, MatchResult, length, is_some, replicate, append_assoc, refl, sym, ap, subst, ◌∙◌}
 use Rattle.std.proofs.lemmas.Bool.{false≢true}
+use Rattle.std.proofs.lemmas.Result.{on_ok_weaker}
 use Rattle.flash_model.specs.declared.memory.MemoryFlash.{MemoryFlash}
 use Rattle.plans.specs.declared.parts.Parts.{Parts}
 use Rattle.configurator.specs.declared.fault.PlanFault.{PlanFault}
+use Rattle.configurator.specs.declared.fault.PlanFault.TheVariants.{OutOfMemory}
 use Rattle.configurator.specs.Planned.{IsPlanOf, IsRefused}
 use Rattle.device_core.specs.State.{State}
 use Rattle.device_core.specs.declared.note.Note.TheVariants.{Done}
@@ -11,32 +13,31 @@ use Rattle.device_frames.specs.declared.event.Event.TheVariants as event
 use Rattle.controller_core.specs.declared.event.Event.{Event as ControllerEvent}
 use Rattle.controller_core.specs.State.{Controlling}
 use Rattle.script_lines.specs.Show.{controller_shown}
-use Rattle.script_lines.specs.Text.{moved_line, note_line}
+use Rattle.script_lines.specs.Text.{moved_line, note_line, printed}
 use Rattle.script_session.specs.declared.power.Power.{Power}
 use Rattle.script_session.specs.declared.power.Power.TheVariants.{On}
-use Rattle.script_session.specs.Ends.{DeviceRun, Hears, IsRightFor, Network, Other, Starts, arrived_at, device_run, frames_for_device, printed_for, ticked_by, with_plan, with_sent}
+use Rattle.script_session.specs.Ends.{DeviceRun, Hears, IsRightFor, Network, Other, Starts, arrived_at, device_run, frames_for_device, printed_for, ticked_by, with_ends, with_plan, with_sent}
 use Rattle.script_session.specs.Power.{Held, IsRunning}
-use Rattle.script_session.specs.Said.{Answers, config_outcome, deliver_answer, deliver_outcome, handed_over, heard_outcome, start_outcome, tick_answer}
-use Rattle.script_session.specs.Session.{Comes, IsDone, IsHandedOver, IsObeyed, IsRunOf, Obeys}
+use Rattle.script_session.specs.Said.{config_outcome, deliver_answer, deliver_outcome, handed_over, heard_outcome, start_outcome, tick_answer}
+use Rattle.script_session.specs.Session.{Comes, IsDone, IsHandedOver, IsObeyed, IsRunOf, IsWithoutPlan, Obeys}
+use Rattle.script_session.proofs.Obeying.{always_obeys}
 
 -- ---- a catalogue
 
 -- that is refused
-pub config_refused : (plans : List ℕ → Option Parts) (network : Network) (catalogue : List ℕ) (held : Held) (before now : List ℕ) (fault : PlanFault) → IsRightFor plans catalogue → IsRefused catalogue fault → Obeys (config_outcome network catalogue (plans catalogue)) held before now (Err fault)
-config_refused plans network catalogue held before now fault right refused = elim (right.refused fault refused) [
+pub config_refused : (plans : List ℕ → Option Parts) (network : Network) (catalogue : List ℕ) (fault : PlanFault) → IsRightFor plans catalogue → IsRefused catalogue fault → (fault ≡ OutOfMemory) ⊎ IsWithoutPlan (config_outcome network catalogue (plans catalogue)) fault
+config_refused plans network catalogue fault right refused = elim (right.refused fault refused) [
   | inl memory ↦ inl memory
   | inr none ↦ rw none (inr refused)
 ]
 
 -- that has a plan
-pub config_planned : (plans : List ℕ → Option Parts) (network : Network) (catalogue : List ℕ) (plan : Parts) (power : Power) (far other : Other) (before now : List ℕ) → IsRightFor plans catalogue → IsPlanOf catalogue plan → IsRunning network.station power → far ≡ network.other → other ≡ with_plan far plan
-    → (answer : _) × (config_outcome network catalogue (plans catalogue) ≡ Answers answer) × IsRunning answer.network.station power × (other ≡ answer.network.other)
-config_planned plans network catalogue plan power far other before now right is runs same made = (
-  _,
-  ap (config_outcome network catalogue) (right.planned plan is),
-  runs,
-  made ∙ ap (λ o. with_plan o plan) same,
-)
+pub config_planned : {E : Type 0} (plans : List ℕ → Option Parts) (network : Network) (catalogue : List ℕ) (plan : Parts) (power : Power) (far other : Other) (before now : List ℕ) (done : Result (Unit {0}) E) (result : Result Bool PlanFault) → IsRightFor plans catalogue → IsPlanOf catalogue plan → IsRunning network.station power → far ≡ network.other → other ≡ with_plan far plan
+    → OnOk done (now ≡ before ++ printed (codes "plan ok")) → MatchResult result (λ is. (is ≡ true) × (done ≡ Ok tt)) (λ fault. (fault ≡ OutOfMemory) × IsErr done)
+    → Obeys (config_outcome network catalogue (plans catalogue)) (record { power = power; other = other }) before now result
+config_planned plans network catalogue plan power far other before now done result right is runs same made text given =
+    rw (right.planned plan is) (always_obeys (record { network = with_ends network.station (with_plan network.other plan); text = printed (codes "plan ok") }) (record { power = power; other = other }) before now done result
+    (on_ok_weaker done (λ t. record { runs = runs; waits = made ∙ ap (λ o. with_plan o plan) same; text = t }) text) given)
 
 -- ---- a controller
 

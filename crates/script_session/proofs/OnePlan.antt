@@ -15,7 +15,6 @@ use Rattle.catalogue.specs.declared.fault.CatalogueFault.TheVariants as reading
 use Rattle.catalogue.specs.declared.fault.TreeFault.{TreeFault}
 use Rattle.catalogue.specs.Catalogues.{Catalogue, Found, Refuses, catalogue}
 use Rattle.catalogue.specs.Projects.{Project}
-use Rattle.configurator.specs.declared.addresses.Addresses.{Addresses}
 use Rattle.configurator.specs.declared.fault.PlanFault.{PlanFault}
 use Rattle.configurator.specs.declared.fault.PlanFault.TheVariants.{Json, MissingKey, WrongKind, Number, NotAllowedInSlot, TooManySlots, FrameTooLong, ConnectTooLong, Name, Address, OutOfMemory}
 use Rattle.configurator.specs.Addresses.{AreAddresses}
@@ -51,7 +50,7 @@ dotted_same : (text a b : List ℕ) → IsDotted text a → IsDotted text b → 
 unfolding address_of
 dotted_same text a b one other = ap ipv4_octets (IsIpv4Text_unique text (address_of a) (address_of b) one other)
 
-addresses_same : (wanted : Project) (a b : Addresses) → AreAddresses wanted a → AreAddresses wanted b → a ≡ b
+addresses_same : (wanted : Project) (a b : _) → AreAddresses wanted a → AreAddresses wanted b → a ≡ b
 addresses_same wanted a b one other =
     let address = dotted_same wanted.station.address a.suite.address b.suite.address one.suite.address other.suite.address in
     let mask = dotted_same wanted.station.mask a.suite.mask b.suite.mask one.suite.mask other.suite.mask in

@@ -1,10 +1,7 @@
 -- A copy of a plan is a plan.
 use Rattle.std.proofs.Common.{◌≡◌, true, Ok, arith, refl}
 use Rattle.std.proofs.lemmas.Bool.Decides.{nat_tests}
-use Rattle.connect_blocks.specs.declared.iocr.IocrType.TheVariants.{Input, Output}
 use Rattle.plans.specs.declared.parts.Parts.{Parts}
-use Rattle.plans.specs.Packed.{frame_octets}
-use Rattle.plans.specs.Parts.{data_of}
 use Rattle.plans.specs.Plan.{IsPlan, do_frames_fit, plan_of}
 
 pub frames_fit : (parts : Parts) → IsPlan parts → do_frames_fit parts ≡ true

@@ -1,6 +1,7 @@
 -- Events, one after another, at either end.
-use Rattle.std.proofs.Common.{◌≡◌, ℕ, ◌-◌, ◌<◌, List, [], ◌∷◌, ◌++◌, suc, replicate, append_assoc, append-nil, arith, refl, ap, subst, sym, ◌∙◌, Option, Some, None}
+use Rattle.std.proofs.Common.{◌≡◌, ℕ, ◌-◌, ◌<◌, ◌≤◌, List, [], ◌∷◌, ◌++◌, suc, replicate, length, drop, append_assoc, append-nil, arith, refl, ap, subst, sym, ◌∙◌, Option, Some, None}
 use Rattle.std.proofs.lemmas.Grind.{flat_map-append}
+use Rattle.std.proofs.lemmas.List.{drop_all}
 use Rattle.arrayvec.specs.ArrayVec.{ArrayVec}
 use Rattle.flash_model.specs.declared.memory.MemoryFlash.{MemoryFlash}
 use Rattle.device_frames.specs.declared.event.Event.{Event}
@@ -11,7 +12,7 @@ use Rattle.controller_core.specs.declared.event.Event.{Event as ControllerEvent}
 use Rattle.controller_core.specs.declared.event.Event.TheVariants as heard
 use Rattle.controller_core.specs.Machine.{Stepped as ControllerRun, step_of as controller_step}
 use Rattle.controller_core.specs.State.{Controlling}
-use Rattle.script_session.specs.Ends.{Station, turned_to, Other, DeviceRun, IsRun, controller_run, device_run, kept, octets_of, printed_for, with_sent}
+use Rattle.script_session.specs.Ends.{Station, turned_to, Other, DeviceRun, IsRun, controller_run, device_run, frames_for_device, kept, octets_of, printed_for, with_sent}
 use Rattle.script_session.specs.Power.{Runs}
 use Rattle.script_session.specs.Session.{IsHandedTo, IsRunOf, IsTurned}
 
@@ -117,6 +118,10 @@ handed_all whole left now device before waiting none handing =
       runs = subst (λ s. Runs s device) (sym station) handing.runs;
       waits = sym (handing.frames ∙ ap (λ events. octets_of waiting ++ (device_run now events).frames) none ∙ append-nil (octets_of waiting));
     }
+
+-- none is left behind the last
+pub no_frames : (frames : List (ArrayVec ℕ)) (i : ℕ) → length frames ≤ i → frames_for_device (octets_of (drop i frames)) ≡ []
+no_frames frames i all = ap (λ left. frames_for_device (octets_of left)) (drop_all i frames all)
 
 -- ---- events at the controller
 

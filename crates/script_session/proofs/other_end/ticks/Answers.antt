@@ -13,7 +13,7 @@ loop-left-preserved c =
     let first = subst (λ left. IsHearing (controller_run c.args.controller.now (replicate c.args.units event.Tick)) left c.loop-left.controller c.args.to_device.now.items c.loop-left.to_device.items) (some_left Event event.Tick c.loop-left.left c.loop-left-test.true) c.loop-left.invariant in
     hearing_on _ event.Tick _ _ _ _ _ _ first c.in_ok-step.ensures
 
-pub returns-clause : goal.returns-clause
-returns-clause c =
+pub returns : goal.returns
+returns c =
     let none : c.loop-left.left ≡ 0 = omega arith in
     heard_all _ _ _ _ _ (ap (λ left. replicate left event.Tick) none) c.loop-left.invariant
