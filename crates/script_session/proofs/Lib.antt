@@ -1,5 +1,4 @@
 pub mod Coming
-mod PlanAgain
 mod OnePlan
 pub mod Flashes
 pub mod Obeying

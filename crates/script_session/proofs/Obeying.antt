@@ -1,5 +1,5 @@
 -- What a line does to both ends.
-use Rattle.std.proofs.Common.{◌≡◌, ◌⊎◌, inl, ℕ, List, ◌++◌, Bool, true, false, Option, Some, None, Result, Ok, Err, OnOk, IfOk, IsErr, MatchResult, refl, sym, subst, append-nil}
+use Rattle.std.proofs.Common.{◌≡◌, ◌⊎◌, inl, ℕ, List, ◌++◌, Bool, true, false, Option, Some, None, Result, Ok, Err, OnOk, IfOk, IsErr, MatchResult, is_ok, if◌then◌else◌, refl, sym, subst, append-nil}
 use Rattle.flash_model.specs.declared.memory.MemoryFlash.{MemoryFlash}
 use Rattle.plans.specs.declared.parts.Parts.{Parts}
 use Rattle.configurator.specs.declared.fault.PlanFault.{PlanFault}
@@ -36,6 +36,11 @@ line_obeys plans network line read held before now result same = subst (λ l. Ob
 -- one that is skipped changes nothing
 pub skipped_obeys : (network : Network) (held : Held) (before : List ℕ) → Are network held → Obeys (Answers (unchanged network)) held before before (Ok true)
 skipped_obeys network held before are = (refl, record { runs = are.0; waits = are.1; text = sym (append-nil before) })
+
+-- a text that was appended, if there was memory
+pub appended : {E : Type 0} (done : Result (Unit {0}) E) (now before more : List ℕ) → now ≡ (if is_ok done then before ++ more else before) → OnOk done (now ≡ before ++ more)
+appended (Ok done) now before more e = e
+appended (Err fault) now before more e = tt
 
 -- what a script may have at any time
 pub always_obeys : {E : Type 0} (answer : Answer) (held : Held) (before now : List ℕ) (done : Result (Unit {0}) E) (result : Result Bool PlanFault) → OnOk done (IsObeyed answer held before now)

@@ -1,5 +1,5 @@
 use Rattle.std.proofs.Common.{◌≡◌, ◌∷◌, ◌+◌, drop, refl, sym, ap, subst, true, false, length, arith, ◌∙◌, ◌++◌}
-use Rattle.std.proofs.Math.Seq.{drop-cons}
+use Rattle.std.proofs.lemmas.List.{drop_more}
 use Rattle.std.proofs.lemmas.Bool.{false≢true}
 use Rattle.device_frames.specs.declared.event.Event.TheVariants as event
 use Rattle.flash_model.specs.Memory.{is_powerless}
@@ -18,7 +18,7 @@ loop-frame-preserved c = (
   c.step.ensures.same ∙ c.loop-frame.invariant.0,
   λ station runs.
       let handing = c.loop-frame.invariant.1 station runs in
-      let here = drop-cons c.args.frames.now c.loop-frame.frame-index c.frame-item.result c.loop-frame-test.true ∙ ap (λ f. f ∷ drop (c.loop-frame.frame-index + 1) c.args.frames.now) (sym c.frame-item.is) in
+      let here = drop_more c.args.frames.now c.loop-frame.frame-index c.frame-item.result c.loop-frame-test.true ∙ ap (λ f. f ∷ drop (c.loop-frame.frame-index + 1) c.args.frames.now) (sym c.frame-item.is) in
       let first = subst (λ left. IsHanding (device_run station (frames_for_device (octets_of c.args.frames.now))) (frames_for_device (octets_of left)) handing.0 c.loop-frame.device c.args.to_controller.now.items c.loop-frame.to_controller.items) here handing.1 in
       let event_is = ap (λ octets. event.Frame octets) c.copied.ensures ∙ ap (λ items. event.Frame (record { items = items })) c.as_slice.ensures.value in
       let stepped = rw event_is at (c.step.ensures.steps handing.0 first.runs) in (

@@ -1,15 +1,14 @@
 use Rattle.std.proofs.Common.{◌≡◌, sym, ap, subst, false, true, ◌∙◌}
 use Rattle.script_lines.specs.Read.{line_read}
 use Rattle.script_session.specs.Said.{is_order}
-use Rattle.script_session.specs.Session.{Are, AreRightFor}
+use Rattle.script_session.specs.Session.{AreRightFor}
 use Rattle.script_session.proofs.Obeying.{skipped_obeys}
 use Rattle.script_session.proofs.session.Session.take.Goals as goal
 
 pub returns-in-Skipped-clause-takes : goal.returns-in-Skipped-clause-takes
 returns-in-Skipped-clause-takes c plans network right are plain =
     let meant = sym c.in-Ok.ensures ∙ ap line_read c.in-Skipped.is in
-    let ends = subst (Are network) (sym c.self.view_is) are in
-    rw meant (skipped_obeys network _ c.args.text.now.items ends)
+    rw meant (skipped_obeys network c.args.self.now c.args.text.now.items are)
 
 pub returns-in-Asks-clause-takes : goal.returns-in-Asks-clause-takes
 returns-in-Asks-clause-takes c plans network right are plain =
