@@ -1,0 +1,11 @@
+//! A device as a host drives it: events go in, and work comes out, calls of the flash first and then frames. The host carries the
+//! calls out on a chip of its own.
+#![tactic(auto)]
+
+mod port;
+mod refusal;
+mod stage;
+
+pub use port::{Port, SECTOR_SIZE, Work};
+pub use refusal::Refusal;
+pub use stage::Stage;
