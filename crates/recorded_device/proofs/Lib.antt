@@ -1,3 +1,5 @@
+pub mod Asked
+pub mod Few
 pub mod Legal
 pub mod Placed
 pub mod OneStep

@@ -1,5 +1,5 @@
 -- One step, from what its items asked of the flash.
-use Rattle.std.proofs.Common.{◌≡◌, ℕ, false, [], ap, ◌∙◌}
+use Rattle.std.proofs.Common.{◌≡◌, ◌≤◌, ℕ, false, [], length, ap, ◌∙◌, arith}
 use Rattle.device_core.specs.Machine.{items_of, judged_step, heard_step, step_of}
 use Rattle.device_core.specs.State.{State, store_of}
 use Rattle.device_frames.specs.Heard.{heard_of}
@@ -9,6 +9,8 @@ use Rattle.recorded_flash.specs.Record.{image_of, record_of, IsAsked}
 use Rattle.recorded_flash.specs.Laws.{failures_of, IsImage-of}
 use Rattle.recorded_flash.specs.declared.flash.RecordedFlash.{RecordedFlash}
 use Rattle.recorded_device.specs.Recorded.{Records}
+use Rattle.recorded_device.proofs.Asked.{few_items}
+use Rattle.recorded_device.proofs.Few.{few_of_commands, few_of_items}
 use Rattle.recorded_device.proofs.Legal.{are_legal}
 use Rattle.recorded_device.proofs.Placed.{items_calls, last_calls}
 
@@ -18,10 +20,16 @@ unfolding heard_step judged_step
 step_records old new event holds going placed =
     let all = items_calls (store_of old) (store_of new) (items_of old.station old.live (heard_of old.station.identity event)) placed going holds in
     let is = all.asked all.writes in
+    let asks = few_items old.station old.live event in
+    let accepts = few_of_items old.live.values (items_of old.station old.live (heard_of old.station.identity event)) in
+    let commits = few_of_commands (image_of old.flash) old.live.values.stored old.live.values.room _ all.calls all.of_commands in
+    let few : length all.calls ≤ 48 = omega (arith, asks, accepts, commits) in
+    let kept = last_calls (record_of old.flash) all.calls few in
     record {
       calls = all.calls;
       of_commands = all.of_commands;
       record_is = is;
-      last = λ few. (let kept = last_calls (record_of old.flash) all.calls few in (kept.0, ap (λ r. r.recent) is ∙ kept.1));
+      few = few;
+      last = (kept.0, ap (λ r. r.recent) is ∙ kept.1);
       legal = are_legal _ (image_of old.flash) old.live.values.stored old.live.values.room _ all.calls (IsImage-of old.flash).first_size all.of_commands;
     }

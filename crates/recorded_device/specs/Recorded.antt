@@ -7,12 +7,12 @@ use Rattle.settings_store.specs.Machine.{Accepted}
 use Rattle.device_core.specs.State.{State}
 use Rattle.recorded_device.specs.Calls.{CallsOf, AreLegal}
 
--- A step in which these commands were accepted. What it records is exactly the calls of these commands, in order: where they
--- are at most 48, the last calls of the record are these. Wherever a host is cut off as it carries them out, its chip is a
--- legal end.
+-- A step in which these commands were accepted. What it records is exactly the calls of these commands, in order: they are at
+-- most 48, and the last calls of the record are these. Wherever a host is cut off as it carries them out, its chip is a legal end.
 pub record Records {S : ℕ} (old : State (RecordedFlash S)) (accepted : List Accepted) (new : State (RecordedFlash S)) : Type 0 where
   pub calls : List Call
   pub of_commands : CallsOf (image_of old.flash) old.live.values.stored old.live.values.room accepted calls
   pub record_is : record_of new.flash ≡ after_all (record_of old.flash) calls
-  pub last : length calls ≤ 48 → (before : List Call) × ((record_of new.flash).recent ≡ before ++ calls)
+  pub few : length calls ≤ 48
+  pub last : (before : List Call) × ((record_of new.flash).recent ≡ before ++ calls)
   pub legal : AreLegal S (image_of old.flash) old.live.values.stored accepted calls
