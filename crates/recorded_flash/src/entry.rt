@@ -18,7 +18,7 @@ pub enum Recorded {
     /// Bytes programmed from a place of a sector on.
     Program {
         sector: Sector,
-        place: usize,
+        place: u32,
         bytes: ArrayVec<u8, 437>,
     },
     /// A sector erased.
@@ -37,7 +37,7 @@ impl Default for Recorded {
 }
 
 // What is recorded of a program call, where its bytes have room.
-pub(crate) fn entry_of(sector: Sector, place: usize, bytes: &[u8]) -> Option<Recorded>
+pub(crate) fn entry_of(sector: Sector, place: u32, bytes: &[u8]) -> Option<Recorded>
     ensures { MatchOption result (437 < length bytes.now) (λ call. call_of call ≡ Programs sector place bytes.now) }
 {
     let mut kept = ArrayVec::new();

@@ -102,7 +102,7 @@ impl<const S: usize> Flash<S> for RecordedFlash<S> {
     /// Turns to 0 each bit that is 0 in `bytes`, from `place` on, and records the call.
     fn program(&mut self, sector: Sector, place: usize, bytes: &[u8]) -> Result<(), FlashFault> {
         self.memory.program(sector, place, bytes)?;
-        if let Some(call) = entry_of(sector, place, bytes) {
+        if let Some(call) = entry_of(sector, place as u32, bytes) {
             self.push(call);
         }
         Ok(())
