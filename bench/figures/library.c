@@ -1,5 +1,6 @@
-/* Figures of the library through its header: how deep each call goes into a stack that was painted, and so many ticks or cyclic
- * frames to be counted by callgrind (figures WHAT COUNT). */
+/* Figures of the library through its header, of a script on standard input: how deep each call goes into a stack that was painted
+ * (figures stack); and, to be counted by callgrind, so many units behind it, each by a call of its own (figures tick COUNT) or by the
+ * thousand (figures quiet COUNT), or the last frame so many times again, each with a newer CycleCounter (figures cyclic COUNT). */
 #define _GNU_SOURCE
 #include "nandutable.h"
 #include <pthread.h>
@@ -100,6 +101,8 @@ static void start(void (*does)(struct line *))
     does(&line);
 }
 
+static struct line last; /* the last frame */
+
 static void play(void (*does)(struct line *))
 {
     static char text[70000];
@@ -109,6 +112,7 @@ static void play(void (*does)(struct line *))
         if (strncmp(text, "frame ", 6) == 0) {
             for (char *p = text + 6; line.length < sizeof line.octets && sscanf(p, "%2x", &octet) == 1; p += 2)
                 line.octets[line.length++] = (uint8_t)octet;
+            last = line;
         } else if (strncmp(text, "tick ", 5) == 0) {
             line.kind = 3;
             line.units = (uint32_t)strtoul(text + 5, NULL, 10);
@@ -155,6 +159,30 @@ int main(int count, char **words)
         for (unsigned long i = 0; i < n; i += 1000) {
             struct line line = {.kind = 3, .units = 1000};
             call(&line);
+        }
+    /* CycleCounter stands in front of DataStatus and TransferStatus, which end a frame that needs no padding. */
+    if (count > 1 && strcmp(words[1], "cyclic") == 0)
+        for (unsigned long i = 0; i < n; i++) {
+            uint8_t *counter = last.octets + last.length - 4;
+            unsigned next = (counter[0] * 256u + counter[1] + 32u) & 0xFFFFu;
+            counter[0] = (uint8_t)(next / 256);
+            counter[1] = (uint8_t)next;
+            call(&last);
+            if (op.note != PN_DONE)
+                return 1;
+            take_all(plain);
+        }
+    /* CycleCounter stands in front of DataStatus and TransferStatus, which end a frame that needs no padding. */
+    if (count > 1 && strcmp(words[1], "cyclic") == 0)
+        for (unsigned long i = 0; i < n; i++) {
+            uint8_t *counter = last.octets + last.length - 4;
+            unsigned next = (counter[0] * 256u + counter[1] + 32u) & 0xFFFFu;
+            counter[0] = (uint8_t)(next / 256);
+            counter[1] = (uint8_t)next;
+            call(&last);
+            if (op.note != PN_DONE)
+                return 1;
+            take_all(plain);
         }
     return 0;
 }
