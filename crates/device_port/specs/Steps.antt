@@ -24,7 +24,7 @@ use Rattle.device_port.specs.State.{State, IsIdle, barred, past_start}
 pub record Takes (old : State) (event : Event) (note : Note) (new : State) : Type 0 where
   pub exact : IsExactStep old.device event new.frames note new.device
   pub records : Records old.device (step_of [] old.device.station old.device.live event).accepted new.device
-  pub calls : length records.calls ≤ 48 → new.calls ≡ records.calls
+  pub calls : new.calls ≡ records.calls
   pub stage : new.stage ≡ Booted
 
 -- an event is taken, or refused, and then nothing changes

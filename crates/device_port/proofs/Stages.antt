@@ -1,0 +1,45 @@
+-- What a port's stage says.
+use Rattle.std.proofs.Common.{◌≡◌, ◌×◌, ◌+◌, ◌-◌, ◌≤◌, ℕ, Bool, true, false, zero, suc, List, [], ◌∷◌, Option, Some, None, refl, sym, ap, subst, ◌∙◌, arith}
+use Rattle.flash_model.specs.Calls.{Call}
+use Rattle.device_core.specs.declared.note.Note.{Note}
+use Rattle.device_frames.specs.declared.event.Event.TheVariants.{Tick}
+use Rattle.device_port.specs.declared.refusal.Refusal.{Refusal}
+use Rattle.device_port.specs.declared.refusal.Refusal.TheVariants as refusal
+use Rattle.device_port.specs.declared.stage.Stage.{Stage}
+use Rattle.device_port.specs.declared.stage.Stage.TheVariants.{Made, Booted, Lost}
+use Rattle.device_port.specs.State.{State, IsSteady, barred, barred_by}
+use Rattle.device_port.specs.Steps.{Takes, Ticks}
+
+-- a port that takes events started, and no commit failed
+pub booted_of : (stage : Stage) (is_left : Bool) → barred_by stage is_left ≡ None → stage ≡ Booted
+booted_of Made is_left free = cc free
+booted_of Booted is_left free = refl
+booted_of Lost is_left free = cc free
+
+pub going_of : (stage : Stage) (has_failed : Bool) (calls : List Call) (frames : List (List ℕ)) → stage ≡ Booted → IsSteady stage has_failed calls frames → has_failed ≡ false
+going_of Made has_failed calls frames is steady = cc is
+going_of Booted has_failed calls frames is steady = steady
+going_of Lost has_failed calls frames is steady = cc is
+
+pub steady_of : (stage : Stage) (has_failed : Bool) (calls : List Call) (frames : List (List ℕ)) → stage ≡ Booted → has_failed ≡ false → IsSteady stage has_failed calls frames
+steady_of Made has_failed calls frames is going = cc is
+steady_of Booted has_failed calls frames is going = going
+steady_of Lost has_failed calls frames is going = cc is
+
+pub made_of : (stage : Stage) (has_failed : Bool) (calls : List Call) (frames : List (List ℕ)) → stage ≡ Made → IsSteady stage has_failed calls frames → (has_failed ≡ true) × (calls ≡ []) × (frames ≡ [])
+made_of Made has_failed calls frames is steady = steady
+made_of Booted has_failed calls frames is steady = cc is
+made_of Lost has_failed calls frames is steady = cc is
+
+-- whether one that started takes an event is whether work is left
+pub free_of : (stage : Stage) (is_left : Bool) → stage ≡ Booted → is_left ≡ false → barred_by stage is_left ≡ None
+free_of stage is_left is no = ap (λ s. barred_by s is_left) is ∙ ap (barred_by Booted) no
+
+pub working_of : (stage : Stage) (is_left : Bool) → stage ≡ Booted → is_left ≡ true → barred_by stage is_left ≡ Some refusal.HasWork
+working_of stage is_left is yes = ap (λ s. barred_by s is_left) is ∙ ap (barred_by Booted) yes
+
+-- one more unit
+pub one_more : (units : ℕ) (old between new : State) (note : Note) → Ticks units old between → barred between ≡ None → Takes between Tick note new → Ticks (units + 1) old new
+one_more units old between new note ticks free takes =
+    let more : suc units ≡ units + 1 = omega arith in
+    subst (λ n. Ticks n old new) more (between, note, ticks, free, takes)
