@@ -7,7 +7,7 @@ use Rattle.device_port.specs.declared.refusal.Refusal.{Refusal}
 use Rattle.device_port.specs.declared.refusal.Refusal.TheVariants as refusal
 use Rattle.device_port.specs.declared.stage.Stage.{Stage}
 use Rattle.device_port.specs.declared.stage.Stage.TheVariants.{Made, Booted, Lost}
-use Rattle.device_port.specs.State.{State, IsSteady, barred, barred_by}
+use Rattle.device_port.specs.State.{State, IsSteady, barred, barred_by, past_start}
 use Rattle.device_port.specs.Steps.{Takes, Ticks}
 
 -- a port that takes events started, and no commit failed
@@ -30,6 +30,12 @@ pub made_of : (stage : Stage) (has_failed : Bool) (calls : List Call) (frames : 
 made_of Made has_failed calls frames is steady = steady
 made_of Booted has_failed calls frames is steady = cc is
 made_of Lost has_failed calls frames is steady = cc is
+
+-- one that is not past its start was only made
+pub early_of : (stage : Stage) → past_start stage ≡ None → stage ≡ Made
+early_of Made early = refl
+early_of Booted early = cc early
+early_of Lost early = cc early
 
 -- whether one that started takes an event is whether work is left
 pub free_of : (stage : Stage) (is_left : Bool) → stage ≡ Booted → is_left ≡ false → barred_by stage is_left ≡ None

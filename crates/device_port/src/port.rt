@@ -61,6 +61,7 @@ impl Model for Port {
 }
 
 /// A piece of work.
+#[derive(Drop)]
 pub enum Work<'a> {
     /// All is taken.
     Nothing,
@@ -381,7 +382,7 @@ fn past_start(stage: Stage) -> Option<Refusal>
 
 // The first octets of those that are given, as many as an event has.
 fn first_of(octets: &[u8]) -> Bytes
-    ensures { result.items ≡ take 1519 octets.now }
+    ensures { result ≡ record { items = take 1519 octets.now } }
 {
     let mut bytes = Bytes::new();
     let length = if octets.len() < 1519 { octets.len() } else { 1519 };

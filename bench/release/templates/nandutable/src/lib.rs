@@ -1,27 +1,23 @@
 //! The library that firmware links: a PROFINET IO device behind two calls. `include/nandutable.h` says how they are used.
 //!
-//! The device, its flash that records calls, and its one step are the proved sources in plain Rust. What stands here is the edge
-//! to C: it hands operations in and work out, and is not proved.
+//! The device, its flash that records calls, and the port that keeps the order of work are the proved sources in plain Rust. What
+//! stands here is the edge to C: it reads operations, writes down what is told, and is not proved.
 #![no_std]
 
 mod op;
-mod port;
+mod operation;
 mod serve;
 mod station;
 
-use op::{Op, SECTOR_SIZE};
-use port::Port;
+use device_port::Port;
+use op::Op;
 use serve::serve;
-use station::Station;
+use station::{Station, judge, port_of};
 
-/// The version of the header.
-const ABI: u32 = 1;
-
-/// Bytes of a room, and what it stands on a multiple of.
-const ROOM: usize = 81_920;
+/// What a room stands on a multiple of.
 const ALIGNMENT: usize = 16;
 
-const _: () = assert!(size_of::<Port>() <= ROOM && align_of::<Port>() <= ALIGNMENT);
+const _: () = assert!(size_of::<Port>() <= station::ROOM && align_of::<Port>() <= ALIGNMENT);
 const _: () = assert!(size_of::<Op>() == 1560 && size_of::<Station>() == 1500);
 
 /// Makes a device that did not start in the room.
@@ -40,20 +36,17 @@ pub unsafe extern "C" fn pn_device_make(
     if room.is_null() || station.is_null() {
         return 1;
     }
-    if abi != ABI || op_size != size_of::<Op>() {
-        return 2;
-    }
-    if size < ROOM || room.addr() % ALIGNMENT != 0 {
+    if room.addr() % ALIGNMENT != 0 {
         return 3;
     }
     // SAFETY: neither is null, and the caller says that both are there.
     let station = unsafe { &*station };
-    let (Some(identity), Some(real)) = (station.identity(), station.real()) else {
-        return 4;
-    };
-    // SAFETY: the room is large enough, stands as a port has to, and is the caller's to give.
-    unsafe { room.cast::<Port>().write(Port::unstarted(identity, real)) };
-    0
+    let answer = judge(size, abi, op_size, station);
+    if answer == 0 {
+        // SAFETY: the room is large enough, stands as a port has to, and is the caller's to give.
+        unsafe { room.cast::<Port>().write(port_of(station)) };
+    }
+    answer
 }
 
 /// Carries one operation out on the device in the room.
@@ -80,7 +73,7 @@ pub unsafe extern "C" fn pn_step(
             core::slice::from_raw_parts(given, length),
         )
     };
-    serve(port, op, given) as u32
+    serve(port, op, given)
 }
 
 /// There is no heap: nothing here takes memory. `uuid` names an allocator without using it.

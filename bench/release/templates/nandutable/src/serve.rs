@@ -1,137 +1,140 @@
-// One operation of the host.
+//! One operation of the host.
 
-use crate::port::{Port, Work};
-use crate::{Op, SECTOR_SIZE};
-use device_core::{Event, Note};
+use crate::op::Op;
+use crate::operation::{Operation, operation_of};
+use device_core::Note;
+use device_port::{Port, Refusal, Work};
 use flash_model::Sector;
-use frame_codec::Bytes;
 use pn_values::Settings;
 use recorded_flash::Recorded;
 use relations::Phase;
-use settings_journal::BootFault;
 
-/// What an operation is answered with. Behind all but `Done` nothing has changed.
-#[derive(Clone, Copy, Debug, PartialEq, Eq)]
-pub enum Answer {
-    /// It was carried out.
-    Done = 0,
-    /// The device did not start yet.
-    NotBooted = 5,
-    /// It did start.
-    IsBooted = 6,
-    /// Work of the step before was not taken yet.
-    HasWork = 7,
-    /// Too many bytes, or a sector that has not as many as it must.
-    BadLength = 8,
-    /// Nothing with an output is plugged there.
-    NoSlot = 9,
-    /// There is no such operation.
-    Unknown = 10,
-    /// The flash holds what no device of this layout left there.
-    Foreign = 11,
-    /// A read failed.
-    FlashFault = 12,
-}
+/// What an operation is answered with that is none.
+const UNKNOWN: u32 = 10;
 
-/// Carries one operation out, with the bytes that are given.
-pub fn serve(port: &mut Port, op: &mut Op, given: &[u8]) -> Answer {
-    match op.what {
-        1 => fill(port, op.sector, given),
-        2 => boot(port),
-        3..=11 if !port.is_booted() => Answer::NotBooted,
-        3..=6 if !port.is_idle() => Answer::HasWork,
-        3 => frame(port, op, given),
-        4 => tick(port, op),
-        5 => input(port, op, given),
-        6 => alarm(port, op, given),
-        7 => next(port, op),
-        8 => output(port, op),
-        9 => state(port, op),
-        10 => settings(port.device().running(), op),
-        11 => settings(port.device().stored(), op),
-        _ => Answer::Unknown,
+/// What is answered where no record has this number.
+const NO_RECORD: u32 = 15;
+
+/// Carries one operation out, with the octets that are given.
+pub(crate) fn serve(port: &mut Port, op: &mut Op, given: &[u8]) -> u32
+{
+    match operation_of(op.what) {
+        Some(Operation::Sector) => fill(port, op, given),
+        Some(Operation::Boot) => boot(port),
+        Some(Operation::Frame) => frame(port, op, given),
+        Some(Operation::Tick) => tick(port, op),
+        Some(Operation::Input) => input(port, op, given),
+        Some(Operation::Alarm) => alarm(port, op, given),
+        Some(Operation::Next) => next(port, op),
+        Some(Operation::Output) => output(port, op),
+        Some(Operation::State) => state(port, op),
+        Some(Operation::Running) => running(port, op),
+        Some(Operation::Stored) => stored(port, op),
+        Some(Operation::Lose) => lose(port),
+        Some(Operation::Record) => record(port, op),
+        None => UNKNOWN,
     }
 }
 
-// The bytes of a sector of the chip, in front of a start.
-fn fill(port: &mut Port, sector: u32, given: &[u8]) -> Answer {
-    if port.is_booted() {
-        return Answer::IsBooted;
+// ---- a start
+
+// The octets of a sector of the chip, in front of a start.
+fn fill(port: &mut Port, op: &Op, given: &[u8]) -> u32
+{
+    match op.sector {
+        0 => done(port.fill(Sector::First, given)),
+        1 => done(port.fill(Sector::Second, given)),
+        _ => Refusal::BadLength.number(),
     }
-    if given.len() != SECTOR_SIZE {
-        return Answer::BadLength;
-    }
-    match sector {
-        0 => port.fill(Sector::First, given),
-        1 => port.fill(Sector::Second, given),
-        _ => return Answer::BadLength,
-    }
-    Answer::Done
 }
 
 // A start.
 #[inline(never)]
-fn boot(port: &mut Port) -> Answer {
-    if port.is_booted() {
-        return Answer::IsBooted;
+fn boot(port: &mut Port) -> u32
+{
+    done(port.boot())
+}
+
+// The answer to what was done, or refused.
+fn done(outcome: Result<(), Refusal>) -> u32
+{
+    match outcome {
+        Ok(()) => 0,
+        Err(refusal) => refusal.number(),
     }
-    match port.boot() {
-        Ok(()) => Answer::Done,
-        Err(BootFault::Foreign) => Answer::Foreign,
-        Err(BootFault::FlashFault) => Answer::FlashFault,
+}
+
+// ---- events
+
+fn frame(port: &mut Port, op: &mut Op, given: &[u8]) -> u32
+{
+    noted(port.frame(given), op)
+}
+
+fn input(port: &mut Port, op: &mut Op, given: &[u8]) -> u32
+{
+    match (u16::try_from(op.slot), u16::try_from(op.subslot)) {
+        (Ok(slot), Ok(subslot)) => noted(port.input(slot, subslot, given), op),
+        _ => Refusal::NoSlot.number(),
     }
 }
 
-// The first bytes of those that are given, as many as an event has.
-fn bytes_of(given: &[u8]) -> Bytes {
-    let mut bytes = Bytes::new();
-    let length = if given.len() < 1519 {
-        given.len()
-    } else {
-        1519
-    };
-    let _ = bytes.try_extend_from_slice(&given[..length]);
-    bytes
+fn alarm(port: &mut Port, op: &mut Op, given: &[u8]) -> u32
+{
+    match (u16::try_from(op.slot), u16::try_from(op.subslot)) {
+        (Ok(slot), Ok(subslot)) => noted(port.alarm(slot, subslot, given), op),
+        _ => Refusal::NoSlot.number(),
+    }
 }
 
-#[inline(never)]
-fn frame(port: &mut Port, op: &mut Op, given: &[u8]) -> Answer {
-    op.note = number_of(port.take(&Event::Frame(bytes_of(given))));
-    Answer::Done
+// What became of an event, or why it was refused.
+fn noted(outcome: Result<Note, Refusal>, op: &mut Op) -> u32
+{
+    match outcome {
+        Ok(note) => {
+            op.note = u32::from(note.number());
+            0
+        }
+        Err(refusal) => refusal.number(),
+    }
 }
 
-fn tick(port: &mut Port, op: &mut Op) -> Answer {
-    op.units = port.tick(op.units);
-    op.note = 0;
-    Answer::Done
+fn tick(port: &mut Port, op: &mut Op) -> u32
+{
+    match port.tick(op.units) {
+        Ok(left) => {
+            op.units = left;
+            op.note = 0;
+            0
+        }
+        Err(refusal) => refusal.number(),
+    }
 }
 
-#[inline(never)]
-fn input(port: &mut Port, op: &mut Op, given: &[u8]) -> Answer {
-    let (Ok(slot), Ok(subslot)) = (u16::try_from(op.slot), u16::try_from(op.subslot)) else {
-        return Answer::NoSlot;
-    };
-    op.note = number_of(port.take(&Event::Input(slot, subslot, bytes_of(given))));
-    Answer::Done
+// Power is lost on the host's side.
+fn lose(port: &mut Port) -> u32
+{
+    done(port.lose())
 }
 
-#[inline(never)]
-fn alarm(port: &mut Port, op: &mut Op, given: &[u8]) -> Answer {
-    let (Ok(slot), Ok(subslot)) = (u16::try_from(op.slot), u16::try_from(op.subslot)) else {
-        return Answer::NoSlot;
-    };
-    op.note = number_of(port.take(&Event::Alarm(slot, subslot, bytes_of(given))));
-    Answer::Done
-}
-
-fn number_of(note: Note) -> u32 {
-    u32::from(note.number())
-}
+// ---- work
 
 // The next piece of work.
-fn next(port: &mut Port, op: &mut Op) -> Answer {
+fn next(port: &mut Port, op: &mut Op) -> u32
+{
     match port.work() {
-        Work::Carry(call) => put_call(call, op),
+        Ok(work) => tell(&work, op),
+        Err(refusal) => return refusal.number(),
+    }
+    port.advance();
+    0
+}
+
+// What a piece of work is.
+fn tell(work: &Work<'_>, op: &mut Op)
+{
+    match work {
+        Work::Carry(call) => tell_call(call, op),
         Work::Send(frame) => {
             op.work = 3;
             put(op, frame.as_slice());
@@ -141,12 +144,11 @@ fn next(port: &mut Port, op: &mut Op) -> Answer {
             op.length = 0;
         }
     }
-    port.advance();
-    Answer::Done
 }
 
 // A call of the flash.
-fn put_call(call: &Recorded, op: &mut Op) {
+fn tell_call(call: &Recorded, op: &mut Op)
+{
     match call {
         Recorded::Program {
             sector,
@@ -155,7 +157,7 @@ fn put_call(call: &Recorded, op: &mut Op) {
         } => {
             op.work = 1;
             op.sector = sector_number(*sector);
-            op.place = *place as u32;
+            op.place = *place;
             put(op, bytes.as_slice());
         }
         Recorded::Erase { sector } => {
@@ -166,54 +168,125 @@ fn put_call(call: &Recorded, op: &mut Op) {
     }
 }
 
-fn sector_number(sector: Sector) -> u32 {
+fn sector_number(sector: Sector) -> u32
+{
     match sector {
         Sector::First => 0,
         Sector::Second => 1,
     }
 }
 
-// Bytes that an operation is answered with.
-fn put(op: &mut Op, bytes: &[u8]) {
-    op.octets[..bytes.len()].copy_from_slice(bytes);
-    op.length = bytes.len() as u32;
+// ---- what is told
+
+// Octets that an operation is answered with.
+fn put(op: &mut Op, octets: &[u8])
+{
+    op.octets[..octets.len()].copy_from_slice(octets);
+    op.length = octets.len() as u32;
 }
 
-fn output(port: &Port, op: &mut Op) -> Answer {
-    let (Ok(slot), Ok(subslot)) = (u16::try_from(op.slot), u16::try_from(op.subslot)) else {
-        return Answer::NoSlot;
-    };
-    match port.device().output(slot, subslot) {
-        Some(value) => {
-            put(op, value);
-            Answer::Done
-        }
-        None => Answer::NoSlot,
+fn output(port: &Port, op: &mut Op) -> u32
+{
+    match (u16::try_from(op.slot), u16::try_from(op.subslot)) {
+        (Ok(slot), Ok(subslot)) => tell_output(port.output(slot, subslot), op),
+        _ => Refusal::NoSlot.number(),
     }
 }
 
-fn state(port: &Port, op: &mut Op) -> Answer {
-    op.phase = match port.device().phase() {
+// An output, or why there is none.
+fn tell_output(output: Result<&[u8], Refusal>, op: &mut Op) -> u32
+{
+    match output {
+        Ok(value) => {
+            put(op, value);
+            0
+        }
+        Err(refusal) => refusal.number(),
+    }
+}
+
+fn state(port: &Port, op: &mut Op) -> u32
+{
+    match (port.phase(), port.lamp()) {
+        (Ok(phase), Ok(lamp)) => {
+            op.phase = number_of_phase(phase);
+            op.units = lamp;
+            0
+        }
+        (Err(refusal), _) | (_, Err(refusal)) => refusal.number(),
+    }
+}
+
+fn number_of_phase(phase: Option<Phase>) -> u32
+{
+    match phase {
         None => 0,
         Some(Phase::Started) => 1,
         Some(Phase::Awaiting) => 2,
         Some(Phase::Exchanging) => 3,
-    };
-    op.units = port.device().lamp();
-    Answer::Done
+    }
+}
+
+fn running(port: &Port, op: &mut Op) -> u32
+{
+    match port.running() {
+        Ok(settings) => {
+            put_settings(settings, op);
+            0
+        }
+        Err(refusal) => refusal.number(),
+    }
+}
+
+fn stored(port: &Port, op: &mut Op) -> u32
+{
+    match port.stored() {
+        Ok(settings) => {
+            put_settings(settings, op);
+            0
+        }
+        Err(refusal) => refusal.number(),
+    }
 }
 
 // Settings: address, mask and gateway, the I&M texts, and the name.
-fn settings(settings: &Settings, op: &mut Op) -> Answer {
-    op.octets[..4].copy_from_slice(&settings.suite.address());
-    op.octets[4..8].copy_from_slice(&settings.suite.mask());
-    op.octets[8..12].copy_from_slice(&settings.suite.gateway());
-    op.octets[12..66].copy_from_slice(settings.im1.as_bytes());
-    op.octets[66..82].copy_from_slice(settings.im2.as_bytes());
-    op.octets[82..136].copy_from_slice(settings.im3.as_bytes());
-    op.octets[136..190].copy_from_slice(settings.im4.as_bytes());
-    let name = settings.name.as_bytes();
-    op.octets[190..190 + name.len()].copy_from_slice(name);
-    op.length = 190 + name.len() as u32;
-    Answer::Done
+fn put_settings(settings: &Settings, op: &mut Op)
+{
+    op.length = 0;
+    put_more(op, &settings.suite.address());
+    put_more(op, &settings.suite.mask());
+    put_more(op, &settings.suite.gateway());
+    put_more(op, settings.im1.as_bytes());
+    put_more(op, settings.im2.as_bytes());
+    put_more(op, settings.im3.as_bytes());
+    put_more(op, settings.im4.as_bytes());
+    put_more(op, settings.name.as_bytes());
+}
+
+// Octets behind those that an operation is answered with already.
+fn put_more(op: &mut Op, octets: &[u8])
+{
+    let start = op.length as usize;
+    let end = start + octets.len();
+    op.octets[start..end].copy_from_slice(octets);
+    op.length = end as u32;
+}
+
+// A parameter record that the relation took.
+fn record(port: &Port, op: &mut Op) -> u32
+{
+    let taken = match port.taken() {
+        Ok(taken) => taken,
+        Err(refusal) => return refusal.number(),
+    };
+    match taken.get(op.place as usize) {
+        Some(record) => {
+            op.slot = u32::from(record.slot);
+            op.subslot = u32::from(record.subslot);
+            op.place = u32::from(record.index);
+            put(op, record.value.as_slice());
+            0
+        }
+        None => NO_RECORD,
+    }
 }
