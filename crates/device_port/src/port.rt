@@ -91,6 +91,7 @@ impl Fill<RecordedFlash<4096>> for Chip<'_> {
 
 impl Port {
     /// A device that did not start, over a chip of which nothing is known yet.
+    #[inline(always)]
     pub fn new(identity: Identity, real: Real) -> Port
         ensures station { result.device.station ≡ record { identity = identity; real = real } }
         ensures stage { result.stage ≡ Stage.Made }

@@ -1,6 +1,6 @@
 -- A request has at most 16 blocks, and an event asks the settings for at most 16 items.
 use Rattle.std.proofs.Common.{◌≡◌, ◌==◌, ◌&&◌, ◌≤◌, ℕ, Bool, true, false, List, [], ◌∷◌, length, map, refl, sym, ap, subst, ◌∙◌, Option, Some, None, Result, Ok, Err, arith}
-use Rattle.std.specs.Prelude.{if◌then◌else◌}
+use Rattle.std.specs.Prelude.{if◌then◌else◌, is_some}
 use Rattle.std.proofs.lemmas.List.{length-map}
 use Rattle.pn_values.specs.declared.mac.Mac.{Mac}
 use Rattle.pn_values.specs.declared.identity.Identity.{Identity}
@@ -41,8 +41,11 @@ use Rattle.relations.specs.declared.hearing.Heard.{Heard as Answer}
 use Rattle.relations.specs.declared.hearing.Heard.TheVariants as to_ready
 use Rattle.device_frames.specs.declared.event.Event.{Event}
 use Rattle.device_frames.specs.declared.event.Event.TheVariants.{Frame, Tick, Input, Alarm}
-use Rattle.device_frames.specs.Heard.{Heard, Ticks, Unreadable, Elsewhere, Asks, Resolves, Told, Cyclic, Alarms, Given, Raised, Said, Calls, Responds, Garbled, heard_alarm, heard_request, heard_content, heard_frame, heard_of}
-use Rattle.device_core.specs.Judged.{Judged, Refuses, Sets, Writes, Moves, judged_request, judged_effect, judged_write, judged_new, judged_looked, judged_blocks, judged_call, judged_answer, judged_said, judged_received, judged_input, judged_notice, judged_pdu, judged}
+use Rattle.device_frames.specs.Heard.{is_own, is_taken, said_by, Heard, Ticks, Unreadable, Elsewhere, Asks, Resolves, Told, Cyclic, Alarms, Given, Raised, Said, Calls, Responds, Garbled, heard_alarm, heard_request, heard_content, heard_frame, heard_of}
+use Rattle.device_core.specs.declared.note.Note.{Note}
+use Rattle.device_core.specs.declared.note.Note.TheVariants as note
+use Rattle.device_frames.specs.Sent.{IdentifyAnswer, ArpReply}
+use Rattle.device_core.specs.Judged.{Judged, Refuses, Sets, Writes, Moves, judged_request, judged_effect, judged_write, judged_new, judged_looked, judged_blocks, judged_call, judged_answer, judged_said, judged_message, judged_received, judged_input, judged_notice, judged_pdu, judged}
 use Rattle.device_core.specs.Machine.{items_in, items_of}
 use Rattle.device_core.specs.State.{Station, Live}
 use Rattle.recorded_device.proofs.Few.{of_bind, few_data}
@@ -50,20 +53,20 @@ use Rattle.recorded_device.proofs.Few.{of_bind, few_data}
 -- ---- the blocks of a request
 
 -- what is in front of the data
-abbrev head : ℕ → Codec DcpFault (ℕ × ℕ × ℕ × Unit {0})
+abbrev head : ℕ → Codec DcpFault (ℕ × (ℕ × (ℕ × Unit {0})))
 head frame_id = number fault.Length 1 ⨾ number fault.Length 1 ⨾ number fault.Length 4 ⨾ unchecked fault.Length 2 (delay_under frame_id)
 
 -- the data behind it
-abbrev behind : ℕ → ℕ × ℕ × ℕ × Unit {0} → Codec DcpFault (Service × List AskedBlock)
+abbrev behind : ℕ → ℕ × (ℕ × (ℕ × Unit {0})) → Codec DcpFault (Service × List AskedBlock)
 behind frame_id front = framed (number fault.Length 2) fault.Length (data_of (service_of frame_id front.0 front.1.0))
 
 few_framed : (of : Result Service DcpFault) (bytes : List ℕ) (value : (Service × List AskedBlock) × List ℕ) → (framed (number fault.Length 2) fault.Length (data_of of)).read bytes ≡ Ok value → length value.0.1 ≤ 16
 few_framed of bytes value e =
     let length_in = of_bind ((number fault.Length 2).read bytes) _ value e in
     let cut = of_bind ((raw fault.Length length_in.0.0).read length_in.0.1) _ value length_in.2 in
-    let data = of_bind ((data_of of).read cut.0.0) _ value cut.2 in
-    let is : (data.0, cut.0.1) ≡ value = cc data.2 in
-    subst (λ v. length v.0.1 ≤ 16) is (few_data of cut.0.0 data.0 data.1)
+    let inside = of_bind ((data_of of).read cut.0.0) _ value cut.2 in
+    let is : (inside.0, cut.0.1) ≡ value = cc inside.2 in
+    subst (λ v. length v.0.1 ≤ 16) is (few_data of cut.0.0 inside.0 inside.1)
 
 few_blocks : (frame_id : ℕ) (bytes : List ℕ) (request : Asked) → request_of frame_id bytes ≡ Ok request → length request.blocks ≤ 16
 unfolding request_of format header_and_data
@@ -109,10 +112,12 @@ short_request source (Err fault) few = tt
 
 short_content : (identity : Identity) (destination source : Mac) (content : Content) → IsShort (heard_content identity destination source content)
 short_content identity destination source (RealTime frame_id body) =
-    short_if _ _ _ (short_request source (request_of frame_id body) (few_blocks frame_id body))
-    (short_if _ _ _ (short_alarm source (message_of body)) (short_if _ _ _ tt tt))
-short_content identity destination source (ArpPacket arp) = short_if _ _ _ tt tt
-short_content identity destination source (UdpDatagram from to body) = short_if _ _ _ tt tt
+    short_if (is_taken identity destination frame_id) (heard_request source (request_of frame_id body)) _
+    (short_request source (request_of frame_id body) (few_blocks frame_id body))
+    (short_if (is_own identity destination && is_alarm frame_id) (heard_alarm source (message_of body)) _ (short_alarm source (message_of body))
+    (short_if (is_own identity destination && is_cyclic frame_id) (Cyclic source frame_id body) Elsewhere tt tt))
+short_content identity destination source (ArpPacket arp) = short_if _ (Resolves source arp) Elsewhere tt tt
+short_content identity destination source (UdpDatagram from to body) = short_if _ (Told (record { mac = source; endpoint = from }) to.address (said_by body)) Elsewhere tt tt
 
 short_frame : (identity : Identity) (read : Result Meaning FrameFault) → IsShort (heard_frame identity read)
 short_frame identity (Ok meaning) = short_content identity meaning.destination meaning.source meaning.content
@@ -130,17 +135,18 @@ short_of identity (Alarm slot subslot octets) = tt
 abbrev IsFew : Judged → Type 0
 IsFew what = length (items_in what) ≤ 16
 
-few_if : (b : Bool) (x y : Judged) → IsFew x → IsFew y → IsFew (if b then x else y)
-few_if true x y few_x few_y = few_x
-few_if false x y few_x few_y = few_y
+few_else : (b : Bool) (what : Judged) (note : Note) → IsFew what → IsFew (if b then what else Refuses note)
+few_else true what note few = few
+few_else false what note few = omega arith
 
 module _ (station : Station) (live : Live) where
   few_asked : (asker : Mac) (kind : Service) (request : Asked) → length request.blocks ≤ 16 → IsFew (judged_request station live asker kind request)
   unfolding plan_of
-  few_asked asker service.Identify request few = few_if _ _ _ (omega arith) (omega arith)
+  few_asked asker service.Identify request few =
+      few_else _ (Moves live.rest (IdentifyAnswer asker live.values.running request.xid ∷ [])) note.Filter (omega arith)
   few_asked asker service.Get request few = omega arith
   few_asked asker service.Set request few =
-      let same = length-map request.blocks (λ block. item_of _ block.kind block.contents) in
+      let same = length-map request.blocks (λ block. item_of (is_some live.rest.link) block.kind block.contents) in
       omega (arith, few, same)
 
   few_effect : (caller : Caller) (call : Call) (header : IodWriteReq) (effect : Effect) → IsFew (judged_effect station live caller call header effect)
@@ -208,10 +214,11 @@ module _ (station : Station) (live : Live) where
   few_judged Unreadable short = omega arith
   few_judged Elsewhere short = omega arith
   few_judged (Asks asker request) short = few_asked asker request.service request short
-  few_judged (Resolves asker arp) short = few_if _ _ _ (omega arith) (omega arith)
-  few_judged (Told caller address said) short = few_if _ _ _ (few_said caller said) (omega arith)
+  few_judged (Resolves asker arp) short =
+      few_else _ (Moves live.rest (ArpReply asker live.values.running.suite.address arp.sender ∷ [])) note.NotMine (omega arith)
+  few_judged (Told caller address said) short = few_else _ (judged_said station live caller said) note.NotMine (few_said caller said)
   few_judged (Cyclic source frame_id body) short = few_received _ _
-  few_judged (Alarms source header message) short = few_if _ _ _ (few_pdu _ _) (omega arith)
+  few_judged (Alarms source header message) short = few_else _ (judged_message live message) note.NoRelation (few_pdu _ _)
   few_judged (Given slot subslot value) short = few_input _
   few_judged (Raised slot subslot octets) short = few_notice _
 

@@ -75,6 +75,7 @@ pub(crate) fn judge(size: usize, abi: u32, op_size: usize, station: &Station) ->
 }
 
 // A port of this station that did not start.
+#[inline(always)]
 pub(crate) fn port_of(station: &Station) -> Port
 {
     Port::new(identity(station), real(station))
