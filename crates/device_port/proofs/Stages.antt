@@ -1,5 +1,5 @@
 -- What a port's stage says.
-use Rattle.std.proofs.Common.{◌≡◌, ◌×◌, ◌+◌, ◌-◌, ◌≤◌, ℕ, Bool, true, false, zero, suc, List, [], ◌∷◌, Option, Some, None, refl, sym, ap, subst, ◌∙◌, arith}
+use Rattle.std.proofs.Common.{◌≡◌, ◌+◌, ◌-◌, ◌≤◌, ℕ, Bool, true, false, zero, suc, List, [], ◌∷◌, Option, Some, None, refl, sym, ap, subst, ◌∙◌, arith}
 use Rattle.flash_model.specs.Calls.{Call}
 use Rattle.device_core.specs.declared.note.Note.{Note}
 use Rattle.device_frames.specs.declared.event.Event.TheVariants.{Tick}

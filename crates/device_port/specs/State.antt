@@ -1,5 +1,5 @@
 -- What a host sees of a port.
-use Rattle.std.specs.Prelude.{◌≡◌, ◌×◌, Bool, true, false, ℕ, List, [], ◌∷◌, drop, if◌then◌else◌, Option, Some, None}
+use Rattle.std.specs.Prelude.{◌≡◌, Bool, true, false, ℕ, List, [], ◌∷◌, drop, if◌then◌else◌, Option, Some, None}
 use Rattle.flash_model.specs.Calls.{Call}
 use Rattle.recorded_flash.specs.declared.flash.RecordedFlash.{RecordedFlash}
 use Rattle.recorded_flash.specs.Entry.{call_of}

@@ -1,5 +1,5 @@
 -- What a port does with what happens.
-use Rattle.std.specs.Prelude.{◌≡◌, ◌≢◌, ◌≤◌, ◌-◌, ◌×◌, ℕ, zero, suc, List, [], ◌∷◌, length, map, Option, Some, None, Result, Ok, Err}
+use Rattle.std.specs.Prelude.{◌≡◌, ◌≢◌, ◌≤◌, ◌-◌, ℕ, zero, suc, List, [], ◌∷◌, length, map, Option, Some, None, Result, Ok, Err}
 use Rattle.flash_model.specs.Calls.{Call}
 use Rattle.flash_model.specs.Image.{with_sector}
 use Rattle.flash_model.specs.declared.flash.Sector.{Sector}

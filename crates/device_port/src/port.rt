@@ -41,7 +41,7 @@ pub struct Port {
 }
 
 impl Model for Port {
-    ghost use Rattle.std.specs.Prelude.{◌≤◌, ◌×◌, length, map, drop};
+    ghost use Rattle.std.specs.Prelude.{◌≤◌, length, map, drop};
     ghost use Rattle.recorded_flash.specs.Record.{record_of};
     ghost use Rattle.device_port.specs.State.{State, IsSteady};
 
