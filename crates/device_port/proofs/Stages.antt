@@ -1,6 +1,8 @@
 -- What a port's stage says.
 use Rattle.std.proofs.Common.{◌≡◌, ◌+◌, ◌-◌, ◌≤◌, ℕ, Bool, true, false, zero, suc, List, [], ◌∷◌, Option, Some, None, refl, sym, ap, subst, ◌∙◌, arith}
 use Rattle.flash_model.specs.Calls.{Call}
+use Rattle.settings_journal.specs.declared.journal.BootFault.{BootFault}
+use Rattle.settings_journal.specs.declared.journal.BootFault.TheVariants.{Foreign, FlashFault}
 use Rattle.device_core.specs.declared.note.Note.{Note}
 use Rattle.device_frames.specs.declared.event.Event.TheVariants.{Tick}
 use Rattle.device_port.specs.declared.refusal.Refusal.{Refusal}
@@ -39,10 +41,14 @@ early_of Lost early = cc early
 
 -- whether one that started takes an event is whether work is left
 pub free_of : (stage : Stage) (is_left : Bool) → stage ≡ Booted → is_left ≡ false → barred_by stage is_left ≡ None
-free_of stage is_left is no = ap (λ s. barred_by s is_left) is ∙ ap (barred_by Booted) no
+free_of stage is_left is idle = ap (λ s. barred_by s is_left) is ∙ ap (barred_by Booted) idle
 
 pub working_of : (stage : Stage) (is_left : Bool) → stage ≡ Booted → is_left ≡ true → barred_by stage is_left ≡ Some refusal.HasWork
-working_of stage is_left is yes = ap (λ s. barred_by s is_left) is ∙ ap (barred_by Booted) yes
+working_of stage is_left is busy = ap (λ s. barred_by s is_left) is ∙ ap (barred_by Booted) busy
+
+-- a flash that is foreign is not one that a read failed of
+pub foreign_alone : (fault : BootFault) → fault ≡ Foreign → fault ≡ FlashFault → ⊥
+foreign_alone fault foreign failed = cc (sym foreign ∙ failed)
 
 -- one more unit
 pub one_more : (units : ℕ) (old between new : State) (note : Note) → Ticks units old between → barred between ≡ None → Takes between Tick note new → Ticks (units + 1) old new

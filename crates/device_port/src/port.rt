@@ -1,5 +1,5 @@
 //! A device, and the work of its last step that the host has not taken yet.
-ghost use Rattle.std.specs.Prelude.{◌≡◌, ◌+◌, ◌-◌, ◌≤◌, ◌%◌, ◌^◌, None, Some, IfOk, MatchResult, ℕ, length, take};
+ghost use Rattle.std.specs.Prelude.{◌≡◌, ◌+◌, ◌-◌, ◌<◌, ◌≤◌, ◌%◌, ◌^◌, None, Some, IfOk, MatchResult, ℕ, length, take};
 ghost use Rattle.flash_model.specs.Image.{erased};
 ghost use Rattle.recorded_flash.specs.Record.{image_of, record_of};
 ghost use Rattle.device_frames.specs.declared.event.Event.TheVariants.{Alarm, Frame as Framed, Input};
@@ -142,9 +142,17 @@ impl Port {
     pub fn boot(&mut self) -> Result<(), Refusal>
         ensures { StartsOrNot self.old result self.new }
     {
-        if let Some(late) = past_start(self.stage) {
-            return Err(late);
+        match past_start(self.stage) {
+            Some(late) => Err(late),
+            None => self.start(),
         }
+    }
+
+    // Starts a port that was only made.
+    fn start(&mut self) -> Result<(), Refusal>
+        requires { too_late self.old.stage ≡ None }
+        ensures { StartsOrNot self.old result self.new }
+    {
         match self.device.load() {
             Ok(()) => {
                 self.stage = Stage::Booted;
@@ -337,7 +345,7 @@ impl Port {
         requires { barred self.old ≡ None }
         ensures { Takes self.old event.now result self.new }
     {
-        let before = self.device.flash().count();
+        let before = counted(self.device.flash());
         let note = step(&mut self.device, event, &mut self.outbox);
         self.calls_past = older(before, self.device.flash());
         self.frames_past = 0;
@@ -386,9 +394,28 @@ fn first_of(octets: &[u8]) -> Bytes
     ensures { result ≡ record { items = take 1519 octets.now } }
 {
     let mut bytes = Bytes::new();
-    let length = if octets.len() < 1519 { octets.len() } else { 1519 };
-    let _ = bytes.try_extend_from_slice(&octets[..length]);
+    let _ = bytes.try_extend_from_slice(front_of(octets));
     bytes
+}
+
+// As many of them as an event has.
+fn front_of(octets: &[u8]) -> &[u8]
+    ensures value { result.now ≡ take 1519 octets.now }
+    ensures few { length result.now ≤ 1519 }
+{
+    if octets.len() < 1519 {
+        octets
+    } else {
+        &octets[..1519]
+    }
+}
+
+// How many calls a flash ever recorded, modulo 2 to the 32.
+fn counted(flash: &RecordedFlash<4096>) -> u32
+    ensures value { result ≡ (record_of flash.now).count }
+    ensures small { (record_of flash.now).count < 2 ^ 32 }
+{
+    flash.count()
 }
 
 // How many of the calls that a flash keeps are older than those that it recorded since it had recorded so many.

@@ -1,0 +1,27 @@
+-- An event is taken.
+use Rattle.std.proofs.Common.{◌≡◌, ◌+◌, ◌-◌, ◌<◌, ◌%◌, ◌^◌, None, length, refl, sym, ap, subst, ◌∙◌}
+use Rattle.recorded_flash.specs.Record.{record_of}
+use Rattle.device_port.specs.State.{barred}
+use Rattle.device_port.proofs.Counts.{count_after, new_ones, few_new}
+use Rattle.device_port.proofs.Stages.{booted_of}
+use Rattle.device_port.proofs.port.Port.take.Goals as goal
+
+pub returns : goal.returns
+returns c =
+    let port = c.self.inside in
+    let old = record_of port.device.flash in
+    let free : barred _ ≡ None = subst (λ p. barred p ≡ None) (sym c.self.view_is) c.requires in
+    let does = c.step-note.ensures.records in
+    let same = ap record_of c.flash-2.ensures in
+    let after = same ∙ does.record_is in
+    let small = subst (λ f. (record_of f).count < 2 ^ 32) c.flash.ensures c.counted-before.ensures.small in
+    let before = c.counted-before.ensures.value ∙ ap (λ f. (record_of f).count) c.flash.ensures in
+    let count = ap (λ r. r.count) after ∙ count_after old does.calls small ∙ ap (λ n. (n + length does.calls) % 2 ^ 32) (sym before) in
+    let recent = ap (λ r. r.recent) same ∙ does.last.1 in
+    let past = c.older-self-inside.ensures.exact (length does.calls) count (few_new does.last.0 does.calls _ recent) does.few in
+    rw (← c.self.view_is) (record {
+      exact = c.step-note.ensures.exact;
+      records = does;
+      calls = new_ones does.last.0 does.calls _ _ does.last.1 (past ∙ ap (λ r. length r.recent - length does.calls) same);
+      stage = booted_of port.stage _ free;
+    })
