@@ -3,6 +3,7 @@ use Rattle.std.proofs.Common.{◌≡◌, ◌+◌, ◌<◌, ◌≤◌, ℕ, List,
 use Rattle.std.proofs.lemmas.List.{length-map}
 use Rattle.recorded_flash.specs.Entry.{call_of}
 use Rattle.recorded_flash.specs.Record.{record_of}
+use Rattle.device_port.specs.State.{advanced}
 use Rattle.device_port.specs.contracts.port.Port.{the_view}
 use Rattle.device_port.proofs.Left.{call_taken, frame_taken, steady_call, steady_frame}
 use Rattle.device_port.proofs.port.Port.advance.Goals as goal
@@ -30,7 +31,7 @@ returns-then-self-recent c =
     let same = c.recent.ensures ∙ ap (λ f. (record_of f).recent) c.flash.ensures in
     let long = length-map c.recent.result.now call_of in
     let all = ap length same in
-    rw (← c.self.view_is) (sym (call_taken (the_view port) port.calls_past (record_of port.device.flash).recent (omega (arith, c.if-self-recent.true, long, all))))
+    sym (call_taken (the_view port) port.calls_past (record_of port.device.flash).recent (omega (arith, c.if-self-recent.true, long, all))) ∙ ap advanced c.self.view_is
 
 pub returns-then-self-len : goal.returns-then-self-len
 returns-then-self-len c =
@@ -38,5 +39,5 @@ returns-then-self-len c =
     let same = c.recent.ensures ∙ ap (λ f. (record_of f).recent) c.flash.ensures in
     let long = length-map c.recent.result.now call_of in
     let all = ap length same in
-    rw (← c.self.view_is) (sym (frame_taken (the_view port) port.calls_past port.frames_past (record_of port.device.flash).recent (map (λ frame. frame.items) port.outbox.items)
-    (omega (arith, c.if-self-recent.false, long, all)) refl))
+    sym (frame_taken (the_view port) port.calls_past port.frames_past (record_of port.device.flash).recent (map (λ frame. frame.items) port.outbox.items)
+    (omega (arith, c.if-self-recent.false, long, all)) refl) ∙ ap advanced c.self.view_is

@@ -2,6 +2,7 @@
 use Rattle.std.proofs.Common.{◌≡◌, ◌+◌, ◌-◌, ◌<◌, ◌%◌, ◌^◌, None, length, refl, sym, ap, subst, ◌∙◌}
 use Rattle.recorded_flash.specs.Record.{record_of}
 use Rattle.device_port.specs.State.{barred}
+use Rattle.device_port.specs.contracts.port.Port.{the_view}
 use Rattle.device_port.proofs.Counts.{count_after, new_ones, few_new}
 use Rattle.device_port.proofs.Stages.{booted_of}
 use Rattle.device_port.proofs.port.Port.take.Goals as goal
@@ -10,7 +11,7 @@ pub returns : goal.returns
 returns c =
     let port = c.self.inside in
     let old = record_of port.device.flash in
-    let free : barred _ ≡ None = subst (λ p. barred p ≡ None) (sym c.self.view_is) c.requires in
+    let free : barred (the_view port) ≡ None = subst (λ p. barred p ≡ None) (sym c.self.view_is) c.requires in
     let does = c.step-note.ensures.records in
     let same = ap record_of c.flash-2.ensures in
     let after = same ∙ does.record_is in
