@@ -1,7 +1,5 @@
 -- What a port does with what happens.
-use Rattle.std.specs.Prelude.{◌≡◌, ◌≢◌, ◌≤◌, ◌-◌, ℕ, zero, suc, List, [], ◌∷◌, length, map, Option, Some, None, Result, Ok, Err}
-use Rattle.flash_model.specs.Calls.{Call}
-use Rattle.flash_model.specs.Image.{with_sector}
+use Rattle.std.specs.Prelude.{◌≡◌, ◌≢◌, ◌≤◌, ◌-◌, ℕ, zero, suc, List, [], length, Option, Some, None, Result, Ok, Err}
 use Rattle.flash_model.specs.declared.flash.Sector.{Sector}
 use Rattle.pn_values.specs.declared.settings.Settings.{Settings}
 use Rattle.settings_journal.specs.Image.{StartsWith, IsForeign, LeftByDevice}
@@ -11,7 +9,6 @@ use Rattle.device_core.specs.Cycle.{started}
 use Rattle.device_core.specs.Machine.{step_of}
 use Rattle.device_core.specs.Steps.{IsExactStep}
 use Rattle.device_core.specs.declared.note.Note.{Note}
-use Rattle.device_core.specs.declared.note.Note.TheVariants.{Done}
 use Rattle.recorded_flash.specs.Record.{image_of, record_of, filled}
 use Rattle.recorded_device.specs.Recorded.{Records}
 use Rattle.device_port.specs.declared.refusal.Refusal.{Refusal}

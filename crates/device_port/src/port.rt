@@ -57,7 +57,7 @@ impl Model for Port {
     ghost invariant = { λ port. (port.calls_past ≤ length (record_of port.device.flash).recent)
         × (port.frames_past ≤ length port.outbox.items)
         × IsSteady port.stage port.device.live.values.has_failed (drop port.calls_past (record_of port.device.flash).recent)
-          (drop port.frames_past (map (λ frame. frame.items) port.outbox.items)) };
+        (drop port.frames_past (map (λ frame. frame.items) port.outbox.items)) };
 }
 
 /// A piece of work.
@@ -118,8 +118,7 @@ impl Port {
     pub fn has_work(&self) -> bool
         ensures { result ≡ is_left self.now.calls self.now.frames }
     {
-        self.calls_past < self.device.flash().recent().len()
-            || self.frames_past < self.outbox.len()
+        self.calls_past < self.device.flash().recent().len() || self.frames_past < self.outbox.len()
     }
 
     // ---- a start

@@ -1,5 +1,5 @@
 -- A piece of work is taken.
-use Rattle.std.proofs.Common.{◌≡◌, ◌+◌, ◌<◌, ◌≤◌, ℕ, List, length, map, drop, refl, sym, ap, ◌∙◌, arith}
+use Rattle.std.proofs.Common.{◌<◌, ℕ, List, length, map, refl, sym, ap, ◌∙◌, arith}
 use Rattle.std.proofs.lemmas.List.{length-map}
 use Rattle.recorded_flash.specs.Entry.{call_of}
 use Rattle.recorded_flash.specs.Record.{record_of}

@@ -1,9 +1,8 @@
 -- Whether work is left.
-use Rattle.std.proofs.Common.{◌≡◌, ◌<◌, ◌≤◌, ℕ, List, length, map, sym, ap, ◌∙◌, arith}
+use Rattle.std.proofs.Common.{◌≡◌, ◌≤◌, ℕ, List, length, map, sym, ap, ◌∙◌, arith}
 use Rattle.std.specs.Prelude.{nat_lt}
 use Rattle.std.proofs.lemmas.Bool.{lt-ltb}
 use Rattle.std.proofs.lemmas.List.{length-map}
-use Rattle.flash_model.specs.Calls.{Call}
 use Rattle.recorded_flash.specs.Entry.{call_of}
 use Rattle.recorded_flash.specs.Record.{record_of}
 use Rattle.device_port.proofs.Left.{call_left, frames_left}

@@ -1,5 +1,5 @@
 -- The piece of work that is next.
-use Rattle.std.proofs.Common.{◌≡◌, ◌<◌, ◌≤◌, ℕ, List, length, map, sym, ap, ◌∙◌, arith}
+use Rattle.std.proofs.Common.{◌<◌, ◌≤◌, length, map, ap, ◌∙◌, arith}
 use Rattle.std.proofs.lemmas.List.{length-map, drop_all}
 use Rattle.recorded_flash.specs.Entry.{call_of}
 use Rattle.recorded_flash.specs.Record.{record_of}
@@ -21,6 +21,8 @@ returns-then-self-len c =
     let none : length (record_of port.device.flash).recent ≤ port.calls_past = omega (arith, c.if-self-recent.false, long, all) in
     let known = ap length c.as_slice.ensures.value in
     let some : port.frames_past < length c.as_slice.result.now = omega (arith, c.if-self-len.true, c.len.ensures.value, known) in
-    rw (← c.self.view_is) (drop_all port.calls_past (record_of port.device.flash).recent none,
-    next_of (λ frame. frame.items) c.as_slice.result.now (map (λ frame. frame.items) port.outbox.items) port.frames_past c.index-as_slice-self.result
-    (ap (map (λ frame. frame.items)) c.as_slice.ensures.value) some c.index-as_slice-self.is)
+    rw (← c.self.view_is) (
+      drop_all port.calls_past (record_of port.device.flash).recent none,
+      next_of (λ frame. frame.items) c.as_slice.result.now (map (λ frame. frame.items) port.outbox.items) port.frames_past c.index-as_slice-self.result
+          (ap (map (λ frame. frame.items)) c.as_slice.ensures.value) some c.index-as_slice-self.is,
+    )

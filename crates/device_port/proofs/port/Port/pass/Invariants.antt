@@ -1,5 +1,5 @@
 -- the units so far went by, one step each
-use Rattle.std.proofs.Common.{◌≡◌, ◌≤◌}
+use Rattle.std.proofs.Common.{◌≡◌}
 use Rattle.device_port.specs.declared.stage.Stage.TheVariants.{Booted}
 use Rattle.device_port.specs.Steps.{Ticks}
 use Rattle.device_port.proofs.port.Port.pass.Given as goal

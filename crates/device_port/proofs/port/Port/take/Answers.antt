@@ -1,5 +1,5 @@
 -- An event is taken.
-use Rattle.std.proofs.Common.{◌≡◌, ◌+◌, ◌-◌, ◌<◌, ◌%◌, ◌^◌, None, length, refl, sym, ap, subst, ◌∙◌}
+use Rattle.std.proofs.Common.{◌≡◌, ◌+◌, ◌-◌, ◌<◌, ◌%◌, ◌^◌, None, length, sym, ap, subst, ◌∙◌}
 use Rattle.recorded_flash.specs.Record.{record_of}
 use Rattle.device_port.specs.State.{barred}
 use Rattle.device_port.specs.contracts.port.Port.{the_view}
