@@ -1,0 +1,2 @@
+-- The law.
+use Rattle.std.proofs.Common.{◌≡◌}

@@ -1,0 +1,4 @@
+pub mod Holds
+pub mod Goes
+pub mod Kept
+pub mod Law
