@@ -1,9 +1,8 @@
 -- What is true of a frame goes on to be true of it: what was taken stays taken, and what was true of an earlier point still is.
-use Rattle.std.proofs.Common.{◌≡◌, ◌⊎◌, inl, inr, ℕ, zero, suc, Bool, true, false, List, [], ◌∷◌, ◌++◌, Option, Some, None, sym, subst}
-use Rattle.std.specs.List.{AllByRecursion}
+use Rattle.std.proofs.Common.{◌≡◌, inl, inr, ℕ, zero, suc, true, false, List, [], ◌∷◌, ◌++◌, Option, Some, None, sym, subst}
 use Rattle.std.specs.Prelude.{slice_get}
-use Rattle.both_ends.specs.Small.{Ask, ToDevice, Call, Confirms, Idle, ToController, Answers, Readies, Nothing, Rules, Phase, Link, Kept, Controller, Seeking, Asking, Waiting, Exchanges, Ended}
-use Rattle.both_ends.proofs.Holds.{Took, Behind, IsCall, TellsDevice, TellsController, IsFine, AreFine, KeepsFine, AsksBehind, ConfirmedIn}
+use Rattle.both_ends.specs.Small.{Ask, ToDevice, Call, Confirms, Idle, ToController, Answers, Readies, Nothing, Rules, Link, Kept, Controller, Seeking, Asking, Waiting, Exchanges, Ended}
+use Rattle.both_ends.proofs.Holds.{Took, Behind, IsCall, TellsDevice, TellsController, IsFine, AreFine, KeepsFine, AsksBehind}
 
 module _ {T Q : Type 0} where
   -- what was taken stays taken

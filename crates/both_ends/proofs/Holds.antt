@@ -1,8 +1,8 @@
 -- What holds of both ends at each point of a start-up. What is true of earlier points stands here for itself: `Was`, that the controller
 -- exchanged data; `Good`, that the device sent this ApplicationReady; `Handed`, that the controller was handed one.
-use Rattle.std.proofs.Common.{◌≡◌, ◌⊎◌, ◌<◌, ◌≤◌, ℕ, zero, suc, Bool, true, false, List, [], ◌∷◌, ◌++◌, length, Option, Some, None}
+use Rattle.std.proofs.Common.{◌≡◌, ◌⊎◌, ◌<◌, ◌≤◌, ℕ, zero, suc, true, false, List, ◌++◌, length, Option, Some, None}
 use Rattle.std.specs.List.{AllByRecursion}
-use Rattle.both_ends.specs.Small.{Ask, Connects, Writes, Parameterized, Releases, ToDevice, Call, Confirms, Idle, ToController, Answers, Readies, Nothing, Rules, Phase, Started, Awaiting, Exchanging, Link, Kept, Device, Controller, Seeking, Asking, Waiting, Exchanges, Ended, World}
+use Rattle.both_ends.specs.Small.{Ask, Releases, ToDevice, Call, Confirms, Idle, ToController, Answers, Readies, Nothing, Rules, Started, Exchanging, Link, Kept, Controller, Seeking, Asking, Waiting, Exchanges, Ended, World}
 use Rattle.both_ends.specs.Steps.{IsAsked}
 
 -- there is an answer

@@ -1,11 +1,11 @@
 -- What a step of the device leaves: what was taken stays taken, what holds of its relation goes on to hold, and what it sends is fine.
-use Rattle.std.proofs.Common.{◌≡◌, ◌⊎◌, inl, inr, ◌+◌, ◌<◌, ◌≤◌, ℕ, zero, suc, Bool, true, false, List, [], ◌∷◌, ◌++◌, length, Option, Some, None, refl, sym, ap, subst, ◌∙◌, append_assoc, append-nil, length-append, arith}
+use Rattle.std.proofs.Common.{◌≡◌, ◌⊎◌, inl, inr, ◌<◌, ◌≤◌, ℕ, suc, Bool, true, false, List, [], ◌∷◌, ◌++◌, length, Option, Some, None, refl, sym, ap, subst, ◌∙◌, append_assoc, append-nil, length-append, arith}
 use Rattle.std.specs.List.{AllByRecursion}
 use Rattle.std.specs.Prelude.{slice_get}
-use Rattle.both_ends.specs.Small.{Ask, Connects, Writes, Parameterized, Releases, ToDevice, Call, Confirms, Idle, ToController, Answers, Readies, Nothing, Rules, Phase, Started, Awaiting, Exchanging, Link, Kept, Device}
-use Rattle.both_ends.specs.Steps.{IsNew, IsAsked, made, TakesRecord, IsParameterized, Comes, IsReady, IsDull, IsAnswered, IsAgain, Rests, IsConfirmed, GoesBy, DeviceSteps}
+use Rattle.both_ends.specs.Small.{Ask, Connects, Writes, Parameterized, Releases, ToDevice, Call, Confirms, Idle, Answers, Readies, Nothing, Rules, Started, Awaiting, Exchanging, Link, Kept, Device}
+use Rattle.both_ends.specs.Steps.{IsNew, made, TakesRecord, IsParameterized, Comes, IsReady, IsDull, IsAnswered, IsAgain, Rests, IsConfirmed, GoesBy, DeviceSteps}
 use Rattle.both_ends.proofs.Holds.{IsSomeKept, TookIn, Took, IsHeld, IsHeldIn, HoldsAt, Behind, IsCall, TellsDevice, TellsController, IsFine, AreFine, KeepsFine, ConfirmedIn}
-use Rattle.both_ends.proofs.Goes.{Grows, fine_on, are_fine_on, keeps_on, same_grows, fine_as}
+use Rattle.both_ends.proofs.Goes.{Grows, are_fine_on, keeps_on, same_grows, fine_as}
 
 -- ---- lists
 
@@ -153,3 +153,189 @@ module _ {T Q : Type 0} (rules : Rules T Q) where
   ready_is kept link there is awaits holds =
       let held = is_held kept link there is holds in
       (held.2.made, past_ready held.0.sequence there awaits held.2.past)
+
+  -- ---- steps
+
+  module _ (Was WasNow : Type 0) (Good GoodNow : List ℕ → Type 0) (was_on : Was → WasNow) (good_on : (frame : List ℕ) → Good frame → GoodNow frame) where
+    -- what a step of the device leaves, which sends these frames
+    pub record Leaves (before after : Device T Q) (frames : List (List ℕ)) : Type 0 where
+      pub grows : Grows before.kept before.link after.kept after.link
+      pub held : HoldsAt rules after.kept after.link
+      pub kept : KeepsFine rules WasNow GoodNow after.kept after.link after.kept
+      pub new : AreFine rules WasNow GoodNow after.kept after.link frames
+      pub confirmed : ConfirmedIn WasNow after.link
+
+    -- each ApplicationReady that is sent now is good from now on
+    abbrev pub AreGood : Device T Q → List (List ℕ) → Type 0
+    AreGood after frames = (number : ℕ) (frame : List ℕ) → slice_get frames number ≡ Some frame → IsReady rules after frame → GoodNow frame
+
+    good_behind : (after : Device T Q) (frame : List ℕ) (frames : List (List ℕ)) → AreGood after (frame ∷ frames) → AreGood after frames
+    good_behind after frame frames good number other there ready = good (suc number) other there ready
+
+    ready_fine : (after : Device T Q) (frame : List ℕ) → GoodNow frame → IsReady rules after frame → IsFine rules WasNow GoodNow after.kept after.link frame
+    ready_fine after frame good ready = fine_as rules WasNow GoodNow after.kept after.link frame Idle Readies ready.to_device ready.to_controller tt good
+
+    readies_fine : (after : Device T Q) (frames : List (List ℕ)) → AreGood after frames → AllByRecursion (IsReady rules after) frames → AreFine rules WasNow GoodNow after.kept after.link frames
+    readies_fine after [] good all = tt
+    readies_fine after (frame ∷ frames) good all = (
+      ready_fine after frame (good 0 frame refl all.0) all.0,
+      readies_fine after frames (good_behind after frame frames good) all.1,
+    )
+
+    dull_fine : (after : Device T Q) (frame : List ℕ) → (IsReady rules after frame → GoodNow frame) → IsDull rules frame ⊎ IsReady rules after frame
+        → IsFine rules WasNow GoodNow after.kept after.link frame
+    dull_fine after frame good (inl dull) = fine_as rules WasNow GoodNow after.kept after.link frame Idle Nothing dull.0 dull.1 tt tt
+    dull_fine after frame good (inr ready) = ready_fine after frame (good ready) ready
+
+    all_dull_fine : (after : Device T Q) (frames : List (List ℕ)) → AreGood after frames → AllByRecursion (λ frame. IsDull rules frame ⊎ IsReady rules after frame) frames
+        → AreFine rules WasNow GoodNow after.kept after.link frames
+    all_dull_fine after [] good all = tt
+    all_dull_fine after (frame ∷ frames) good all = (
+      dull_fine after frame (good 0 frame refl) all.0,
+      all_dull_fine after frames (good_behind after frame frames good) all.1,
+    )
+
+    -- a confirmed relation stays one, and no call makes one of another
+    still_confirmed : (link after : Option (Link T Q)) → (after ≡ link) ⊎ (after ≡ None) → ConfirmedIn Was link → ConfirmedIn WasNow after
+    still_confirmed None after (inl same) confirmed = subst (λ (l : Option (Link T Q)). ConfirmedIn WasNow l) (sym same) tt
+    still_confirmed (Some link) after (inl same) confirmed =
+        subst (λ (l : Option (Link T Q)). ConfirmedIn WasNow l) (sym same) (λ exchanges. was_on (confirmed exchanges))
+    still_confirmed link after (inr none) confirmed = subst (λ (l : Option (Link T Q)). ConfirmedIn WasNow l) (sym none) tt
+
+    confirmed_by : (ask : Ask) (positive : Bool) (link after : Option (Link T Q)) → Comes rules positive ask link after → ConfirmedIn Was link → ConfirmedIn WasNow after
+    confirmed_by ask false link after comes confirmed = still_confirmed link after (inl comes) confirmed
+    confirmed_by Connects true link after comes confirmed =
+        subst (λ (l : Option (Link T Q)). ConfirmedIn WasNow l) (sym comes) (λ exchanges. absurd (started_is exchanges))
+      where
+        started_is : Started ≡ Exchanging → ⊥
+        started_is e = absurd cc
+    confirmed_by (Writes number) true link after comes confirmed =
+        let before : ConfirmedIn Was (Some comes.link) = subst (λ (l : Option (Link T Q)). ConfirmedIn Was l) comes.was confirmed in
+        subst (λ (l : Option (Link T Q)). ConfirmedIn WasNow l) (sym comes.becomes) (λ exchanges. was_on (before exchanges))
+    confirmed_by Parameterized true link after comes confirmed =
+        subst (λ (l : Option (Link T Q)). ConfirmedIn WasNow l) (sym comes.becomes) (λ exchanges. absurd (awaiting_is exchanges))
+      where
+        awaiting_is : Awaiting ≡ Exchanging → ⊥
+        awaiting_is e = absurd cc
+    confirmed_by Releases true link after comes confirmed = subst (λ (l : Option (Link T Q)). ConfirmedIn WasNow l) (sym comes) tt
+
+    answer_tells : (sequence : ℕ) (ask : Ask) (positive : Bool) (kept : Option Kept) (link : Option (Link T Q)) (answer : Kept) (after : Option (Link T Q)) (frame : List ℕ)
+        → IsCall rules sequence ask kept link → Comes rules positive ask link after
+        → TellsController rules GoodNow (Some answer) after frame (Answers sequence positive)
+    answer_tells sequence ask true kept link answer after frame call comes = λ few. record { called = tt; taken = told_by sequence ask kept link after call comes few }
+    answer_tells sequence ask false kept link answer after frame call comes = tt
+
+    module _ (before after : Device T Q) (frames : List (List ℕ)) (held : HoldsAt rules before.kept before.link)
+        (kept : KeepsFine rules Was Good before.kept before.link before.kept) (confirmed : ConfirmedIn Was before.link) where
+      answered_leaves : (sequence : ℕ) (ask : Ask) → IsCall rules sequence ask before.kept before.link → AreGood after frames → IsAnswered rules sequence ask before after frames
+          → Leaves before after frames
+      answered_leaves sequence ask call good answered =
+          let answer : Kept = record { sequence = sequence; frame = answered.frame } in
+          let fine : IsFine rules WasNow GoodNow (Some answer) after.link answered.frame =
+          fine_as rules WasNow GoodNow (Some answer) after.link answered.frame Idle (Answers sequence answered.positive) answered.to_device answered.to_controller tt
+          (answer_tells sequence ask answered.positive before.kept before.link answer after.link answered.frame call answered.does) in
+          let behind : AreGood after (answered.frame ∷ answered.others) = subst (λ (fs : List (List ℕ)). AreGood after fs) answered.sent good in
+          record {
+            grows = λ count took. record {
+              called = subst (λ (k : Option Kept). IsSomeKept k) (sym answered.keeps) tt;
+              taken = took_by sequence ask answered.positive before.kept before.link after.link count answered.new call answered.does took;
+            };
+            held = subst (λ (k : Option Kept). HoldsAt rules k after.link) (sym answered.keeps)
+                (held_by sequence ask answered.positive before.kept before.link after.link answered.new call answered.does held);
+            kept = subst (λ (k : Option Kept). KeepsFine rules WasNow GoodNow k after.link k) (sym answered.keeps) fine;
+            new = subst (λ (fs : List (List ℕ)). AreFine rules WasNow GoodNow after.kept after.link fs) (sym answered.sent) (
+              subst (λ (k : Option Kept). IsFine rules WasNow GoodNow k after.link answered.frame) (sym answered.keeps) fine,
+              readies_fine after answered.others (good_behind after answered.frame answered.others behind) answered.readies,
+            );
+            confirmed = confirmed_by ask answered.positive before.link after.link answered.does confirmed;
+          }
+
+      -- nothing changed, and what is sent was fine
+      same_leaves : after ≡ before → AreFine rules Was Good before.kept before.link frames → Leaves before after frames
+      same_leaves same fine = subst (λ (d : Device T Q). Leaves before d frames) (sym same) (record {
+        grows = same_grows before.kept before.link;
+        held = held;
+        kept = keeps_on before.kept before.kept before.link before.link (same_grows before.kept before.link) rules Was WasNow Good GoodNow was_on good_on before.kept kept;
+        new = are_fine_on before.kept before.kept before.link before.link (same_grows before.kept before.link) rules Was WasNow Good GoodNow was_on good_on frames fine;
+        confirmed = still_confirmed before.link before.link (inl refl) confirmed;
+      })
+
+      again_leaves : (sequence : ℕ) → IsAgain sequence before after frames → Leaves before after frames
+      again_leaves sequence again = same_leaves again.unchanged (subst (λ (fs : List (List ℕ)). AreFine rules Was Good before.kept before.link fs) (sym again.sent) (
+        subst (λ (k : Option Kept). KeepsFine rules Was Good before.kept before.link k) again.has kept,
+        tt,
+      ))
+
+      rests_leaves : Rests before after frames → Leaves before after frames
+      rests_leaves rests = same_leaves rests.0 (subst (λ (fs : List (List ℕ)). AreFine rules Was Good before.kept before.link fs) (sym rests.1) tt)
+
+      call_leaves : (sequence : ℕ) (ask : Ask) → IsCall rules sequence ask before.kept before.link → AreGood after frames
+          → IsAnswered rules sequence ask before after frames ⊎ (IsAgain sequence before after frames ⊎ Rests before after frames) → Leaves before after frames
+      call_leaves sequence ask call good (inl answered) = answered_leaves sequence ask call good answered
+      call_leaves sequence ask call good (inr (inl again)) = again_leaves sequence again
+      call_leaves sequence ask call good (inr (inr rests)) = rests_leaves rests
+
+      -- what was taken is not changed by a move of the relation to another phase, or to its end
+      took_same : (link now : Option (Link T Q)) (count : ℕ) → (now ≡ link) ⊎ (now ≡ None) → TookIn count link → TookIn count now
+      took_same link now count (inl same) took = subst (λ (l : Option (Link T Q)). TookIn count l) (sym same) took
+      took_same link now count (inr none) took = subst (λ (l : Option (Link T Q)). TookIn count l) (sym none) tt
+
+      held_same : (answer : Option Kept) (link now : Option (Link T Q)) → (now ≡ link) ⊎ (now ≡ None) → HoldsAt rules answer link → HoldsAt rules answer now
+      held_same answer link now (inl same) holds = subst (λ (l : Option (Link T Q)). HoldsAt rules answer l) (sym same) holds
+      held_same None link now (inr none) holds = none
+      held_same (Some answer) link now (inr none) holds = subst (λ (l : Option (Link T Q)). IsHeldIn rules answer.sequence l) (sym none) tt
+
+      by_leaves : AreGood after frames → GoesBy rules before after frames → Leaves before after frames
+      by_leaves good goes =
+          let grows : Grows before.kept before.link after.kept after.link = λ count took. record {
+            called = subst (λ (k : Option Kept). IsSomeKept k) (sym goes.keeps) took.called;
+            taken = took_same before.link after.link count goes.link took.taken;
+          } in
+          record {
+            grows = grows;
+            held = subst (λ (k : Option Kept). HoldsAt rules k after.link) (sym goes.keeps) (held_same before.kept before.link after.link goes.link held);
+            kept = subst (λ (k : Option Kept). KeepsFine rules WasNow GoodNow after.kept after.link k) (sym goes.keeps)
+                (keeps_on before.kept after.kept before.link after.link grows rules Was WasNow Good GoodNow was_on good_on before.kept kept);
+            new = all_dull_fine after frames good goes.sent;
+            confirmed = still_confirmed before.link after.link goes.link confirmed;
+          }
+
+      past_exchanging : (sequence : ℕ) (link : Link T Q) → IsHeld rules sequence link → link.phase ≡ Awaiting → IsHeld rules sequence (record link { phase = Exchanging })
+      past_exchanging sequence link there awaits = record {
+        few = there.few;
+        made = there.made;
+        rest = there.rest;
+        begins = there.begins;
+        past = inr (is_past sequence link awaits there.past);
+      }
+        where
+          is_past : (sequence : ℕ) (link : Link T Q) → link.phase ≡ Awaiting → (link.phase ≡ Started) ⊎ ((length rules.records < sequence) × (link.taken ≡ rules.records))
+              → (length rules.records < sequence) × (link.taken ≡ rules.records)
+          is_past sequence link awaits (inl started) = absurd cc
+          is_past sequence link awaits (inr past) = past
+
+      confirmed_leaves : Was → IsConfirmed before after frames → Leaves before after frames
+      confirmed_leaves was confirms =
+          let there = is_held before.kept before.link confirms.link confirms.was held in
+          let now : Option (Link T Q) = Some (record confirms.link { phase = Exchanging }) in
+          let grows : Grows before.kept before.link before.kept now = λ count took. record {
+            called = took.called;
+            taken = subst (λ (l : Option (Link T Q)). TookIn count l) confirms.was took.taken;
+          } in
+          subst (λ (d : Device T Q). Leaves before d frames) (sym confirms.becomes) (record {
+            grows = grows;
+            held = subst (λ (k : Option Kept). HoldsAt rules k now) (sym there.1) (past_exchanging there.0.sequence confirms.link there.2 confirms.awaits);
+            kept = keeps_on before.kept before.kept before.link now grows rules Was WasNow Good GoodNow was_on good_on before.kept kept;
+            new = subst (λ (fs : List (List ℕ)). AreFine rules WasNow GoodNow before.kept now fs) (sym confirms.silent) tt;
+            confirmed = λ exchanges. was_on was;
+          })
+
+      confirms_leave : Was → IsConfirmed before after frames ⊎ Rests before after frames → Leaves before after frames
+      confirms_leave was (inl confirms) = confirmed_leaves was confirms
+      confirms_leave was (inr rests) = rests_leaves rests
+
+      pub device_leaves : (heard : ToDevice) → TellsDevice rules Was before.kept before.link heard → AreGood after frames → DeviceSteps rules heard before after frames
+          → Leaves before after frames
+      device_leaves (Call sequence ask) tells good steps = call_leaves sequence ask tells good steps
+      device_leaves Confirms tells good steps = confirms_leave tells steps
+      device_leaves Idle tells good steps = by_leaves good steps

@@ -1,7 +1,7 @@
 -- The law of a start-up, over any list of moves.
-use Rattle.std.specs.Prelude.{◌≡◌, ℕ, List, [], ◌∷◌, ◌++◌, slice_get, Option, Some, None}
+use Rattle.std.specs.Prelude.{◌≡◌, ℕ, List, [], ◌∷◌, ◌++◌, slice_get, Some, None}
 use Rattle.std.specs.List.{AllByRecursion}
-use Rattle.both_ends.specs.Small.{Readies, Rules, Awaiting, Exchanging, Link, Seeking, Exchanges, World, Move, ComesToController}
+use Rattle.both_ends.specs.Small.{Readies, Rules, Awaiting, Link, Seeking, Exchanges, World, Move, ComesToController}
 use Rattle.both_ends.specs.Steps.{IsDull, Steps}
 
 module _ {T Q : Type 0} where

@@ -1,7 +1,7 @@
 -- What each end does, as far as a start-up goes. A step is a relation: what is left open here, a real machine decides.
-use Rattle.std.specs.Prelude.{◌≡◌, ◌⊎◌, ◌+◌, ◌<◌, ◌≤◌, ℕ, zero, suc, Bool, true, false, List, [], ◌∷◌, ◌++◌, length, slice_get, Option, Some, None}
+use Rattle.std.specs.Prelude.{◌≡◌, ◌⊎◌, ◌+◌, ◌<◌, ◌≤◌, ℕ, Bool, true, false, List, [], ◌∷◌, ◌++◌, length, slice_get, Option, Some, None}
 use Rattle.std.specs.List.{AllByRecursion}
-use Rattle.both_ends.specs.Small.{Ask, Connects, Writes, Parameterized, Releases, ToDevice, Call, Confirms, Idle, ToController, Answers, Readies, Nothing, Rules, Started, Awaiting, Exchanging, Link, Kept, Device, Controller, Seeking, Asking, Waiting, Exchanges, Ended, World, Move, ComesToDevice, ComesToController, AtDevice, AtController}
+use Rattle.both_ends.specs.Small.{Ask, Connects, Writes, Parameterized, Releases, ToDevice, Call, Confirms, Idle, ToController, Answers, Readies, Nothing, Rules, Started, Awaiting, Exchanging, Link, Kept, Device, Controller, Asking, Waiting, Exchanges, Ended, World, Move, ComesToDevice, ComesToController, AtDevice, AtController}
 
 -- ---- the device
 
@@ -88,10 +88,11 @@ module _ {T Q : Type 0} where
   abbrev pub Rests : Device T Q → Device T Q → List (List ℕ) → Type 0
   Rests before after frames = (after ≡ before) × (frames ≡ [])
 
-  -- the answer that confirms ApplicationReady
+  -- the answer that confirms ApplicationReady, while the relation waits for it
   pub record IsConfirmed (before after : Device T Q) (frames : List (List ℕ)) : Type 0 where
     pub link : Link T Q
     pub was : before.link ≡ Some link
+    pub awaits : link.phase ≡ Awaiting
     pub becomes : after ≡ record before { link = Some (record link { phase = Exchanging }) }
     pub silent : frames ≡ []
 

@@ -1,0 +1,8 @@
+use Rattle.both_ends.proofs.Law.{was_handed, was_exchanging}
+use Rattle.both_ends.proofs.start_up.start_up_is_kept.Goals as goal
+
+pub returns-clause-controller : goal.returns-clause-controller
+returns-clause-controller g c = λ rules first run begins steps exchanges. was_handed rules first run begins steps exchanges
+
+pub returns-clause-device : goal.returns-clause-device
+returns-clause-device g c = λ rules first run begins steps link is exchanges. was_exchanging rules first run begins steps link is exchanges
