@@ -2,3 +2,4 @@ pub mod Holds
 pub mod Goes
 pub mod Kept
 pub mod Law
+pub mod Given

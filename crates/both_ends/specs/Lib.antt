@@ -1,3 +1,4 @@
 pub mod Small
 pub mod Steps
 pub mod StartUp
+pub mod Outputs

@@ -2,6 +2,8 @@
 //! The machines of the device and of its controller refine them.
 #![tactic(auto)]
 
+mod outputs;
 mod start_up;
 
+pub use outputs::outputs_are_given;
 pub use start_up::start_up_is_kept;

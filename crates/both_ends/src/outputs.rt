@@ -1,0 +1,13 @@
+//! The law of outputs.
+ghost use Rattle.std.specs.Prelude.{List};
+ghost use Rattle.both_ends.specs.Small.{Move};
+ghost use Rattle.both_ends.specs.Outputs.{Outputs, Shown, ShowsNone, IsShownRun, shown_last, AreAsGiven};
+
+/// Outputs over any list of moves, which are shown as one type says, and given as another.
+pub fn outputs_are_given<O, V>()
+    // What a device shows are zeros while it has accepted no frame in its relation; from then on all of it comes from one frame, which
+    // the controller sent at an earlier point, and which brings the values that were last given then.
+    ensures { (rules : Outputs O V) (first : Shown O V) (run : List (Move × Shown O V)) → ShowsNone rules first → IsShownRun rules first run
+        → AreAsGiven rules first run (shown_last first run).accepted (shown_last first run).outputs }
+{
+}
