@@ -13,7 +13,7 @@ module _ {T Q : Type 0} (rules : Rules T Q) where
   -- ---- the controller
 
   module _ (Was : Type 0) (Good : List ℕ → Type 0) (kept : Option Kept) (link : Option (Link T Q)) where
-    next_asks : (heard : ToController) (frame : List ℕ) (before after : Controller) (next : IsNext rules heard before after)
+    next_asks : (heard : ToController) (frame : List ℕ) (before after : Controller) (next : IsNext (length rules.records) heard before after)
         → TellsController rules Good kept link frame heard
         → ((next.sequence ≤ length rules.records) × (after ≡ Asking (next.sequence + 1))) ⊎ (after ≡ Waiting) → AsksBehind kept link after
     next_asks heard frame before after next tells (inl more) =
@@ -24,18 +24,18 @@ module _ {T Q : Type 0} (rules : Rules T Q) where
     next_asks heard frame before after next tells (inr waits) = subst (λ (c : Controller). AsksBehind kept link c) (sym waits) tt
 
     still_asks : (heard : ToController) (frame : List ℕ) (before after : Controller) → TellsController rules Good kept link frame heard
-        → AsksBehind kept link before → Moves rules heard before after → AsksBehind kept link after
+        → AsksBehind kept link before → Moves (length rules.records) heard before after → AsksBehind kept link after
     still_asks heard frame before after tells asks (inl same) = subst (λ (c : Controller). AsksBehind kept link c) (sym same) asks
     still_asks heard frame before after tells asks (inr (inl ended)) = subst (λ (c : Controller). AsksBehind kept link c) (sym ended) tt
     still_asks heard frame before after tells asks (inr (inr (inl first))) = subst (λ (c : Controller). AsksBehind kept link c) (sym first) tt
     still_asks heard frame before after tells asks (inr (inr (inr (inl next)))) = next_asks heard frame before after next tells next.becomes
     still_asks heard frame before after tells asks (inr (inr (inr (inr readied)))) = subst (λ (c : Controller). AsksBehind kept link c) (sym readied.1) tt
 
-    calls_tell : (now : Controller) (sequence : ℕ) (ask : Ask) → AsksBehind kept link now → CallsWhile rules now sequence ask → IsCall rules sequence ask kept link
+    calls_tell : (now : Controller) (sequence : ℕ) (ask : Ask) → AsksBehind kept link now → CallsWhile (length rules.records) now sequence ask → IsCall rules sequence ask kept link
     calls_tell now sequence ask asks (inl releases) = inl releases
     calls_tell now sequence ask asks (inr asked) = inr (asked.1, subst (λ (c : Controller). AsksBehind kept link c) asked.0 asks)
 
-    says_tell : (now : Controller) (heard : ToDevice) → (now ≡ Exchanges → Was) → AsksBehind kept link now → SaysToDevice rules now heard → TellsDevice rules Was kept link heard
+    says_tell : (now : Controller) (heard : ToDevice) → (now ≡ Exchanges → Was) → AsksBehind kept link now → SaysToDevice (length rules.records) now heard → TellsDevice rules Was kept link heard
     says_tell now (Call sequence ask) was asks says = calls_tell now sequence ask asks says
     says_tell now Confirms was asks says = was says
     says_tell now Idle was asks says = tt
@@ -101,7 +101,7 @@ module _ {T Q : Type 0} (rules : Rules T Q) where
 
     -- how the controller came to exchange data
     readied_by : (heard : ToController) (frame : List ℕ) → (heard ≡ Readies → v.controller ≡ Exchanges → HandedNow)
-        → Moves rules heard w.controller v.controller → v.controller ≡ Exchanges → HandedNow
+        → Moves (length rules.records) heard w.controller v.controller → v.controller ≡ Exchanges → HandedNow
     readied_by heard frame handed (inl same) exchanges = passes.handed_on (holds.readied (sym same ∙ exchanges))
     readied_by heard frame handed (inr (inl ended)) exchanges = absurd (not_ended (sym ended ∙ exchanges))
       where

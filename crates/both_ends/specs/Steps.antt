@@ -19,6 +19,28 @@ IsAsked count sequence (Writes number) = (number < count) × (sequence ≡ numbe
 IsAsked count sequence Parameterized = sequence ≡ count + 1
 IsAsked count sequence Releases = Unit {0}
 
+-- a Release is sent at an end, and every other call while the controller asks by it
+abbrev pub CallsWhile : ℕ → Controller → ℕ → Ask → Type 0
+CallsWhile count now sequence ask = (ask ≡ Releases) ⊎ ((now ≡ Asking sequence) × IsAsked count sequence ask)
+
+-- what the device hears of what is sent now: a call, the answer to ApplicationReady while data is exchanged, or nothing of a start-up
+abbrev pub SaysToDevice : ℕ → Controller → ToDevice → Type 0
+SaysToDevice count now (Call sequence ask) = CallsWhile count now sequence ask
+SaysToDevice count now Confirms = now ≡ Exchanges
+SaysToDevice count now Idle = Unit {0}
+
+-- an answer to the call by which it asks: it asks by the next one, or behind the last waits for ApplicationReady
+pub record IsNext (count : ℕ) (heard : ToController) (before after : Controller) : Type 0 where
+  pub sequence : ℕ
+  pub asked : before ≡ Asking sequence
+  pub answered : heard ≡ Answers sequence true
+  pub becomes : ((sequence ≤ count) × (after ≡ Asking (sequence + 1))) ⊎ (after ≡ Waiting)
+
+-- how the state moves: not, to the end, to the first call, from call to call, or to the exchange of data with ApplicationReady
+abbrev pub Moves : ℕ → ToController → Controller → Controller → Type 0
+Moves count heard before after =
+    (after ≡ before) ⊎ ((after ≡ Ended) ⊎ ((after ≡ Asking 0) ⊎ (IsNext count heard before after ⊎ ((heard ≡ Readies) × (after ≡ Exchanges)))))
+
 module _ {T Q : Type 0} where
   -- a relation that is made now
   abbrev pub made : Rules T Q → Link T Q
@@ -111,35 +133,13 @@ module _ {T Q : Type 0} where
 
   -- ---- the controller
 
-  -- a Release is sent at an end, and every other call while the controller asks by it
-  abbrev pub CallsWhile : Rules T Q → Controller → ℕ → Ask → Type 0
-  CallsWhile rules now sequence ask = (ask ≡ Releases) ⊎ ((now ≡ Asking sequence) × IsAsked (length rules.records) sequence ask)
-
-  -- what the device hears of what is sent now: a call, the answer to ApplicationReady while data is exchanged, or nothing of a start-up
-  abbrev pub SaysToDevice : Rules T Q → Controller → ToDevice → Type 0
-  SaysToDevice rules now (Call sequence ask) = CallsWhile rules now sequence ask
-  SaysToDevice rules now Confirms = now ≡ Exchanges
-  SaysToDevice rules now Idle = Unit {0}
-
   -- a frame of the controller, which itself hears nothing of a start-up in it
   abbrev pub IsSaid : Rules T Q → Controller → List ℕ → Type 0
-  IsSaid rules now frame = (rules.to_controller frame ≡ Nothing) × SaysToDevice rules now (rules.to_device frame)
-
-  -- an answer to the call by which it asks: it asks by the next one, or behind the last waits for ApplicationReady
-  pub record IsNext (rules : Rules T Q) (heard : ToController) (before after : Controller) : Type 0 where
-    pub sequence : ℕ
-    pub asked : before ≡ Asking sequence
-    pub answered : heard ≡ Answers sequence true
-    pub becomes : ((sequence ≤ length rules.records) × (after ≡ Asking (sequence + 1))) ⊎ (after ≡ Waiting)
-
-  -- how the state moves: not, to the end, to the first call, from call to call, or to the exchange of data with ApplicationReady
-  abbrev pub Moves : Rules T Q → ToController → Controller → Controller → Type 0
-  Moves rules heard before after =
-      (after ≡ before) ⊎ ((after ≡ Ended) ⊎ ((after ≡ Asking 0) ⊎ (IsNext rules heard before after ⊎ ((heard ≡ Readies) × (after ≡ Exchanges)))))
+  IsSaid rules now frame = (rules.to_controller frame ≡ Nothing) × SaysToDevice (length rules.records) now (rules.to_device frame)
 
   -- a step of the controller that hears this
   pub record ControllerSteps (rules : Rules T Q) (heard : ToController) (before after : Controller) (frames : List (List ℕ)) : Type 0 where
-    pub moves : Moves rules heard before after
+    pub moves : Moves (length rules.records) heard before after
     pub sent : AllByRecursion (IsSaid rules after) frames
 
   -- ---- both

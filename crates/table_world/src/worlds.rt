@@ -19,6 +19,7 @@ enum Game {
 }
 
 /// What was found of all schedules.
+#[derive(Drop)]
 struct Found {
     schedules: u64,
     points: u64,

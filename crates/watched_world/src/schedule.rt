@@ -52,6 +52,7 @@ impl Choice {
 }
 
 /// Numbers from a seed (xorshift, by Marsaglia).
+#[derive(Drop)]
 pub struct Schedule {
     state: u64,
 }

@@ -1,0 +1,9 @@
+use Rattle.std.proofs.Common.{refl}
+use Rattle.controller_ends.proofs.Turns.{event_goes}
+use Rattle.controller_ends.proofs.goes_on.controller_goes_on.Goals as goal
+
+pub returns-clause-begins : goal.returns-clause-begins
+returns-clause-begins c = λ plan. (refl, refl)
+
+pub returns-clause-goes_on : goal.returns-clause-goes_on
+returns-clause-goes_on c = λ setup live event in_step. event_goes setup live event in_step
