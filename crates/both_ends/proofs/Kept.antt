@@ -30,13 +30,34 @@ all_taken taken (x ∷ rest) all begins few = absurd (omega (arith, length-appen
 module _ {T Q : Type 0} (rules : Rules T Q) where
   -- ---- a new call
 
+  -- what it does, where a Connect comes to no relation
+  abbrev Does : Bool → Ask → Option (Link T Q) → Option (Link T Q) → Type 0
+  Does false ask before after = after ≡ before
+  Does true Connects before after = after ≡ Some (made rules)
+  Does true (Writes number) before after = TakesRecord rules number before after
+  Does true Parameterized before after = IsParameterized before after
+  Does true Releases before after = after ≡ None
+
+  first_unrelated : (sequence : ℕ) (kept : Option Kept) (link : Option (Link T Q)) → sequence ≡ 0 → IsNew sequence kept → HoldsAt rules kept link → link ≡ None
+  first_unrelated sequence None link first new holds = holds
+  first_unrelated sequence (Some kept) link first new holds = absurd (omega (arith, first, new))
+
+  does_by : (sequence : ℕ) (ask : Ask) (positive : Bool) (kept : Option Kept) (link after : Option (Link T Q))
+      → IsNew sequence kept → IsCall rules sequence ask kept link → Comes rules positive ask link after → HoldsAt rules kept link → Does positive ask link after
+  does_by sequence ask false kept link after new call comes holds = comes
+  does_by sequence Connects true kept link after new (inl releases) comes holds = absurd cc
+  does_by sequence Connects true kept link after new (inr asked) comes holds = comes (first_unrelated sequence kept link asked.0 new holds)
+  does_by sequence (Writes number) true kept link after new call comes holds = comes
+  does_by sequence Parameterized true kept link after new call comes holds = comes
+  does_by sequence Releases true kept link after new call comes holds = comes
+
   -- none is left of the sequences below the first
   never_first : (sequence : ℕ) (kept : Option Kept) → sequence ≡ 0 → IsNew sequence kept → IsSomeKept kept → ⊥
   never_first sequence None first new some = some
   never_first sequence (Some kept) first new some = absurd (omega (arith, first, new))
 
   took_by : (sequence : ℕ) (ask : Ask) (positive : Bool) (kept : Option Kept) (link after : Option (Link T Q)) (count : ℕ)
-      → IsNew sequence kept → IsCall rules sequence ask kept link → Comes rules positive ask link after → Took count kept link → TookIn count after
+      → IsNew sequence kept → IsCall rules sequence ask kept link → Does positive ask link after → Took count kept link → TookIn count after
   took_by sequence ask false kept link after count new call comes took = subst (λ (l : Option (Link T Q)). TookIn count l) (sym comes) took.taken
   took_by sequence Connects true kept link after count new (inl releases) comes took = absurd cc
   took_by sequence Connects true kept link after count new (inr asked) comes took = absurd (never_first sequence kept asked.0 new took.called)
@@ -113,7 +134,7 @@ module _ {T Q : Type 0} (rules : Rules T Q) where
   behind_suc sequence count kept link is behind = subst (λ (s : ℕ). Behind s kept link) is behind
 
   held_by : (sequence : ℕ) (ask : Ask) (positive : Bool) (kept : Option Kept) (link after : Option (Link T Q))
-      → IsNew sequence kept → IsCall rules sequence ask kept link → Comes rules positive ask link after → HoldsAt rules kept link → IsHeldIn rules sequence after
+      → IsNew sequence kept → IsCall rules sequence ask kept link → Does positive ask link after → HoldsAt rules kept link → IsHeldIn rules sequence after
   held_by sequence ask false kept link after new call comes holds =
       subst (λ (l : Option (Link T Q)). IsHeldIn rules sequence l) (sym comes) (held_later sequence kept link new holds)
   held_by sequence Connects true kept link after new call comes holds = subst (λ (l : Option (Link T Q)). IsHeldIn rules sequence l) (sym comes) (new_held sequence)
@@ -129,7 +150,7 @@ module _ {T Q : Type 0} (rules : Rules T Q) where
 
   -- a positive answer says what was taken
   told_by : (sequence : ℕ) (ask : Ask) (kept : Option Kept) (link after : Option (Link T Q))
-      → IsCall rules sequence ask kept link → Comes rules true ask link after → sequence ≤ length rules.records → TookIn sequence after
+      → IsCall rules sequence ask kept link → Does true ask link after → sequence ≤ length rules.records → TookIn sequence after
   told_by sequence Connects kept link after (inl releases) comes few = absurd cc
   told_by sequence Connects kept link after (inr asked) comes few =
       subst (λ (l : Option (Link T Q)). TookIn sequence l) (sym comes) (omega (arith, asked.0))
@@ -202,7 +223,7 @@ module _ {T Q : Type 0} (rules : Rules T Q) where
         subst (λ (l : Option (Link T Q)). ConfirmedIn WasNow l) (sym same) (λ exchanges. was_on (confirmed exchanges))
     still_confirmed link after (inr none) confirmed = subst (λ (l : Option (Link T Q)). ConfirmedIn WasNow l) (sym none) tt
 
-    confirmed_by : (ask : Ask) (positive : Bool) (link after : Option (Link T Q)) → Comes rules positive ask link after → ConfirmedIn Was link → ConfirmedIn WasNow after
+    confirmed_by : (ask : Ask) (positive : Bool) (link after : Option (Link T Q)) → Does positive ask link after → ConfirmedIn Was link → ConfirmedIn WasNow after
     confirmed_by ask false link after comes confirmed = still_confirmed link after (inl comes) confirmed
     confirmed_by Connects true link after comes confirmed =
         subst (λ (l : Option (Link T Q)). ConfirmedIn WasNow l) (sym comes) (λ exchanges. absurd (started_is exchanges))
@@ -220,7 +241,7 @@ module _ {T Q : Type 0} (rules : Rules T Q) where
     confirmed_by Releases true link after comes confirmed = subst (λ (l : Option (Link T Q)). ConfirmedIn WasNow l) (sym comes) tt
 
     answer_tells : (sequence : ℕ) (ask : Ask) (positive : Bool) (kept : Option Kept) (link : Option (Link T Q)) (answer : Kept) (after : Option (Link T Q)) (frame : List ℕ)
-        → IsCall rules sequence ask kept link → Comes rules positive ask link after
+        → IsCall rules sequence ask kept link → Does positive ask link after
         → TellsController rules GoodNow (Some answer) after frame (Answers sequence positive)
     answer_tells sequence ask true kept link answer after frame call comes = λ few. record { called = tt; taken = told_by sequence ask kept link after call comes few }
     answer_tells sequence ask false kept link answer after frame call comes = tt
@@ -231,23 +252,24 @@ module _ {T Q : Type 0} (rules : Rules T Q) where
           → Leaves before after frames
       answered_leaves sequence ask call good answered =
           let answer : Kept = record { sequence = sequence; frame = answered.frame } in
+          let does = does_by sequence ask answered.positive before.kept before.link after.link answered.new call answered.does held in
           let fine : IsFine rules WasNow GoodNow (Some answer) after.link answered.frame =
           fine_as rules WasNow GoodNow (Some answer) after.link answered.frame Idle (Answers sequence answered.positive) answered.to_device answered.to_controller tt
-          (answer_tells sequence ask answered.positive before.kept before.link answer after.link answered.frame call answered.does) in
+          (answer_tells sequence ask answered.positive before.kept before.link answer after.link answered.frame call does) in
           let behind : AreGood after (answered.frame ∷ answered.others) = subst (λ (fs : List (List ℕ)). AreGood after fs) answered.sent good in
           record {
             grows = λ count took. record {
               called = subst (λ (k : Option Kept). IsSomeKept k) (sym answered.keeps) tt;
-              taken = took_by sequence ask answered.positive before.kept before.link after.link count answered.new call answered.does took;
+              taken = took_by sequence ask answered.positive before.kept before.link after.link count answered.new call does took;
             };
             held = subst (λ (k : Option Kept). HoldsAt rules k after.link) (sym answered.keeps)
-                (held_by sequence ask answered.positive before.kept before.link after.link answered.new call answered.does held);
+                (held_by sequence ask answered.positive before.kept before.link after.link answered.new call does held);
             kept = subst (λ (k : Option Kept). KeepsFine rules WasNow GoodNow k after.link k) (sym answered.keeps) fine;
             new = subst (λ (fs : List (List ℕ)). AreFine rules WasNow GoodNow after.kept after.link fs) (sym answered.sent) (
               subst (λ (k : Option Kept). IsFine rules WasNow GoodNow k after.link answered.frame) (sym answered.keeps) fine,
               readies_fine after answered.others (good_behind after answered.frame answered.others behind) answered.readies,
             );
-            confirmed = confirmed_by ask answered.positive before.link after.link answered.does confirmed;
+            confirmed = confirmed_by ask answered.positive before.link after.link does confirmed;
           }
 
       -- nothing changed, and what is sent was fine

@@ -61,9 +61,9 @@ module _ {T Q : Type 0} where
     pub started : link.phase ≡ Started
     pub becomes : after ≡ Some (record link { phase = Awaiting })
 
-  -- what a call does to the relation that is answered positively
+  -- what a call does to the relation that is answered positively; of a Connect this is said where there is none yet
   abbrev pub Carries : Rules T Q → Ask → Option (Link T Q) → Option (Link T Q) → Type 0
-  Carries rules Connects before after = after ≡ Some (made rules)
+  Carries rules Connects before after = before ≡ None → after ≡ Some (made rules)
   Carries rules (Writes number) before after = TakesRecord rules number before after
   Carries rules Parameterized before after = IsParameterized before after
   Carries rules Releases before after = after ≡ None
