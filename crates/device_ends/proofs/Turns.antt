@@ -1,5 +1,5 @@
 -- Each turn of a device, as far as a start-up goes.
-use Rattle.std.proofs.Common.{◌≡◌, ◌⊎◌, inl, inr, ◌+◌, ◌-◌, ◌<◌, ◌≤◌, ◌==◌, ◌&&◌, ℕ, zero, suc, Bool, true, false, not, cond, ltb, eqb, List, [], ◌∷◌, ◌++◌, map, length, Option, Some, None, option_map, Result, Ok, Err, refl, sym, ap, subst, ◌∙◌, arith}
+use Rattle.std.proofs.Common.{◌≡◌, ◌⊎◌, inl, inr, ◌+◌, ◌-◌, ◌<◌, ◌≤◌, ◌==◌, ◌&&◌, ℕ, zero, suc, Bool, true, false, not, cond, ltb, eqb, List, [], ◌∷◌, ◌++◌, map, length, take, Option, Some, None, option_map, Result, Ok, Err, refl, sym, ap, subst, ◌∙◌, arith}
 use Rattle.std.specs.Prelude.{nat_lt, nat_eq, slice_get}
 use Rattle.std.specs.List.{AllByRecursion}
 use Rattle.std.specs.Cmp.Lexicographic.{pointwise, same_text, other_text}
@@ -18,7 +18,8 @@ use Rattle.rpc_core.specs.Cache.{Kept as Answer, Told as Looked, new, again, old
 use Rattle.rpc_core.specs.Call.{Asked as Call}
 use Rattle.rpc_core.specs.Response.{Answered as Response, is_done}
 use Rattle.connect_blocks.specs.declared.control.ControlBlock.{ControlBlock}
-use Rattle.block_codec.specs.Block.{block_of}
+use Rattle.block_codec.specs.declared.block.Block.TheVariants as is
+use Rattle.block_codec.specs.Block.{block_bytes, block_of}
 use Rattle.pnio_status.specs.declared.call_fault.CallFault.{CallFault}
 use Rattle.pnio_status.specs.declared.call_fault.CallFault.TheVariants as fault
 use Rattle.pnio_status.specs.declared.operation.Operation.{Operation}
@@ -35,6 +36,7 @@ use Rattle.record_writes.specs.declared.write.Write.{Write}
 use Rattle.record_writes.specs.Judged.{write_of}
 use Rattle.record_writes.specs.Taken.{keep_of}
 use Rattle.pn_alarms.specs.declared.abort.Abort.{Abort}
+use Rattle.pn_alarms.specs.declared.abort.Abort.TheVariants.{Other}
 use Rattle.pn_alarms.specs.declared.device.Heard.{Heard as Fate}
 use Rattle.pn_alarms.specs.declared.device.Heard.TheVariants as fate
 use Rattle.pn_alarms.specs.declared.pdu.Header.{Header}
@@ -49,14 +51,15 @@ use Rattle.exchanges.specs.Frames.{Frame, alarm_frame}
 use Rattle.exchanges.specs.Received.{received_as, behind_frame}
 use Rattle.exchanges.specs.Notices.{behind_message}
 use Rattle.relations.specs.declared.farewell.Farewell.{Farewell}
+use Rattle.relations.specs.Farewells.{farewell_of}
 use Rattle.relations.specs.declared.hearing.Heard.{Heard as Hearing}
 use Rattle.relations.specs.declared.hearing.Heard.TheVariants as to_ready
 use Rattle.relations.specs.declared.phase.Phase.{Phase}
 use Rattle.relations.specs.declared.phase.Phase.TheVariants.{Started, Awaiting, Exchanging}
 use Rattle.relations.specs.Link.{Link, phase_of, uuid_of, flow_of, is_started, is_awaiting, is_alarm_of}
 use Rattle.relations.specs.Phases.{Judged as Moving, Made, Parameterized, Confirmed, Named, Took, Exchanged, Passed, Ended, Unmoved, moved, passing, passing_by, answered, keeping, taking, awaiting_from}
-use Rattle.relations.specs.Calls.{control_block, named_of, in_started, prm_end_of, prm_end_answer, release_of, release_answer}
-use Rattle.relations.specs.Connect.{connect_of, connect_answer, making}
+use Rattle.relations.specs.Calls.{control_block, named_of, in_started, done_of, prm_end_of, prm_end_answer, release_of, release_answer}
+use Rattle.relations.specs.Connect.{connect_of, connect_answer, connect_blocks, differing_of, making}
 use Rattle.relations.specs.Ready.{answer_of, answer_in, is_wanted, is_answer_to, confirmed_block, confirmed_by, judged_by}
 use Rattle.relations.specs.Timers.{ending_of, due_by, due_of, is_again, unit_later}
 use Rattle.relations.specs.Exchanged.{received_by, receiving, receiving_as, given_to, raised_to, heard_by, hearing, hearing_as}
@@ -64,6 +67,7 @@ use Rattle.device_frames.specs.Heard.{Heard, Ticks, Unreadable, Elsewhere, Asks,
 use Rattle.device_frames.specs.Relation.{alarms_of, due_frames, farewells_in, frames_in, inputs_of, ready_calls, replies_of, where_due}
 use Rattle.device_frames.specs.Sent.{Sent, IdentifyAnswer, GetAnswer, SetAnswer, ArpReply, CallAnswer, Again, ReadyCall, Ends, Exchanges, bytes_of}
 use Rattle.device_core.specs.declared.note.Note.{Note}
+use Rattle.device_core.specs.declared.note.Note.TheVariants.{Filter, NotMine, NoRelation}
 use Rattle.device_core.specs.State.{Station, Rest, Live}
 use Rattle.settings_store.specs.Machine.{Outcome, carried}
 use Rattle.device_core.specs.Judged.{Judged, Refuses, Sets, Writes, Moves, is_running, is_request, outcome_of, answer_from, kept_for, kept_behind, served, ready_behind, partner_of, kept_answer, judged_effect, judged_write, judged_new, judged_looked, judged_blocks, judged_call, judged_answer, judged_said, judged_datagram, judged_received, judged_input, judged_notice, judged_pdu, judged_message, judged_alarm, judged_request, judged_arp, ticked, judged}
@@ -89,6 +93,18 @@ pointwise_same xs ys same = decided (pointwise nat_eq xs ys) refl
     decided : (b : Bool) → b ≡ pointwise nat_eq xs ys → pointwise nat_eq xs ys ≡ true
     decided true e = sym e
     decided false e = absurd (other_text xs ys e same)
+
+bind_ok : {A B : Type 0} (r : Result A CallFault) (f : A → Result B CallFault) (y : B) → (r >>= f) ≡ Ok y → (x : A) × (r ≡ Ok x) × (f x ≡ Ok y)
+bind_ok (Ok x) f y e = (x, refl, e)
+bind_ok (Err why) f y e = absurd cc
+
+some_is : {A : Type 0} (x y : A) → Some x ≡ Some y → x ≡ y
+some_is x y e = cc
+
+-- whether a call came out well
+abbrev is_well : {A : Type 0} → Result A CallFault → Bool
+is_well (Ok value) = true
+is_well (Err why) = false
 
 same_ok : {A B : Type 0} (x y : A) → ◌≡◌ {A = Result A B} (Ok x) (Ok y) → x ≡ y
 same_ok x y e = cc
@@ -166,6 +182,31 @@ started_is (Some link) e = (link, refl, by_phase link.phase e)
     by_phase Awaiting f = absurd cc
     by_phase Exchanging f = absurd cc
 
+-- a PrmEnd is accepted of a relation that waits for it
+started_by : (link : Option Link) → in_started link ≡ Ok tt → is_started (phase_of link) ≡ true
+started_by link e = by_test (is_started (phase_of link)) refl e
+  where
+    by_test : (b : Bool) → is_started (phase_of link) ≡ b → cond (not b) (Err fault.Phase) (Ok tt) ≡ Ok tt → is_started (phase_of link) ≡ true
+    by_test true f g = f
+    by_test false f g = absurd cc
+
+prm_started : (link : Option Link) (blocks : List ℕ) (block : ControlBlock) → prm_end_of link blocks ≡ Ok block → (l : Link) × (link ≡ Some l) × (l.phase ≡ Started)
+unfolding prm_end_of
+prm_started link blocks block e =
+    let first = bind_ok (control_block _ blocks) _ block e in
+    let second = bind_ok (named_of link first.0 1) _ block first.2 in
+    let third = bind_ok (in_started link) _ block second.2 in
+    started_is link (started_by link third.1)
+
+-- a record that is kept is one more
+kept_is : (value : Taken) (records taken : List Taken) → keep_of value records ≡ Ok taken → taken ≡ records ++ value ∷ []
+unfolding keep_of
+kept_is value records taken e = by_room (nat_lt (length records) 64) e
+  where
+    by_room : (b : Bool) → cond b (Ok (records ++ value ∷ [])) (Err fault.TooManyRecords) ≡ Ok taken → taken ≡ records ++ value ∷ []
+    by_room true f = sym (same_ok (records ++ value ∷ []) taken f)
+    by_room false f = absurd cc
+
 -- ---- messages that are no answers to calls
 
 abbrev IsOther : Option Link → Sent → Type 0
@@ -209,6 +250,25 @@ replies_other link taken (Some flow) = (tt, tt)
 farewell_other : (link : Option Link) (farewell : Option Farewell) → AreOther link (farewells_in farewell)
 farewell_other link None = tt
 farewell_other link (Some farewell) = (tt, tt)
+
+-- ApplicationReady behind an answer, of a relation that waits for the answer to it
+abbrev IsReadyCall : Option Link → Sent → Type 0
+IsReadyCall link (IdentifyAnswer asker running xid) = ⊥
+IsReadyCall link (GetAnswer asker running request) = ⊥
+IsReadyCall link (SetAnswer asker request answers) = ⊥
+IsReadyCall link (ArpReply asker address target) = ⊥
+IsReadyCall link (CallAnswer caller address answer) = ⊥
+IsReadyCall link (Again frame) = ⊥
+IsReadyCall link (ReadyCall address ready) = (l : Link) × (link ≡ Some l) × (l.phase ≡ Awaiting)
+IsReadyCall link (Ends farewell) = ⊥
+IsReadyCall link (Exchanges route frame) = ⊥
+
+abbrev AreReady : Option Link → List Sent → Type 0
+AreReady link sent = AllByRecursion (IsReadyCall link) sent
+
+readies_behind : (address : List ℕ) (link : Option Link) → AreReady (option_map awaiting_from link) (ready_calls address (option_map awaiting_from link))
+readies_behind address None = tt
+readies_behind address (Some link) = ((awaiting_from link, refl, refl), tt)
 
 -- ApplicationReady again, while its answer is waited for
 again_other : (address : List ℕ) (link : Link) (b : Bool) → is_again link ≡ b → AreOther (Some (unit_later link)) (where_due b (ready_calls address (Some (unit_later link))))
@@ -413,7 +473,7 @@ module _ (rules : Rules Taken Request) (activity : List ℕ) (station : Station)
 
     -- by the tests of an answer that is wanted, in their order
     confirmed_in : (response : Response) (link : Link) (wanted done : Bool) → is_wanted response link ≡ wanted → is_done response.status ≡ done
-        → cond wanted (cond done (confirmed_by link.request.ar.uuid (confirmed_block (block_of response.blocks))) (to_ready.Refused (farewell_now link))) to_ready.NotWanted ≡ to_ready.Confirmed
+        → cond wanted (cond done (confirmed_by link.request.ar.uuid (confirmed_block (block_of response.blocks))) (to_ready.Refused (farewell_of Other link))) to_ready.NotWanted ≡ to_ready.Confirmed
         → (link.phase ≡ Awaiting) × (confirms response ≡ true)
     confirmed_in response link true true wanted done e =
         let parts = and_true (is_awaiting link.phase) _ wanted in
@@ -434,7 +494,7 @@ module _ (rules : Rules Taken Request) (activity : List ℕ) (station : Station)
 
     -- one that is refused is none that is done
     refused_in : (response : Response) (link : Link) (farewell : Farewell) (wanted done : Bool) → is_done response.status ≡ done
-        → cond wanted (cond done (confirmed_by link.request.ar.uuid (confirmed_block (block_of response.blocks))) (to_ready.Refused (farewell_now link))) to_ready.NotWanted ≡ to_ready.Refused farewell
+        → cond wanted (cond done (confirmed_by link.request.ar.uuid (confirmed_block (block_of response.blocks))) (to_ready.Refused (farewell_of Other link))) to_ready.NotWanted ≡ to_ready.Refused farewell
         → is_done response.status ≡ false
     refused_in response link farewell true true done e = absurd (not_refused link.request.ar.uuid (confirmed_block (block_of response.blocks)) e)
       where
@@ -462,7 +522,7 @@ module _ (rules : Rules Taken Request) (activity : List ℕ) (station : Station)
     answers_as response to_ready.Garbled e = refuses (cond (confirms response) small.Confirms small.Idle) _
     answers_as response to_ready.Confirmed e =
         let there = is_confirmed response live.rest.link refl e in
-        rw there.confirmed (λ answers all. inl (record {
+        subst (λ (b : Bool). Comes_to (cond b small.Confirms small.Idle) (judged_answer live to_ready.Confirmed)) (sym there.confirmed) (λ answers all. inl (record {
           link = link_of there.link;
           was = ap (λ (l : Option Link). option_map link_of l) there.was;
           awaits = ap phase_in there.awaits;
@@ -471,4 +531,229 @@ module _ (rules : Rules Taken Request) (activity : List ℕ) (station : Station)
         }))
     answers_as response (to_ready.Refused farewell) e =
         let none = none_confirms (response.header.sequence == 0 && response.header.operation == 4) (is_done response.status) _ (is_refused response live.rest.link farewell e) in
-        rw none (exchanges_on None (Ends farewell ∷ []) (inr refl) (tt, tt))
+        subst (λ (b : Bool). Comes_to (cond b small.Confirms small.Idle) (judged_answer live (to_ready.Refused farewell))) (sym none) (exchanges_on None (Ends farewell ∷ []) (inr refl) (tt, tt))
+
+    -- ---- calls
+
+    one_ready : (later : Rest) (message : Sent) → IsReadyCall later.link message → IsHeardAs rules station.identity message → IsReady rules (small_in later) (bytes_of station.identity message)
+    one_ready later (IdentifyAnswer asker running xid) ready heard = absurd ready
+    one_ready later (GetAnswer asker running request) ready heard = absurd ready
+    one_ready later (SetAnswer asker request answers) ready heard = absurd ready
+    one_ready later (ArpReply asker address target) ready heard = absurd ready
+    one_ready later (CallAnswer caller address answer) ready heard = absurd ready
+    one_ready later (Again frame) ready heard = absurd ready
+    one_ready later (ReadyCall address call) ready heard = record {
+      to_device = heard.0;
+      to_controller = heard.1;
+      link = link_of ready.0;
+      has = ap (λ (l : Option Link). option_map link_of l) ready.1;
+      awaits = ap phase_in ready.2;
+    }
+    one_ready later (Ends farewell) ready heard = absurd ready
+    one_ready later (Exchanges route frame) ready heard = absurd ready
+
+    all_ready : (later : Rest) (sent : List Sent) → AreReady later.link sent → AreHeard sent → AllByRecursion (IsReady rules (small_in later)) (frames_of sent)
+    all_ready later [] ready heard = tt
+    all_ready later (message ∷ sent) ready heard = (one_ready later message ready.0 heard.0, all_ready later sent ready.1 heard.1)
+
+    -- an answer says whether the call came out well
+    says_done : (kind : Operation) (outcome : Result (List ℕ) CallFault) → is_done (outcome_of kind outcome).0 ≡ is_well outcome
+    says_done kind (Ok blocks) = refl
+    says_done kind (Err why) = not_done kind why
+
+    module _ (caller : Caller) (call : Call) (own : call.header.activity ≡ activity) where
+      keeps_answer : (answer : Sent) → kept_of activity (kept_more 4 (kept_for station.identity call answer) live.rest.calls) ≡ Some (kept_for station.identity call answer)
+      keeps_answer answer = by_name (pointwise nat_eq call.header.activity activity) (pointwise_same call.header.activity activity own)
+        where
+          by_name : (b : Bool) → b ≡ true
+              → cond b (Some (kept_for station.identity call answer)) (kept_of activity (take 3 (without call.header.activity live.rest.calls))) ≡ Some (kept_for station.identity call answer)
+          by_name true e = refl
+          by_name false e = absurd cc
+
+      module _ (fresh : told_by call.header.sequence (kept_of activity live.rest.calls) ≡ new) where
+        -- it is answered, by its outcome, behind which this is the relation, and then this is sent
+        serves : (ask : small.Ask) (kind : Operation) (outcome : Result (List ℕ) CallFault) (link : Option Link) (behind : List Sent)
+            → Comes rules (is_well outcome) ask (option_map link_of live.rest.link) (option_map link_of link) → AreReady link behind
+            → Comes_to (small.Call call.header.sequence ask) (served station live caller call kind outcome link behind)
+        serves ask kind outcome link behind comes ready = λ answers heard.
+            let answer = answer_from live.values.running.suite.address caller call kind outcome in
+            let later = kept_behind station.identity live.rest call answer link in
+            inl (record {
+              new = new_is call.header.sequence (kept_of activity live.rest.calls) fresh;
+              positive = is_well outcome;
+              frame = bytes_of station.identity answer;
+              keeps = ap (λ (k : Option Answer). option_map kept_in k) (keeps_answer answer);
+              does = comes;
+              to_device = heard.0.0;
+              to_controller = heard.0.1 ∙ ap (λ (b : Bool). small.Answers call.header.sequence b) (says_done kind outcome);
+              others = frames_of behind;
+              sent = refl;
+              readies = all_ready later behind ready heard.1;
+            })
+
+        -- ---- Connect
+
+        connects_as : (blocks : List ℕ) (request : Result Request CallFault) → connect_of live.rest.link blocks ≡ request → request_of None blocks ≡ Ok rules.request
+            → Comes_to (small.Call call.header.sequence small.Connects)
+            (served station live caller call operation.Connect (request >>= λ r. Ok (connect_blocks station.identity r (differing_of r station.real)))
+            (moved (making station.real (partner_of caller) request) live.rest.link) [])
+        connects_as blocks (Ok request) is reads =
+            serves small.Connects operation.Connect (Ok (connect_blocks station.identity request (differing_of request station.real)))
+            (moved (making station.real (partner_of caller) (Ok request)) live.rest.link) []
+            (λ none. ap (λ (r : Request). Some (record { phase = small.Started; request = r; taken = [] }))
+            (same_ok request rules.request (sym is ∙ (ap (λ (l : Option Link). connect_of l blocks) (unmapped live.rest.link none) ∙ reads)))) tt
+          where
+            unmapped : (link : Option Link) → option_map link_of link ≡ None → link ≡ None
+            unmapped None e = refl
+            unmapped (Some link) e = absurd cc
+        connects_as blocks (Err why) is reads = serves small.Connects operation.Connect (Err why) live.rest.link [] refl tt
+
+        -- ---- Write
+
+        takes_record : (number : ℕ) (value : Taken) (link : Option Link) (kept : Result (List Taken) CallFault) → keeping value link ≡ kept → slice_get rules.records number ≡ Some value
+            → Comes rules (is_well kept) (small.Writes number) (option_map link_of link) (option_map link_of (moved (answered Named kept) (moved (taking kept) link)))
+        takes_record number value None (Ok taken) e there = absurd cc
+        takes_record number value None (Err why) e there = refl
+        takes_record number value (Some link) (Err why) e there = refl
+        takes_record number value (Some link) (Ok taken) e there = record {
+          link = link_of link;
+          value = value;
+          was = refl;
+          is = there;
+          becomes = ap (λ (records : List Taken). Some (record { phase = phase_in link.phase; request = link.request; taken = records })) (kept_is value link.taken taken e);
+        }
+
+        writes_kept : (header : IodWriteReq) (number : ℕ) (value : Taken) (kept : Result (List Taken) CallFault) → keeping value live.rest.link ≡ kept → slice_get rules.records number ≡ Some value
+            → Comes_to (small.Call call.header.sequence (small.Writes number))
+            (served station live caller call operation.Write (kept_answer header kept) (moved (answered Named kept) (moved (taking kept) live.rest.link)) [])
+        writes_kept header number value (Ok taken) e there =
+            serves (small.Writes number) operation.Write (kept_answer header (Ok taken)) (moved (answered Named (Ok taken)) (moved (taking (Ok taken)) live.rest.link)) []
+            (takes_record number value live.rest.link (Ok taken) e there) tt
+        writes_kept header number value (Err why) e there =
+            serves (small.Writes number) operation.Write (kept_answer header (Err why)) (moved (answered Named (Err why)) (moved (taking (Err why)) live.rest.link)) []
+            (takes_record number value live.rest.link (Err why) e there) tt
+
+        writes_effect : (header : IodWriteReq) (effect : Effect) (number : ℕ) (value : Taken) → effect ≡ Keeps value → slice_get rules.records number ≡ Some value
+            → Comes_to (small.Call call.header.sequence (small.Writes number)) (judged_effect station live caller call header effect)
+        writes_effect header (Stores text) number value is there = absurd cc
+        writes_effect header (Keeps parameter) number value is there =
+            writes_kept header number parameter (keeping parameter live.rest.link) refl (there ∙ ap (λ (v : Taken). Some v) (sym (same_kept parameter value is)))
+          where
+            same_kept : (x y : Taken) → Keeps x ≡ Keeps y → x ≡ y
+            same_kept x y e = cc
+
+        writes_as : (blocks : List ℕ) (write : Result Write CallFault) → write_of (uuid_of live.rest.link) station.real blocks ≡ write
+            → IsPlannedWrite rules station.real call.header.sequence blocks
+            → Comes_to (small.Call call.header.sequence (small.Writes (call.header.sequence - 1))) (judged_write station live caller call write)
+        writes_as blocks (Ok write) is plan =
+            let before : call.header.sequence - 1 ≡ plan.number = omega (arith, plan.is) in
+            writes_effect write.request write.effect (call.header.sequence - 1) plan.value (plan.keeps (uuid_of live.rest.link) write is)
+            (ap (λ (n : ℕ). slice_get rules.records n) before ∙ plan.there)
+        writes_as blocks (Err why) is plan = serves (small.Writes (call.header.sequence - 1)) operation.Write (Err why) live.rest.link [] refl tt
+
+        -- ---- PrmEnd and Release
+
+        parameterizes : (blocks : List ℕ) (ended : Result ControlBlock CallFault) → prm_end_of live.rest.link blocks ≡ ended
+            → Comes_to (small.Call call.header.sequence small.Parameterized)
+            (served station live caller call operation.Control (ended >>= λ block. Ok (block_bytes (is.PrmEndRes (done_of block)))) (moved (answered Parameterized ended) live.rest.link)
+            (ready_behind live.values.running.suite.address (moved (answered Parameterized ended) live.rest.link) ended))
+        parameterizes blocks (Ok block) is =
+            let there = prm_started live.rest.link blocks block is in
+            let address = live.values.running.suite.address in
+            serves small.Parameterized operation.Control (Ok (block_bytes (is.PrmEndRes (done_of block)))) (option_map awaiting_from live.rest.link) (ready_calls address (option_map awaiting_from live.rest.link))
+            (record {
+              link = link_of there.0;
+              was = ap (λ (l : Option Link). option_map link_of l) there.1;
+              started = ap phase_in there.2;
+              becomes = ap (λ (l : Option Link). option_map link_of (option_map awaiting_from l)) there.1;
+            }) (readies_behind address live.rest.link)
+        parameterizes blocks (Err why) is = serves small.Parameterized operation.Control (Err why) live.rest.link [] refl tt
+
+        releases : (blocks : List ℕ) (ended : Result ControlBlock CallFault)
+            → Comes_to (small.Call call.header.sequence small.Releases)
+            (served station live caller call operation.Release (ended >>= λ block. Ok (block_bytes (is.ReleaseRes (done_of block)))) (moved (answered Ended ended) live.rest.link) [])
+        releases blocks (Ok block) = serves small.Releases operation.Release (Ok (block_bytes (is.ReleaseRes (done_of block)))) None [] refl tt
+        releases blocks (Err why) = serves small.Releases operation.Release (Err why) live.rest.link [] refl tt
+
+        -- ---- a call that is new
+
+        new_call : (blocks : List ℕ) (kind : Operation) → IsPlannedAs rules station.real call.header.sequence blocks (Some kind)
+            → Comes_to (asked_by call.header.sequence (Some kind)) (judged_new station live caller call blocks kind)
+        new_call blocks operation.Connect plan = connects_as blocks (connect_of live.rest.link blocks) refl plan
+        new_call blocks operation.Release plan = releases blocks (release_of live.rest.link blocks)
+        new_call blocks operation.Read plan = absurd plan
+        new_call blocks operation.Write plan = writes_as blocks (write_of (uuid_of live.rest.link) station.real blocks) refl plan
+        new_call blocks operation.Control plan = parameterizes blocks (prm_end_of live.rest.link blocks) refl
+        new_call blocks operation.ReadImplicit plan = absurd plan
+
+      -- ---- any call
+
+      repeats : (ask : small.Ask) (frame : List ℕ) → told_by call.header.sequence (kept_of activity live.rest.calls) ≡ again frame
+          → Comes_to (small.Call call.header.sequence ask) (Moves live.rest (Again frame ∷ []))
+      repeats ask frame told =
+          let there = again_is call.header.sequence (kept_of activity live.rest.calls) frame told in
+          λ answers heard. inr (inl (record {
+            kept = kept_in there.0;
+            has = ap (λ (k : Option Answer). option_map kept_in k) there.1;
+            same = there.2;
+            unchanged = refl;
+            sent = ap (λ (f : List ℕ). f ∷ []) (sym there.3);
+          }))
+
+      again_call : (blocks frame : List ℕ) (kind : Operation) → IsPlannedAs rules station.real call.header.sequence blocks (Some kind)
+          → told_by call.header.sequence (kept_of activity live.rest.calls) ≡ again frame
+          → Comes_to (asked_by call.header.sequence (Some kind)) (Moves live.rest (Again frame ∷ []))
+      again_call blocks frame operation.Connect plan told = repeats small.Connects frame told
+      again_call blocks frame operation.Release plan told = repeats small.Releases frame told
+      again_call blocks frame operation.Read plan told = absurd plan
+      again_call blocks frame operation.Write plan told = repeats (small.Writes (call.header.sequence - 1)) frame told
+      again_call blocks frame operation.Control plan told = repeats small.Parameterized frame told
+      again_call blocks frame operation.ReadImplicit plan told = absurd plan
+
+      looked_call : (blocks : List ℕ) (kind : Operation) (told : Looked) → told_by call.header.sequence (kept_of activity live.rest.calls) ≡ told
+          → IsPlannedAs rules station.real call.header.sequence blocks (Some kind)
+          → Comes_to (asked_by call.header.sequence (Some kind)) (judged_looked station live caller call blocks kind told)
+      looked_call blocks kind new is plan = new_call is blocks kind plan
+      looked_call blocks kind (again frame) is plan = again_call blocks frame kind plan is
+      looked_call blocks kind old is plan = refuses (asked_by call.header.sequence (Some kind)) _
+
+      counted_call : (kind : Operation) (counted : Option (List ℕ)) (blocks : List ℕ) → counted ≡ Some blocks → IsPlannedAs rules station.real call.header.sequence blocks (Some kind)
+          → Comes_to (asked_by call.header.sequence (Some kind)) (judged_blocks station live caller call kind counted)
+      counted_call kind None blocks is plan = absurd cc
+      counted_call kind (Some there) blocks is plan =
+          looked_call there kind (looked call.header.activity call.header.sequence live.rest.calls)
+          (ap (λ (a : List ℕ). told_by call.header.sequence (kept_of a live.rest.calls)) (sym own))
+          (subst (λ (b : List ℕ). IsPlannedAs rules station.real call.header.sequence b (Some kind)) (sym (some_is there blocks is)) plan)
+
+      called : (kind : Option Operation) (blocks : List ℕ) → call.blocks ≡ Some blocks → IsPlannedAs rules station.real call.header.sequence blocks kind
+          → Comes_to (asked_by call.header.sequence kind) (judged_call station live caller call kind)
+      called None blocks is plan = absurd plan
+      called (Some kind) blocks is plan = counted_call kind call.blocks blocks is plan
+
+    says : (caller : Caller) (said : Said) → IsPlannedIn rules activity station.real said → Comes_to (said_to said) (judged_said station live caller said)
+    says caller (Calls call) plan = called caller call plan.own (operation_of call.header.operation) plan.blocks plan.counted plan.asks
+    says caller (Responds response) plan = answers_as response (answer_of response live.rest.link) refl
+    says caller Garbled plan = refuses small.Idle _
+
+    told : (caller : Caller) (said : Said) (b : Bool) → IsPlannedIn rules activity station.real said → Comes_to (said_to said) (cond b (judged_said station live caller said) (Refuses NotMine))
+    told caller said true plan = says caller said plan
+    told caller said false plan = refuses (said_to said) NotMine
+
+    goes : (heard : Heard) → IsPlanned rules activity station.real heard → Comes_to (heard_as heard) (judged station live heard)
+    goes (Asks asker request) plan = requests asker request.service request
+    goes (Resolves asker packet) plan = resolves asker packet (is_request packet.operation && is_running live.values.running packet.target.address)
+    goes (Told caller address said) plan = told caller said (is_running live.values.running address) plan
+    goes (Alarms source header message) plan = alarms message (is_alarm_of source header.destination header.source live.rest.link)
+    goes (Cyclic source frame_id body) plan = receives (received_by source frame_id body live.rest.link) (receiving source frame_id body live.rest.link) (received_mildly source frame_id body live.rest.link)
+    goes (Given slot subslot value) plan = gives (given_to slot subslot value live.rest.link)
+    goes (Raised slot subslot octets) plan = raises (raised_to station.real.modules.items slot subslot octets live.rest.link)
+    goes Ticks plan = ticks
+    goes Unreadable plan = refuses small.Idle _
+    goes Elsewhere plan = refuses small.Idle _
+
+pub step_goes : (rules : Rules Taken Request) (activity : List ℕ) (outcomes : List Outcome) (station : Station) (live : Live) (heard : Heard)
+    → IsPlanned rules activity station.real heard → AllByRecursion (IsHeardAs rules station.identity) (heard_step outcomes station live heard).sent
+    → DeviceSteps rules (heard_as heard) (small_of activity live) (small_of activity (heard_step outcomes station live heard).live) (heard_step outcomes station live heard).frames
+unfolding heard_step judged_step
+step_goes rules activity outcomes station live heard plan sent =
+    goes rules activity station live heard plan (carried outcomes live.values (items_in (judged station live heard))).answers sent
