@@ -41,7 +41,7 @@ use Rattle.controller_core.specs.State.{Live}
 use Rattle.controller_core.specs.Answers.{is_addressed, is_answer, is_call, is_found, is_ready, is_right, is_set_answer}
 use Rattle.controller_core.specs.Connect.{found_in, is_whole, nothing}
 use Rattle.controller_core.specs.Alarms.{ack_of, is_alarm}
-use Rattle.controller_core.specs.Machine.{Turn, stays, asking, over, released, stopped, found, addressed, answered, phase_for, writing, standing, related_by, connected_by, connected, done, judged, decided, responded, ready_in, readied, called, behind_data, confirming, taken, noticed, alarmed, come, turned, is_again, later, where_due, requests_of, acks_in, acks_of, outputs_of, flow_later, cause_of, ended_by, due_frames, flowed, brought, ticked, given, turn_of}
+use Rattle.controller_core.specs.Machine.{Turn, stays, asking, over, next_sequence, released, stopped, found, addressed, answered, phase_for, writing, standing, related_by, connected_by, connected, done, judged, decided, responded, ready_in, readied, called, behind_data, confirming, taken, noticed, alarmed, come, turned, is_again, later, where_due, requests_of, acks_in, acks_of, outputs_of, flow_later, cause_of, ended_by, due_frames, flowed, brought, ticked, given, turn_of}
 use Rattle.both_ends.specs.Small as small
 use Rattle.both_ends.specs.Small.{Controller, ToController, ToDevice}
 use Rattle.both_ends.specs.Steps.{Moves, IsNext, SaysToDevice}
@@ -90,7 +90,7 @@ module _ (plan : Parts) where
 
 module _ (setup : Setup) where
   released_goes : (heard : ToController) (reason : Cause) (live : Live) → GoesOn setup.plan heard live (released setup reason live)
-  released_goes heard reason live = record { in_step = inr (_, refl); moves = inr (inl refl); says = (inl refl, tt) }
+  released_goes heard reason live = record { in_step = inr (next_sequence setup.plan live.asked, refl); moves = inr (inl refl); says = (inl refl, tt) }
 
   stopped_goes : (heard : ToController) (live : Live) (phase : State) → IsInStep setup.plan live.phase live.asked → GoesOn setup.plan heard live (stopped setup live phase)
   stopped_goes heard live Looking in_step = over_goes setup.plan heard cause.Stopped live [] tt
@@ -220,12 +220,12 @@ module _ (setup : Setup) where
     writing_by : (b : Bool) → nat_lt number (length setup.plan.records.items) ≡ b
         → GoesOn setup.plan heard live (writing (cond b (asks.Write number) asks.PrmEnd) after)
     writing_by true below = record {
-      in_step = (number, ltb-true _ _ below, refl);
+      in_step = (number, ltb-true number (length setup.plan.records.items) below, refl);
       moves = inr (inr (inr (inl (record { sequence = number; asked = before; answered = answers; becomes = inl (few, refl) }))));
-      says = (inr (refl, (ltb-true _ _ below, refl)), tt);
+      says = (inr (refl, (ltb-true number (length setup.plan.records.items) below, refl)), tt);
     }
     writing_by false above =
-        let last : length setup.plan.records.items ≡ number = omega (arith, few, ltb-false _ _ above) in
+        let last : length setup.plan.records.items ≡ number = omega (arith, few, ltb-false number (length setup.plan.records.items) above) in
         record {
           in_step = refl;
           moves = inr (inr (inr (inl (record { sequence = number; asked = before; answered = answers; becomes = inl (few, ap (λ (n : ℕ). small.Asking (n + 1)) last) }))));
@@ -296,10 +296,15 @@ module _ (setup : Setup) where
   is_heard : (request : Request) (response : Response) → is_answer setup request response.header ≡ true
       → said_to setup (Responds response) ≡ small.Answers (sequence_of setup.plan request) (is_done response.status)
   is_heard request response e =
-      let call = and_true (is_call request) _ e in
-      let parts = and_true (pointwise nat_eq response.header.activity setup.activity) _ call.1 in
-      let sequence : response.header.sequence ≡ sequence_of setup.plan request = eqb-true _ _ parts.1 in
-      rw parts.0 (ap (λ (s : ℕ). small.Answers s (is_done response.status)) sequence)
+      let call = and_true (is_call request) (pointwise nat_eq response.header.activity setup.activity && (response.header.sequence == sequence_of setup.plan request)) e in
+      let parts = and_true (pointwise nat_eq response.header.activity setup.activity) (response.header.sequence == sequence_of setup.plan request) call.1 in
+      let sequence : response.header.sequence ≡ sequence_of setup.plan request = eqb-true response.header.sequence (sequence_of setup.plan request) parts.1 in
+      heard_answer (pointwise nat_eq response.header.activity setup.activity) response.header.sequence (is_done response.status) parts.0
+      ∙ ap (λ (s : ℕ). small.Answers s (is_done response.status)) sequence
+    where
+      heard_answer : (b : Bool) (s : ℕ) (d : Bool) → b ≡ true → cond b (small.Answers s d) small.Nothing ≡ small.Answers s d
+      heard_answer true s d own = refl
+      heard_answer false s d own = absurd cc
 
   responded_as : (live : Live) (response : Response) (request : Request) (b : Bool) → is_answer setup request response.header ≡ b → live.asked ≡ Some request
       → IsInStep setup.plan live.phase live.asked

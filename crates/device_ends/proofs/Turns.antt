@@ -1,9 +1,9 @@
 -- Each turn of a device, as far as a start-up goes.
 use Rattle.std.proofs.Common.{◌≡◌, ◌⊎◌, inl, inr, ◌+◌, ◌-◌, ◌<◌, ◌≤◌, ◌==◌, ◌&&◌, ℕ, zero, suc, Bool, true, false, not, cond, ltb, eqb, List, [], ◌∷◌, ◌++◌, map, length, take, Option, Some, None, option_map, Result, Ok, Err, refl, sym, ap, subst, ◌∙◌, arith}
-use Rattle.std.specs.Prelude.{nat_lt, nat_eq, slice_get}
+use Rattle.std.specs.Prelude.{◌%◌, is_some, nat_lt, nat_eq, slice_get}
 use Rattle.std.specs.List.{AllByRecursion}
 use Rattle.std.specs.Cmp.Lexicographic.{pointwise, same_text, other_text}
-use Rattle.std.proofs.lemmas.Bool.{eqb-true, ltb-true, ltb-false}
+use Rattle.std.proofs.lemmas.Bool.{false≢true, eq-eqb, eqb-true, ltb-true, ltb-false}
 use Rattle.wire.specs.Codec.{◌>>=◌}
 use Rattle.pn_values.specs.declared.mac.Mac.{Mac}
 use Rattle.pn_values.specs.declared.set_item.BlockError.{BlockError}
@@ -19,6 +19,7 @@ use Rattle.rpc_core.specs.Call.{Asked as Call}
 use Rattle.rpc_core.specs.Response.{Answered as Response, is_done}
 use Rattle.connect_blocks.specs.declared.control.ControlBlock.{ControlBlock}
 use Rattle.block_codec.specs.declared.block.Block.TheVariants as is
+use Rattle.block_codec.specs.declared.block_type.BlockType.TheVariants as kind
 use Rattle.block_codec.specs.Block.{block_bytes, block_of}
 use Rattle.pnio_status.specs.declared.call_fault.CallFault.{CallFault}
 use Rattle.pnio_status.specs.declared.call_fault.CallFault.TheVariants as fault
@@ -193,9 +194,9 @@ started_by link e = by_test (is_started (phase_of link)) refl e
 prm_started : (link : Option Link) (blocks : List ℕ) (block : ControlBlock) → prm_end_of link blocks ≡ Ok block → (l : Link) × (link ≡ Some l) × (l.phase ≡ Started)
 unfolding prm_end_of
 prm_started link blocks block e =
-    let first = bind_ok (control_block _ blocks) _ block e in
-    let second = bind_ok (named_of link first.0 1) _ block first.2 in
-    let third = bind_ok (in_started link) _ block second.2 in
+    let first = bind_ok (control_block kind.PrmEnd blocks) (λ b. named_of link b 1 >>= λ _. in_started link >>= λ _. Ok b) block e in
+    let second = bind_ok (named_of link first.0 1) (λ _. in_started link >>= λ _. Ok first.0) block first.2 in
+    let third = bind_ok (in_started link) (λ _. Ok first.0) block second.2 in
     started_is link (started_by link third.1)
 
 -- a record that is kept is one more
@@ -272,7 +273,7 @@ readies_behind address (Some link) = ((awaiting_from link, refl, refl), tt)
 
 -- ApplicationReady again, while its answer is waited for
 again_other : (address : List ℕ) (link : Link) (b : Bool) → is_again link ≡ b → AreOther (Some (unit_later link)) (where_due b (ready_calls address (Some (unit_later link))))
-again_other address link true e = ((unit_later link, refl, awaiting_is link.phase (and_true (is_awaiting link.phase) _ e).0), tt)
+again_other address link true e = ((unit_later link, refl, awaiting_is link.phase (and_true (is_awaiting link.phase) (link.waited + 1 == 32000) e).0), tt)
 again_other address link false e = tt
 
 ready_other : (address : List ℕ) (link : Link) (ending : Option Abort)
@@ -297,7 +298,11 @@ new_is sequence (Some kept) e = by_same (sequence == kept.sequence) refl e
   where
     by_order : (b : Bool) → nat_lt sequence kept.sequence ≡ b → (sequence == kept.sequence) ≡ false → cond b old new ≡ new → kept.sequence < sequence
     by_order true f g h = absurd cc
-    by_order false f g h = grind (arith, ltb-false, f, g)
+    by_order false f g h = by_both (nat_lt kept.sequence sequence) refl
+      where
+        by_both : (b : Bool) → nat_lt kept.sequence sequence ≡ b → kept.sequence < sequence
+        by_both true t = ltb-true kept.sequence sequence t
+        by_both false t = absurd (false≢true (sym g ∙ eq-eqb sequence kept.sequence (omega (arith, ltb-false kept.sequence sequence t, ltb-false sequence kept.sequence f))))
     by_same : (b : Bool) → (sequence == kept.sequence) ≡ b → cond b (again kept.frame) (cond (nat_lt sequence kept.sequence) old new) ≡ new → kept.sequence < sequence
     by_same true f g = absurd cc
     by_same false f g = by_order (nat_lt sequence kept.sequence) refl f g
@@ -314,7 +319,7 @@ again_is sequence (Some kept) frame e = by_same (sequence == kept.sequence) refl
     by_order false h = absurd cc
     by_same : (b : Bool) → (sequence == kept.sequence) ≡ b → cond b (again kept.frame) (cond (nat_lt sequence kept.sequence) old new) ≡ again frame
         → (answer : Answer) × (Some kept ≡ Some answer) × (answer.sequence ≡ sequence) × (answer.frame ≡ frame)
-    by_same true f g = (kept, refl, sym (eqb-true _ _ f), same_frame kept.frame frame g)
+    by_same true f g = (kept, refl, sym (eqb-true sequence kept.sequence f), same_frame kept.frame frame g)
     by_same false f g = absurd (by_order (nat_lt sequence kept.sequence) g)
 
 -- ---- steps
@@ -388,8 +393,10 @@ module _ (rules : Rules Taken Request) (activity : List ℕ) (station : Station)
         link_stays false = inl refl
         sets_as : (b : Bool) → Goes small.Idle live.rest (record live.rest { lamp = (finished station.identity live.rest (Sets asker request in_operation) answers).rest.lamp; link = link_after b live.rest.link })
             (farewells_at b live.rest.link ++ SetAnswer asker request answers ∷ [])
-        sets_as b = goes_by live.rest _ _ refl (link_stays b)
-            (both_other (link_after b live.rest.link) (farewells_at b live.rest.link) _ (farewells_other (link_after b live.rest.link) b live.rest.link) (tt, tt))
+        sets_as b = goes_by live.rest
+            (record live.rest { lamp = (finished station.identity live.rest (Sets asker request in_operation) answers).rest.lamp; link = link_after b live.rest.link })
+            (farewells_at b live.rest.link ++ SetAnswer asker request answers ∷ []) refl (link_stays b)
+            (both_other (link_after b live.rest.link) (farewells_at b live.rest.link) (SetAnswer asker request answers ∷ []) (farewells_other (link_after b live.rest.link) b live.rest.link) (tt, tt))
 
     one_answer : (message : Sent) → IsOther live.rest.link message → Comes_to small.Idle (Moves live.rest (message ∷ []))
     one_answer message other answers = goes_by live.rest live.rest (message ∷ []) refl (inl refl) (other, tt)
@@ -399,10 +406,10 @@ module _ (rules : Rules Taken Request) (activity : List ℕ) (station : Station)
     identifies asker request true = one_answer (IdentifyAnswer asker live.values.running request.xid) tt
     identifies asker request false = refuses small.Idle Filter
 
-    requests : (asker : Mac) (kind : Service) (request : Asked) → Comes_to small.Idle (judged_request station live asker kind request)
+    requests : (asker : Mac) (which : Service) (request : Asked) → Comes_to small.Idle (judged_request station live asker which request)
     requests asker service.Identify request = identifies asker request (matches station.identity live.values.running request)
     requests asker service.Get request = one_answer (GetAnswer asker live.values.running request) tt
-    requests asker service.Set request = sets asker request _
+    requests asker service.Set request = sets asker request (is_some live.rest.link)
 
     resolves : (asker : Mac) (packet : Arp) (b : Bool)
         → Comes_to small.Idle (cond b (Moves live.rest (ArpReply asker live.values.running.suite.address packet.sender ∷ [])) (Refuses NotMine))
@@ -415,27 +422,27 @@ module _ (rules : Rules Taken Request) (activity : List ℕ) (station : Station)
     exchanges_on link sent same other answers = goes_by live.rest (record live.rest { link = link }) sent refl same other
 
     receives : (as : Received) (judged : Moving) → IsMild judged → Comes_to small.Idle (judged_received live as (moved judged live.rest.link))
-    receives received.Foreign judged mild = refuses small.Idle _
-    receives received.Short judged mild = refuses small.Idle _
-    receives received.Stale judged mild = refuses small.Idle _
+    receives received.Foreign judged mild = refuses small.Idle Filter
+    receives received.Short judged mild = refuses small.Idle Filter
+    receives received.Stale judged mild = refuses small.Idle Filter
     receives received.Taken judged mild = exchanges_on (moved judged live.rest.link) [] (mild_stays judged live.rest.link mild) tt
 
     gives : (flow : Option Flow) → Comes_to small.Idle (judged_input live flow)
     gives (Some flow) = exchanges_on (moved (Exchanged flow) live.rest.link) [] (mild_stays (Exchanged flow) live.rest.link tt) tt
-    gives None = refuses small.Idle _
+    gives None = refuses small.Idle Filter
 
     raises : (flow : Option Flow) → Comes_to small.Idle (judged_notice live flow)
     raises (Some flow) =
         let link = moved (Exchanged flow) live.rest.link in
         exchanges_on link (alarms_of (flow_of link)) (mild_stays (Exchanged flow) live.rest.link tt) (alarms_other link (flow_of link))
-    raises None = refuses small.Idle _
+    raises None = refuses small.Idle Filter
 
     notices : (as : Fate) (judged : Moving) → IsMild judged → Comes_to small.Idle (judged_pdu live as (moved judged live.rest.link))
     notices (fate.Data taken) judged mild =
         let link = moved judged live.rest.link in
         exchanges_on link (replies_of taken (flow_of link)) (mild_stays judged live.rest.link mild) (replies_other link taken (flow_of link))
     notices fate.Done judged mild = exchanges_on (moved judged live.rest.link) [] (mild_stays judged live.rest.link mild) tt
-    notices fate.Ignored judged mild = refuses small.Idle _
+    notices fate.Ignored judged mild = refuses small.Idle Filter
     notices fate.Aborted judged mild = exchanges_on (moved judged live.rest.link) [] (mild_stays judged live.rest.link mild) tt
 
     alarms : (message : Message) (b : Bool) → Comes_to small.Idle (cond b (judged_message live message) (Refuses NoRelation))
@@ -448,11 +455,16 @@ module _ (rules : Rules Taken Request) (activity : List ℕ) (station : Station)
         let link = moved (passing before) before in
         let address = live.values.running.suite.address in
         let due = due_of before in
-        goes_by live.rest _ _ refl (mild_stays (passing before) before (passes_mildly before))
-        (both_other link (farewells_in due.farewell) _ (farewell_other link due.farewell)
-        (both_other link (where_due due.is_alarm (alarms_of (flow_of link))) _ (due_other link due.is_alarm (alarms_of (flow_of link)) (alarms_other link (flow_of link)))
-        (both_other link (where_due due.is_ready (ready_calls address link)) _ (readies_other address before)
-        (due_other link due.is_cyclic (inputs_of _ (flow_of link)) (inputs_other link _ (flow_of link))))))
+        let units = (live.rest.units + 1) % 65536 in
+        let alarms = where_due due.is_alarm (alarms_of (flow_of link)) in
+        let readies = where_due due.is_ready (ready_calls address link) in
+        let inputs = where_due due.is_cyclic (inputs_of units (flow_of link)) in
+        let end = finished station.identity live.rest (ticked live) answers in
+        goes_by live.rest end.rest end.sent refl (mild_stays (passing before) before (passes_mildly before))
+        (both_other link (farewells_in due.farewell) (alarms ++ (readies ++ inputs)) (farewell_other link due.farewell)
+        (both_other link alarms (readies ++ inputs) (due_other link due.is_alarm (alarms_of (flow_of link)) (alarms_other link (flow_of link)))
+        (both_other link readies inputs (readies_other address before)
+        (due_other link due.is_cyclic (inputs_of units (flow_of link)) (inputs_other link units (flow_of link))))))
 
     -- ---- the answer to ApplicationReady
 
@@ -476,11 +488,13 @@ module _ (rules : Rules Taken Request) (activity : List ℕ) (station : Station)
         → cond wanted (cond done (confirmed_by link.request.ar.uuid (confirmed_block (block_of response.blocks))) (to_ready.Refused (farewell_of Other link))) to_ready.NotWanted ≡ to_ready.Confirmed
         → (link.phase ≡ Awaiting) × (confirms response ≡ true)
     confirmed_in response link true true wanted done e =
-        let parts = and_true (is_awaiting link.phase) _ wanted in
-        let own = and_true (pointwise nat_eq response.header.activity link.request.ar.uuid) _ parts.1 in
+        let parts = and_true (is_awaiting link.phase) (is_answer_to link.request.ar.uuid response.header) wanted in
+        let own = and_true (pointwise nat_eq response.header.activity link.request.ar.uuid) (response.header.sequence == 0 && response.header.operation == 4) parts.1 in
         let same = same_text response.header.activity link.request.ar.uuid (sym own.0) in (
           awaiting_is link.phase parts.0,
-          and_both _ _ own.1 (and_both _ _ done (names_same link.request.ar.uuid response.header.activity (confirmed_block (block_of response.blocks)) same e)),
+          and_both (response.header.sequence == 0 && response.header.operation == 4) (is_done response.status && names_own response.header.activity (confirmed_block (block_of response.blocks))) own.1
+              (and_both (is_done response.status) (names_own response.header.activity (confirmed_block (block_of response.blocks))) done
+              (names_same link.request.ar.uuid response.header.activity (confirmed_block (block_of response.blocks)) same e)),
         )
     confirmed_in response link true false wanted done e = absurd cc
     confirmed_in response link false done wanted f e = absurd cc
@@ -518,8 +532,8 @@ module _ (rules : Rules Taken Request) (activity : List ℕ) (station : Station)
     none_confirms false b c e = refl
 
     answers_as : (response : Response) (heard : Hearing) → answer_of response live.rest.link ≡ heard → Comes_to (cond (confirms response) small.Confirms small.Idle) (judged_answer live heard)
-    answers_as response to_ready.NotWanted e = refuses (cond (confirms response) small.Confirms small.Idle) _
-    answers_as response to_ready.Garbled e = refuses (cond (confirms response) small.Confirms small.Idle) _
+    answers_as response to_ready.NotWanted e = refuses (cond (confirms response) small.Confirms small.Idle) Filter
+    answers_as response to_ready.Garbled e = refuses (cond (confirms response) small.Confirms small.Idle) Filter
     answers_as response to_ready.Confirmed e =
         let there = is_confirmed response live.rest.link refl e in
         subst (λ (b : Bool). Comes_to (cond b small.Confirms small.Idle) (judged_answer live to_ready.Confirmed)) (sym there.confirmed) (λ answers all. inl (record {
@@ -530,7 +544,7 @@ module _ (rules : Rules Taken Request) (activity : List ℕ) (station : Station)
           silent = refl;
         }))
     answers_as response (to_ready.Refused farewell) e =
-        let none = none_confirms (response.header.sequence == 0 && response.header.operation == 4) (is_done response.status) _ (is_refused response live.rest.link farewell e) in
+        let none = none_confirms (response.header.sequence == 0 && response.header.operation == 4) (is_done response.status) (names_own response.header.activity (confirmed_block (block_of response.blocks))) (is_refused response live.rest.link farewell e) in
         subst (λ (b : Bool). Comes_to (cond b small.Confirms small.Idle) (judged_answer live (to_ready.Refused farewell))) (sym none) (exchanges_on None (Ends farewell ∷ []) (inr refl) (tt, tt))
 
     -- ---- calls
@@ -557,9 +571,9 @@ module _ (rules : Rules Taken Request) (activity : List ℕ) (station : Station)
     all_ready later (message ∷ sent) ready heard = (one_ready later message ready.0 heard.0, all_ready later sent ready.1 heard.1)
 
     -- an answer says whether the call came out well
-    says_done : (kind : Operation) (outcome : Result (List ℕ) CallFault) → is_done (outcome_of kind outcome).0 ≡ is_well outcome
-    says_done kind (Ok blocks) = refl
-    says_done kind (Err why) = not_done kind why
+    says_done : (which : Operation) (outcome : Result (List ℕ) CallFault) → is_done (outcome_of which outcome).0 ≡ is_well outcome
+    says_done which (Ok blocks) = refl
+    says_done which (Err why) = not_done which why
 
     module _ (caller : Caller) (call : Call) (own : call.header.activity ≡ activity) where
       keeps_answer : (answer : Sent) → kept_of activity (kept_more 4 (kept_for station.identity call answer) live.rest.calls) ≡ Some (kept_for station.identity call answer)
@@ -572,11 +586,11 @@ module _ (rules : Rules Taken Request) (activity : List ℕ) (station : Station)
 
       module _ (fresh : told_by call.header.sequence (kept_of activity live.rest.calls) ≡ new) where
         -- it is answered, by its outcome, behind which this is the relation, and then this is sent
-        serves : (ask : small.Ask) (kind : Operation) (outcome : Result (List ℕ) CallFault) (link : Option Link) (behind : List Sent)
+        serves : (ask : small.Ask) (which : Operation) (outcome : Result (List ℕ) CallFault) (link : Option Link) (behind : List Sent)
             → Comes rules (is_well outcome) ask (option_map link_of live.rest.link) (option_map link_of link) → AreReady link behind
-            → Comes_to (small.Call call.header.sequence ask) (served station live caller call kind outcome link behind)
-        serves ask kind outcome link behind comes ready = λ answers heard.
-            let answer = answer_from live.values.running.suite.address caller call kind outcome in
+            → Comes_to (small.Call call.header.sequence ask) (served station live caller call which outcome link behind)
+        serves ask which outcome link behind comes ready = λ answers heard.
+            let answer = answer_from live.values.running.suite.address caller call which outcome in
             let later = kept_behind station.identity live.rest call answer link in
             inl (record {
               new = new_is call.header.sequence (kept_of activity live.rest.calls) fresh;
@@ -585,7 +599,7 @@ module _ (rules : Rules Taken Request) (activity : List ℕ) (station : Station)
               keeps = ap (λ (k : Option Answer). option_map kept_in k) (keeps_answer answer);
               does = comes;
               to_device = heard.0.0;
-              to_controller = heard.0.1 ∙ ap (λ (b : Bool). small.Answers call.header.sequence b) (says_done kind outcome);
+              to_controller = heard.0.1 ∙ ap (λ (b : Bool). small.Answers call.header.sequence b) (says_done which outcome);
               others = frames_of behind;
               sent = refl;
               readies = all_ready later behind ready heard.1;
@@ -677,8 +691,8 @@ module _ (rules : Rules Taken Request) (activity : List ℕ) (station : Station)
 
         -- ---- a call that is new
 
-        new_call : (blocks : List ℕ) (kind : Operation) → IsPlannedAs rules station.real call.header.sequence blocks (Some kind)
-            → Comes_to (asked_by call.header.sequence (Some kind)) (judged_new station live caller call blocks kind)
+        new_call : (blocks : List ℕ) (which : Operation) → IsPlannedAs rules station.real call.header.sequence blocks (Some which)
+            → Comes_to (asked_by call.header.sequence (Some which)) (judged_new station live caller call blocks which)
         new_call blocks operation.Connect plan = connects_as blocks (connect_of live.rest.link blocks) refl plan
         new_call blocks operation.Release plan = releases blocks (release_of live.rest.link blocks)
         new_call blocks operation.Read plan = absurd plan
@@ -700,9 +714,9 @@ module _ (rules : Rules Taken Request) (activity : List ℕ) (station : Station)
             sent = ap (λ (f : List ℕ). f ∷ []) (sym there.3);
           }))
 
-      again_call : (blocks frame : List ℕ) (kind : Operation) → IsPlannedAs rules station.real call.header.sequence blocks (Some kind)
+      again_call : (blocks frame : List ℕ) (which : Operation) → IsPlannedAs rules station.real call.header.sequence blocks (Some which)
           → told_by call.header.sequence (kept_of activity live.rest.calls) ≡ again frame
-          → Comes_to (asked_by call.header.sequence (Some kind)) (Moves live.rest (Again frame ∷ []))
+          → Comes_to (asked_by call.header.sequence (Some which)) (Moves live.rest (Again frame ∷ []))
       again_call blocks frame operation.Connect plan told = repeats small.Connects frame told
       again_call blocks frame operation.Release plan told = repeats small.Releases frame told
       again_call blocks frame operation.Read plan told = absurd plan
@@ -710,30 +724,30 @@ module _ (rules : Rules Taken Request) (activity : List ℕ) (station : Station)
       again_call blocks frame operation.Control plan told = repeats small.Parameterized frame told
       again_call blocks frame operation.ReadImplicit plan told = absurd plan
 
-      looked_call : (blocks : List ℕ) (kind : Operation) (told : Looked) → told_by call.header.sequence (kept_of activity live.rest.calls) ≡ told
-          → IsPlannedAs rules station.real call.header.sequence blocks (Some kind)
-          → Comes_to (asked_by call.header.sequence (Some kind)) (judged_looked station live caller call blocks kind told)
-      looked_call blocks kind new is plan = new_call is blocks kind plan
-      looked_call blocks kind (again frame) is plan = again_call blocks frame kind plan is
-      looked_call blocks kind old is plan = refuses (asked_by call.header.sequence (Some kind)) _
+      looked_call : (blocks : List ℕ) (which : Operation) (told : Looked) → told_by call.header.sequence (kept_of activity live.rest.calls) ≡ told
+          → IsPlannedAs rules station.real call.header.sequence blocks (Some which)
+          → Comes_to (asked_by call.header.sequence (Some which)) (judged_looked station live caller call blocks which told)
+      looked_call blocks which new is plan = new_call is blocks which plan
+      looked_call blocks which (again frame) is plan = again_call blocks frame which plan is
+      looked_call blocks which old is plan = refuses (asked_by call.header.sequence (Some which)) Filter
 
-      counted_call : (kind : Operation) (counted : Option (List ℕ)) (blocks : List ℕ) → counted ≡ Some blocks → IsPlannedAs rules station.real call.header.sequence blocks (Some kind)
-          → Comes_to (asked_by call.header.sequence (Some kind)) (judged_blocks station live caller call kind counted)
-      counted_call kind None blocks is plan = absurd cc
-      counted_call kind (Some there) blocks is plan =
-          looked_call there kind (looked call.header.activity call.header.sequence live.rest.calls)
+      counted_call : (which : Operation) (counted : Option (List ℕ)) (blocks : List ℕ) → counted ≡ Some blocks → IsPlannedAs rules station.real call.header.sequence blocks (Some which)
+          → Comes_to (asked_by call.header.sequence (Some which)) (judged_blocks station live caller call which counted)
+      counted_call which None blocks is plan = absurd cc
+      counted_call which (Some there) blocks is plan =
+          looked_call there which (looked call.header.activity call.header.sequence live.rest.calls)
           (ap (λ (a : List ℕ). told_by call.header.sequence (kept_of a live.rest.calls)) (sym own))
-          (subst (λ (b : List ℕ). IsPlannedAs rules station.real call.header.sequence b (Some kind)) (sym (some_is there blocks is)) plan)
+          (subst (λ (b : List ℕ). IsPlannedAs rules station.real call.header.sequence b (Some which)) (sym (some_is there blocks is)) plan)
 
-      called : (kind : Option Operation) (blocks : List ℕ) → call.blocks ≡ Some blocks → IsPlannedAs rules station.real call.header.sequence blocks kind
-          → Comes_to (asked_by call.header.sequence kind) (judged_call station live caller call kind)
+      called : (which : Option Operation) (blocks : List ℕ) → call.blocks ≡ Some blocks → IsPlannedAs rules station.real call.header.sequence blocks which
+          → Comes_to (asked_by call.header.sequence which) (judged_call station live caller call which)
       called None blocks is plan = absurd plan
-      called (Some kind) blocks is plan = counted_call kind call.blocks blocks is plan
+      called (Some which) blocks is plan = counted_call which call.blocks blocks is plan
 
     says : (caller : Caller) (said : Said) → IsPlannedIn rules activity station.real said → Comes_to (said_to said) (judged_said station live caller said)
     says caller (Calls call) plan = called caller call plan.own (operation_of call.header.operation) plan.blocks plan.counted plan.asks
     says caller (Responds response) plan = answers_as response (answer_of response live.rest.link) refl
-    says caller Garbled plan = refuses small.Idle _
+    says caller Garbled plan = refuses small.Idle Filter
 
     told : (caller : Caller) (said : Said) (b : Bool) → IsPlannedIn rules activity station.real said → Comes_to (said_to said) (cond b (judged_said station live caller said) (Refuses NotMine))
     told caller said true plan = says caller said plan
@@ -748,8 +762,8 @@ module _ (rules : Rules Taken Request) (activity : List ℕ) (station : Station)
     goes (Given slot subslot value) plan = gives (given_to slot subslot value live.rest.link)
     goes (Raised slot subslot octets) plan = raises (raised_to station.real.modules.items slot subslot octets live.rest.link)
     goes Ticks plan = ticks
-    goes Unreadable plan = refuses small.Idle _
-    goes Elsewhere plan = refuses small.Idle _
+    goes Unreadable plan = refuses small.Idle Filter
+    goes Elsewhere plan = refuses small.Idle Filter
 
 pub step_goes : (rules : Rules Taken Request) (activity : List ℕ) (outcomes : List Outcome) (station : Station) (live : Live) (heard : Heard)
     → IsPlanned rules activity station.real heard → AllByRecursion (IsHeardAs rules station.identity) (heard_step outcomes station live heard).sent

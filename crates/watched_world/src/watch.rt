@@ -26,6 +26,8 @@ pub enum Law {
     Skipped,
     /// Only the end at which something happens changes.
     OneEnd,
+    /// Where there is no memory for a move, the world is that of the moves before.
+    Front,
 }
 
 impl Law {
@@ -39,6 +41,7 @@ impl Law {
             Law::Alarms => "alarms",
             Law::Skipped => "skipped",
             Law::OneEnd => "one end",
+            Law::Front => "front",
         }
     }
 }
@@ -228,11 +231,22 @@ impl Watched {
     pub fn make(&mut self, choice: Choice) -> Result<Option<Law>, AllocError> {
         let before = told_of(&self.net);
         let count = self.seen.len();
-        self.net.play(&[choice.to_move()])?;
+        if let Err(error) = self.net.play(&[choice.to_move()]) {
+            return self.without_memory(&before, error);
+        }
         self.note(choice, before.phase);
         self.see(choice.end())?;
         self.note_raised(choice, count);
         Ok(self.broken(choice, &before, count))
+    }
+
+    /// There was no memory for a move.
+    fn without_memory(&self, before: &Told, error: AllocError) -> Result<Option<Law>, AllocError> {
+        if told_of(&self.net) == *before && self.net.sent(self.seen.len()).is_none() {
+            Err(error)
+        } else {
+            Ok(Some(Law::Front))
+        }
     }
 
     /// Notes what was given, and what came.
