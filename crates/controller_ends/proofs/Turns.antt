@@ -30,7 +30,6 @@ use Rattle.controller_frames.specs.Heard.{Heard, Nothing, Answers, Responds, Cal
 use Rattle.controller_frames.specs.Heard.{Cyclic as Comes}
 use Rattle.controller_frames.specs.Requests.{sequence_of, writing_from}
 use Rattle.controller_frames.specs.Sent.{Sent, Requests, Agrees, Cycles, Confirms, Replies, Ends, ready_answer}
-use Rattle.controller_core.specs.declared.connect.Found.{Found}
 use Rattle.controller_core.specs.declared.state.Cause.{Cause}
 use Rattle.controller_core.specs.declared.state.Cause.TheVariants as cause
 use Rattle.controller_core.specs.declared.state.State.{State}
@@ -49,6 +48,10 @@ use Rattle.controller_ends.specs.Small.{asking_of, state_of, small_of, IsInStep,
 
 some_is : {A : Type 0} (x y : A) → Some x ≡ Some y → x ≡ y
 some_is x y e = cc
+
+by_option : {A : Type 0} (P : Option A → Type 0) → ((value : A) → P (Some value)) → P None → (o : Option A) → P o
+by_option P some none (Some value) = some value
+by_option P some none None = none
 
 none_is : {A : Type 0} (x : A) (o : Option A) → o ≡ None → o ≡ Some x → ⊥
 none_is x o e f = absurd cc
@@ -242,21 +245,24 @@ module _ (setup : Setup) where
     related_goes (Some frame_id) = writing_goes live (standing setup live frame_id) 0 heard before answers (omega arith)
     related_goes None = stays_goes setup.plan heard live in_step
 
-    connected_as : (found : Found) (whole differs : Bool) → GoesOn setup.plan heard live (cond whole (cond differs (released setup cause.ModuleDiff live) (related_by setup live found.output)) (stays live))
-    connected_as found true true = released_goes heard cause.ModuleDiff live
-    connected_as found true false = related_goes found.output
-    connected_as found false differs = stays_goes setup.plan heard live in_step
+    connected_as : (whole differs : Bool) (output : Option ℕ)
+        → GoesOn setup.plan heard live (cond whole (cond differs (released setup cause.ModuleDiff live) (related_by setup live output)) (stays live))
+    connected_as true true output = released_goes heard cause.ModuleDiff live
+    connected_as true false output = related_goes output
+    connected_as false differs output = stays_goes setup.plan heard live in_step
 
-    connected_goes : (found : Option Found) → GoesOn setup.plan heard live (connected setup live found)
-    connected_goes (Some found) = connected_as found (is_whole found) found.differs
-    connected_goes None = stays_goes setup.plan heard live in_step
+    -- whatever the blocks hold
+    connected_goes : (blocks : List ℕ) → GoesOn setup.plan heard live (connected setup live (found_in 400 blocks nothing))
+    connected_goes blocks =
+        by_option (λ found. GoesOn setup.plan heard live (connected setup live found)) (λ found. connected_as (is_whole found) found.differs found.output)
+        (stays_goes setup.plan heard live in_step) (found_in 400 blocks nothing)
 
   done_goes : (live : Live) (heard : ToController) (blocks : List ℕ) (request : Request) → live.asked ≡ Some request → heard ≡ small.Answers (sequence_of setup.plan request) true
       → IsInStep setup.plan live.phase live.asked → GoesOn setup.plan heard live (done setup live blocks request)
   done_goes live heard blocks asks.Identify is answers in_step = stays_goes setup.plan heard live in_step
   done_goes live heard blocks asks.Address is answers in_step = stays_goes setup.plan heard live in_step
   done_goes live heard blocks asks.Connect is answers in_step =
-      connected_goes live heard in_step (connect_asks live.phase live.asked in_step is) answers (found_in 400 blocks nothing)
+      connected_goes live heard in_step (connect_asks live.phase live.asked in_step is) answers blocks
   done_goes live heard blocks (asks.Write number) is answers in_step =
       let there = write_asks live.phase live.asked number in_step is in
       writing_goes live live (number + 1) heard there.1 answers (omega (arith, there.0))
@@ -292,7 +298,7 @@ module _ (setup : Setup) where
       let ends = release_ends live.phase live.asked sequence in_step is in
       record { in_step = ends.0; moves = inr (inl ends.1); says = tt }
 
-  -- a response is heard as the answer that it is
+  -- a response is heard came the answer that it is
   is_heard : (request : Request) (response : Response) → is_answer setup request response.header ≡ true
       → said_to setup (Responds response) ≡ small.Answers (sequence_of setup.plan request) (is_done response.status)
   is_heard request response e =
@@ -347,8 +353,8 @@ module _ (setup : Setup) where
 
   -- ---- alarms
 
-  taken_goes : (heard : ToController) (live after : Live) (alarm : AlarmNotification) (as : Taken) → IsInStep setup.plan live.phase live.asked → after.phase ≡ live.phase → after.asked ≡ live.asked
-      → GoesOn setup.plan heard live (taken after alarm as)
+  taken_goes : (heard : ToController) (live after : Live) (alarm : AlarmNotification) (came : Taken) → IsInStep setup.plan live.phase live.asked → after.phase ≡ live.phase → after.asked ≡ live.asked
+      → GoesOn setup.plan heard live (taken after alarm came)
   taken_goes heard live after alarm New in_step phase asked = same_goes setup.plan heard live (confirming after alarm) _ in_step phase asked (refl, (refl, tt))
   taken_goes heard live after alarm Again in_step phase asked = same_goes setup.plan heard live after _ in_step phase asked (refl, tt)
   taken_goes heard live after alarm Refused in_step phase asked = same_goes setup.plan heard live after _ in_step phase asked (refl, tt)

@@ -1,5 +1,5 @@
 //! The machine of a controller refines the small one.
-ghost use Rattle.std.specs.Prelude.{◌≡◌, ◌×◌, List, ℕ};
+ghost use Rattle.std.specs.Prelude.{◌≡◌, List, ℕ};
 ghost use Rattle.plans.specs.declared.parts.Parts.{Parts};
 ghost use Rattle.controller_frames.specs.declared.setup.Setup.{Setup};
 ghost use Rattle.controller_frames.specs.Heard.{heard_of};

@@ -149,7 +149,7 @@ passes_mildly : (link : Option Link) → IsMild (passing link)
 passes_mildly None = tt
 passes_mildly (Some link) = passing_mild (ending_of link)
 
-receives_mildly : (as : Received) (flow : Flow) → IsMild (receiving_as as flow)
+receives_mildly : (came : Received) (flow : Flow) → IsMild (receiving_as came flow)
 receives_mildly received.Foreign flow = tt
 receives_mildly received.Short flow = tt
 receives_mildly received.Stale flow = tt
@@ -159,7 +159,7 @@ received_mildly : (source : Mac) (frame_id : ℕ) (body : List ℕ) (link : Opti
 received_mildly source frame_id body None = tt
 received_mildly source frame_id body (Some link) = receives_mildly (received_as link.flow source frame_id body) (behind_frame link.flow source frame_id body)
 
-hears_mildly : (as : Fate) (flow : Flow) → IsMild (hearing_as as flow)
+hears_mildly : (came : Fate) (flow : Flow) → IsMild (hearing_as came flow)
 hears_mildly (fate.Data taken) flow = tt
 hears_mildly fate.Done flow = tt
 hears_mildly fate.Ignored flow = tt
@@ -421,7 +421,7 @@ module _ (rules : Rules Taken Request) (activity : List ℕ) (station : Station)
     exchanges_on : (link : Option Link) (sent : List Sent) → IsSameOr live.rest.link link → AreOther link sent → Comes_to small.Idle (Moves (record live.rest { link = link }) sent)
     exchanges_on link sent same other answers = goes_by live.rest (record live.rest { link = link }) sent refl same other
 
-    receives : (as : Received) (judged : Moving) → IsMild judged → Comes_to small.Idle (judged_received live as (moved judged live.rest.link))
+    receives : (came : Received) (judged : Moving) → IsMild judged → Comes_to small.Idle (judged_received live came (moved judged live.rest.link))
     receives received.Foreign judged mild = refuses small.Idle Filter
     receives received.Short judged mild = refuses small.Idle Filter
     receives received.Stale judged mild = refuses small.Idle Filter
@@ -437,7 +437,7 @@ module _ (rules : Rules Taken Request) (activity : List ℕ) (station : Station)
         exchanges_on link (alarms_of (flow_of link)) (mild_stays (Exchanged flow) live.rest.link tt) (alarms_other link (flow_of link))
     raises None = refuses small.Idle Filter
 
-    notices : (as : Fate) (judged : Moving) → IsMild judged → Comes_to small.Idle (judged_pdu live as (moved judged live.rest.link))
+    notices : (came : Fate) (judged : Moving) → IsMild judged → Comes_to small.Idle (judged_pdu live came (moved judged live.rest.link))
     notices (fate.Data taken) judged mild =
         let link = moved judged live.rest.link in
         exchanges_on link (replies_of taken (flow_of link)) (mild_stays judged live.rest.link mild) (replies_other link taken (flow_of link))
