@@ -184,12 +184,13 @@ started_is (Some link) e = (link, refl, by_phase link.phase e)
     by_phase Exchanging f = absurd cc
 
 -- a PrmEnd is accepted of a relation that waits for it
-started_by : (link : Option Link) → in_started link ≡ Ok tt → is_started (phase_of link) ≡ true
-started_by link e = by_test (is_started (phase_of link)) refl e
-  where
-    by_test : (b : Bool) → is_started (phase_of link) ≡ b → cond (not b) (Err fault.Phase) (Ok tt) ≡ Ok tt → is_started (phase_of link) ≡ true
-    by_test true f g = f
-    by_test false f g = absurd cc
+started_by_test : (link : Option Link) (nothing : Unit {0}) (b : Bool) → is_started (phase_of link) ≡ b
+    → ◌≡◌ {A = Result (Unit {0}) CallFault} (cond (not b) (Err fault.Phase) (Ok nothing)) (Ok nothing) → is_started (phase_of link) ≡ true
+started_by_test link nothing true f g = f
+started_by_test link nothing false f g = absurd cc
+
+started_by : (link : Option Link) (nothing : Unit {0}) → in_started link ≡ Ok nothing → is_started (phase_of link) ≡ true
+started_by link nothing e = started_by_test link nothing (is_started (phase_of link)) refl e
 
 prm_started : (link : Option Link) (blocks : List ℕ) (block : ControlBlock) → prm_end_of link blocks ≡ Ok block → (l : Link) × (link ≡ Some l) × (l.phase ≡ Started)
 unfolding prm_end_of
@@ -197,7 +198,7 @@ prm_started link blocks block e =
     let first = bind_ok (control_block kind.PrmEnd blocks) (λ b. named_of link b 1 >>= λ _. in_started link >>= λ _. Ok b) block e in
     let second = bind_ok (named_of link first.0 1) (λ _. in_started link >>= λ _. Ok first.0) block first.2 in
     let third = bind_ok (in_started link) (λ _. Ok first.0) block second.2 in
-    started_is link (started_by link third.1)
+    started_is link (started_by link third.0 third.1)
 
 -- a record that is kept is one more
 kept_is : (value : Taken) (records taken : List Taken) → keep_of value records ≡ Ok taken → taken ≡ records ++ value ∷ []
@@ -644,7 +645,7 @@ module _ (rules : Rules Taken Request) (activity : List ℕ) (station : Station)
             serves (small.Writes number) operation.Write (kept_answer header (Ok taken)) (moved (answered Named (Ok taken)) (moved (taking (Ok taken)) live.rest.link)) []
             (takes_record number value live.rest.link (Ok taken) e there) tt
         writes_kept header number value (Err why) e there =
-            serves (small.Writes number) operation.Write (kept_answer header (Err why)) (moved (answered Named (Err why)) (moved (taking (Err why)) live.rest.link)) []
+            serves (small.Writes number) operation.Write (kept_answer header (Err why)) (moved (answered {A = List Taken} Named (Err why)) (moved (taking (Err why)) live.rest.link)) []
             (takes_record number value live.rest.link (Err why) e there) tt
 
         writes_effect : (header : IodWriteReq) (effect : Effect) (number : ℕ) (value : Taken) → effect ≡ Keeps value → slice_get rules.records number ≡ Some value
@@ -671,8 +672,8 @@ module _ (rules : Rules Taken Request) (activity : List ℕ) (station : Station)
             → Comes_to (small.Call call.header.sequence small.Parameterized)
             (served station live caller call operation.Control (ended >>= λ block. Ok (block_bytes (is.PrmEndRes (done_of block)))) (moved (answered Parameterized ended) live.rest.link)
             (ready_behind live.values.running.suite.address (moved (answered Parameterized ended) live.rest.link) ended))
-        parameterizes blocks (Ok block) is =
-            let there = prm_started live.rest.link blocks block is in
+        parameterizes blocks (Ok block) judged_so =
+            let there = prm_started live.rest.link blocks block judged_so in
             let address = live.values.running.suite.address in
             serves small.Parameterized operation.Control (Ok (block_bytes (is.PrmEndRes (done_of block)))) (option_map awaiting_from live.rest.link) (ready_calls address (option_map awaiting_from live.rest.link))
             (record {
