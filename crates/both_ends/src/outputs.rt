@@ -9,5 +9,4 @@ pub fn outputs_are_given<O, V>()
     // the controller sent at an earlier point, and which brings the values that were last given then.
     ensures { (rules : Outputs O V) (first : Shown O V) (run : List (Move × Shown O V)) → ShowsNone rules first → IsShownRun rules first run
         → AreAsGiven rules first run (shown_last first run).accepted (shown_last first run).outputs }
-{
-}
+{}

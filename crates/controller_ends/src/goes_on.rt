@@ -16,5 +16,4 @@ pub fn controller_goes_on()
     // Whatever happens to it: its state moves as the small one does, and each message that it sends says to the device what it may then.
     ensures goes_on { (setup : Setup) (live : Live) (event : Event) → IsInStep setup.plan live.phase live.asked
         → GoesOn setup.plan (said_in setup (heard_of setup.plan.controller) event) live (turn_of setup live event) }
-{
-}
+{}

@@ -304,6 +304,7 @@ new_is sequence (Some kept) e = by_same (sequence == kept.sequence) refl e
         by_both : (b : Bool) → nat_lt kept.sequence sequence ≡ b → kept.sequence < sequence
         by_both true t = ltb-true kept.sequence sequence t
         by_both false t = absurd (false≢true (sym g ∙ eq-eqb sequence kept.sequence (omega (arith, ltb-false kept.sequence sequence t, ltb-false sequence kept.sequence f))))
+
     by_same : (b : Bool) → (sequence == kept.sequence) ≡ b → cond b (again kept.frame) (cond (nat_lt sequence kept.sequence) old new) ≡ new → kept.sequence < sequence
     by_same true f g = absurd cc
     by_same false f g = by_order (nat_lt sequence kept.sequence) refl f g
@@ -315,9 +316,11 @@ again_is sequence (Some kept) frame e = by_same (sequence == kept.sequence) refl
   where
     same_frame : (x y : List ℕ) → again x ≡ again y → x ≡ y
     same_frame x y h = cc
+
     by_order : (b : Bool) → cond b old new ≡ again frame → ⊥
     by_order true h = absurd cc
     by_order false h = absurd cc
+
     by_same : (b : Bool) → (sequence == kept.sequence) ≡ b → cond b (again kept.frame) (cond (nat_lt sequence kept.sequence) old new) ≡ again frame
         → (answer : Answer) × (Some kept ≡ Some answer) × (answer.sequence ≡ sequence) × (answer.frame ≡ frame)
     by_same true f g = (kept, refl, sym (eqb-true sequence kept.sequence f), same_frame kept.frame frame g)
@@ -392,6 +395,7 @@ module _ (rules : Rules Taken Request) (activity : List ℕ) (station : Station)
         link_stays : (b : Bool) → IsSameOr live.rest.link (link_after b live.rest.link)
         link_stays true = inr refl
         link_stays false = inl refl
+
         sets_as : (b : Bool) → Goes small.Idle live.rest (record live.rest { lamp = (finished station.identity live.rest (Sets asker request in_operation) answers).rest.lamp; link = link_after b live.rest.link })
             (farewells_at b live.rest.link ++ SetAnswer asker request answers ∷ [])
         sets_as b = goes_by live.rest

@@ -19,5 +19,4 @@ pub fn device_goes_on()
         → IsPlanned rules activity station.real heard
         → AllByRecursion (IsHeardAs rules station.identity) (heard_step outcomes station live heard).sent
         → DeviceSteps rules (heard_as heard) (small_of activity live) (small_of activity (heard_step outcomes station live heard).live) (heard_step outcomes station live heard).frames }
-{
-}
+{}

@@ -98,7 +98,9 @@ pub fn put_schedule(
         let choice = schedule.choose(count, watched.raised());
         if let Some(law) = watched.make(choice)? {
             let name = law.name();
-            let line = format!(in alloc; "seed {seed}: {name} does not hold behind move {number}\n")?;
+            let line = format!(in alloc;
+                "seed {seed}: {name} does not hold behind move {number}\n"
+            )?;
             return text.push_str(line.as_str());
         }
         if is_ladder && is_told(choice, &watched, count, was) {

@@ -107,7 +107,10 @@ fn make_exchange(watched: &mut Watched, digit: usize) -> Result<Option<Law>, All
         2 => watched.make(Choice::Give(2, [7, watched.count() as u8])),
         3 => watched.make(Choice::Alarm(watched.raised().to_be_bytes())),
         4 => watched.make(Choice::Stop),
-        _ => watched.make(across(watched, watched.count().saturating_sub(digit.saturating_sub(4)))),
+        _ => watched.make(across(
+            watched,
+            watched.count().saturating_sub(digit.saturating_sub(4)),
+        )),
     }
 }
 
@@ -208,7 +211,9 @@ fn put_found(
             format!(in alloc; "{name} {moves}: {law} does not hold\n")?
         }
         None => {
-            format!(in alloc; "{name} {moves}: all laws hold at each point of {schedules} schedules; {exchanging} of them end with both exchanging\n")?
+            format!(in alloc;
+                "{name} {moves}: all laws hold at each point of {schedules} schedules; {exchanging} of them end with both exchanging\n"
+            )?
         }
     };
     let _ = points;

@@ -109,9 +109,9 @@ fn outputs_of(net: &Net) -> Outputs {
 
 /// The number of the alarm that was taken last: its octets.
 fn alarm_of(net: &Net) -> Option<u16> {
-    net.controller()
-        .alarm()
-        .map(|alarm| u16::from_be_bytes(pair_of(Some(alarm.alarm_data.octets()))))
+    net.controller().alarm().map(|alarm| u16::from_be_bytes(pair_of(Some(
+        alarm.alarm_data.octets(),
+    ))))
 }
 
 fn told_of(net: &Net) -> Told {
@@ -376,9 +376,7 @@ fn is_at_one(end: End, before: &Told, now: &Told) -> bool {
     match end {
         End::Device => now.state == before.state && now.alarm == before.alarm,
         End::Controller => {
-            now.phase == before.phase
-                && now.taken == before.taken
-                && now.outputs == before.outputs
+            now.phase == before.phase && now.taken == before.taken && now.outputs == before.outputs
         }
     }
 }

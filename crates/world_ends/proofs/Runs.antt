@@ -98,7 +98,7 @@ module _ {F : Type 0} where
   said_is w now message heard says = (
     heard.0,
     subst (λ (said : ToDevice). SaysToDevice (length (rules_at w).records) now said) (sym heard.1)
-    (subst (λ (count : ℕ). SaysToDevice count now (said_by w.controller.setup.plan message)) (sym (count_is w)) says),
+        (subst (λ (count : ℕ). SaysToDevice count now (said_by w.controller.setup.plan message)) (sym (count_is w)) says),
   )
 
   all_said : (w : World F) (now : small.Controller) (sent : List Sent) → AllByRecursion (IsSaidAs w.controller.setup w.device.station) sent

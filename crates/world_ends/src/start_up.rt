@@ -10,11 +10,11 @@ ghost use Rattle.world_ends.specs.View.{rules_of, view_of};
 ghost use Rattle.world_ends.specs.Played.{AreMade, AreMeant, Begins, IsRunOf, last_world, viewed};
 
 use both_ends::start_up_is_kept;
+use connect_requests::ConnectRequest;
 use controller_ends::controller_goes_on;
 use device_ends::device_goes_on;
 use flash_model::Flash;
 use record_writes::Taken;
-use connect_requests::ConnectRequest;
 
 /// A start-up over the worlds of any moves, whatever the flash of the device does, where all that comes and is sent is heard as it is meant.
 pub fn worlds_start_up<F: Flash<S>, const S: usize>()
