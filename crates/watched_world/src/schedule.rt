@@ -80,7 +80,7 @@ impl Schedule {
     }
 
     fn value(&mut self) -> [u8; 2] {
-        (self.below(65536) as u16).to_be_bytes()
+        u16::try_from(self.below(65536)).unwrap_or(0).to_be_bytes()
     }
 
     fn end(&mut self) -> End {

@@ -1,4 +1,7 @@
 //! The station "pump-1" over the smallest flash, and the plan of its controller.
+ghost use Rattle.std.specs.Prelude.{◌≡◌};
+ghost use Rattle.arrayvec.specs.ArrayVec.{array_vec_len};
+
 use arrayvec::ArrayVec;
 use controller_core::Controller;
 use device_core::{Device, Event};
@@ -50,7 +53,9 @@ fn submodule(subslot: u16, ident: u32, input: u16, output: u16) -> RealSubmodule
     }
 }
 
-fn module(slot: u16, ident: u32) -> RealModule {
+fn module(slot: u16, ident: u32) -> RealModule
+    ensures { array_vec_len result.submodules ≡ 0 }
+{
     RealModule {
         slot,
         ident,
