@@ -1,23 +1,24 @@
 // Lines, and what they print.
-use crate::words::{bytes, number, put_hex, put_number, state_word, uuid, wrong};
+use crate::words::{
+    bytes, number, place, put_hex, put_number, state_word, two_words, uuid, wrong,
+};
 use configurator::plan_from_json;
 use controller_core::{Controller, Event, State};
 use frame_codec::Outbox;
 use std::alloc::{AllocError, Global};
 use std::io;
 
-/// The controller of a start.
-pub(crate) fn controller_of(alloc: Global, line: &str) -> io::Result<Controller> {
-    let Some((ar, rest)) = line.split_once(' ') else {
+/// The controller of a start, whose opening frame and state are appended.
+pub(crate) fn start(alloc: Global, rest: &str, text: &mut String) -> io::Result<Controller> {
+    let (ar, rest) = two_words(rest)?;
+    let (activity, catalogue) = two_words(rest)?;
+    let Ok(plan) = plan_from_json(alloc, catalogue.as_bytes()) else {
         return Err(wrong());
     };
-    let Some((activity, catalogue)) = rest.split_once(' ') else {
-        return Err(wrong());
-    };
-    match plan_from_json(alloc, catalogue.as_bytes()) {
-        Ok(plan) => Ok(Controller::new(plan, uuid(ar)?, uuid(activity)?)),
-        Err(_) => Err(wrong()),
-    }
+    let started = Controller::new(plan, uuid(ar)?, uuid(activity)?);
+    put_frame(alloc, started.opening().as_slice(), text)?;
+    put_state(started.state(), text)?;
+    Ok(started)
 }
 
 /// Hears a line, and appends what comes of it.
@@ -30,52 +31,46 @@ pub(crate) fn put_line(
 ) -> io::Result<()> {
     let (word, rest) = line.split_once(' ').unwrap_or((line, ""));
     match word {
-        "frame" => put_step(
-            alloc,
-            controller,
-            &Event::Frame(bytes(alloc, rest)?),
-            outbox,
-            text,
-        )?,
-        "tick" => put_ticks(alloc, controller, number(rest)?, outbox, text)?,
-        "give" => put_step(alloc, controller, &give(alloc, rest)?, outbox, text)?,
-        "stop" => put_step(alloc, controller, &Event::Stop, outbox, text)?,
         "value" => return put_value(alloc, controller, rest, text),
         "alarm" => return Ok(put_alarm(alloc, controller, text)?),
-        _ => return Err(wrong()),
+        "tick" => put_ticks(alloc, controller, number(rest)?, outbox, text)?,
+        _ => put_step(alloc, controller, &event(alloc, word, rest)?, outbox, text)?,
     }
     Ok(put_state(controller.state(), text)?)
 }
 
-/// The event of a value that is given.
-fn give(alloc: Global, rest: &str) -> io::Result<Event> {
-    let Some((slot, rest)) = rest.split_once(' ') else {
-        return Err(wrong());
-    };
-    let Some((subslot, value)) = rest.split_once(' ') else {
-        return Err(wrong());
-    };
-    Ok(Event::Give(
-        number(slot)? as u16,
-        number(subslot)? as u16,
-        bytes(alloc, value)?,
-    ))
+/// The event of a line that is neither a question nor time.
+fn event(alloc: Global, word: &str, rest: &str) -> io::Result<Event> {
+    match word {
+        "frame" => Ok(Event::Frame(bytes(alloc, rest)?)),
+        "give" => {
+            let (slot, rest) = two_words(rest)?;
+            let (subslot, value) = two_words(rest)?;
+            Ok(Event::Give(
+                place(slot)?,
+                place(subslot)?,
+                bytes(alloc, value)?,
+            ))
+        }
+        "stop" => Ok(Event::Stop),
+        _ => Err(wrong()),
+    }
 }
 
 /// Appends the line of a frame.
-pub(crate) fn put_frame(alloc: Global, frame: &[u8], text: &mut String) -> Result<(), AllocError> {
+fn put_frame(alloc: Global, frame: &[u8], text: &mut String) -> Result<(), AllocError> {
     text.push_str("out ")?;
     put_hex(alloc, frame, text)?;
     text.push_str("\n")
 }
 
 /// Appends the line of a state.
-pub(crate) fn put_state(state: State, text: &mut String) -> Result<(), AllocError> {
+fn put_state(state: State, text: &mut String) -> Result<(), AllocError> {
     text.push_str("state ")?;
     text.push_str(state_word(state))?;
     if let State::Ended(cause) = state {
         text.push_str(" ")?;
-        put_number(cause.number() as u32, text)?;
+        put_number(u32::from(cause.number()), text)?;
     }
     text.push_str("\n")
 }
@@ -116,11 +111,9 @@ fn put_value(
     rest: &str,
     text: &mut String,
 ) -> io::Result<()> {
-    let Some((slot, subslot)) = rest.split_once(' ') else {
-        return Err(wrong());
-    };
+    let (slot, subslot) = two_words(rest)?;
     text.push_str("value ")?;
-    match controller.value(number(slot)? as u16, number(subslot)? as u16) {
+    match controller.value(place(slot)?, place(subslot)?) {
         Some(value) => put_hex(alloc, value, text)?,
         None => text.push_str("-")?,
     }
@@ -140,7 +133,7 @@ fn put_alarm(alloc: Global, controller: &Controller, text: &mut String) -> Resul
         alarm.alarm_specifier,
     ] {
         text.push_str(" ")?;
-        put_number(part as u32, text)?;
+        put_number(u32::from(part), text)?;
     }
     text.push_str(" ")?;
     put_hex(alloc, alarm.alarm_data.octets(), text)?;

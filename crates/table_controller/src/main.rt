@@ -12,8 +12,7 @@
 //! ```
 //!
 //! Behind each of the first five stand `out HEX` for each frame that is sent, and `state WORD`; behind `value` stands `value HEX`, with
-//! `-` where no such input is; behind `alarm` stands `alarm TYPE SLOT SUBSLOT SPECIFIER HEX`, or `alarm -`. Each line is answered before
-//! the next one is read, so that another program can be the device.
+//! `-` where no such input is; behind `alarm` stands `alarm TYPE SLOT SUBSLOT SPECIFIER HEX`, or `alarm -`.
 //!
 //! `stdin` is what a station of Scapy's layers says (`bench/interoperation/scapy_station.py`), and `stdout` what a controller has to do by
 //! the rules alone, with each frame as Scapy builds it. Neither shares a line with this repository's crates.
@@ -27,38 +26,18 @@ use frame_codec::Outbox;
 use std::io::{self, Write};
 
 fn main(rt: HostRuntime) -> io::Result<()> {
-    let mut controller = None;
+    let lines = io::read_to_string(rt.alloc(), rt.reader())?;
+    let mut controller: Option<Controller> = None;
     let mut outbox = Outbox::new();
-    for _ in 0..u64::MAX {
-        if !answer_line(&rt, &mut controller, &mut outbox)? {
-            break;
+    let mut text = String::new(rt.alloc());
+    for line in lines.lines() {
+        if let Some(rest) = line.strip_prefix("start ") {
+            controller = Some(line::start(rt.alloc(), rest, &mut text)?);
+        } else if let Some(started) = &mut controller {
+            line::put_line(rt.alloc(), started, line, &mut outbox, &mut text)?;
+        } else {
+            return Err(words::wrong());
         }
     }
-    Ok(())
-}
-
-/// Reads a line and prints what comes of it. Answers whether there was one.
-fn answer_line(
-    rt: &HostRuntime,
-    controller: &mut Option<Controller>,
-    outbox: &mut Outbox,
-) -> io::Result<bool> {
-    let mut line = String::new(rt.alloc());
-    if rt.read_line(&mut line)? == 0 {
-        return Ok(false);
-    }
-    let mut text = String::new(rt.alloc());
-    let line = line.as_str().trim_end();
-    if let Some(rest) = line.strip_prefix("start ") {
-        let started = line::controller_of(rt.alloc(), rest)?;
-        line::put_frame(rt.alloc(), started.opening().as_slice(), &mut text)?;
-        line::put_state(started.state(), &mut text)?;
-        *controller = Some(started);
-    } else if let Some(controller) = controller {
-        line::put_line(rt.alloc(), controller, line, outbox, &mut text)?;
-    } else {
-        return Err(words::wrong());
-    }
-    io::writer(rt).write_all(text.as_bytes())?;
-    Ok(true)
+    io::writer(&rt).write_all(text.as_bytes())
 }

@@ -10,9 +10,19 @@ pub(crate) fn wrong() -> io::Error {
     io::Error::from(ErrorKind::InvalidData)
 }
 
+/// The first word, and what is behind it.
+pub(crate) fn two_words(text: &str) -> io::Result<(&str, &str)> {
+    text.split_once(' ').ok_or(wrong())
+}
+
 /// A decimal number.
 pub(crate) fn number(digits: &str) -> io::Result<u32> {
     digits.parse::<u32>().map_err(|_| wrong())
+}
+
+/// The number of a slot or of a subslot.
+pub(crate) fn place(digits: &str) -> io::Result<u16> {
+    u16::try_from(number(digits)?).map_err(|_| wrong())
 }
 
 /// The octets of hex digits, of which the first 1,519 count.
@@ -21,8 +31,9 @@ pub(crate) fn bytes(alloc: Global, digits: &str) -> io::Result<Bytes> {
         return Err(wrong());
     };
     let mut bytes = Bytes::new();
-    let most = octets.len().min(1519);
-    let _ = bytes.try_extend_from_slice(&octets.as_slice()[..most]);
+    for octet in octets.iter().take(1519) {
+        let _is_full = bytes.try_push(*octet).is_err();
+    }
     Ok(bytes)
 }
 
