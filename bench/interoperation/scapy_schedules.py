@@ -25,13 +25,12 @@ if __name__ == "__main__":
 import scapy_exchange as exchange
 import scapy_relation as relation
 import scapy_station as station
-from scapy_calls import BIG, DEVICE, same
+from scapy_calls import DEVICE
 from scapy_exchange import ACK, AGAIN, DATA, ERR, HOLD, NACK, NONE_SENT, NONE_TAKEN, following, inputs, pdu
-from scapy_relation import ACTIVITY, ENDS
-from scapy_station import RECORDS, RESEND, Script, Talk, addressed, answered, bent_answers, identified, padded, response
+from scapy_station import (
+    RECORDS, RESEND, Script, Talk, addressed, answered, bent_answers, identified, once, padded, ready_answer, release, response, the_ready)
 from scapy.compat import raw
 from scapy.contrib.pnio_rpc import Block
-from scapy.layers.l2 import Ether
 from scapy.packet import Raw
 
 SEED, COUNT, STEPS = 14, 300, 60
@@ -39,6 +38,19 @@ SUITE = bytes((192, 168, 0, 2, 255, 255, 255, 0, 0, 0, 0, 0))
 CALLS = station.requests()
 STATES = ["writing"] * len(RECORDS) + ["ending"]
 IN_CALLS = ("connecting", "writing", "ending")
+STRANGE = Raw(raw(exchange.cyclic(DEVICE, [Raw(bytes(40))], 7, frame_id=0xC002)))
+
+
+@once
+def differs():
+    """The answer to a Connect in which modules differ."""
+    return response(CALLS[0], station.connected() + [Block(block_type=0x8104, load=relation.DIFFERENCE)])
+
+
+@once
+def refusal(asked, status):
+    """A response without blocks."""
+    return response(Raw(asked), [], status=status)
 
 
 class Walk:
@@ -86,7 +98,7 @@ class Walk:
 
     def ready(self):
         """ApplicationReady, at whatever time."""
-        ready, state = relation.the_ready(), self.expected.state
+        ready, state = the_ready(), self.expected.state
         if state not in ("ending", "waiting", "exchanging"):
             return self.talk.drops(ready)
         if state != "exchanging":
@@ -94,7 +106,7 @@ class Walk:
             self.expected.state, self.expected.asked, self.expected.hold = "exchanging", None, HOLD
         else:
             self.count("ready again")
-        return self.talk.frame(ready, [padded(relation.ready_answer(Ether(raw(ready)), BIG))])
+        return self.talk.frame(ready, [ready_answer()])
 
     def refused(self):
         """The station refuses, is another one, or ends."""
@@ -106,22 +118,21 @@ class Walk:
             self.expected.over(2)
             return self.talk.drops(rng.choice([addressed(error=3), addressed(kind=5)]))
         if state == "connecting" and rng.random() < 0.5:
-            self.release = relation.control(ACTIVITY, 1, ENDS, BIG)
+            self.release = release(1)
             self.expected.over(3)
-            answer = response(CALLS[0], station.connected() + [Block(block_type=0x8104, load=relation.DIFFERENCE)])
-            return self.talk.answer(answer, self.release, "ended 3")
+            return self.talk.answer(differs(), self.release, "ended 3")
         if state in IN_CALLS and rng.random() < 0.5:
             asked = self.standing()
             self.expected.over(2)
-            return self.talk.drops(response(asked, [], status=rng.choice([0xDB814004, 1, 0x01000000])))
+            return self.talk.drops(refusal(raw(asked), rng.choice([0xDB814004, 1, 0x01000000])))
         if self.expected.link:
             self.expected.over(5)
         return self.talk.drops(pdu(DEVICE, ERR, self.sent, NONE_TAKEN, Raw(b"\xCF\x81\xFD\x0D")))
 
     def noise(self):
         """What does not belong there."""
-        choices = [identified(xid=7), identified(name=b"pump-2"), addressed(xid=9), relation.the_ready(relation.OTHER_AR), CALLS[0],
-                   relation.the_ready(session=3), exchange.cyclic(DEVICE, [Raw(bytes(40))], 7, frame_id=0xC002)]
+        choices = [identified(xid=7), identified(name=b"pump-2"), addressed(xid=9), the_ready(relation.OTHER_AR), CALLS[0],
+                   the_ready(session=3), STRANGE]
         choices += self.rng.sample(bent_answers(self.standing())[:6], 2)
         if self.expected.state != "looking":
             choices.append(identified())
@@ -164,7 +175,7 @@ class Walk:
         number = len(RECORDS) + 2 if self.number else 1
         self.expected.asked = None
         self.count("a Release is answered")
-        return self.talk.drops(response(self.release, [], status=self.rng.choice((0, 0xDC814005))))
+        return self.talk.drops(refusal(raw(self.release), self.rng.choice((0, 0xDC814005))))
 
     # ---- time and the application
 
@@ -200,7 +211,7 @@ class Walk:
         if state in ("looking", "addressing"):
             return self.talk.stop()
         number = {"connecting": 1, "writing": self.number + 1}.get(state, len(RECORDS) + 2)
-        self.release = relation.control(ACTIVITY, number, ENDS, BIG)
+        self.release = release(number)
         return self.talk.stop(self.expected.ask(self.release, "ended 7"))
 
     def step(self):

@@ -72,6 +72,14 @@ def padded(packet):
     return octets + bytes(max(0, 60 - len(octets)))
 
 
+def once(build):
+    """A builder that has Scapy build the packet of the same words once."""
+    @functools.lru_cache(maxsize=None)
+    def built(*words, **named):
+        return Raw(padded(build(*words, **named)))
+    return built
+
+
 class Script:
     """What is said to the controller, and what it has to print for that."""
 
@@ -90,21 +98,30 @@ class Script:
 
 # ---- what the controller has to ask, as Scapy builds it
 
+@once
 def identify():
     return exchange.identify(1, option=2, sub_option=2, dcp_block_length=6, dcp_data_length=10, name_of_station="pump-1")
 
 
+@once
 def address():
     return Ether(dst=DEVICE, src=TOOL) / ProfinetIO(frameID=0xFEFD) / ProfinetDCP(
         service_id=4, service_type=0, xid=2, option=1, sub_option=2, dcp_block_length=14, dcp_data_length=18, block_qualifier=0,
         ip=DEVICE_IP, netmask="255.255.255.0", gateway="0.0.0.0")
 
 
+@functools.lru_cache(maxsize=None)
 def requests():
     """The calls of the start-up, in order."""
     writes = [relation.write(ACTIVITY, number + 1, octets, BIG, index=index, slot=slot)
               for number, (slot, index, octets) in enumerate(RECORDS)]
-    return [relation.connect(ACTIVITY, 0, BIG), *writes, relation.control(ACTIVITY, len(RECORDS) + 1, PRM_END, BIG)]
+    calls_in_order = [relation.connect(ACTIVITY, 0, BIG), *writes, relation.control(ACTIVITY, len(RECORDS) + 1, PRM_END, BIG)]
+    return [Raw(padded(call)) for call in calls_in_order]
+
+
+@once
+def release(sequence):
+    return relation.control(ACTIVITY, sequence, ENDS, BIG)
 
 
 # ---- what the station answers
@@ -120,12 +137,14 @@ def dcp_answer(frame_id, service, xid, blocks, kind=1):
     return Ether(dst=TOOL, src=DEVICE) / ProfinetIO(frameID=frame_id) / Raw(octets + blocks)
 
 
+@once
 def identified(xid=1, name=NAME, vendor=0x0123, device=0x0456, suite=bytes(12)):
     blocks = block(2, 1, b"\0\0other-maker") + block(2, 2, b"\0\0" + name)
     blocks += block(2, 3, b"\0\0" + vendor.to_bytes(2, "big") + device.to_bytes(2, "big")) + block(2, 4, b"\0\0\1\0")
     return dcp_answer(0xFEFF, 5, xid, blocks + block(1, 2, b"\0\1" + suite))
 
 
+@once
 def addressed(xid=2, error=0, kind=1):
     return dcp_answer(0xFEFD, 4, xid, block(5, 4, bytes((1, 2, error))), kind)
 
@@ -149,11 +168,15 @@ def connected():
 
 def answered(asked, endian=BIG):
     """The positive answer to each call of a start-up."""
-    return answered_once(raw(asked), endian).copy()
+    return answered_once(raw(asked), endian)
 
 
-@functools.lru_cache(maxsize=None)
+@once
 def answered_once(asked, endian):
+    return answer_to(asked, endian)
+
+
+def answer_to(asked, endian=BIG):
     first = Ether(asked)[PNIOServiceReqPDU].blocks[0]
     kind = first.block_type
     if kind == 0x0101:
@@ -164,6 +187,14 @@ def answered_once(asked, endian):
     else:
         blocks = [IODControlRes(block_type=kind + 0x8000, ARUUID=first.ARUUID, SessionKey=first.SessionKey)]
     return response(asked, blocks, endian=endian)
+
+
+the_ready = once(relation.the_ready)
+
+
+@functools.lru_cache(maxsize=None)
+def ready_answer():
+    return padded(relation.ready_answer(Ether(raw(relation.the_ready())), BIG))
 
 
 # ---- what the controller has to do
@@ -227,6 +258,34 @@ class Expected:
                 due.append(self.asked)
         if self.link and self.since % INTERVAL == 0:
             due.append(outputs_at(self.value, self.is_good, self.units))
+        return due
+
+    def quiet(self, most):
+        """How many units bring nothing but their own count."""
+        ahead = [most] if self.asked is None else [RESEND - self.waited - 1, most]
+        if self.link:
+            ahead.append(INTERVAL - self.since % INTERVAL - 1)
+            ahead += [] if self.hold is None else [self.hold - 1]
+            ahead += [] if self.ack_since is None else [AGAIN - self.ack_since - 1]
+        return min(ahead)
+
+    def wait(self, units):
+        """So many units that bring nothing."""
+        self.units = (self.units + units) % 65536
+        self.waited += 0 if self.asked is None else units
+        if self.link:
+            self.since += units
+            self.hold = None if self.hold is None else self.hold - units
+            self.ack_since = None if self.ack_since is None else self.ack_since + units
+
+    def ticks(self, units):
+        """So many units."""
+        due = []
+        while units > 0:
+            ahead = self.quiet(units - 1)
+            self.wait(ahead)
+            due += self.tick()
+            units -= ahead + 1
         return due
 
     def hear_cyclic(self, octets):
@@ -299,7 +358,7 @@ class Talk:
         return self.step(f"frame {octets.hex()}", list(wanted))
 
     def tick(self, units):
-        return self.step(f"tick {units}", [octets for _ in range(units) for octets in self.expected.tick()])
+        return self.step(f"tick {units}", self.expected.ticks(units))
 
     def give(self, slot, subslot, value):
         self.expected.give(slot, subslot, value)
@@ -324,9 +383,9 @@ class Talk:
 
 @functools.lru_cache(maxsize=None)
 def is_read(octets):
-    """Asserts that Scapy reads a frame and that lengths and checksums are those that it computes."""
-    packet = Ether(octets)
-    if IP in packet:
+    """Asserts that Scapy reads a call and that lengths and checksums are those that it computes."""
+    if octets[12:14] == b"\x08\0":
+        packet = Ether(octets)
         same("lengths and checksums as Scapy computes them", octets, calls.recomputed(packet))
         same("the port", packet[UDP].dport if packet[DceRpc4].ptype == 0 else calls.PORT, calls.PORT)
 
@@ -338,9 +397,8 @@ def bent_answers(asked):
 
 @functools.lru_cache(maxsize=None)
 def bent_once(asked):
-    good = answered(asked)
+    good, other_station, other_address, other_port = (answer_to(asked) for _ in range(4))
     number = Ether(asked)[DceRpc4].seqnum
-    other_station, other_address, other_port = (answered(asked) for _ in range(3))
     other_station[Ether].dst = "02:00:00:00:00:03"
     other_address[IP].dst = "192.168.0.9"
     other_port[UDP].dport = 34965
@@ -367,7 +425,7 @@ def started(talk, with_noise=True):
         if with_noise:
             talk.drops(*bent_answers(asked))
             if number == 0:
-                talk.drops(response(asked, connected()[1:]), inputs(b"\1\2", 1), relation.the_ready())
+                talk.drops(response(asked, connected()[1:]), inputs(b"\1\2", 1), the_ready())
         if number + 1 < len(calls_in_order):
             if number == 0:
                 talk.expected.link = True
@@ -378,17 +436,16 @@ def started(talk, with_noise=True):
     if with_noise:
         talk.tick(RESEND)
         talk.answer(answered(calls_in_order[-1], 1), None, "waiting")
-        talk.drops(answered(calls_in_order[-1]), relation.the_ready(relation.OTHER_AR), relation.the_ready(session=2))
+        talk.drops(answered(calls_in_order[-1]), the_ready(relation.OTHER_AR), the_ready(session=2))
         talk.give(2, 1, b"\1\2\3")
         talk.give(1, 1, b"\1\2")
         talk.tick(40)
-    ready = relation.the_ready()
     talk.expected.state, talk.expected.asked, talk.expected.hold = "exchanging", None, HOLD
-    answer = padded(relation.ready_answer(Ether(raw(ready)), BIG))
-    talk.frame(ready, [answer])
+    answer = ready_answer()
+    talk.frame(the_ready(), [answer])
     if with_noise:
         talk.tick(7)
-        talk.frame(ready, [answer])
+        talk.frame(the_ready(), [answer])
         talk.drops(identified(), addressed(), answered(calls_in_order[-1]))
     return answer
 
@@ -486,7 +543,7 @@ def kept_up(talk, seed):
     talk.tick(1)
     talk.shows("ended 4")
     talk.show()
-    talk.drops(identified(), addressed(), inputs(b"\1\2", 5), relation.the_ready(), pdu(DEVICE, DATA, 0, 0, b""))
+    talk.drops(identified(), addressed(), inputs(b"\1\2", 5), the_ready(), pdu(DEVICE, DATA, 0, 0, b""))
     talk.stop()
     talk.tick(RESEND + 1)
     return run
@@ -494,11 +551,10 @@ def kept_up(talk, seed):
 
 def again_as_release(talk, sequence, cause):
     """The Release is sent again each second until it is answered, whatever the answer says."""
-    release = relation.control(ACTIVITY, sequence, ENDS, BIG)
     talk.tick(RESEND)
-    talk.drops(response(release, [], sequence=sequence + 1))
+    talk.drops(response(release(sequence), [], sequence=sequence + 1))
     talk.expected.asked = None
-    talk.drops(response(release, [], status=0xDC814005))
+    talk.drops(response(release(sequence), [], status=0xDC814005))
     talk.tick(RESEND)
     talk.shows(f"ended {cause}")
 
@@ -523,10 +579,9 @@ def endings(script):
     talk.drops(response(connect, [], status=0xDB814004))
     talk = Talk(script)
     talk.answer(identified(suite=suite), connect, "connecting")
-    release = relation.control(ACTIVITY, 1, ENDS, BIG)
     talk.expected.over(3)
     differs = Block(block_type=0x8104, load=relation.DIFFERENCE)
-    talk.answer(response(connect, connected() + [differs]), release, "ended 3")
+    talk.answer(response(connect, connected() + [differs]), release(1), "ended 3")
     again_as_release(talk, 1, 3)
     talk = Talk(script)
     started(talk, False)
@@ -551,7 +606,7 @@ def endings(script):
             talk.answer(identified(suite=suite), connect, "connecting")
         sequence = len(RECORDS) + 2 if begun else 1
         talk.expected.over(7)
-        talk.stop(talk.expected.ask(relation.control(ACTIVITY, sequence, ENDS, BIG), "ended 7"))
+        talk.stop(talk.expected.ask(release(sequence), "ended 7"))
         again_as_release(talk, sequence, 7)
     for answers in ([], [identified()]):
         talk = Talk(script)
