@@ -3,10 +3,13 @@
 silent as a seed says, among frames that do not belong there, and with an application that gives outputs and may stop it. What the
 controller has to do is reckoned as in bench/interoperation/scapy_station.py.
 
+    bench/interoperation/scapy_schedules.py [SEED [COUNT]]                asks the program, which `rt run` in crates/table_controller
+                                                                          makes, judges what it prints, and counts what was reached;
+                                                                          status 1 where a line differs
+    bench/interoperation/scapy_schedules.py --tried FILE [SEED [COUNT]]   asks this program in its place
+    bench/interoperation/scapy_schedules.py --output FILE [SEED [COUNT]]  judges what was printed somewhere else
     bench/interoperation/scapy_schedules.py --script [SEED [COUNT]]       prints all lines for table_controller
     bench/interoperation/scapy_schedules.py --wanted [SEED [COUNT]]       prints what the controller has to print for them
-    bench/interoperation/scapy_schedules.py --output FILE [SEED [COUNT]]  judges what was printed for them, and counts what was reached;
-                                                                          status 1 where one thing differs
 
 Needs Scapy (Debian: apt-get install python3-scapy; 2.5.0 was used).
 """
@@ -26,9 +29,9 @@ import scapy_exchange as exchange
 import scapy_relation as relation
 import scapy_station as station
 from scapy_calls import DEVICE
-from scapy_exchange import ACK, AGAIN, DATA, ERR, HOLD, NACK, NONE_SENT, NONE_TAKEN, following, inputs, pdu
+from scapy_exchange import ACK, AGAIN, DATA, ERR, NACK, NONE_SENT, NONE_TAKEN, following, inputs, pdu
 from scapy_station import (
-    RECORDS, RESEND, Script, Talk, addressed, answered, bent_answers, identified, once, padded, ready_answer, release, response, the_ready)
+    RECORDS, RESEND, Plan, Script, Talk, addressed, answered, bent_answers, identified, once, padded, ready_answer, release, response, the_ready)
 from scapy.compat import raw
 from scapy.contrib.pnio_rpc import Block
 from scapy.packet import Raw
@@ -36,7 +39,8 @@ from scapy.packet import Raw
 SEED, COUNT, STEPS = 14, 300, 60
 SUITE = bytes((192, 168, 0, 2, 255, 255, 255, 0, 0, 0, 0, 0))
 CALLS = station.requests()
-STATES = ["writing"] * len(RECORDS) + ["ending"]
+# Plans of short and of long intervals, and of no record, one and two.
+PLANS = [Plan(*times, RECORDS[:count]) for times in ((32, 1, 3), (128, 8, 16)) for count in range(len(RECORDS) + 1)]
 IN_CALLS = ("connecting", "writing", "ending")
 STRANGE = Raw(raw(exchange.cyclic(DEVICE, [Raw(bytes(40))], 7, frame_id=0xC002)))
 
@@ -57,7 +61,8 @@ class Walk:
     """One schedule."""
 
     def __init__(self, script, rng, reached):
-        self.talk, self.rng, self.reached = Talk(script), rng, reached
+        self.plan, self.rng, self.reached = rng.choice(PLANS), rng, reached
+        self.talk, self.calls = Talk(script, self.plan), station.requests(self.plan)
         self.number, self.release, self.counter = 0, None, rng.randrange(65536)
         self.sent, self.specifier = NONE_SENT, 0
 
@@ -72,7 +77,7 @@ class Walk:
         """The call that stands."""
         if self.release is not None:
             return self.release
-        return CALLS[min(self.number, len(CALLS) - 1)]
+        return self.calls[min(self.number, len(self.calls) - 1)]
 
     # ---- what the station does
 
@@ -82,17 +87,19 @@ class Walk:
         if state == "looking":
             if rng.random() < 0.2:
                 self.count("address is there already")
-                return self.talk.answer(identified(suite=SUITE), CALLS[0], "connecting")
+                return self.talk.answer(identified(suite=SUITE), self.calls[0], "connecting")
             return self.talk.answer(identified(), station.address(), "addressing")
         if state == "addressing":
-            return self.talk.answer(addressed(), CALLS[0], "connecting")
+            return self.talk.answer(addressed(), self.calls[0], "connecting")
         if state in IN_CALLS:
-            asked = CALLS[self.number]
+            asked = self.calls[self.number]
+            self.count(f"{state}: answered")
             if self.number == 0:
                 self.expected.link = True
             self.number += 1
-            if self.number < len(CALLS):
-                return self.talk.answer(answered(asked, rng.randrange(2)), CALLS[self.number], STATES[self.number - 1])
+            if self.number < len(self.calls):
+                behind = "ending" if self.number > len(self.plan.records) else "writing"
+                return self.talk.answer(answered(asked, rng.randrange(2)), self.calls[self.number], behind)
             return self.talk.answer(answered(asked, rng.randrange(2)), None, "waiting")
         return self.ready()
 
@@ -103,7 +110,7 @@ class Walk:
             return self.talk.drops(ready)
         if state != "exchanging":
             self.count(f"ready in {state}")
-            self.expected.state, self.expected.asked, self.expected.hold = "exchanging", None, HOLD
+            self.expected.state, self.expected.asked, self.expected.hold = "exchanging", None, self.expected.most
         else:
             self.count("ready again")
         return self.talk.frame(ready, [ready_answer()])
@@ -165,14 +172,14 @@ class Walk:
         else:
             octets = padded(pdu(DEVICE, kind, 0, expected.sent if rng.random() < 0.7 else 17))
         wanted = expected.hear_alarm(octets)
-        self.count(f"{len(wanted)} frames for an alarm frame")
+        self.count({DATA: ("data is dropped", "data gets ACK again or NACK", "data gets ACK and AlarmAck"), ACK: ("an ACK comes",),
+                    NACK: ("a NACK comes",)}[kind][len(wanted)])
         self.talk.octets(octets, wanted)
 
     def again(self):
         """An answer to the Release."""
         if self.release is None or self.expected.asked is None:
             return self.noise()
-        number = len(RECORDS) + 2 if self.number else 1
         self.expected.asked = None
         self.count("a Release is answered")
         return self.talk.drops(refusal(raw(self.release), self.rng.choice((0, 0xDC814005))))
@@ -182,17 +189,16 @@ class Walk:
     def tick(self):
         rng, expected = self.rng, self.expected
         if expected.link and expected.hold is None:
-            units = rng.choice((1, 31, 32, 33, 100, 64, AGAIN))
+            units = rng.choice((1, expected.interval - 1, expected.interval, expected.interval + 1, 100, 64, AGAIN))
         elif expected.link:
-            units = rng.choice((1, 10, 32, 32, expected.hold - 1, 90)) or 1
+            units = min(rng.choice((1, 10, 32, expected.interval, expected.most, 90, AGAIN - 1, AGAIN, 4 * AGAIN)), expected.hold - 1) or 1
             if rng.random() < 0.03:
                 units = expected.hold
         else:
             units = rng.choice((1, 100, RESEND - 1, RESEND, RESEND - expected.waited or 1, RESEND + 1))
-        before, state = expected.asked and expected.waited, expected.state
-        if expected.link and expected.ack_since is not None and expected.ack_since + units >= AGAIN:
-            self.count("an AlarmAck is sent again")
+        before, state, repeats = expected.asked and expected.waited, expected.state, expected.repeats
         self.talk.tick(units)
+        self.reached["an AlarmAck is sent again"] += expected.repeats - repeats
         if before is not None and expected.asked is not None and not expected.link and before + units >= RESEND:
             self.count("a request is sent again")
         if state != expected.state:
@@ -201,6 +207,7 @@ class Walk:
     def give(self):
         slot, subslot, size = self.rng.choice(((2, 1, 2), (2, 1, 2), (2, 1, 3), (1, 1, 2), (9, 1, 2), (2, 2, 2)))
         self.talk.give(slot, subslot, self.rng.randbytes(size))
+        self.count("an output is given" if (slot, subslot, size) == (2, 1, 2) else "what is given has no such place")
 
     def stop(self):
         state = self.expected.state
@@ -210,7 +217,7 @@ class Walk:
         self.expected.over(7)
         if state in ("looking", "addressing"):
             return self.talk.stop()
-        number = {"connecting": 1, "writing": self.number + 1}.get(state, len(RECORDS) + 2)
+        number = {"connecting": 1, "writing": self.number + 1}.get(state, len(self.plan.records) + 2)
         self.release = release(number)
         return self.talk.stop(self.expected.ask(self.release, "ended 7"))
 
@@ -234,24 +241,17 @@ class Walk:
 
 
 def main(words):
-    flags = [word for word in words if word in ("--script", "--wanted", "--output")]
-    rest = [word for word in words if word not in flags]
-    output = rest.pop(0) if flags == ["--output"] and rest else None
-    if len(flags) != 1 or (flags == ["--output"]) != (output is not None) or len(rest) > 2 or not all(word.isdigit() for word in rest):
+    asked = station.words_of(words, 2)
+    if asked is None:
         return refuse(words)
-    seed, count = int(rest[0]) if rest else SEED, int(rest[1]) if len(rest) > 1 else COUNT
+    flag, what, numbers = asked
+    seed, count = (numbers + [SEED, COUNT][len(numbers):])
     script, rng, reached = Script(), random.Random(seed), collections.Counter()
     for _ in range(count):
         Walk(script, rng, reached).run()
-    if flags != ["--output"]:
-        print("\n".join(script.said if flags == ["--script"] else script.wanted))
-        return 0
-    with open(output, encoding="ascii") as file:
-        station.judged(script.wanted, file.read().splitlines())
-    for what, times in sorted(reached.items()):
-        print(f"{times:6} {what}")
-    print(f"{count} schedules, {len(script.said)} lines, {script.frames} frames of the controller as Scapy builds them")
-    return 0
+    lines = [f"{times:6} {kind}" for kind, times in sorted(reached.items())]
+    lines.append(f"{count} schedules, {len(script.said)} lines, {script.frames} frames of the controller as Scapy builds them")
+    return station.done(script, flag, what, "\n".join(lines))
 
 
 if __name__ == "__main__":

@@ -8,17 +8,22 @@ loses, repeats and reorders the frames of both ends as a seed says. What the con
 has to show, is reckoned here by the rules of IEC 61158-6-10; each frame is compared octet by octet with the one that Scapy builds. In
 the end the station falls silent, and the controller ends the relation; another start-up ends at each refusal.
 
+    bench/interoperation/scapy_station.py [SEED]                asks the program, which `rt run` in crates/table_controller makes, judges
+                                                                what it prints, and says what was asserted; status 1 where a line differs
+    bench/interoperation/scapy_station.py --tried FILE [SEED]   asks this program in its place
+    bench/interoperation/scapy_station.py --output FILE [SEED]  judges what was printed somewhere else
     bench/interoperation/scapy_station.py --script [SEED]       prints all lines, as crates/table_controller/stdin has them
     bench/interoperation/scapy_station.py --wanted [SEED]       prints what the controller has to print for them, as stdout there has it
-    bench/interoperation/scapy_station.py --output FILE [SEED]  judges what was printed for them, and says what was asserted; status 1
-                                                                where one thing differs
 
 Needs Scapy (Debian: apt-get install python3-scapy; 2.5.0 was used).
 """
 
+import collections
 import functools
+import json
 import os
 import random
+import subprocess
 import sys
 
 sys.path.insert(0, os.path.join(os.path.dirname(os.path.realpath(__file__)), "..", "gate"))
@@ -46,11 +51,16 @@ from scapy.layers.inet import IP, UDP
 from scapy.layers.l2 import Ether
 from scapy.packet import Raw
 
+PROGRAM = os.path.join(relation.TOP, "crates", "table_controller", "out", "table_controller")
 SEED = 14
 INTERVALS = 1000
 RESEND = 32_000
 NAME = b"pump-1"
-RECORDS = [(1, 0x20, bytes.fromhex("0102030405")), (2, 0x21, b"\xaa")]
+RECORDS = ((1, 0x20, bytes.fromhex("0102030405")), (2, 0x21, b"\xaa"))
+
+# What differs from plan to plan: SendClockFactor, ReductionRatio and DataHoldFactor, and which records are written.
+Plan = collections.namedtuple("Plan", ("clock", "ratio", "hold", "records"))
+PLAN = Plan(32, 1, 3, RECORDS)
 CATALOGUE = (
     '{"DeviceIdentity":{"VendorID":291,"DeviceID":1110},"DeviceAccessPointItem":{"ModuleIdentNumber":1,"PhysicalSlots":[0,1,2,3],'
     '"DNS_CompatibleName":"pn-demo","MinDeviceInterval":32,"VirtualSubmoduleItem":[{"Subslot":1,"SubmoduleIdentNumber":1},'
@@ -64,6 +74,15 @@ CATALOGUE = (
     '"IPAddress":"192.168.0.1"},"SendClockFactor":32,"ReductionRatio":1,"DataHoldFactor":3,"Slots":[{"Slot":1,'
     '"ModuleItemTarget":"IN2","Records":[{"Subslot":1,"Index":32,"Data":"0102030405"}]},{"Slot":2,"ModuleItemTarget":"OUT2",'
     '"Records":[{"Subslot":1,"Index":33,"Data":"aa"}]}]}}')
+
+
+def catalogue(plan):
+    """The catalogue of a plan."""
+    whole = json.loads(CATALOGUE)
+    whole["Project"].update(SendClockFactor=plan.clock, ReductionRatio=plan.ratio, DataHoldFactor=plan.hold)
+    for place in whole["Project"]["Slots"]:
+        place["Records"] = [{"Subslot": 1, "Index": index, "Data": octets.hex()} for slot, index, octets in plan.records if slot == place["Slot"]]
+    return json.dumps(whole, separators=(",", ":"))
 
 
 def padded(packet):
@@ -111,11 +130,14 @@ def address():
 
 
 @functools.lru_cache(maxsize=None)
-def requests():
+def requests(plan=PLAN):
     """The calls of the start-up, in order."""
+    connect = relation.connect(ACTIVITY, 0, BIG)
+    for iocr in connect[PNIOServiceReqPDU].blocks[1:3]:
+        iocr.SendClockFactor, iocr.ReductionRatio, iocr.WatchdogFactor, iocr.DataHoldFactor = plan.clock, plan.ratio, plan.hold, plan.hold
     writes = [relation.write(ACTIVITY, number + 1, octets, BIG, index=index, slot=slot)
-              for number, (slot, index, octets) in enumerate(RECORDS)]
-    calls_in_order = [relation.connect(ACTIVITY, 0, BIG), *writes, relation.control(ACTIVITY, len(RECORDS) + 1, PRM_END, BIG)]
+              for number, (slot, index, octets) in enumerate(plan.records)]
+    calls_in_order = [connect, *writes, relation.control(ACTIVITY, len(plan.records) + 1, PRM_END, BIG)]
     return [Raw(padded(call)) for call in calls_in_order]
 
 
@@ -214,7 +236,8 @@ def outputs_at(value, is_good, counter):
 class Expected:
     """What a controller has to send, and to show, by what came to it and by time."""
 
-    def __init__(self):
+    def __init__(self, plan):
+        self.interval, self.most = plan.clock * plan.ratio, plan.clock * plan.ratio * plan.hold
         self.units, self.asked, self.waited, self.state = 0, padded(identify()), 0, "looking"
         self.link, self.since, self.hold, self.came, self.input = False, 0, None, None, bytes(2)
         self.value, self.is_good = bytes(2), False
@@ -256,7 +279,7 @@ class Expected:
             if self.waited == RESEND:
                 self.waited = 0
                 due.append(self.asked)
-        if self.link and self.since % INTERVAL == 0:
+        if self.link and self.since % self.interval == 0:
             due.append(outputs_at(self.value, self.is_good, self.units))
         return due
 
@@ -264,7 +287,7 @@ class Expected:
         """How many units bring nothing but their own count."""
         ahead = [most] if self.asked is None else [RESEND - self.waited - 1, most]
         if self.link:
-            ahead.append(INTERVAL - self.since % INTERVAL - 1)
+            ahead.append(self.interval - self.since % self.interval - 1)
             ahead += [] if self.hold is None else [self.hold - 1]
             ahead += [] if self.ack_since is None else [AGAIN - self.ack_since - 1]
         return min(ahead)
@@ -298,7 +321,7 @@ class Expected:
         if not status & 4 or transfer or not newer:
             return []
         self.came, self.input = counter, body[3:5] if body[5] == 0x80 else bytes(2)
-        self.hold = None if self.hold is None else HOLD
+        self.hold = None if self.hold is None else self.most
         return []
 
     def hear_alarm(self, octets):
@@ -334,9 +357,9 @@ class Expected:
 class Talk:
     """A conversation with one controller: each line, and what has to come of it."""
 
-    def __init__(self, script):
-        self.script, self.expected = script, Expected()
-        script.step(f"start {AR} {ACTIVITY} {CATALOGUE}", [self.expected.asked], "looking")
+    def __init__(self, script, plan=PLAN):
+        self.script, self.expected = script, Expected(plan)
+        script.step(f"start {AR} {ACTIVITY} {catalogue(plan)}", [self.expected.asked], "looking")
 
     def step(self, line, wanted):
         """A line, and the frames that have to be sent for it."""
@@ -624,29 +647,55 @@ def judged(wanted, printed):
     same("lines", len(printed), len(wanted))
 
 
+def words_of(words, most):
+    """The flag, what it takes, and at most so many numbers; or None."""
+    flag = words[0] if words and words[0] in ("--script", "--wanted", "--output", "--tried") else None
+    takes = flag in ("--output", "--tried")
+    rest = words[(flag is not None) + takes:]
+    if takes and len(words) < 2 or len(rest) > most or not all(word.isdigit() for word in rest):
+        return None
+    return flag, words[1] if takes else None, [int(word) for word in rest]
+
+
+def done(script, flag, what, says):
+    """Prints the lines, or judges what was printed for them, and says what was reached."""
+    if flag in ("--script", "--wanted"):
+        print("\n".join(script.said if flag == "--script" else script.wanted))
+        return 0
+    if flag == "--output":
+        with open(what, encoding="ascii") as file:
+            printed = file.read()
+    else:
+        program = what or PROGRAM
+        if not os.path.exists(program):
+            print(f"{os.path.basename(sys.argv[0])}: there is no program {program}: `rt run` in crates/table_controller makes it", file=sys.stderr)
+            return 1
+        text = ("\n".join(script.said) + "\n").encode()
+        printed = subprocess.run([program], input=text, stdout=subprocess.PIPE, check=True).stdout.decode()
+    try:
+        judged(script.wanted, printed.splitlines())
+    except AssertionError as differs:
+        print(f"differs: {differs}")
+        return 1
+    print(says)
+    return 0
+
+
 def main(words):
-    flags = [word for word in words if word in ("--script", "--wanted", "--output")]
-    rest = [word for word in words if word not in flags]
-    output = rest.pop(0) if flags == ["--output"] and rest else None
-    if len(flags) != 1 or (flags == ["--output"]) != (output is not None) or len(rest) > 1 or not all(word.isdigit() for word in rest):
+    asked = words_of(words, 1)
+    if asked is None:
         return refuse(words)
-    script, seed = Script(), int(rest[0]) if rest else SEED
+    flag, what, numbers = asked
+    script = Script()
     talk = Talk(script)
     started(talk)
-    run = kept_up(talk, seed)
+    run = kept_up(talk, *numbers or [SEED])
     endings(script)
-    if flags == ["--script"]:
-        print("\n".join(script.said))
-        return 0
-    if flags == ["--wanted"]:
-        print("\n".join(script.wanted))
-        return 0
-    with open(output, encoding="ascii") as file:
-        judged(script.wanted, file.read().splitlines())
-    print(f"{len(script.said)} lines, {script.frames} frames of the controller as Scapy builds them, {run.frames} frames handed to it in"
-          f" {INTERVALS} intervals, {run.raised} alarms raised, {run.network.counts['lost']} frames lost,"
-          f" {run.network.counts['repeated']} repeated, {run.network.counts['later']} late, {calls.asserted} values asserted")
-    return 0
+    counts = run.network.counts
+    return done(script, flag, what,
+                f"{len(script.said)} lines, {script.frames} frames of the controller as Scapy builds them, {run.frames} frames handed to it"
+                f" in {INTERVALS} intervals, {run.raised} alarms raised, {counts['lost']} frames lost, {counts['repeated']} repeated,"
+                f" {counts['later']} late, {calls.asserted} values asserted")
 
 
 if __name__ == "__main__":

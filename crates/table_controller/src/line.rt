@@ -83,11 +83,17 @@ fn put_step(
     outbox: &mut Outbox,
     text: &mut String,
 ) -> Result<(), AllocError> {
-    controller.step(event, outbox);
+    turn(controller, event, outbox);
     for frame in outbox.as_slice() {
         put_frame(alloc, frame.as_slice(), text)?;
     }
     Ok(())
+}
+
+/// One step. It is no part of its caller, so that its instructions are counted by themselves (`bench/figures/controller.py`).
+#[inline(never)]
+fn turn(controller: &mut Controller, event: &Event, outbox: &mut Outbox) {
+    controller.step(event, outbox);
 }
 
 /// Units pass.
