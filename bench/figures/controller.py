@@ -51,8 +51,8 @@ def octets_of(text):
 
 def catalogue(octets, timing):
     """An access point, an input and an output, each of whose frames has so many octets of data and statuses."""
-    part = {"DataType": "OctetString", "Length": octets - 4}
-    used = [(1, "IN", 16, {"Input": [{**part, "Length": octets - 3}]}), (2, "OUT", 32, {"Output": [part]})]
+    part = {"DataType": "OctetString", "Length": octets - 3}
+    used = [(1, "IN", 16, {"Input": [part]}), (2, "OUT", 32, {"Output": [part]})]
     point = {"ModuleIdentNumber": 1, "PhysicalSlots": [0, 1, 2], "DNS_CompatibleName": "pn-demo", "MinDeviceInterval": 1,
              "VirtualSubmoduleItem": [{"Subslot": 1, "SubmoduleIdentNumber": 1}],
              "ModuleItemRef": [{"ModuleItemTarget": name, "AllowedInSlots": [slot]} for slot, name, _, _ in used]}
@@ -72,7 +72,7 @@ def with_project(whole, timing, slots):
 
 def demo():
     """The catalogue of the demo station, with two octets of input and two of output at an interval of 1 ms."""
-    data = {"Unsigned16": [{"DataType": "Unsigned16"}]}["Unsigned16"]
+    data = [{"DataType": "Unsigned16"}]
     used = [(1, "IN2", 16, {"Input": data}), (2, "OUT2", 32, {"Output": data})]
     point = {"ModuleIdentNumber": 1, "PhysicalSlots": [0, 1, 2, 3], "DNS_CompatibleName": "pn-demo", "MinDeviceInterval": 32,
              "VirtualSubmoduleItem": [{"Subslot": subslot, "SubmoduleIdentNumber": ident}
@@ -136,14 +136,14 @@ def started(text):
 
 
 def given(octets):
-    return f"give 2 1 {bytes(1 + place % 251 for place in range(octets - 4)).hex()}\n"
+    return f"give 2 1 {bytes(1 + place % 251 for place in range(octets - 3)).hex()}\n"
 
 
 def cyclic(octets):
     """Gives the cyclic frame of each number."""
     def line(number):
         value = bytes((number + place) % 256 for place in range(octets - 3))
-        data = b"\x80" + value[:-1] + b"\x80\x80" + struct.pack(">HBB", (32 * number + 32) % 65536, 0x35, 0)
+        data = b"\x80" + value + b"\x80\x80" + struct.pack(">HBB", (32 * number + 32) % 65536, 0x35, 0)
         return frame(calls.TOOL + calls.DEVICE + CYCLIC + data)
     return line
 

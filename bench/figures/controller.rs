@@ -83,12 +83,8 @@ enum State {
     Ended(u8),
 }
 
-/// What stands until it is answered.
-#[derive(Clone, Copy, PartialEq, Eq)]
-enum Request {
-    PrmEnd,
-    Release,
-}
+/// The request that stands until it is answered.
+struct Release;
 
 /// With whom, and under which numbers.
 struct Route {
@@ -116,7 +112,7 @@ struct Acknowledged {
 
 struct Controller {
     state: State,
-    asked: Option<Request>,
+    asked: Option<Release>,
     waited: u32,
     units: u16,
     stands: bool,
@@ -251,7 +247,7 @@ impl Controller {
     fn stop(&mut self) {
         self.state = State::Ended(7);
         self.stands = false;
-        self.asked = Some(Request::Release);
+        self.asked = Some(Release);
     }
 
     fn header(&self, kind: u8, flags: u8, len: u16) -> [u8; 12] {
@@ -273,7 +269,7 @@ impl Controller {
     }
 
     fn give(&mut self, slot: u16, subslot: u16, value: &[u8]) {
-        let size = self.data_length - 4;
+        let size = self.data_length - 3;
         if self.stands && (slot, subslot) == (2, 1) && value.len() == size {
             self.outputs[..size].copy_from_slice(value);
             self.outputs[size] = 0x80;
