@@ -179,7 +179,7 @@ def front(kind):
 def body(kind, count):
     """The lines of the exchange."""
     _, line, _, _, octets, _ = KINDS[kind]
-    return given(octets) + "".join(line(number) for number in range(count))
+    return given(octets) + "".join(line(number) for number in range(count)) + "value 1 1\n"
 
 
 def words(kind):

@@ -276,6 +276,13 @@ impl Controller {
         }
     }
 
+    /// The input in slot 1.
+    fn value(&self) -> Vec<u8> {
+        let size = self.data_length - 3;
+        let is_good = self.inputs[1 + size] == 0x80;
+        if is_good { self.inputs[1..1 + size].to_vec() } else { vec![0; size] }
+    }
+
     fn hear(&mut self, octets: &[u8], outbox: &mut Outbox) {
         if octets.len() < 14 {
             return;
@@ -379,6 +386,14 @@ fn octets_of(hex: &str) -> Option<Bytes> {
     Some(bytes)
 }
 
+fn put_line(printed: &mut Vec<u8>, word: &str, octets: &[u8]) -> io::Result<()> {
+    write!(printed, "{word} ")?;
+    for octet in octets {
+        write!(printed, "{octet:02x}")?;
+    }
+    writeln!(printed)
+}
+
 fn event_of(line: &str) -> Option<(u32, Event)> {
     let words: Vec<&str> = line.split(' ').collect();
     match words.as_slice() {
@@ -398,15 +413,16 @@ fn main() -> io::Result<()> {
     controller.begin();
     let mut outbox = Outbox { frames: [const { Octets::new() }; 4], len: 0 };
     let mut printed = Vec::new();
-    for (times, event) in text.lines().filter_map(event_of) {
+    for line in text.lines() {
+        if line == "value 1 1" {
+            put_line(&mut printed, "value", &controller.value())?;
+            continue;
+        }
+        let Some((times, event)) = event_of(line) else { continue };
         for _ in 0..times {
             turn(&mut controller, &event, &mut outbox);
             for frame in &outbox.frames[..outbox.len] {
-                write!(printed, "out ")?;
-                for octet in frame.as_slice() {
-                    write!(printed, "{octet:02x}")?;
-                }
-                writeln!(printed)?;
+                put_line(&mut printed, "out", frame.as_slice())?;
             }
         }
         match controller.state {

@@ -51,6 +51,9 @@ from scapy.layers.inet import IP, UDP
 from scapy.layers.l2 import Ether
 from scapy.packet import Raw
 
+# Octets behind the data of an answer to the Set, and behind that of an ERR, that only fill the frame up, or the last block.
+ADDRESSED_PADDING, ERR_PADDING = 60 - 14 - 2 - 10 - 7, 24
+
 PROGRAM = os.path.join(relation.TOP, "crates", "table_controller", "out", "table_controller")
 SEED = 14
 INTERVALS = 1000
@@ -396,8 +399,19 @@ class Talk:
     def show(self):
         """The input and the last alarm."""
         self.script.ask("value 1 1", f"value {self.expected.input.hex()}")
-        self.script.ask("value 2 1", "value -")
-        self.script.ask("alarm", self.expected.alarm or "alarm -")
+        self.script.ask("alarm", self.expected.alarm or "alarm none")
+
+    def show_places(self):
+        """That there is an input without octets, that an output is none, and the ARUUID."""
+        for line, answer in (("value 0 1", "-"), ("value 0 32769", "-"), ("value 2 1", "none"), ("value 1 2", "none"), ("value 9 1", "none")):
+            self.script.ask(line, f"value {answer}")
+        self.script.ask("ar", f"ar {AR.hex}")
+
+    def cut(self, packet, padding=0):
+        """Each shorter form of a frame that is wanted now, up to what is padding: none of them says anything."""
+        octets = raw(packet)
+        for size in range(1, len(octets) - padding):
+            self.octets(octets[:size], [])
 
     def answer(self, packet, request, state):
         """An answer by which the controller asks something else, or nothing."""
@@ -435,11 +449,14 @@ def started(talk, with_noise=True):
     """From looking for the station to the exchange of data."""
     calls_in_order = requests()
     if with_noise:
+        talk.show_places()
         talk.tick(RESEND - 1)
         talk.tick(1)
+        talk.cut(identified())
         talk.drops(identified(xid=2), identified(name=b"pump-2"), addressed(), addressed(xid=1), calls_in_order[0], Raw(b"\0" * 13))
     talk.answer(identified(), address(), "addressing")
     if with_noise:
+        talk.cut(addressed(), ADDRESSED_PADDING)
         talk.drops(identified(), addressed(xid=3))
         talk.tick(RESEND)
     talk.answer(addressed(), calls_in_order[0], "connecting")
@@ -447,6 +464,7 @@ def started(talk, with_noise=True):
     for number, asked in enumerate(calls_in_order):
         if with_noise:
             talk.drops(*bent_answers(asked))
+            talk.cut(answered(asked, number % 2))
             if number == 0:
                 talk.drops(response(asked, connected()[1:]), inputs(b"\1\2", 1), the_ready())
         if number + 1 < len(calls_in_order):
@@ -462,6 +480,7 @@ def started(talk, with_noise=True):
         talk.drops(answered(calls_in_order[-1]), the_ready(relation.OTHER_AR), the_ready(session=2))
         talk.give(2, 1, b"\1\2\3")
         talk.give(1, 1, b"\1\2")
+        talk.cut(the_ready())
         talk.tick(40)
     talk.expected.state, talk.expected.asked, talk.expected.hold = "exchanging", None, HOLD
     answer = ready_answer()
@@ -470,6 +489,12 @@ def started(talk, with_noise=True):
         talk.tick(7)
         talk.frame(the_ready(), [answer])
         talk.drops(identified(), addressed(), answered(calls_in_order[-1]))
+        talk.cut(Raw(raw(inputs(b"\1\2", 1))))
+        alarm = pdu(DEVICE, DATA, NONE_SENT, NONE_TAKEN, exchange.notification(1, 16, 0, b"\1\2"))
+        talk.cut(Raw(raw(alarm)))
+        talk.cut(pdu(DEVICE, ERR, NONE_SENT, NONE_TAKEN, Raw(b"\xCF\x81\xFD\x0D")), ERR_PADDING)
+        talk.show()
+        talk.show_places()
     return answer
 
 

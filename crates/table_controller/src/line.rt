@@ -33,6 +33,7 @@ pub(crate) fn put_line(
     match word {
         "value" => return put_value(alloc, controller, rest, text),
         "alarm" => return Ok(put_alarm(alloc, controller, text)?),
+        "ar" => return Ok(put_ar(alloc, controller, text)?),
         "tick" => put_ticks(alloc, controller, number(rest)?, outbox, text)?,
         _ => put_step(alloc, controller, &event(alloc, word, rest)?, outbox, text)?,
     }
@@ -121,15 +122,22 @@ fn put_value(
     text.push_str("value ")?;
     match controller.value(place(slot)?, place(subslot)?) {
         Some(value) => put_hex(alloc, value, text)?,
-        None => text.push_str("-")?,
+        None => text.push_str("none")?,
     }
     Ok(text.push_str("\n")?)
+}
+
+/// Appends the line of the ARUUID.
+fn put_ar(alloc: Global, controller: &Controller, text: &mut String) -> Result<(), AllocError> {
+    text.push_str("ar ")?;
+    put_hex(alloc, controller.ar().as_bytes(), text)?;
+    text.push_str("\n")
 }
 
 /// Appends the line of the last alarm.
 fn put_alarm(alloc: Global, controller: &Controller, text: &mut String) -> Result<(), AllocError> {
     let Some(alarm) = controller.alarm() else {
-        return text.push_str("alarm -\n");
+        return text.push_str("alarm none\n");
     };
     text.push_str("alarm")?;
     for part in [

@@ -9,10 +9,12 @@
 //! stop                      the application stops the controller
 //! value S SS                asks for the input of that submodule
 //! alarm                     asks for the last alarm that was taken
+//! ar                        asks for the ARUUID
 //! ```
 //!
-//! Behind each of the first five stand `out HEX` for each frame that is sent, and `state WORD`; behind `value` stands `value HEX`, with
-//! `-` where no such input is; behind `alarm` stands `alarm TYPE SLOT SUBSLOT SPECIFIER HEX`, or `alarm -`.
+//! Behind each of the first five stand `out HEX` for each frame that is sent, and `state WORD`; behind `value` stands `value HEX`, or
+//! `value none` where no such input is; behind `alarm` stands `alarm TYPE SLOT SUBSLOT SPECIFIER HEX`, or `alarm none`; behind `ar` stands
+//! `ar HEX`. No octets are `-`.
 //!
 //! `stdin` is what a station of Scapy's layers says (`bench/interoperation/scapy_station.py`), and `stdout` what a controller has to do by
 //! the rules alone, with each frame as Scapy builds it. Neither shares a line with this repository's crates.
