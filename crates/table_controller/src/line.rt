@@ -1,7 +1,5 @@
 // Lines, and what they print.
-use crate::words::{
-    bytes, number, place, put_hex, put_number, state_word, two_words, uuid, wrong,
-};
+use crate::words::{bytes, number, place, put_hex, put_number, state_word, two_words, uuid, wrong};
 use configurator::plan_from_json;
 use controller_core::{Controller, Event, State};
 use frame_codec::Outbox;
@@ -47,11 +45,7 @@ fn event(alloc: Global, word: &str, rest: &str) -> io::Result<Event> {
         "give" => {
             let (slot, rest) = two_words(rest)?;
             let (subslot, value) = two_words(rest)?;
-            Ok(Event::Give(
-                place(slot)?,
-                place(subslot)?,
-                bytes(alloc, value)?,
-            ))
+            Ok(Event::Give(place(slot)?, place(subslot)?, bytes(alloc, value)?))
         }
         "stop" => Ok(Event::Stop),
         _ => Err(wrong()),
