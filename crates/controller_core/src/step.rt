@@ -22,8 +22,8 @@ use crate::controller::route_of;
 use crate::{Cause, Controller, Event, State};
 use block_codec::{AlarmNotification, ControlBlock};
 use controller_frames::{
-    Hearing, Request, heard, send_alarm_ack, send_alarm_end, send_outputs, send_ready_answer,
-    send_request,
+    Hearing, Request, cyclic_in, heard, send_alarm_ack, send_alarm_end, send_outputs,
+    send_ready_answer, send_request,
 };
 use cyclic_data::Provider;
 use frame_codec::{Bytes, Caller, Outbox};
@@ -105,6 +105,20 @@ impl Controller {
 
     // A frame comes.
     fn hear(&mut self, bytes: &Bytes, outbox: &mut Outbox)
+        requires empty { outbox.old.items ≡ [] }
+        ensures state { self.new ≡ with_live self.old (turned self.old.setup self.old.live (heard_of self.old.setup.plan.controller bytes.now.items)).live }
+        ensures frames { map (λ frame. frame.items) outbox.new.items
+            ≡ map (bytes_of self.old.setup) (turned self.old.setup self.old.live (heard_of self.old.setup.plan.controller bytes.now.items)).sent }
+    {
+        match cyclic_in(self.setup.plan.controller(), bytes) {
+            Some(frame) => self.hear_cyclic(frame.source, frame.frame_id, frame.body),
+            None => self.hear_other(bytes, outbox),
+        }
+    }
+
+    // A frame that is no cyclic one, or none.
+    #[inline(never)]
+    fn hear_other(&mut self, bytes: &Bytes, outbox: &mut Outbox)
         requires empty { outbox.old.items ≡ [] }
         ensures state { self.new ≡ with_live self.old (turned self.old.setup self.old.live (heard_of self.old.setup.plan.controller bytes.now.items)).live }
         ensures frames { map (λ frame. frame.items) outbox.new.items

@@ -1,7 +1,7 @@
 //! What a frame says to a controller.
 ghost use Rattle.std.specs.Prelude.{◌≡◌, ◌==◌, ◌&&◌, IfSome, nat_eq};
 ghost use Rattle.std.specs.Cmp.Lexicographic.{pointwise};
-ghost use Rattle.controller_frames.specs.Heard.{heard_alarm, heard_answer, heard_body, heard_of, heard_real_time, is_to as is_to_by};
+ghost use Rattle.controller_frames.specs.Heard.{Cyclic, heard_alarm, heard_answer, heard_body, heard_of, heard_real_time, is_to as is_to_by};
 ghost use Rattle.controller_frames.specs.Told.{told};
 ghost use Rattle.dcp_core.specs.Answer.{answer_of};
 ghost use Rattle.frame_codec.specs.Frame.{frame_of};
@@ -118,6 +118,20 @@ fn heard_datagram<'a>(controller: &Controller, bytes: &'a Bytes) -> Hearing<'a>
         endpoint: udp.source,
     };
     heard_body(caller, udp.body)
+}
+
+/// The cyclic frame to this controller, if it is one. It comes each interval, and has a call of its own because a `Hearing` has room for
+/// each kind of frame, and would be moved through memory.
+#[inline(always)]
+#[tactic(auto, unfolding(crate::specs::Heard::heard_of, crate::specs::Heard::heard_real_time))]
+pub fn cyclic_in<'a>(controller: &Controller, bytes: &'a Bytes) -> Option<RealTimeFrame<'a>>
+    ensures { IfSome result (λ frame. heard_of controller.now bytes.now.items ≡ Cyclic frame.source frame.frame_id frame.body.now) }
+{
+    let frame = read_real_time(bytes.as_slice())?;
+    if frame.destination.is(&controller.mac) && is_cyclic(frame.frame_id) {
+        return Some(frame);
+    }
+    None
 }
 
 /// What a frame says to a controller. It hangs on the octets, and on the controller's address of Ethernet and its IP address.

@@ -14,7 +14,7 @@ mod setup;
 
 pub use answers::send_ready_answer;
 pub use exchange::{send_alarm_ack, send_alarm_end, send_alarm_reply, send_outputs};
-pub use hearing::{Hearing, heard};
+pub use hearing::{Hearing, cyclic_in, heard};
 pub use request::Request;
 pub use requests::send_request;
 pub use setup::Setup;
