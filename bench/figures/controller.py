@@ -24,7 +24,7 @@ import sys
 sys.path.insert(0, os.path.join(os.path.dirname(os.path.realpath(__file__)), "..", "gate"))
 import blocks
 import calls
-from exchange import MOST_TIMES, numbered
+from exchange import numbered
 from program import answer_help, launcher, need, refuse
 
 ROOT = pathlib.Path(__file__).resolve().parent.parent.parent
@@ -228,11 +228,11 @@ def measure(program, kind):
     ours, said = each([program], kind, OURS, front(kind))
     plain, plain_said = each([str(PLAIN), *words(kind)], kind, THEIRS, "")
     times = ours / plain
-    print(f"{kind}: {ours:.0f} instructions (at most {bound}); in plain Rust {plain:.0f}: {times:.2f} times (at most {MOST_TIMES})")
+    print(f"{kind}: {ours:.0f} instructions (at most {bound}); in plain Rust {plain:.0f}: {times:.2f} times")
     is_same = exchanged(said) == plain_said
     if not is_same:
         print(f"NOT THE SAME: {kind}")
-    return all([keeps(kind, ours, bound), keeps(f"{kind}, beside plain Rust", times, MOST_TIMES), is_same])
+    return keeps(kind, ours, bound) and is_same
 
 
 def measure_start(program):
@@ -251,9 +251,9 @@ def measure_room(program):
     """Prints how large a controller is, and the largest frame on the stack of what it stands on."""
     said = subprocess.run([SIZES], capture_output=True, text=True, check=True).stderr
     size = int(re.search(r"a controller (\d+)", said)[1])
-    known = launcher()
-    below = "|".join(known.stands_on("controller_core", known.crates(), []))
-    octets, name = blocks.largest_frame(program, rf"\S*(?:{below})::|\S*line::turn")
+    listed = re.findall(r"^(\w+)[^:#\n]*:(.*)$", (ROOT / "crates.txt").read_text(encoding="utf-8"), re.MULTILINE)
+    below = "|".join(launcher().stands_on("controller_core", {name: words.split() for name, words in listed}, []))
+    octets, name = blocks.largest_frame(program, rf"(?:{below})::|table_controller::line::turn")
     print(f"a controller in memory: {size} octets (at most {MOST_IN_MEMORY})")
     print(f"the largest frame on its stack: {octets} octets, of {name} (at most {MOST_ON_THE_STACK})")
     return all([keeps("a controller in memory", size, MOST_IN_MEMORY), keeps("the largest frame", octets, MOST_ON_THE_STACK)])
