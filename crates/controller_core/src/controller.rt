@@ -119,7 +119,8 @@ fn interval_of(times: Times) -> u32
     u32::from(times.send_clock_factor) * u32::from(times.reduction_ratio)
 }
 
-/// Opens the exchange of a plan: nothing was given, and the device is not known.
+/// Opens the exchange of a plan: nothing was given, and the device is not known. Its layouts are on no other frame of the stack.
+#[inline(never)]
 fn open(exchange: &mut CyclicExchange, plan: &Plan)
     ensures { exchange.new ≡ first_cyclic plan.now }
 {
