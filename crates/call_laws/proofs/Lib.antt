@@ -1,0 +1,3 @@
+pub mod Fits
+pub mod Heads
+pub mod Statuses
