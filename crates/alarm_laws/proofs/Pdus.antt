@@ -1,0 +1,90 @@
+-- PDUs are read as they were written.
+use Rattle.std.proofs.Common.{◌≡◌, ◌≤◌, ◌<◌, ◌^◌, ◌+◌, ℕ, true, List, [], ◌++◌, length, Result, Ok, refl, sym, ap, ◌∙◌, arith}
+use Rattle.record_blocks.specs.declared.alarm_ack.AlarmAck.{AlarmAck}
+use Rattle.record_blocks.specs.declared.alarm_notification.AlarmNotification.{AlarmNotification}
+use Rattle.pn_alarms.specs.declared.abort.Abort.{Abort}
+use Rattle.pn_alarms.specs.declared.abort.Abort.TheVariants as abort
+use Rattle.pn_alarms.specs.declared.fault.AlarmFault.{AlarmFault}
+use Rattle.pn_alarms.specs.declared.message.Notice.{Notice}
+use Rattle.pn_alarms.specs.declared.message.Notice.TheVariants as notice
+use Rattle.pn_alarms.specs.declared.pdu.Header.{Header}
+use Rattle.pn_alarms.specs.declared.pdu.PduType.{PduType}
+use Rattle.pn_alarms.specs.declared.pdu.PduType.TheVariants as pdu
+use Rattle.pn_alarms.specs.Abort.{abort_of}
+use Rattle.pn_alarms.specs.Carried.{ack_of, alarm_pdu, notification_of}
+use Rattle.std.proofs.lemmas.Bool.{le-leb}
+use Rattle.pn_alarms.specs.Format.{Said, flags_of, header, is_long, kind, pdu_bytes, pdu_of}
+use Rattle.pn_alarms.specs.Message.{alarm_of, message_of, notice_in, notice_of}
+use Rattle.pn_alarms.proofs.Sound.{pdu_again, pdu_behind, pdu_spelled}
+use Rattle.alarm_laws.specs.Sendable.{CanBeSaid, IsAck, IsAlarm, IsHeader, ack_pdu, empty_pdu}
+use Rattle.alarm_laws.proofs.Blocks.{ack_long, ack_read, alarm_long, alarm_read}
+
+-- ---- any PDU
+
+kind_fits : (type : PduType) → kind.Fits type
+unfolding kind
+kind_fits pdu.Data = omega arith
+kind_fits pdu.Nack = omega arith
+kind_fits pdu.Ack = omega arith
+kind_fits pdu.Error = omega arith
+
+flags_fit : (type : PduType) → flags_of type < 256 ^ 1
+flags_fit pdu.Data = omega arith
+flags_fit pdu.Nack = omega arith
+flags_fit pdu.Ack = omega arith
+flags_fit pdu.Error = omega arith
+
+header_fits : (value : Header) → IsHeader value → header.Fits value
+unfolding header
+header_fits value is = (
+  omega (arith, is.destination),
+  (omega (arith, is.source), (kind_fits value.kind, (flags_fit value.kind, (omega (arith, is.send_number), omega (arith, is.ack_number))))),
+)
+
+pub pdu_read : (said : Said) (more : List ℕ) → CanBeSaid said → pdu_of (pdu_bytes said ++ more) ≡ Ok said
+pdu_read said more is =
+    pdu_again _ said (pdu_behind (pdu_bytes said) more said (pdu_spelled said is.long (header_fits said.header is.header) (omega (arith, is.few))))
+
+-- ---- what it says
+
+-- what a PDU of a kind says to a station
+says : {B : Type 0} (block : List ℕ → Result B AlarmFault) (said : Said) (more : List ℕ) (type : PduType) (told : Notice B)
+    → CanBeSaid said → said.header.kind ≡ type → notice_in block type said ≡ Ok told → notice_of block (pdu_bytes said ++ more) ≡ Ok (said.header, told)
+says block said more type told is same e = rw (pdu_read said more is, same, e) refl
+
+any_long : (type : PduType) (size : ℕ) → 4 ≤ size → is_long type size ≡ true
+any_long pdu.Data size many = refl
+any_long pdu.Nack size many = refl
+any_long pdu.Ack size many = refl
+any_long pdu.Error size many = le-leb 4 size many
+
+pub ack_said : (value : Header) (ack : AlarmAck) (more : List ℕ) → value.kind ≡ pdu.Data → IsHeader value → IsAck ack
+    → message_of (pdu_bytes (ack_pdu value ack) ++ more) ≡ Ok (value, notice.Data value.send_number ack)
+ack_said value ack more same is good =
+    let can : CanBeSaid (ack_pdu value ack) = record { header = is; long = any_long value.kind _ (omega (arith, ack_long ack)); few = omega (arith, ack_long ack) } in
+    says ack_of (ack_pdu value ack) more pdu.Data (notice.Data value.send_number ack) can same (rw (ack_read ack good) refl)
+
+pub alarm_said : (value : Header) (alarm : AlarmNotification) (more : List ℕ) → value.kind ≡ pdu.Data → IsHeader value → IsAlarm alarm
+    → alarm_of (pdu_bytes (alarm_pdu value alarm) ++ more) ≡ Ok (value, notice.Data value.send_number alarm)
+alarm_said value alarm more same is good =
+    let can : CanBeSaid (alarm_pdu value alarm) =
+    record { header = is; long = any_long value.kind _ (omega (arith, alarm_long alarm)); few = omega (arith, alarm_long alarm, good.few) } in
+    says notification_of (alarm_pdu value alarm) more pdu.Data (notice.Data value.send_number alarm) can same (rw (alarm_read alarm good) refl)
+
+-- a PDU that carries nothing
+empty_is : (value : Header) (type : PduType) → value.kind ≡ type → is_long type 0 ≡ true → IsHeader value → CanBeSaid (empty_pdu value)
+empty_is value type same long is = record { header = is; long = rw same long; few = omega arith }
+
+pub ack_replied : {B : Type 0} (block : List ℕ → Result B AlarmFault) (value : Header) (more : List ℕ) → value.kind ≡ pdu.Ack → IsHeader value
+    → notice_of block (pdu_bytes (empty_pdu value) ++ more) ≡ Ok (value, notice.Ack value.ack_number)
+ack_replied block value more same is = says block (empty_pdu value) more pdu.Ack (notice.Ack value.ack_number) (empty_is value pdu.Ack same refl is) same refl
+
+pub nack_replied : {B : Type 0} (block : List ℕ → Result B AlarmFault) (value : Header) (more : List ℕ) → value.kind ≡ pdu.Nack → IsHeader value
+    → notice_of block (pdu_bytes (empty_pdu value) ++ more) ≡ Ok (value, notice.Nack)
+nack_replied block value more same is = says block (empty_pdu value) more pdu.Nack notice.Nack (empty_is value pdu.Nack same refl is) same refl
+
+pub end_said : {B : Type 0} (block : List ℕ → Result B AlarmFault) (reason : Abort) (destination source send_number ack_number : ℕ) (more : List ℕ)
+    → IsHeader (abort_of reason destination source send_number ack_number).header
+    → notice_of block (pdu_bytes (abort_of reason destination source send_number ack_number) ++ more) ≡ Ok ((abort_of reason destination source send_number ack_number).header, notice.Abort)
+end_said block reason destination source send_number ack_number more is =
+    says block (abort_of reason destination source send_number ack_number) more pdu.Error notice.Abort (record { header = is; long = refl; few = omega arith }) refl refl
