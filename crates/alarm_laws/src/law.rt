@@ -18,24 +18,21 @@ ghost use Rattle.alarm_laws.specs.Sendable.{CanBeSaid, IsAck, IsAlarm, IsHeader,
 pub fn pdus_are_read()
     // Whatever stands behind it.
     ensures { (said : Said) (more : List ℕ) → CanBeSaid said → pdu_of (pdu_bytes said ++ more) ≡ Ok said }
-{
-}
+{}
 
 /// What a device reads of an AlarmAck: a law of the definitions, and no code.
 pub fn acks_are_read()
     // Data of its number, and the AlarmAck itself.
     ensures { (header : Header) (ack : AlarmAck) (more : List ℕ) → header.kind ≡ pdu.Data → IsHeader header → IsAck ack
         → message_of (pdu_bytes (ack_pdu header ack) ++ more) ≡ Ok (header, notice.Data header.send_number ack) }
-{
-}
+{}
 
 /// What a controller reads of an alarm: a law of the definitions, and no code.
 pub fn alarms_are_read()
     // Data of its number, and the alarm itself.
     ensures { (header : Header) (alarm : AlarmNotification) (more : List ℕ) → header.kind ≡ pdu.Data → IsHeader header → IsAlarm alarm
         → alarm_of (pdu_bytes (alarm_pdu header alarm) ++ more) ≡ Ok (header, notice.Data header.send_number alarm) }
-{
-}
+{}
 
 /// What either end reads of an ACK or a NACK: laws of the definitions, and no code.
 pub fn replies_are_read()
@@ -49,8 +46,7 @@ pub fn replies_are_read()
         → message_of (pdu_bytes (empty_pdu header) ++ more) ≡ Ok (header, notice.Nack) }
     ensures controller_nack { (header : Header) (more : List ℕ) → header.kind ≡ pdu.Nack → IsHeader header
         → alarm_of (pdu_bytes (empty_pdu header) ++ more) ≡ Ok (header, notice.Nack) }
-{
-}
+{}
 
 /// What either end reads of an ERR: laws of the definitions, and no code.
 pub fn ends_are_read()
@@ -63,5 +59,4 @@ pub fn ends_are_read()
         → IsHeader (abort_of reason destination source send_number ack_number).header
         → alarm_of (pdu_bytes (abort_of reason destination source send_number ack_number) ++ more)
         ≡ Ok ((abort_of reason destination source send_number ack_number).header, notice.Abort) }
-{
-}
+{}

@@ -14,15 +14,13 @@ ghost use Rattle.call_laws.specs.Sendable.{CanBeAnswered, CanBeCalled};
 pub fn calls_are_read()
     // Where its interface is served, whatever stands behind it.
     ensures { (interface : Interface) (call : Asked) (more : List ℕ) → CanBeCalled interface call → call_of interface (call_bytes interface call ++ more) ≡ Ok call }
-{
-}
+{}
 
 /// What is written for a response is read as that response: a law of the definitions, and no code.
 pub fn responses_are_read()
     // Whatever stands behind it.
     ensures { (response : Answered) (more : List ℕ) → CanBeAnswered response → response_of (response_bytes response ++ more) ≡ Ok response }
-{
-}
+{}
 
 /// No octets are a call and a response: laws of the definitions, and no code.
 pub fn calls_and_responses_differ()
@@ -32,8 +30,7 @@ pub fn calls_and_responses_differ()
     // Nor is what is written for a call, however long it is and whatever its fields, ever read as a response, and the other way round.
     ensures called { (interface : Interface) (call : Asked) (more : List ℕ) → IsErr (response_of (call_bytes interface call ++ more)) }
     ensures answered { (interface : Interface) (response : Answered) (more : List ℕ) → IsErr (call_of interface (response_bytes response ++ more)) }
-{
-}
+{}
 
 /// A call is read at the interface that it names, and at no other: laws of the definitions, and no code.
 pub fn calls_name_their_interface()
@@ -42,12 +39,10 @@ pub fn calls_name_their_interface()
     // What a device reads as a call a controller does not, and the other way round.
     ensures device { (bytes : List ℕ) (call : Asked) → call_of Device bytes ≡ Ok call → IsErr (call_of Controller bytes) }
     ensures controller { (bytes : List ℕ) (call : Asked) → call_of Controller bytes ≡ Ok call → IsErr (call_of Device bytes) }
-{
-}
+{}
 
 /// A call that is refused is not done: a law of the definitions, and no code.
 pub fn refusals_are_not_done()
     // Whatever was asked, and why it is refused.
     ensures { (operation : Operation) (fault : CallFault) → is_done (status_of operation fault) ≡ false }
-{
-}
+{}

@@ -12,7 +12,7 @@ use Rattle.frame_codec.specs.declared.udp.UdpHeader.{UdpHeader}
 use Rattle.frame_codec.specs.Meaning.{Content, RealTime, ArpPacket, UdpDatagram, Meaning}
 use Rattle.frame_codec.specs.Arp.{arp_head, arp_packet, holder, operation}
 use Rattle.frame_codec.specs.Internet.{internet_header, internet_size, internet_way, size_behind, udp_header}
-use Rattle.frame_codec.specs.Frame.{FitsFrame, arp, content_under, datagram, headers_of, layers, link, link_of, mac, packet_of, real_time, tag_and_type, type_of}
+use Rattle.frame_codec.specs.Frame.{FitsFrame, arp, content_size, content_under, datagram, headers_of, layers, link, link_of, mac, packet_of, real_time, tag_and_type, type_of}
 use Rattle.frame_codec.proofs.Datagrams.{datagram_fits}
 use Rattle.frame_codec.proofs.Sums.{complement_most, complement_of_sum_most}
 use Rattle.frame_laws.specs.Sendable.{CanBeSent, IsContent, IsEndpoint, IsHolder, IsMac, IsTag}
@@ -93,8 +93,6 @@ layers_fit meaning is = (link_fits meaning is.destination is.source is.tag, cont
 pub frame_fits : (meaning : Meaning) → IsContent meaning.content → FitsFrame meaning
 frame_fits meaning is = few meaning.content is
   where
-    use Rattle.frame_codec.specs.Frame.{content_size}
-
     few : (content : Content) → IsContent content → content_size content ≤ 1500
     few (RealTime frame_id body) is = omega (arith, is.1)
     few (ArpPacket packet) is = omega arith

@@ -27,5 +27,4 @@ pub fn frames_are_read()
     // However long real-time data is, and whatever its FrameID, it is never read as a packet of ARP or as a datagram.
     ensures alone { (destination source : Mac) (tag : Option ℕ) (frame_id : ℕ) (body : List ℕ) → IsMac destination → IsMac source → IsTag tag
         → IsRealTimeOrNone (frame_of (frame_bytes (carrying destination source tag (RealTime frame_id body)))) }
-{
-}
+{}
