@@ -26,7 +26,7 @@ use Rattle.call_laws.proofs.Fits.{request_opening_fits, response_opening_fits}
 -- a result is an error if it is no value
 pub no_value : {A F : Type 0} (result : Result A F) → ((value : A) → result ≡ Ok value → ⊥) → IsErr result
 no_value (Ok value) none = absurd (none value refl)
-no_value (Err reason) none = tt
+no_value (Err reason) none = refl
 
 -- the middle one of three tests
 middle : (a b c : Bool) → (a && b && c) ≡ true → b ≡ true
