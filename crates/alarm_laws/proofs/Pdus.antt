@@ -13,11 +13,15 @@ use Rattle.pn_alarms.specs.declared.pdu.PduType.TheVariants as pdu
 use Rattle.pn_alarms.specs.Abort.{abort_of}
 use Rattle.pn_alarms.specs.Carried.{ack_of, alarm_pdu, notification_of}
 use Rattle.std.proofs.lemmas.Bool.{le-leb}
+use Rattle.std.proofs.lemmas.List.{length-append}
+use Rattle.wire.specs.Formats.{big_bytes}
 use Rattle.pn_alarms.specs.Format.{Said, flags_of, header, is_long, kind, pdu_bytes, pdu_of}
 use Rattle.pn_alarms.specs.Message.{alarm_of, message_of, notice_in, notice_of}
 use Rattle.pn_alarms.proofs.Sound.{pdu_again, pdu_behind, pdu_spelled}
-use Rattle.alarm_laws.specs.Sendable.{CanBeSaid, IsAck, IsAlarm, IsHeader, ack_pdu, empty_pdu}
-use Rattle.alarm_laws.proofs.Blocks.{ack_long, ack_read, alarm_long, alarm_read}
+use Rattle.pn_alarms.proofs.Sound.{header_sound, pdu_parts}
+use Rattle.block_laws.specs.Writable.{IsAck, IsAlarm}
+use Rattle.alarm_laws.specs.Sendable.{CanBeSaid, IsHeader, ack_pdu, empty_pdu}
+use Rattle.alarm_laws.proofs.Blocks.{BlocksAreLong, BlocksAreRead, ack_long, ack_read, alarm_long, alarm_read}
 
 -- ---- any PDU
 
@@ -45,6 +49,16 @@ pub pdu_read : (said : Said) (more : List ℕ) → CanBeSaid said → pdu_of (pd
 pdu_read said more is =
     pdu_again _ said (pdu_behind (pdu_bytes said) more said (pdu_spelled said is.long (header_fits said.header is.header) (omega (arith, is.few))))
 
+-- a header has ten octets, and VarPartLen two
+header_size : (value : Header) → header.size value ≡ 10
+unfolding header kind
+header_size value = refl
+
+pub pdu_long : (said : Said) → length (pdu_bytes said) ≡ 12 + length said.body
+pdu_long said =
+    let front = header_sound.sized said.header [] in
+    ap (λ (xs : List ℕ). length xs) (pdu_parts said) ∙ omega (arith, length-append (header.write said.header []) (big_bytes 2 (length said.body) ++ said.body), front, header_size said.header)
+
 -- ---- what it says
 
 -- what a PDU of a kind says to a station
@@ -58,18 +72,18 @@ any_long pdu.Nack size many = refl
 any_long pdu.Ack size many = refl
 any_long pdu.Error size many = le-leb 4 size many
 
-pub ack_said : (value : Header) (ack : AlarmAck) (more : List ℕ) → value.kind ≡ pdu.Data → IsHeader value → IsAck ack
+pub ack_said : BlocksAreRead → BlocksAreLong → (value : Header) (ack : AlarmAck) (more : List ℕ) → value.kind ≡ pdu.Data → IsHeader value → IsAck ack
     → message_of (pdu_bytes (ack_pdu value ack) ++ more) ≡ Ok (value, notice.Data value.send_number ack)
-ack_said value ack more same is good =
-    let can : CanBeSaid (ack_pdu value ack) = record { header = is; long = any_long value.kind _ (omega (arith, ack_long ack)); few = omega (arith, ack_long ack) } in
-    says ack_of (ack_pdu value ack) more pdu.Data (notice.Data value.send_number ack) can same (rw (ack_read ack good) refl)
+ack_said reads sized value ack more same is good =
+    let can : CanBeSaid (ack_pdu value ack) = record { header = is; long = any_long value.kind _ (omega (arith, ack_long sized ack)); few = omega (arith, ack_long sized ack) } in
+    says ack_of (ack_pdu value ack) more pdu.Data (notice.Data value.send_number ack) can same (rw (ack_read reads ack good) refl)
 
-pub alarm_said : (value : Header) (alarm : AlarmNotification) (more : List ℕ) → value.kind ≡ pdu.Data → IsHeader value → IsAlarm alarm
+pub alarm_said : BlocksAreRead → BlocksAreLong → (value : Header) (alarm : AlarmNotification) (more : List ℕ) → value.kind ≡ pdu.Data → IsHeader value → IsAlarm alarm
     → alarm_of (pdu_bytes (alarm_pdu value alarm) ++ more) ≡ Ok (value, notice.Data value.send_number alarm)
-alarm_said value alarm more same is good =
+alarm_said reads sized value alarm more same is good =
     let can : CanBeSaid (alarm_pdu value alarm) =
-    record { header = is; long = any_long value.kind _ (omega (arith, alarm_long alarm)); few = omega (arith, alarm_long alarm, good.few) } in
-    says notification_of (alarm_pdu value alarm) more pdu.Data (notice.Data value.send_number alarm) can same (rw (alarm_read alarm good) refl)
+    record { header = is; long = any_long value.kind _ (omega (arith, alarm_long sized alarm)); few = omega (arith, alarm_long sized alarm, good.few) } in
+    says notification_of (alarm_pdu value alarm) more pdu.Data (notice.Data value.send_number alarm) can same (rw (alarm_read reads alarm good) refl)
 
 -- a PDU that carries nothing
 empty_is : (value : Header) (type : PduType) → value.kind ≡ type → is_long type 0 ≡ true → IsHeader value → CanBeSaid (empty_pdu value)

@@ -1,8 +1,8 @@
 //! The laws.
-ghost use Rattle.std.specs.Prelude.{◌≡◌, ◌++◌, ◌<◌, [], List, ℕ, Ok};
+ghost use Rattle.std.specs.Prelude.{◌≡◌, ◌++◌, ◌+◌, List, ℕ, length, Ok};
 ghost use Rattle.record_blocks.specs.declared.alarm_ack.AlarmAck.{AlarmAck};
 ghost use Rattle.record_blocks.specs.declared.alarm_notification.AlarmNotification.{AlarmNotification};
-ghost use Rattle.block_codec.specs.declared.block.Block.TheVariants.{AlarmAck as ack_block};
+ghost use Rattle.block_codec.specs.declared.block.Block.TheVariants.{AlarmAck as ack_block, AlarmNotification as alarm_block};
 ghost use Rattle.block_codec.specs.Block.{block_bytes};
 ghost use Rattle.pn_alarms.specs.declared.abort.Abort.{Abort};
 ghost use Rattle.pn_alarms.specs.declared.message.Notice.TheVariants as notice;
@@ -12,12 +12,17 @@ ghost use Rattle.pn_alarms.specs.Abort.{abort_of};
 ghost use Rattle.pn_alarms.specs.Carried.{alarm_pdu};
 ghost use Rattle.pn_alarms.specs.Format.{Said, pdu_bytes, pdu_of};
 ghost use Rattle.pn_alarms.specs.Message.{alarm_of, message_of};
-ghost use Rattle.alarm_laws.specs.Sendable.{CanBeSaid, IsAck, IsAlarm, IsHeader, empty_pdu, ack_pdu};
+ghost use Rattle.block_laws.specs.Writable.{IsAck, IsAlarm};
+ghost use Rattle.alarm_laws.specs.Sendable.{CanBeSaid, IsHeader, ack_pdu, empty_pdu};
+
+use block_laws::blocks_are_read;
 
 /// What is written of a PDU is read as that PDU: a law of the definitions, and no code.
 pub fn pdus_are_read()
     // Whatever stands behind it.
-    ensures { (said : Said) (more : List ℕ) → CanBeSaid said → pdu_of (pdu_bytes said ++ more) ≡ Ok said }
+    ensures read { (said : Said) (more : List ℕ) → CanBeSaid said → pdu_of (pdu_bytes said ++ more) ≡ Ok said }
+    // How many octets it takes.
+    ensures long { (said : Said) → length (pdu_bytes said) ≡ 12 + length said.body }
 {}
 
 /// What a device reads of an AlarmAck: a law of the definitions, and no code.

@@ -9,8 +9,9 @@ use Rattle.rpc_core.specs.Call.{Asked, call, call_bytes, call_of}
 use Rattle.rpc_core.specs.Fields.{ordered, uuid}
 use Rattle.rpc_core.specs.Header.{extent, head, head_for, names, opening, turn}
 use Rattle.rpc_core.specs.Response.{Answered, response, response_bytes, response_of}
-use Rattle.rpc_core.proofs.Sound.{call_again, call_behind, response_again, response_behind}
-use Rattle.rpc_core.proofs.Written.{call_fits, call_spelled, head_fits, response_fits, response_spelled, word_fits}
+use Rattle.rpc_core.specs.Pdu.{cut_off, pdu}
+use Rattle.rpc_core.proofs.Sound.{call_again, call_behind, call_sound, ordered_sound, response_again, response_behind, response_sound, status_sound}
+use Rattle.rpc_core.proofs.Written.{body_long, call_fits, call_spelled, head_fits, response_fits, response_spelled, word_fits}
 use Rattle.call_laws.specs.Sendable.{CanBeAnswered, CanBeCalled, IsHeader, IsStatus}
 
 -- ---- the header
@@ -62,3 +63,40 @@ response_read answer more is =
     let front = head_fits 2 0x0A size answer.header _ refl response_opening_fits (names_fit answer.header is.header) (turn_fits answer.header is.header) (extent_fits size (omega (arith, is.few))) in
     let fits = response_fits answer front (status_fits answer.status is.status) (counts_fit answer.maximum_count answer.blocks is.maximum is.few) in
     response_again _ answer (response_behind _ more answer (response_spelled answer _ fits refl))
+
+-- ---- how long they are
+
+-- a header takes 80 octets
+head_size : (packet_type flags size : ℕ) (header : Header) → IsHeader header → head.size (head_for packet_type flags header size) ≡ 80
+unfolding head opening names turn extent uuid ordered
+head_size packet_type flags size header is = omega (arith, is.object, is.interface, is.activity)
+
+word_size : (value : ℕ) → (ordered Big 4).size value ≡ 4
+unfolding ordered
+word_size value = refl
+
+status_size : (value : Status) → (status Big).size value ≡ 4
+unfolding status
+status_size value = refl
+
+pub call_short : (interface : Interface) (asked : Asked) → CanBeCalled interface asked → length (call_bytes interface asked) ≤ 1472
+unfolding call_bytes
+call_short interface asked is = omega (arith, (call_sound interface).sized asked [], size, is.few)
+  where
+    size : (call interface).size asked ≡ 100 + length is.blocks
+    unfolding call pdu cut_off
+    size =
+        let inside = body_long (ordered Big 4) asked.args_maximum asked.args_maximum is.blocks (ordered_sound Big 4) (word_size asked.args_maximum) in
+        let front = head_size 0 0x20 (body_size (length is.blocks)) asked.header is.header in
+        rw is.whole (omega (arith, inside, front))
+
+pub response_short : (answer : Answered) → CanBeAnswered answer → length (response_bytes answer) ≤ 1472
+unfolding response_bytes
+response_short answer is = omega (arith, response_sound.sized answer [], size, is.few)
+  where
+    size : response.size answer ≡ 100 + length answer.blocks
+    unfolding response pdu cut_off
+    size =
+        let inside = body_long (status Big) answer.status answer.maximum_count answer.blocks (status_sound Big) (status_size answer.status) in
+        let front = head_size 2 0x0A (body_size (length answer.blocks)) answer.header is.header in
+        omega (arith, inside, front)

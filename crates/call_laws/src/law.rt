@@ -1,5 +1,5 @@
 //! The laws.
-ghost use Rattle.std.specs.Prelude.{◌≡◌, ◌++◌, false, IsErr, List, ℕ, Ok};
+ghost use Rattle.std.specs.Prelude.{◌≡◌, ◌≤◌, ◌++◌, false, IsErr, List, ℕ, length, Ok};
 ghost use Rattle.rpc_core.specs.declared.interface.Interface.{Interface};
 ghost use Rattle.rpc_core.specs.declared.interface.Interface.TheVariants.{Controller, Device};
 ghost use Rattle.rpc_core.specs.Call.{Asked, call_bytes, call_of};
@@ -13,13 +13,17 @@ ghost use Rattle.call_laws.specs.Sendable.{CanBeAnswered, CanBeCalled};
 /// What is written for a call is read as that call: a law of the definitions, and no code.
 pub fn calls_are_read()
     // Where its interface is served, whatever stands behind it.
-    ensures { (interface : Interface) (call : Asked) (more : List ℕ) → CanBeCalled interface call → call_of interface (call_bytes interface call ++ more) ≡ Ok call }
+    ensures read { (interface : Interface) (call : Asked) (more : List ℕ) → CanBeCalled interface call → call_of interface (call_bytes interface call ++ more) ≡ Ok call }
+    // It fits a frame.
+    ensures short { (interface : Interface) (call : Asked) → CanBeCalled interface call → length (call_bytes interface call) ≤ 1472 }
 {}
 
 /// What is written for a response is read as that response: a law of the definitions, and no code.
 pub fn responses_are_read()
     // Whatever stands behind it.
-    ensures { (response : Answered) (more : List ℕ) → CanBeAnswered response → response_of (response_bytes response ++ more) ≡ Ok response }
+    ensures read { (response : Answered) (more : List ℕ) → CanBeAnswered response → response_of (response_bytes response ++ more) ≡ Ok response }
+    // It fits a frame.
+    ensures short { (response : Answered) → CanBeAnswered response → length (response_bytes response) ≤ 1472 }
 {}
 
 /// No octets are a call and a response: laws of the definitions, and no code.

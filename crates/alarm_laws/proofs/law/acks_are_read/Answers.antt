@@ -1,6 +1,10 @@
 -- By the proofs of the formats.
+use Rattle.alarm_laws.proofs.Blocks.{ack_long}
 use Rattle.alarm_laws.proofs.Pdus.{ack_said}
 use Rattle.alarm_laws.proofs.law.acks_are_read.Goals as goal
 
-pub returns : goal.returns
-returns c = ack_said
+pub returns-clause-read : goal.returns-clause-read
+returns-clause-read c = ack_said c.blocks_are_read.ensures.alone c.blocks_are_read.ensures.long
+
+pub returns-clause-long : goal.returns-clause-long
+returns-clause-long c = ack_long c.blocks_are_read.ensures.long

@@ -1,6 +1,9 @@
 -- By the proofs of the formats.
-use Rattle.call_laws.proofs.Fits.{response_read}
+use Rattle.call_laws.proofs.Fits.{response_read, response_short}
 use Rattle.call_laws.proofs.law.responses_are_read.Goals as goal
 
-pub returns : goal.returns
-returns c = response_read
+pub returns-clause-read : goal.returns-clause-read
+returns-clause-read c = response_read
+
+pub returns-clause-short : goal.returns-clause-short
+returns-clause-short c = response_short
