@@ -28,16 +28,24 @@ pub fn pdus_are_read()
 /// What a device reads of an AlarmAck: a law of the definitions, and no code.
 pub fn acks_are_read()
     // Data of its number, and the AlarmAck itself.
-    ensures { (header : Header) (ack : AlarmAck) (more : List ℕ) → header.kind ≡ pdu.Data → IsHeader header → IsAck ack
+    ensures read { (header : Header) (ack : AlarmAck) (more : List ℕ) → header.kind ≡ pdu.Data → IsHeader header → IsAck ack
         → message_of (pdu_bytes (ack_pdu header ack) ++ more) ≡ Ok (header, notice.Data header.send_number ack) }
-{}
+    // How many octets it takes.
+    ensures long { (ack : AlarmAck) → length (block_bytes (ack_block ack)) ≡ 22 }
+{
+    blocks_are_read();
+}
 
 /// What a controller reads of an alarm: a law of the definitions, and no code.
 pub fn alarms_are_read()
     // Data of its number, and the alarm itself.
-    ensures { (header : Header) (alarm : AlarmNotification) (more : List ℕ) → header.kind ≡ pdu.Data → IsHeader header → IsAlarm alarm
+    ensures read { (header : Header) (alarm : AlarmNotification) (more : List ℕ) → header.kind ≡ pdu.Data → IsHeader header → IsAlarm alarm
         → alarm_of (pdu_bytes (alarm_pdu header alarm) ++ more) ≡ Ok (header, notice.Data header.send_number alarm) }
-{}
+    // How many octets it takes.
+    ensures long { (alarm : AlarmNotification) → length (block_bytes (alarm_block alarm)) ≡ 28 + length alarm.alarm_data }
+{
+    blocks_are_read();
+}
 
 /// What either end reads of an ACK or a NACK: laws of the definitions, and no code.
 pub fn replies_are_read()

@@ -79,24 +79,24 @@ status_size : (value : Status) → (status Big).size value ≡ 4
 unfolding status
 status_size value = refl
 
+call_size : (interface : Interface) (asked : Asked) (is : CanBeCalled interface asked) → (call interface).size asked ≡ 100 + length is.blocks
+unfolding call pdu cut_off
+call_size interface asked is =
+    let inside = body_long (ordered Big 4) asked.args_maximum asked.args_maximum is.blocks (ordered_sound Big 4) (word_size asked.args_maximum) in
+    let front = head_size 0 0x20 (body_size (length is.blocks)) asked.header is.header in
+    rw is.whole (omega (arith, inside, front))
+
 pub call_short : (interface : Interface) (asked : Asked) → CanBeCalled interface asked → length (call_bytes interface asked) ≤ 1472
 unfolding call_bytes
-call_short interface asked is = omega (arith, (call_sound interface).sized asked [], size, is.few)
-  where
-    size : (call interface).size asked ≡ 100 + length is.blocks
-    unfolding call pdu cut_off
-    size =
-        let inside = body_long (ordered Big 4) asked.args_maximum asked.args_maximum is.blocks (ordered_sound Big 4) (word_size asked.args_maximum) in
-        let front = head_size 0 0x20 (body_size (length is.blocks)) asked.header is.header in
-        rw is.whole (omega (arith, inside, front))
+call_short interface asked is = omega (arith, (call_sound interface).sized asked [], call_size interface asked is, is.few)
+
+response_size : (answer : Answered) → CanBeAnswered answer → response.size answer ≡ 100 + length answer.blocks
+unfolding response pdu cut_off
+response_size answer is =
+    let inside = body_long (status Big) answer.status answer.maximum_count answer.blocks (status_sound Big) (status_size answer.status) in
+    let front = head_size 2 0x0A (body_size (length answer.blocks)) answer.header is.header in
+    omega (arith, inside, front)
 
 pub response_short : (answer : Answered) → CanBeAnswered answer → length (response_bytes answer) ≤ 1472
 unfolding response_bytes
-response_short answer is = omega (arith, response_sound.sized answer [], size, is.few)
-  where
-    size : response.size answer ≡ 100 + length answer.blocks
-    unfolding response pdu cut_off
-    size =
-        let inside = body_long (status Big) answer.status answer.maximum_count answer.blocks (status_sound Big) (status_size answer.status) in
-        let front = head_size 2 0x0A (body_size (length answer.blocks)) answer.header is.header in
-        omega (arith, inside, front)
+response_short answer is = omega (arith, response_sound.sized answer [], response_size answer is, is.few)
