@@ -1,6 +1,5 @@
 -- What can be sent can be written, and is read.
 use Rattle.std.proofs.Common.{◌≡◌, ◌≤◌, ◌<◌, ◌^◌, ◌+◌, ℕ, List, [], ◌++◌, length, Option, Some, Ok, refl, arith}
-use Rattle.rpc_core.specs.declared.fields.Order.TheVariants.{Big}
 use Rattle.rpc_core.specs.declared.header.Header.{Header}
 use Rattle.rpc_core.specs.declared.interface.Interface.{Interface}
 use Rattle.rpc_core.specs.declared.response.Status.{Status}

@@ -6,9 +6,7 @@ use Rattle.frame_codec.specs.declared.arp.Arp.{Arp}
 use Rattle.frame_codec.specs.declared.arp.ArpOperation.{ArpOperation}
 use Rattle.frame_codec.specs.declared.arp.ArpOperation.TheVariants.{Request, Reply}
 use Rattle.frame_codec.specs.declared.arp.Holder.{Holder}
-use Rattle.frame_codec.specs.declared.internet.InternetHeader.{InternetHeader}
 use Rattle.frame_codec.specs.declared.udp.Endpoint.{Endpoint}
-use Rattle.frame_codec.specs.declared.udp.UdpHeader.{UdpHeader}
 use Rattle.frame_codec.specs.Meaning.{Content, RealTime, ArpPacket, UdpDatagram, Meaning}
 use Rattle.frame_codec.specs.Arp.{arp_head, arp_packet, holder, operation}
 use Rattle.frame_codec.specs.Internet.{internet_header, internet_size, internet_way, size_behind, udp_header}
@@ -62,21 +60,19 @@ way_fits : internet_way.Fits tt
 unfolding internet_way
 way_fits = ((refl, omega arith), (omega arith, (refl, omega arith)))
 
-internet_fits : (header : InternetHeader) → 8 ≤ header.size → header.size ≤ 1480 → header.checksum < 256 ^ 2 → length header.source ≡ 4 → length header.destination ≡ 4
-    → internet_header.Fits header
+internet_fits : (from to : Endpoint) (body : List ℕ) → IsEndpoint from → IsEndpoint to → length body ≤ 1472 → internet_header.Fits (headers_of from to body).0
 unfolding internet_header
-internet_fits header least most sum source destination = (size_fits header.size least most, (way_fits, (sum, (source, destination))))
+internet_fits from to body source destination few =
+    (size_fits (length body + 8) (omega arith) (omega (arith, few)), (way_fits, (complement_most _, (source.0, destination.0))))
 
-udp_fits : (header : UdpHeader) → header.source < 65536 → header.destination < 65536 → header.size ≤ 1472 → header.checksum < 256 ^ 2 → udp_header.Fits header
+udp_fits : (from to : Endpoint) (body : List ℕ) → IsEndpoint from → IsEndpoint to → length body ≤ 1472 → udp_header.Fits (packet_of from to body).1.0
 unfolding udp_header size_behind
-udp_fits header source destination size sum =
-    (omega (arith, source), (omega (arith, destination), ((le-leb 8 (header.size + 8) (omega arith), omega (arith, size)), sum)))
+udp_fits from to body source destination few =
+    (omega (arith, source.1), (omega (arith, destination.1), ((le-leb 8 (length body + 8) (omega arith), omega (arith, few)), complement_of_sum_most _)))
 
 datagram_is : (from to : Endpoint) (body : List ℕ) → IsEndpoint from → IsEndpoint to → length body ≤ 1472 → datagram.Fits (UdpDatagram from to body)
 datagram_is from to body source destination few =
-    datagram_fits from to body
-    (internet_fits (headers_of from to body).0 (omega arith) (omega (arith, few)) (complement_most _) source.0 destination.0)
-    (udp_fits (packet_of from to body).1.0 source.1 destination.1 few (complement_of_sum_most _))
+    datagram_fits from to body (internet_fits from to body source destination few) (udp_fits from to body source destination few)
 
 -- ---- the frame
 

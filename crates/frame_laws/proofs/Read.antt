@@ -1,13 +1,13 @@
 -- What is written is read.
 use Rattle.std.proofs.Common.{◌≡◌, ◌==◌, ◌+◌, ◌≤◌, ℕ, Bool, true, false, List, [], ◌++◌, length, nat_lt, Option, Result, Ok, Err, if◌then◌else◌, refl, sym, ap, subst, ◌∙◌, append_assoc, arith}
 use Rattle.std.proofs.lemmas.List.{append-nil}
-use Rattle.wire.specs.Codec.{◌>>=◌}
-use Rattle.wire.specs.Whole.{pick, refused}
+use Rattle.wire.specs.Codec.{Codec, ◌>>=◌}
+use Rattle.wire.specs.Formats.{number}
+use Rattle.wire.specs.Whole.{ends_by, everything}
 use Rattle.pn_values.specs.declared.mac.Mac.{Mac}
 use Rattle.frame_codec.specs.declared.arp.Arp.{Arp}
 use Rattle.frame_codec.specs.declared.fault.FrameFault.{FrameFault}
-use Rattle.frame_codec.specs.declared.fault.FrameFault.TheVariants.{TooLong}
-use Rattle.frame_codec.specs.declared.link.Link.{Link}
+use Rattle.frame_codec.specs.declared.fault.FrameFault.TheVariants.{TooLong, TooShort}
 use Rattle.frame_codec.specs.declared.udp.Endpoint.{Endpoint}
 use Rattle.frame_codec.specs.Meaning.{Content, RealTime, ArpPacket, UdpDatagram, Meaning}
 use Rattle.frame_codec.specs.Frame.{IsReadBack, content_under, frame_bytes, frame_of, layers, link, link_of, longest, padding_of, profinet, real_time, type_of, with_behind}
@@ -28,20 +28,28 @@ alone_back meaning is =
 
 -- ---- real-time data alone
 
+-- what a format is of
+abbrev ValueOf : {F A : Type 0} → Codec F A → Type 0
+ValueOf {A = A} codec = A
+
 -- what is made of what was read is real-time data
-made : {A : Type 0} → (r : Result A FrameFault) (to : A → Content) → ((x : A) → IsRealTime (to x)) → (header : Link)
-    → IsRealTimeOrNone (◌>>=◌ {A = Link × Content} ((r >>= λ x. Ok (to x)) >>= λ y. Ok (header, y)) (λ x. Ok (record { destination = x.0.destination; source = x.0.source; tag = x.0.tag; content = x.1 })))
-made (Ok x) to is header = is x
-made (Err fault) to is header = tt
+made : {A H : Type 0} → (r : Result A FrameFault) (to : A → Content) (header : H) (make : H × Content → Meaning) → ((x : A) → IsRealTime (make (header, to x)).content)
+    → IsRealTimeOrNone (((r >>= λ x. Ok (to x)) >>= λ y. Ok (header, y)) >>= λ x. Ok (make x))
+made (Ok x) to header make is = is x
+made (Err fault) to header make is = tt
 
 judged : (long : Bool) (r : Result Meaning FrameFault) → IsRealTimeOrNone r → IsRealTimeOrNone (if long then Err TooLong else r)
 judged true r is = tt
 judged false r is = is
 
 -- the link header in front decides
-under : (bytes rest : List ℕ) (header : Link) → link.read bytes ≡ Ok (header, rest) → header.ether_type ≡ profinet → IsRealTimeOrNone (frame_of bytes)
+under : (bytes rest : List ℕ) (destination source : Mac) (tag : Option ℕ) (frame_id : ℕ) (body : List ℕ)
+    → link.read bytes ≡ Ok (link_of (carrying destination source tag (RealTime frame_id body)), rest) → IsRealTimeOrNone (frame_of bytes)
 unfolding frame_of layers real_time
-under bytes rest header e kind = rw (e, kind) (judged (nat_lt (longest header.tag) (length bytes)) _ (made _ _ (λ x. tt) header))
+under bytes rest destination source tag frame_id body e =
+    rw e (judged (nat_lt (longest tag) (length bytes)) _
+    (made {A = ℕ × List ℕ} {H = ValueOf link} ((ends_by (number TooShort 2) (λ _. everything)).read rest) (λ x. RealTime x.0 x.1)
+    (link_of (carrying destination source tag (RealTime frame_id body))) (λ x. record { destination = x.0.destination; source = x.0.source; tag = x.0.tag; content = x.1 }) (λ x. tt)))
 
 -- what is written begins with its link header
 parts : (meaning : Meaning) → frame_bytes meaning ≡ link.write (link_of meaning) ((content_under (type_of meaning.content)).write meaning.content ++ padding_of meaning)
@@ -60,4 +68,4 @@ alone destination source tag frame_id body one other tagged =
     let header = link_of meaning in
     let spelled = link_sound.written header rest (link_fits meaning one other tagged) in
     let reads : link.read (frame_bytes meaning) ≡ Ok (header, rest) = ap (λ (xs : List ℕ). link.read xs) (parts meaning) ∙ link_sound.again _ header rest spelled in
-    under (frame_bytes meaning) rest header reads refl
+    under (frame_bytes meaning) rest destination source tag frame_id body reads
