@@ -6,7 +6,7 @@ use Rattle.rpc_core.specs.declared.response.Status.{Status}
 use Rattle.rpc_core.specs.Body.{Args, body_size, counts, counts_of, status}
 use Rattle.rpc_core.specs.Call.{Asked, call, call_bytes, call_of}
 use Rattle.rpc_core.specs.Fields.{ordered, uuid}
-use Rattle.rpc_core.specs.Header.{extent, head, head_for, names, opening, turn}
+use Rattle.rpc_core.specs.Header.{extent, head, head_for, names, opening, order_of, turn}
 use Rattle.rpc_core.specs.Response.{Answered, response, response_bytes, response_of}
 use Rattle.rpc_core.specs.Pdu.{cut_off, pdu}
 use Rattle.rpc_core.proofs.Sound.{call_again, call_behind, call_sound, ordered_sound, response_again, response_behind, response_sound, status_sound}
@@ -24,26 +24,26 @@ pub response_opening_fits : opening.Fits (record { version = 4; packet_type = 2;
 unfolding opening
 response_opening_fits = (omega arith, (omega arith, (omega arith, (refl, (omega arith, refl)))))
 
-names_fit : (header : Header) → IsHeader header → (names Big).Fits (record { object = header.object; interface = header.interface; activity = header.activity })
+names_fit : (header : Header) → IsHeader header → (names (order_of 0)).Fits (record { object = header.object; interface = header.interface; activity = header.activity })
 unfolding names uuid
 names_fit header is = (is.object, (is.interface, is.activity))
 
-turn_fits : (header : Header) → IsHeader header → (turn Big).Fits (record { sequence = header.sequence; operation = header.operation })
+turn_fits : (header : Header) → IsHeader header → (turn (order_of 0)).Fits (record { sequence = header.sequence; operation = header.operation })
 unfolding turn ordered
 turn_fits header is = (refl, (omega (arith, is.sequence), omega (arith, is.operation)))
 
-extent_fits : (size : ℕ) → size ≤ 1392 → (extent Big).Fits (record { length = size; fragment = 0; authentication = 0 })
+extent_fits : (size : ℕ) → size ≤ 1392 → (extent (order_of 0)).Fits (record { length = size; fragment = 0; authentication = 0 })
 unfolding extent ordered
 extent_fits size few = (refl, (omega (arith, few), (omega arith, (omega arith, refl))))
 
 -- ---- the body
 
 counts_fit : (maximum : ℕ) (blocks : List ℕ) → maximum < 4294967296 → length blocks ≤ 1372
-    → (counts Big).Fits (counts_of (record { maximum = maximum; blocks = Some blocks }))
+    → (counts (order_of 0)).Fits (counts_of (record { maximum = maximum; blocks = Some blocks }))
 unfolding counts ordered
 counts_fit maximum blocks small few = (omega (arith, few), (omega (arith, small), (omega arith, omega (arith, few))))
 
-status_fits : (value : Status) → IsStatus value → (status Big).Fits value
+status_fits : (value : Status) → IsStatus value → (status (order_of 0)).Fits value
 unfolding status
 status_fits value is = (omega (arith, is.code), (omega (arith, is.decode), (omega (arith, is.code1), omega (arith, is.code2))))
 
@@ -70,18 +70,18 @@ head_size : (packet_type flags size : ℕ) (header : Header) → IsHeader header
 unfolding head opening names turn extent uuid ordered
 head_size packet_type flags size header is = omega (arith, is.object, is.interface, is.activity)
 
-word_size : (value : ℕ) → (ordered Big 4).size value ≡ 4
+word_size : (value : ℕ) → (ordered (order_of 0) 4).size value ≡ 4
 unfolding ordered
 word_size value = refl
 
-status_size : (value : Status) → (status Big).size value ≡ 4
+status_size : (value : Status) → (status (order_of 0)).size value ≡ 4
 unfolding status
 status_size value = refl
 
 call_size : (interface : Interface) (asked : Asked) (is : CanBeCalled interface asked) → (call interface).size asked ≡ 100 + length is.blocks
 unfolding call pdu cut_off
 call_size interface asked is =
-    let inside = body_long (ordered Big 4) asked.args_maximum asked.args_maximum is.blocks (ordered_sound Big 4) (word_size asked.args_maximum) in
+    let inside = body_long (ordered (order_of 0) 4) asked.args_maximum asked.args_maximum is.blocks (ordered_sound (order_of 0) 4) (word_size asked.args_maximum) in
     let front = head_size 0 0x20 (body_size (length is.blocks)) asked.header is.header in
     rw is.whole (omega (arith, inside, front))
 
@@ -92,7 +92,7 @@ call_short interface asked is = omega (arith, (call_sound interface).sized asked
 response_size : (answer : Answered) → CanBeAnswered answer → response.size answer ≡ 100 + length answer.blocks
 unfolding response pdu cut_off
 response_size answer is =
-    let inside = body_long (status Big) answer.status answer.maximum_count answer.blocks (status_sound Big) (status_size answer.status) in
+    let inside = body_long (status (order_of 0)) answer.status answer.maximum_count answer.blocks (status_sound (order_of 0)) (status_size answer.status) in
     let front = head_size 2 0x0A (body_size (length answer.blocks)) answer.header is.header in
     omega (arith, inside, front)
 

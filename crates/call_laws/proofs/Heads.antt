@@ -3,15 +3,13 @@ use Rattle.std.proofs.Common.{◌≡◌, ◌==◌, ◌&&◌, nat_eq, nat_le, ℕ
 use Rattle.std.specs.Prelude.{IsErr}
 use Rattle.std.specs.Cmp.Lexicographic.{pointwise, same_text}
 use Rattle.std.proofs.lemmas.Bool.{eqb-true}
-use Rattle.wire.specs.Codec.{IsSound}
+use Rattle.wire.specs.Codec.{Codec, IsSound}
 use Rattle.wire.specs.Formats.{raw}
 use Rattle.wire.proofs.Fields.{ok_is, raw_sound}
 use Rattle.wire.proofs.Joined.{then_by_sound}
 use Rattle.wire.proofs.Judged.{checked_sound}
 use Rattle.rpc_core.specs.declared.fault.RpcFault.{RpcFault}
 use Rattle.rpc_core.specs.declared.fault.RpcFault.TheVariants as fault
-use Rattle.rpc_core.specs.declared.header.Head.{Head}
-use Rattle.rpc_core.specs.declared.header.Opening.{Opening}
 use Rattle.rpc_core.specs.declared.interface.Interface.{Interface}
 use Rattle.rpc_core.specs.declared.interface.Interface.TheVariants.{Controller, Device}
 use Rattle.rpc_core.specs.Body.{body_size, octets_of}
@@ -22,6 +20,16 @@ use Rattle.rpc_core.specs.Pdu.{cut_off, is_known, is_served, is_version, is_whol
 use Rattle.rpc_core.specs.Response.{Answered, IsResponse, response, response_body, response_bytes, response_of}
 use Rattle.rpc_core.proofs.Sound.{call_takes, head_sound, opening_sound, response_takes}
 use Rattle.call_laws.proofs.Fits.{request_opening_fits, response_opening_fits}
+
+-- what a format is of
+abbrev ValueOf : {F A : Type 0} → Codec F A → Type 0
+ValueOf {A = A} codec = A
+
+abbrev pub Head : Type 0
+Head = ValueOf head
+
+abbrev Opening : Type 0
+Opening = ValueOf opening
 
 -- a result is an error if it is no value
 pub no_value : {A F : Type 0} (result : Result A F) → ((value : A) → result ≡ Ok value → ⊥) → IsErr result
@@ -157,9 +165,10 @@ opened : (bytes : List ℕ) (packet_type : ℕ) (interface : Option Interface) (
 unfolding Opens cut_off head
 opened bytes packet_type interface value h opens fits =
     let written = subst (λ (xs : List ℕ). opening.Spells xs value opens.0) (sym opens.1) (opening_sound.written value opens.0 fits) in
-    let s = h.spells.1.0.1 in
-    ap (λ (x : Opening × List ℕ). x.0)
-    (ok_is {F = RpcFault} _ (value, opens.0) (sym (opening_sound.again bytes _ _ s) ∙ opening_sound.again bytes value opens.0 written))
+    let s = h.spells.1.1 in
+    sym (ap (λ (x : Head). x.opening) s.1)
+    ∙ ap (λ (x : Opening × List ℕ). x.0)
+    (ok_is {F = RpcFault} (s.0.0, s.2.0) (value, opens.0) (sym (opening_sound.again bytes s.0.0 s.2.0 s.2.1) ∙ opening_sound.again bytes value opens.0 written))
 
 pub called_is_none : (interface : Interface) (asked : Asked) (more : List ℕ) → IsErr (response_of (call_bytes interface asked ++ more))
 called_is_none interface asked more =

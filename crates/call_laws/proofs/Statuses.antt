@@ -9,46 +9,50 @@ use Rattle.pnio_status.specs.declared.operation.Operation.TheVariants.{Connect, 
 use Rattle.pnio_status.specs.Operation.{code_of}
 use Rattle.pnio_status.specs.Status.{status_of}
 
--- an ErrorCode of an operation is not 0
-coded : (operation : Operation) (decode code1 code2 : ℕ) → is_done (record { code = code_of operation; decode = decode; code1 = code1; code2 = code2 }) ≡ false
-coded Connect decode code1 code2 = refl
-coded Release decode code1 code2 = refl
-coded Read decode code1 code2 = refl
-coded Write decode code1 code2 = refl
-coded Control decode code1 code2 = refl
-coded ReadImplicit decode code1 code2 = refl
+-- the ErrorCode is that of the operation
+coded : (operation : Operation) (why : CallFault) → (status_of operation why).code ≡ code_of operation
+unfolding status_of
+coded operation fault.Arguments = refl
+coded operation fault.BlockHeader = refl
+coded operation fault.BlockForm = refl
+coded operation fault.BlockType = refl
+coded operation fault.BlockMissing = refl
+coded operation fault.IocrMissing = refl
+coded operation fault.AlarmCrMissing = refl
+coded operation fault.AlarmCrRepeated = refl
+coded operation fault.OtherRelationExists = refl
+coded operation fault.TooManyModules = refl
+coded operation fault.TooManySubmodules = refl
+coded operation fault.UnknownRelation = refl
+coded operation fault.UnknownSession = refl
+coded operation fault.RelationExists = refl
+coded operation fault.ControlCommand = refl
+coded operation fault.Phase = refl
+coded operation (fault.ArField field) = refl
+coded operation (fault.IocrField field) = refl
+coded operation (fault.ExpectedField field) = refl
+coded operation (fault.AlarmCrField field) = refl
+coded operation fault.LayoutOutside = refl
+coded operation fault.LayoutOverlap = refl
+coded operation fault.LayoutUnknown = refl
+coded operation fault.LayoutMissing = refl
+coded operation fault.Index = refl
+coded operation fault.WriteLength = refl
+coded operation fault.Place = refl
+coded operation fault.Api = refl
+coded operation fault.JournalExhausted = refl
+coded operation fault.FlashFault = refl
+coded operation fault.TooManyRecords = refl
+coded operation fault.Access = refl
+
+-- which is not 0
+failed : (status : Status) (operation : Operation) → status.code ≡ code_of operation → is_done status ≡ false
+failed status Connect e = rw e refl
+failed status Release e = rw e refl
+failed status Read e = rw e refl
+failed status Write e = rw e refl
+failed status Control e = rw e refl
+failed status ReadImplicit e = rw e refl
 
 pub not_done : (operation : Operation) (why : CallFault) → is_done (status_of operation why) ≡ false
-unfolding status_of
-not_done operation fault.Arguments = coded operation _ _ _
-not_done operation fault.BlockHeader = coded operation _ _ _
-not_done operation fault.BlockForm = coded operation _ _ _
-not_done operation fault.BlockType = coded operation _ _ _
-not_done operation fault.BlockMissing = coded operation _ _ _
-not_done operation fault.IocrMissing = coded operation _ _ _
-not_done operation fault.AlarmCrMissing = coded operation _ _ _
-not_done operation fault.AlarmCrRepeated = coded operation _ _ _
-not_done operation fault.OtherRelationExists = coded operation _ _ _
-not_done operation fault.TooManyModules = coded operation _ _ _
-not_done operation fault.TooManySubmodules = coded operation _ _ _
-not_done operation fault.UnknownRelation = coded operation _ _ _
-not_done operation fault.UnknownSession = coded operation _ _ _
-not_done operation fault.RelationExists = coded operation _ _ _
-not_done operation fault.ControlCommand = coded operation _ _ _
-not_done operation fault.Phase = coded operation _ _ _
-not_done operation (fault.ArField field) = coded operation _ _ _
-not_done operation (fault.IocrField field) = coded operation _ _ _
-not_done operation (fault.ExpectedField field) = coded operation _ _ _
-not_done operation (fault.AlarmCrField field) = coded operation _ _ _
-not_done operation fault.LayoutOutside = coded operation _ _ _
-not_done operation fault.LayoutOverlap = coded operation _ _ _
-not_done operation fault.LayoutUnknown = coded operation _ _ _
-not_done operation fault.LayoutMissing = coded operation _ _ _
-not_done operation fault.Index = coded operation _ _ _
-not_done operation fault.WriteLength = coded operation _ _ _
-not_done operation fault.Place = coded operation _ _ _
-not_done operation fault.Api = coded operation _ _ _
-not_done operation fault.JournalExhausted = coded operation _ _ _
-not_done operation fault.FlashFault = coded operation _ _ _
-not_done operation fault.TooManyRecords = coded operation _ _ _
-not_done operation fault.Access = coded operation _ _ _
+not_done operation why = failed (status_of operation why) operation (coded operation why)
