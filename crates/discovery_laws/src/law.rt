@@ -17,7 +17,9 @@ ghost use Rattle.discovery_laws.specs.Sendable.{CanBeAsked};
 /// What is written for a request is read as that request: a law of the definitions, and no code.
 pub fn requests_are_read()
     // Under the FrameID of its service, whatever stands behind it.
-    ensures { (asked : Asked) (more : List ℕ) → CanBeAsked asked → request_of (frame_id_of asked.service) (request_bytes asked ++ more) ≡ Ok asked }
+    ensures read { (asked : Asked) (more : List ℕ) → CanBeAsked asked → request_of (frame_id_of asked.service) (request_bytes asked ++ more) ≡ Ok asked }
+    // It fits a frame.
+    ensures short { (asked : Asked) → CanBeAsked asked → length (request_bytes asked) ≤ 1498 }
 {}
 
 /// What is written for an answer is read as what it says: laws of the definitions, and no code.

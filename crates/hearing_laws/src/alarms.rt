@@ -22,7 +22,10 @@ ghost use Rattle.alarm_laws.specs.Sendable.{IsAck, IsAlarm, IsHeader};
 ghost use Rattle.hearing_laws.specs.Hearing.{comes, mine_hears, own_hears};
 ghost use Rattle.hearing_laws.specs.Stations.{IsDevice, IsRoute, IsSetup};
 
-/// What the controller hears of an alarm, and of the answer to an AlarmAck: laws of the definitions, and no code.
+use alarm_laws::{acks_are_read, alarms_are_read, ends_are_read, pdus_are_read, replies_are_read};
+use frame_laws::frames_are_read;
+
+/// What the controller hears of an alarm, and of the answer to an AlarmAck: laws of the definitions.
 pub fn alarms_are_heard()
     // Data of its number, and the alarm itself.
     ensures alarm { (mine : Controller) (identity : Identity) (route : Route) (header : Header) (alarm : AlarmNotification)
@@ -38,9 +41,14 @@ pub fn alarms_are_heard()
         → IsDevice identity → IsRoute route → header.kind ≡ pdu.Nack → IsHeader header
         → controller_hears mine (device_bytes identity (Exchanges route (Answers header)))
         ≡ mine_hears mine route.partner (Alarmed identity.mac header notice.Nack) }
-{}
+{
+    frames_are_read();
+    pdus_are_read();
+    alarms_are_read();
+    replies_are_read();
+}
 
-/// What the device hears of an AlarmAck, and of the answer to an alarm: laws of the definitions, and no code.
+/// What the device hears of an AlarmAck, and of the answer to an alarm: laws of the definitions.
 pub fn confirmations_are_heard()
     // Data of its number, and the AlarmAck itself.
     ensures confirms { (identity : Identity) (setup : Setup) (route : Route) (header : Header) (ack : AlarmAck)
@@ -56,9 +64,14 @@ pub fn confirmations_are_heard()
         → IsSetup setup → IsRoute route → header.kind ≡ pdu.Nack → IsHeader header
         → device_hears identity (comes (controller_bytes setup (Replies route header)))
         ≡ own_hears identity route.partner (Alarms setup.plan.controller.mac header notice.Nack) }
-{}
+{
+    frames_are_read();
+    pdus_are_read();
+    acks_are_read();
+    replies_are_read();
+}
 
-/// What either end hears of the ERR by which the other ends the relation: laws of the definitions, and no code.
+/// What either end hears of the ERR by which the other ends the relation: laws of the definitions.
 pub fn ends_are_heard()
     // That it ends, whatever the reason.
     ensures device { (identity : Identity) (setup : Setup) (route : Route) (header : Header) (reason : Abort) → IsSetup setup → IsRoute route → IsHeader header
@@ -68,4 +81,8 @@ pub fn ends_are_heard()
         → IsDevice identity → IsMac farewell.initiator → farewell.tag < 65536 → IsHeader (said_by farewell).header
         → controller_hears mine (device_bytes identity (Farewells farewell))
         ≡ mine_hears mine farewell.initiator (Alarmed identity.mac (said_by farewell).header notice.Abort) }
-{}
+{
+    frames_are_read();
+    pdus_are_read();
+    ends_are_read();
+}

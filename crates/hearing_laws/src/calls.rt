@@ -22,13 +22,21 @@ ghost use Rattle.call_laws.specs.Sendable.{CanBeAnswered, CanBeCalled};
 ghost use Rattle.hearing_laws.specs.Hearing.{IsUncalled, IsUntold, comes, mine_told, own_told};
 ghost use Rattle.hearing_laws.specs.Stations.{IsAddress, IsCalled, IsCaller, IsDevice, IsNumbered, IsSetup, ready_call};
 
-/// Each call of a controller over a plan can be sent: a law of the definitions, and no code.
+use block_laws::blocks_are_read;
+use call_laws::{
+    calls_and_responses_differ, calls_are_read, calls_name_their_interface, responses_are_read,
+};
+use frame_laws::frames_are_read;
+
+/// Each call of a controller over a plan can be sent: a law of the definitions.
 pub fn calls_can_be_sent()
     // Its header and its blocks fit.
     ensures { (setup : Setup) (request : Request) → IsSetup setup → IsCalled request → IsNumbered request → CanBeCalled devices (call_for setup request) }
-{}
+{
+    blocks_are_read();
+}
 
-/// What is heard of a call of the controller: laws of the definitions, and no code.
+/// What is heard of a call of the controller: laws of the definitions.
 pub fn calls_are_heard()
     // The device with the address of Ethernet that it goes to hears that call: from the controller, to the IP address of the plan.
     ensures device { (identity : Identity) (setup : Setup) (to : Mac) (call : Call) → IsSetup setup → IsMac to → CanBeCalled devices call
@@ -37,9 +45,14 @@ pub fn calls_are_heard()
     // A controller hears nothing of it.
     ensures controller { (mine : Controller) (setup : Setup) (to : Mac) (call : Call) → IsSetup setup → IsMac to → CanBeCalled devices call
         → controller_hears mine (call_frame setup to call) ≡ Nothing }
-{}
+{
+    frames_are_read();
+    calls_are_read();
+    calls_and_responses_differ();
+    calls_name_their_interface();
+}
 
-/// What is heard of a response of the device: laws of the definitions, and no code.
+/// What is heard of a response of the device: laws of the definitions.
 pub fn responses_are_heard()
     // The controller that it goes to hears that response.
     ensures controller { (mine : Controller) (identity : Identity) (caller : Caller) (address : List ℕ) (answer : Answered)
@@ -49,9 +62,13 @@ pub fn responses_are_heard()
     ensures device { (other identity : Identity) (caller : Caller) (address : List ℕ) (answer : Answered)
         → IsDevice identity → IsCaller caller → IsAddress address → CanBeAnswered answer
         → device_hears other (comes (response_frame identity caller address answer)) ≡ own_told other identity.mac caller.mac (calls_at address) caller.endpoint (Responds answer) }
-{}
+{
+    frames_are_read();
+    responses_are_read();
+    calls_and_responses_differ();
+}
 
-/// What is heard of ApplicationReady: laws of the definitions, and no code.
+/// What is heard of ApplicationReady: laws of the definitions.
 pub fn ready_calls_are_heard()
     // The controller that it goes to hears that call, from the device.
     ensures controller { (mine : Controller) (identity : Identity) (address : List ℕ) (ready : Ready)
@@ -63,9 +80,14 @@ pub fn ready_calls_are_heard()
         → IsDevice identity → IsMac ready.partner.mac → IsAddress ready.partner.address → IsAddress address → CanBeCalled controllers (ready_call ready)
         → device_hears other (comes (ready_frame identity address ready))
         ≡ own_told other identity.mac ready.partner.mac (calls_at address) (calls_at ready.partner.address) Garbled }
-{}
+{
+    frames_are_read();
+    calls_are_read();
+    calls_and_responses_differ();
+    calls_name_their_interface();
+}
 
-/// What is heard of the answer to ApplicationReady: laws of the definitions, and no code.
+/// What is heard of the answer to ApplicationReady: laws of the definitions.
 pub fn ready_answers_are_heard()
     // The device that it goes to hears that response, and no call.
     ensures device { (identity : Identity) (setup : Setup) (caller : Caller) (answer : Answered) → IsSetup setup → IsCaller caller → CanBeAnswered answer
@@ -74,13 +96,19 @@ pub fn ready_answers_are_heard()
     // A controller that it goes to hears that response.
     ensures controller { (mine : Controller) (setup : Setup) (caller : Caller) (answer : Answered) → IsSetup setup → IsCaller caller → CanBeAnswered answer
         → controller_hears mine (answer_frame setup caller answer) ≡ mine_told mine caller.mac caller.endpoint (Responded answer) }
-{}
+{
+    frames_are_read();
+    responses_are_read();
+    calls_and_responses_differ();
+}
 
-/// Datagrams alone are calls and responses: laws of the definitions, and no code.
+/// Datagrams alone are calls and responses: laws of the definitions.
 pub fn datagrams_alone_are_calls()
     // However long real-time data is, and whatever its FrameID, no device hears a call or a response in it, and no controller does.
     ensures device { (identity : Identity) (destination source : Mac) (tag : Option ℕ) (frame_id : ℕ) (body : List ℕ) → IsMac destination → IsMac source → IsTag tag
         → IsUntold (device_hears identity (comes (frame_bytes (carrying destination source tag (RealTime frame_id body))))) }
     ensures controller { (mine : Controller) (destination source : Mac) (tag : Option ℕ) (frame_id : ℕ) (body : List ℕ) → IsMac destination → IsMac source → IsTag tag
         → IsUncalled (controller_hears mine (frame_bytes (carrying destination source tag (RealTime frame_id body)))) }
-{}
+{
+    frames_are_read();
+}

@@ -14,7 +14,9 @@ ghost use Rattle.controller_frames.specs.Sent.{Cycles, bytes_of as controller_by
 ghost use Rattle.hearing_laws.specs.Hearing.{comes, mine_hears, own_hears, padded};
 ghost use Rattle.hearing_laws.specs.Stations.{IsDevice, IsRoute, IsSetup};
 
-/// What is heard of a frame of outputs: laws of the definitions, and no code.
+use frame_laws::frames_are_read;
+
+/// What is heard of a frame of outputs: laws of the definitions.
 pub fn outputs_are_heard()
     // The device that it goes to hears it: from the controller, under its FrameID, with its padding.
     ensures device { (identity : Identity) (setup : Setup) (route : Route) (shown : Shown) (counter : ℕ)
@@ -28,9 +30,11 @@ pub fn outputs_are_heard()
         → controller_hears mine (controller_bytes setup (Cycles route shown counter))
         ≡ mine_hears mine route.partner (Comes setup.plan.controller.mac route.sent_id
         (padded setup.plan.controller.mac route.partner (Some route.sent_tag) route.sent_id (cyclic_body shown counter))) }
-{}
+{
+    frames_are_read();
+}
 
-/// What is heard of a frame of inputs: laws of the definitions, and no code.
+/// What is heard of a frame of inputs: laws of the definitions.
 pub fn inputs_are_heard()
     // The controller that it goes to hears it: from the device, under its FrameID, with its padding.
     ensures controller { (mine : Controller) (identity : Identity) (route : Route) (inputs : Shown) (counter : ℕ)
@@ -44,4 +48,6 @@ pub fn inputs_are_heard()
         → device_hears other (comes (device_bytes identity (Exchanges route (Inputs inputs counter))))
         ≡ own_hears other route.partner (Cyclic identity.mac route.sent_id
         (padded identity.mac route.partner (Some route.sent_tag) route.sent_id (cyclic_body inputs counter))) }
-{}
+{
+    frames_are_read();
+}

@@ -22,7 +22,10 @@ ghost use Rattle.frame_laws.specs.Sendable.{IsHolder, IsMac};
 ghost use Rattle.hearing_laws.specs.Hearing.{comes, mine_hears, own_hears};
 ghost use Rattle.hearing_laws.specs.Stations.{IsAddress, IsDevice, IsSetup};
 
-/// What a device hears of the controller's requests of DCP: laws of the definitions, and no code.
+use discovery_laws::{answers_are_read, requests_are_read};
+use frame_laws::frames_are_read;
+
+/// What a device hears of the controller's requests of DCP: laws of the definitions.
 pub fn requests_are_heard()
     // Each device hears the Identify by the plan's name, from the controller, and no other request in it.
     ensures identify { (identity : Identity) (setup : Setup) (to : Mac) → IsSetup setup
@@ -31,9 +34,12 @@ pub fn requests_are_heard()
     ensures address { (identity : Identity) (setup : Setup) (to : Mac) → IsSetup setup → IsMac to
         → device_hears identity (comes (controller_bytes setup (Requests to asks.Address)))
         ≡ own_hears identity to (Asks setup.plan.controller.mac (address_asked setup.plan)) }
-{}
+{
+    frames_are_read();
+    requests_are_read();
+}
 
-/// What a controller hears of the device's answers of DCP: laws of the definitions, and no code.
+/// What a controller hears of the device's answers of DCP: laws of the definitions.
 pub fn answers_are_heard()
     // What the device tells of itself, from the device, with the Xid of the request.
     ensures identify { (mine : Controller) (identity : Identity) (asker : Mac) (running : Settings) (xid : ℕ)
@@ -50,12 +56,17 @@ pub fn answers_are_heard()
         → IsDevice identity → IsMac asker → request.xid < 4294967296 → length (set_bytes request outcomes) ≤ 1498
         → controller_hears mine (device_bytes identity (SetAnswer asker request outcomes))
         ≡ mine_hears mine asker (Answers identity.mac (set_said request outcomes)) }
-{}
+{
+    frames_are_read();
+    answers_are_read();
+}
 
-/// What a controller hears of the device's packets of ARP: a law of the definitions, and no code.
+/// What a controller hears of the device's packets of ARP: a law of the definitions.
 pub fn packets_are_heard()
     // Nothing.
     ensures { (mine : Controller) (identity : Identity) (asker : Mac) (address : List ℕ) (target : Holder)
         → IsDevice identity → IsMac asker → IsAddress address → IsHolder target
         → controller_hears mine (device_bytes identity (ArpReply asker address target)) ≡ Nothing }
-{}
+{
+    frames_are_read();
+}

@@ -1,6 +1,9 @@
 -- By the proofs of the formats.
-use Rattle.discovery_laws.proofs.Read.{request_read}
+use Rattle.discovery_laws.proofs.Read.{request_read, request_short}
 use Rattle.discovery_laws.proofs.law.requests_are_read.Goals as goal
 
-pub returns : goal.returns
-returns c = request_read
+pub returns-clause-read : goal.returns-clause-read
+returns-clause-read c = request_read
+
+pub returns-clause-short : goal.returns-clause-short
+returns-clause-short c = request_short

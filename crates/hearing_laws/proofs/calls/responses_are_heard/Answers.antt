@@ -1,0 +1,11 @@
+-- By the laws of the crates below.
+use Rattle.hearing_laws.proofs.Calls.{response_at_controller, response_at_device}
+use Rattle.hearing_laws.proofs.calls.responses_are_heard.Goals as goal
+
+pub returns-clause-controller : goal.returns-clause-controller
+returns-clause-controller c =
+    response_at_controller c.frames_are_read.ensures.udp c.responses_are_read.ensures.read c.responses_are_read.ensures.short c.calls_and_responses_differ.ensures.response
+
+pub returns-clause-device : goal.returns-clause-device
+returns-clause-device c =
+    response_at_device c.frames_are_read.ensures.udp c.responses_are_read.ensures.read c.responses_are_read.ensures.short c.calls_and_responses_differ.ensures.response
