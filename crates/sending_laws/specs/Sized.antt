@@ -1,0 +1,85 @@
+-- What a controller keeps and hears, of which each field has its size.
+use Rattle.std.specs.Prelude.{◌≡◌, ◌≤◌, ◌<◌, ℕ, Option, Some, None, ⊤}
+use Rattle.record_blocks.specs.declared.alarm_ack.AlarmAck.{AlarmAck}
+use Rattle.record_blocks.specs.declared.alarm_notification.AlarmNotification.{AlarmNotification}
+use Rattle.pn_alarms.specs.declared.message.Notice.TheVariants as notice
+use Rattle.pn_alarms.specs.Message.{ToController}
+use Rattle.controller_frames.specs.declared.request.Request.{Request}
+use Rattle.controller_frames.specs.declared.request.Request.TheVariants as asks
+use Rattle.controller_frames.specs.declared.setup.Setup.{Setup}
+use Rattle.controller_frames.specs.Heard.{Heard, Nothing, Answers, Responds, Calls, Cyclic, Alarms, heard_of}
+use Rattle.controller_core.specs.declared.connect.Found.{Found}
+use Rattle.controller_core.specs.declared.event.Event.{Event}
+use Rattle.controller_core.specs.declared.event.Event.TheVariants.{Frame, Tick, Give, Stop}
+use Rattle.controller_core.specs.Connect.{found_in, nothing}
+use Rattle.controller_core.specs.State.{Live}
+use Rattle.frame_laws.specs.Sendable.{IsMac}
+use Rattle.call_laws.specs.Sendable.{IsHeader}
+use Rattle.block_laws.specs.Writable.{IsAck}
+use Rattle.hearing_laws.specs.Stations.{IsCaller}
+use Rattle.sending_laws.specs.Messages.{IsWay}
+
+-- ---- what it keeps
+
+-- a request that stands: a plan has at most 32 records
+abbrev pub IsFew : Request → Type 0
+IsFew asks.Identify = ⊤
+IsFew asks.Address = ⊤
+IsFew asks.Connect = ⊤
+IsFew (asks.Write number) = number < 32
+IsFew asks.PrmEnd = ⊤
+IsFew (asks.Release sequence) = sequence < 4294967296
+
+abbrev pub AreFew : Option Request → Type 0
+AreFew None = ⊤
+AreFew (Some request) = IsFew request
+
+-- a number of two octets, if there is one, and an AlarmAck, if there is one
+abbrev pub IsShort : Option ℕ → Type 0
+IsShort None = ⊤
+IsShort (Some number) = number < 65536
+
+abbrev pub IsAckOrNone : Option AlarmAck → Type 0
+IsAckOrNone None = ⊤
+IsAckOrNone (Some ack) = IsAck ack
+
+-- a controller whose station, request, route, image and numbers of alarms have their sizes
+pub record IsLive (live : Live) : Type 0 where
+  pub device : IsMac live.device
+  pub asked : AreFew live.asked
+  pub way : IsWay live.cyclic.route
+  pub few : live.cyclic.shown.data_length ≤ 1440
+  pub last : IsShort live.alarms.sending.last
+  pub seen : IsShort live.alarms.seen
+  pub confirming : IsAckOrNone live.alarms.confirming
+
+-- ---- what it hears
+
+-- an alarm of which an AlarmAck can be written
+pub record IsNoted (alarm : AlarmNotification) : Type 0 where
+  pub alarm_type : alarm.alarm_type < 65536
+  pub api : alarm.api < 4294967296
+  pub slot_number : alarm.slot_number < 65536
+  pub subslot_number : alarm.subslot_number < 65536
+  pub alarm_specifier : alarm.alarm_specifier < 65536
+
+abbrev pub IsNotice : ToController → Type 0
+IsNotice (notice.Data number alarm) = (number < 65536) × IsNoted alarm
+IsNotice notice.Nack = ⊤
+IsNotice (notice.Ack number) = ⊤
+IsNotice notice.Abort = ⊤
+
+-- what was heard has its sizes: of the answer to a Connect the FrameID that the device chose
+abbrev pub IsSized : Heard → Type 0
+IsSized Nothing = ⊤
+IsSized (Answers source answer) = IsMac source
+IsSized (Responds response) = (found : Found) (frame_id : ℕ) → found_in 400 response.blocks nothing ≡ Some found → found.output ≡ Some frame_id → frame_id < 65536
+IsSized (Calls caller call) = IsCaller caller × IsHeader call.header × (call.args_maximum < 4294967296)
+IsSized (Cyclic source frame_id body) = ⊤
+IsSized (Alarms source header told) = IsNotice told
+
+abbrev pub IsSizedEvent : Setup → Event → Type 0
+IsSizedEvent setup (Frame bytes) = IsSized (heard_of setup.plan.controller bytes.items)
+IsSizedEvent setup Tick = ⊤
+IsSizedEvent setup (Give slot subslot value) = ⊤
+IsSizedEvent setup Stop = ⊤
