@@ -75,14 +75,14 @@ any_long pdu.Error size many = le-leb 4 size many
 pub ack_said : BlocksAreRead → BlocksAreLong → (value : Header) (ack : AlarmAck) (more : List ℕ) → value.kind ≡ pdu.Data → IsHeader value → IsAck ack
     → message_of (pdu_bytes (ack_pdu value ack) ++ more) ≡ Ok (value, notice.Data value.send_number ack)
 ack_said reads sized value ack more same is good =
-    let can : CanBeSaid (ack_pdu value ack) = record { header = is; long = any_long value.kind _ (omega (arith, ack_long sized ack)); few = omega (arith, ack_long sized ack) } in
+    let can : CanBeSaid (ack_pdu value ack) = record { header = is; long = any_long value.kind (length (ack_pdu value ack).body) (omega (arith, ack_long sized ack)); few = omega (arith, ack_long sized ack) } in
     says ack_of (ack_pdu value ack) more pdu.Data (notice.Data value.send_number ack) can same (rw (ack_read reads ack good) refl)
 
 pub alarm_said : BlocksAreRead → BlocksAreLong → (value : Header) (alarm : AlarmNotification) (more : List ℕ) → value.kind ≡ pdu.Data → IsHeader value → IsAlarm alarm
     → alarm_of (pdu_bytes (alarm_pdu value alarm) ++ more) ≡ Ok (value, notice.Data value.send_number alarm)
 alarm_said reads sized value alarm more same is good =
     let can : CanBeSaid (alarm_pdu value alarm) =
-    record { header = is; long = any_long value.kind _ (omega (arith, alarm_long sized alarm)); few = omega (arith, alarm_long sized alarm, good.few) } in
+    record { header = is; long = any_long value.kind (length (alarm_pdu value alarm).body) (omega (arith, alarm_long sized alarm)); few = omega (arith, alarm_long sized alarm, good.few) } in
     says notification_of (alarm_pdu value alarm) more pdu.Data (notice.Data value.send_number alarm) can same (rw (alarm_read reads alarm good) refl)
 
 -- a PDU that carries nothing

@@ -11,7 +11,7 @@ use Rattle.frame_codec.specs.declared.udp.Caller.{Caller}
 use Rattle.frame_codec.specs.declared.udp.Endpoint.{Endpoint}
 use Rattle.frame_codec.specs.FrameId.{is_alarm, is_cyclic}
 use Rattle.frame_codec.specs.Meaning.{ArpPacket, Content, Meaning, RealTime, UdpDatagram}
-use Rattle.frame_codec.specs.Frame.{frame_bytes, frame_of}
+use Rattle.frame_codec.specs.Frame.{frame_bytes, frame_of, padding_of}
 use Rattle.dcp_core.specs.declared.request.DcpFault.{DcpFault}
 use Rattle.dcp_core.specs.Answer.{answer_of}
 use Rattle.dcp_core.specs.Response.{Answered as Told}
@@ -67,7 +67,7 @@ pub alarm_heard : DataIsRead → (mine : Controller) (destination source : Mac) 
 alarm_heard reads mine destination source tag kind body header told is says =
     data_heard reads mine destination source tag (frame_id_of kind) body is
     ∙ ap (λ (h : Heard). mine_hears mine destination h)
-    (alarm_is source kind (padded source destination tag (frame_id_of kind) body) ∙ ap (λ (r : Result (Header × ToController) AlarmFault). heard_alarm source r) (says _))
+    (alarm_is source kind (padded source destination tag (frame_id_of kind) body) ∙ ap (λ (r : Result (Header × ToController) AlarmFault). heard_alarm source r) (says (padding_of (carrying destination source tag (RealTime (frame_id_of kind) body)))))
 
 -- answers of DCP: to an Identify, and to a Get or a Set
 identify_is : (source : Mac) (body : List ℕ) → heard_real_time source 65279 body ≡ heard_answer source (answer_of 65279 body)
@@ -84,7 +84,7 @@ pub identify_heard : DataIsRead → (mine : Controller) (destination source : Ma
 identify_heard reads mine destination source tag body told is says =
     data_heard reads mine destination source tag 65279 body is
     ∙ ap (λ (h : Heard). mine_hears mine destination h)
-    (identify_is source (padded source destination tag 65279 body) ∙ ap (λ (r : Result Told DcpFault). heard_answer source r) (says _))
+    (identify_is source (padded source destination tag 65279 body) ∙ ap (λ (r : Result Told DcpFault). heard_answer source r) (says (padding_of (carrying destination source tag (RealTime 65279 body)))))
 
 pub get_set_heard : DataIsRead → (mine : Controller) (destination source : Mac) (tag : Option ℕ) (body : List ℕ) (told : Told)
     → CanBeSent (carrying destination source tag (RealTime 65277 body)) → ((more : List ℕ) → answer_of 65277 (body ++ more) ≡ Ok told)
@@ -92,7 +92,7 @@ pub get_set_heard : DataIsRead → (mine : Controller) (destination source : Mac
 get_set_heard reads mine destination source tag body told is says =
     data_heard reads mine destination source tag 65277 body is
     ∙ ap (λ (h : Heard). mine_hears mine destination h)
-    (get_set_is source (padded source destination tag 65277 body) ∙ ap (λ (r : Result Told DcpFault). heard_answer source r) (says _))
+    (get_set_is source (padded source destination tag 65277 body) ∙ ap (λ (r : Result Told DcpFault). heard_answer source r) (says (padding_of (carrying destination source tag (RealTime 65277 body)))))
 
 -- ---- ARP
 

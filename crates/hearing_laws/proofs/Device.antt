@@ -10,7 +10,8 @@ use Rattle.frame_codec.specs.declared.fault.FrameFault.{FrameFault}
 use Rattle.frame_codec.specs.declared.udp.Endpoint.{Endpoint}
 use Rattle.frame_codec.specs.FrameId.{is_alarm, is_cyclic}
 use Rattle.frame_codec.specs.Meaning.{ArpPacket, Content, Meaning, RealTime, UdpDatagram}
-use Rattle.frame_codec.specs.Frame.{frame_bytes, frame_of}
+use Rattle.frame_codec.specs.declared.arp.Arp.{Arp}
+use Rattle.frame_codec.specs.Frame.{frame_bytes, frame_of, padding_of}
 use Rattle.dcp_core.specs.declared.request.DcpFault.{DcpFault}
 use Rattle.dcp_core.specs.Reading.{request_of}
 use Rattle.dcp_core.specs.Request.{Asked}
@@ -23,11 +24,11 @@ use Rattle.pn_alarms.specs.declared.pdu.Header.{Header}
 use Rattle.pn_alarms.specs.declared.pdu.PduType.{PduType}
 use Rattle.pn_alarms.specs.Format.{frame_id_of}
 use Rattle.pn_alarms.specs.Message.{ToDevice, message_of}
-use Rattle.device_frames.specs.Heard.{Alarms, Asks, Calls, Cyclic, Elsewhere, Garbled, Heard, Responds, Said, heard_alarm, heard_content, heard_frame, heard_of, heard_request, identify_multicast, is_own, is_taken, said_by, said_else, said_first}
+use Rattle.device_frames.specs.Heard.{Alarms, Asks, Calls, Cyclic, Elsewhere, Garbled, Heard, Resolves, Responds, Said, heard_alarm, heard_content, heard_frame, heard_of, heard_request, identify_multicast, is_own, is_taken, said_by, said_else, said_first}
 use Rattle.frame_laws.specs.Sendable.{CanBeSent, IsMac, IsRealTime, IsRealTimeOrNone, IsTag, carrying}
 use Rattle.call_laws.specs.Sendable.{CanBeAnswered, CanBeCalled}
-use Rattle.hearing_laws.specs.Hearing.{IsUntold, comes, own_hears, own_told, padded}
-use Rattle.hearing_laws.proofs.Given.{CallsAreNoResponses, CallsAreRead, ControllerIsMeant, DataIsAlone, DataIsRead, DatagramsAreRead, ResponsesAreNoCalls, ResponsesAreRead}
+use Rattle.hearing_laws.specs.Hearing.{IsUntold, all_hears, comes, own_hears, own_told, padded}
+use Rattle.hearing_laws.proofs.Given.{CallsAreNoResponses, CallsAreRead, ControllerIsMeant, DataIsAlone, DataIsRead, DatagramsAreRead, PacketsAreRead, ResponsesAreNoCalls, ResponsesAreRead}
 use Rattle.hearing_laws.proofs.Choices.{alarm_chosen, alarm_is, alarm_no_get_set, alarm_no_identify, cyclic_chosen, no_alarm, no_get_set, no_identify}
 
 -- ---- real-time data
@@ -60,7 +61,14 @@ alarm_heard reads identity destination source tag kind body header told is says 
     ∙ alarm_chosen (is_own identity destination) (pointwise nat_eq destination.octets identify_multicast) (frame_id == 65277) (frame_id == 65278) (is_alarm frame_id) (is_cyclic frame_id)
     (heard_request source (request_of frame_id all)) (heard_alarm source (message_of all)) (Cyclic source frame_id all) Elsewhere
     (alarm_no_get_set kind) (alarm_no_identify kind) (alarm_is kind)
-    ∙ ap (λ (r : Result (Header × ToDevice) AlarmFault). own_hears identity destination (heard_alarm source r)) (says _)
+    ∙ ap (λ (r : Result (Header × ToDevice) AlarmFault). own_hears identity destination (heard_alarm source r)) (says (padding_of (carrying destination source tag (RealTime frame_id body))))
+
+-- ---- ARP
+
+pub packet_heard : PacketsAreRead → (identity : Identity) (destination source : Mac) (packet : Arp) → CanBeSent (carrying destination source None (ArpPacket packet))
+    → heard_of identity (comes (frame_bytes (carrying destination source None (ArpPacket packet)))) ≡ all_hears identity destination (Resolves source packet)
+unfolding heard_of
+packet_heard reads identity destination source packet is = ap (λ (r : Result Meaning FrameFault). heard_frame identity r) (reads destination source None packet is)
 
 -- ---- datagrams
 

@@ -7,6 +7,7 @@ use Rattle.std.proofs.Math.Nat.{mod-lt}
 use Rattle.pn_values.specs.declared.identity.Identity.{Identity}
 use Rattle.pn_values.specs.declared.mac.Mac.{Mac}
 use Rattle.frame_codec.specs.Meaning.{ArpPacket, RealTime}
+use Rattle.frame_codec.specs.Frame.{padding_of}
 use Rattle.dcp_core.specs.declared.request.DcpFault.{DcpFault}
 use Rattle.dcp_core.specs.declared.kind.Kind.TheVariants.{NameOfStation}
 use Rattle.dcp_core.specs.declared.request.Service.TheVariants.{Identify}
@@ -49,7 +50,7 @@ identify_can plan is =
     let short = is.good.named.short in
     let odd : length plan.station.name % 2 < 2 = mod-lt (length plan.station.name) (omega arith) in
     record {
-      named = (((refl, (omega arith, omega arith)), tt), omega (arith, identify_size plan, short, odd));
+      named = (((refl, omega arith, omega arith), tt), omega (arith, identify_size plan, short, odd));
       few = omega arith;
       xid = omega arith;
     }
@@ -64,7 +65,7 @@ address_can setup is =
     let long : length (to_be_bytes w16 0 ++ suite_bytes suite) ≡ 14 =
     omega (arith, length-append suite.address (suite.mask ++ suite.gateway), length-append suite.mask suite.gateway, is.station, is.mask, is.gateway) in
     record {
-      named = (((refl, (omega arith, omega arith)), omega (arith, long), tt), omega (arith, long));
+      named = ((((refl, omega arith, omega arith), omega (arith, long)), tt), omega (arith, long));
       few = omega arith;
       xid = omega arith;
     }
@@ -89,7 +90,7 @@ identify_heard reads asked short identity setup to is =
     let sent : CanBeSent (carrying identify_multicast source None (RealTime 0xFEFE body)) =
     record { destination = all_is; source = is.mac; tag = tt; content = (omega arith, short (identify_asked setup.plan) can) } in
     data_heard reads identity identify_multicast source None 0xFEFE body sent ∙ cast_is identity _ _
-    ∙ ap (λ (r : Result Asked DcpFault). heard_request source r) (asked (identify_asked setup.plan) _ can)
+    ∙ ap (λ (r : Result Asked DcpFault). heard_request source r) (asked (identify_asked setup.plan) (padding_of (carrying identify_multicast source None (RealTime 0xFEFE body))) can)
 
 -- ---- the Set, to one
 
@@ -103,4 +104,4 @@ address_heard reads asked short identity setup to is mac =
     let sent : CanBeSent (carrying to source None (RealTime 0xFEFD body)) =
     record { destination = mac; source = is.mac; tag = tt; content = (omega arith, short (address_asked setup.plan) can) } in
     data_heard reads identity to source None 0xFEFD body sent ∙ own_chosen (is_own identity to) (pointwise nat_eq to.octets cast) _ _ _ Elsewhere
-    ∙ ap (λ (r : Result Asked DcpFault). own_hears identity to (heard_request source r)) (asked (address_asked setup.plan) _ can)
+    ∙ ap (λ (r : Result Asked DcpFault). own_hears identity to (heard_request source r)) (asked (address_asked setup.plan) (padding_of (carrying to source None (RealTime 0xFEFD body))) can)

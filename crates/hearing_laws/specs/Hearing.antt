@@ -1,5 +1,5 @@
 -- What the two ends hear.
-use Rattle.std.specs.Prelude.{◌&&◌, ◌==◌, ◌++◌, nat_eq, ℕ, Bool, List, if◌then◌else◌, Option, Some, None, ⊤}
+use Rattle.std.specs.Prelude.{◌&&◌, ◌||◌, ◌==◌, ◌++◌, nat_eq, ℕ, Bool, List, if◌then◌else◌, Option, Some, None, ⊤}
 use Rattle.std.specs.Cmp.Lexicographic.{pointwise}
 use Rattle.pn_values.specs.declared.identity.Identity.{Identity}
 use Rattle.pn_values.specs.declared.mac.Mac.{Mac}
@@ -24,6 +24,11 @@ comes octets = Frame (record { items = octets })
 -- a frame to this device alone is heard as that, and one to another is not for it
 abbrev pub own_hears : Identity → Mac → Heard → Heard
 own_hears identity destination heard = if is_own identity destination then heard else device.Elsewhere
+
+-- the same of a frame that may go to all stations too
+abbrev pub all_hears : Identity → Mac → Heard → Heard
+all_hears identity destination heard =
+    if is_own identity destination || pointwise nat_eq destination.octets device.broadcast then heard else device.Elsewhere
 
 -- so is a datagram, which goes to the port of calls too
 abbrev pub own_told : Identity → Mac → Mac → Endpoint → Endpoint → Said → Heard

@@ -4,6 +4,7 @@ ghost use Rattle.pn_values.specs.declared.identity.Identity.{Identity};
 ghost use Rattle.pn_values.specs.declared.mac.Mac.{Mac};
 ghost use Rattle.pn_values.specs.declared.set_item.BlockError.{BlockError};
 ghost use Rattle.pn_values.specs.declared.settings.Settings.{Settings};
+ghost use Rattle.frame_codec.specs.declared.arp.ArpOperation.TheVariants.{Reply};
 ghost use Rattle.frame_codec.specs.declared.arp.Holder.{Holder};
 ghost use Rattle.dcp_core.specs.Get.{get_bytes};
 ghost use Rattle.dcp_core.specs.Identify.{identify_bytes};
@@ -11,7 +12,7 @@ ghost use Rattle.dcp_core.specs.Request.{Asked};
 ghost use Rattle.dcp_core.specs.Set.{set_bytes};
 ghost use Rattle.dcp_core.specs.Told.{get_said, identify_said, set_said};
 ghost use Rattle.plans.specs.declared.parts.Controller.{Controller};
-ghost use Rattle.device_frames.specs.Heard.{Asks, heard_of as device_hears};
+ghost use Rattle.device_frames.specs.Heard.{Asks, Resolves, heard_of as device_hears};
 ghost use Rattle.device_frames.specs.Sent.{ArpReply, GetAnswer, IdentifyAnswer, SetAnswer, bytes_of as device_bytes};
 ghost use Rattle.controller_frames.specs.declared.request.Request.TheVariants as asks;
 ghost use Rattle.controller_frames.specs.declared.setup.Setup.{Setup};
@@ -19,7 +20,7 @@ ghost use Rattle.controller_frames.specs.Heard.{Answers, Nothing, heard_of as co
 ghost use Rattle.controller_frames.specs.Requests.{address_asked, identify_asked};
 ghost use Rattle.controller_frames.specs.Sent.{Requests, bytes_of as controller_bytes};
 ghost use Rattle.frame_laws.specs.Sendable.{IsHolder, IsMac};
-ghost use Rattle.hearing_laws.specs.Hearing.{comes, mine_hears, own_hears};
+ghost use Rattle.hearing_laws.specs.Hearing.{all_hears, comes, mine_hears, own_hears};
 ghost use Rattle.hearing_laws.specs.Stations.{IsAddress, IsDevice, IsSetup};
 
 use discovery_laws::{answers_are_read, requests_are_read};
@@ -61,12 +62,17 @@ pub fn answers_are_heard()
     answers_are_read();
 }
 
-/// What a controller hears of the device's packets of ARP: a law of the definitions.
+/// What is heard of the device's packets of ARP: laws of the definitions.
 pub fn packets_are_heard()
-    // Nothing.
-    ensures { (mine : Controller) (identity : Identity) (asker : Mac) (address : List ℕ) (target : Holder)
+    // A controller hears nothing.
+    ensures controller { (mine : Controller) (identity : Identity) (asker : Mac) (address : List ℕ) (target : Holder)
         → IsDevice identity → IsMac asker → IsAddress address → IsHolder target
         → controller_hears mine (device_bytes identity (ArpReply asker address target)) ≡ Nothing }
+    // A device that it goes to hears it.
+    ensures device { (other identity : Identity) (asker : Mac) (address : List ℕ) (target : Holder)
+        → IsDevice identity → IsMac asker → IsAddress address → IsHolder target
+        → device_hears other (comes (device_bytes identity (ArpReply asker address target)))
+        ≡ all_hears other asker (Resolves identity.mac (record { operation = Reply; sender = record { mac = identity.mac; address = address }; target = target })) }
 {
     frames_are_read();
 }

@@ -1,8 +1,12 @@
 -- By the laws of the crates below.
-use Rattle.hearing_laws.proofs.Controller.{packet_heard}
+use Rattle.hearing_laws.proofs.Controller as controller
+use Rattle.hearing_laws.proofs.Device as device
 use Rattle.hearing_laws.proofs.discovery.packets_are_heard.Goals as goal
 
-pub returns : goal.returns
-returns c =
-    λ mine identity asker address target is mac from holds.
-    packet_heard c.frames_are_read.ensures.arp mine asker identity.mac _ (record { destination = mac; source = is; tag = tt; content = ((is, from), holds) })
+pub returns-clause-controller : goal.returns-clause-controller
+returns-clause-controller c = λ mine identity asker address target is mac from holds.
+    controller.packet_heard c.frames_are_read.ensures.arp mine asker identity.mac _ (record { destination = mac; source = is; tag = tt; content = ((is, from), holds) })
+
+pub returns-clause-device : goal.returns-clause-device
+returns-clause-device c = λ other identity asker address target is mac from holds.
+    device.packet_heard c.frames_are_read.ensures.arp other asker identity.mac _ (record { destination = mac; source = is; tag = tt; content = ((is, from), holds) })
