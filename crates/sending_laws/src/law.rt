@@ -1,5 +1,5 @@
 //! The laws.
-ghost use Rattle.std.specs.Prelude.{◌≡◌, ◌×◌, map};
+ghost use Rattle.std.specs.Prelude.{◌≡◌, map};
 ghost use Rattle.std.specs.List.{AllByRecursion};
 ghost use Rattle.controller_frames.specs.declared.setup.Setup.{Setup};
 ghost use Rattle.controller_frames.specs.Sent.{bytes_of};
