@@ -12,7 +12,7 @@ use Rattle.record_blocks.specs.WriteRecord.{iod_write_req}
 use Rattle.block_codec.specs.declared.block.Block.{Block}
 use Rattle.block_codec.specs.declared.block.Block.TheVariants as is
 use Rattle.block_codec.specs.Block.{block_bytes, block_size, fields_of}
-use Rattle.rpc_core.specs.declared.interface.Interface.TheVariants.{Device}
+use Rattle.rpc_core.specs.declared.interface.Interface.TheVariants.{Controller, Device}
 use Rattle.rpc_core.specs.Interface.{interface_uuid}
 use Rattle.plans.specs.declared.parts.Parts.{Parts}
 use Rattle.plans.specs.declared.parts.PlanRecord.{PlanRecord}
@@ -23,8 +23,11 @@ use Rattle.controller_frames.specs.declared.request.Request.{Request}
 use Rattle.controller_frames.specs.declared.request.Request.TheVariants as asks
 use Rattle.controller_frames.specs.declared.setup.Setup.{Setup}
 use Rattle.controller_frames.specs.Requests.{blocks_of as blocks_for, call_for, control_of, header_of, object_of, operation_of, sequence_of, write_blocks, write_of}
-use Rattle.call_laws.specs.Sendable.{CanBeCalled, IsHeader, IsUuid}
-use Rattle.hearing_laws.specs.Stations.{IsCalled, IsNumbered, IsSetup}
+use Rattle.relations.specs.declared.ready.Ready.{Ready}
+use Rattle.rpc_core.specs.Call.{Asked as Call}
+use Rattle.controller_frames.specs.Sent.{ready_answer, ready_done}
+use Rattle.call_laws.specs.Sendable.{CanBeAnswered, CanBeCalled, IsHeader, IsUuid}
+use Rattle.hearing_laws.specs.Stations.{IsCalled, IsNumbered, IsSetup, ready_call}
 use Rattle.hearing_laws.proofs.Given.{BlocksAreLong}
 
 -- ---- the header
@@ -73,6 +76,14 @@ release_size : (block : ControlBlock) → length block.ar_uuid ≡ 16 → block_
 unfolding block_size fields_of body version control command
 release_size block sixteen = omega (arith, sixteen)
 
+ready_size : (block : ControlBlock) → length block.ar_uuid ≡ 16 → block_size (is.ApplicationReady block) ≡ 32
+unfolding block_size fields_of body version control command
+ready_size block sixteen = omega (arith, sixteen)
+
+done_size : (block : ControlBlock) → length block.ar_uuid ≡ 16 → block_size (is.ApplicationReadyRes block) ≡ 32
+unfolding block_size fields_of body version control command
+done_size block sixteen = omega (arith, sixteen)
+
 write_size : (block : IodWriteReq) → length block.ar_uuid ≡ 16 → block_size (is.IodWriteReq block) ≤ 100
 unfolding block_size fields_of body version iod_write_req
 write_size block sixteen = omega (arith, sixteen)
@@ -109,4 +120,25 @@ module _ (long : BlocksAreLong) where
     blocks = blocks_for setup request;
     whole = refl;
     few = blocks_few setup request good;
+  }
+
+  ready_few : (block : ControlBlock) → length block.ar_uuid ≡ 16 → length (block_bytes (is.ApplicationReady block)) ≤ 1372
+  ready_few block sixteen = omega (arith, long (is.ApplicationReady block), ready_size block sixteen)
+
+  pub ready_can : (ready : Ready) → IsHeader ready.header → ready.header.interface ≡ interface_uuid Controller → IsUuid ready.block.ar_uuid → CanBeCalled Controller (ready_call ready)
+  ready_can ready header named sixteen = record {
+    header = header;
+    named = named;
+    maximum = omega arith;
+    blocks = block_bytes (is.ApplicationReady ready.block);
+    whole = refl;
+    few = ready_few ready.block sixteen;
+  }
+
+  pub answer_can : (call : Call) (block : ControlBlock) → IsHeader call.header → call.args_maximum < 4294967296 → IsUuid block.ar_uuid → CanBeAnswered (ready_answer call block)
+  answer_can call block header maximum sixteen = record {
+    header = header;
+    status = record { code = omega arith; decode = omega arith; code1 = omega arith; code2 = omega arith };
+    maximum = maximum;
+    few = omega (arith, long (is.ApplicationReadyRes (ready_done block)), done_size (ready_done block) sixteen);
   }

@@ -1,5 +1,5 @@
 //! Calls and responses.
-ghost use Rattle.std.specs.Prelude.{◌≡◌, ◌≤◌, ◌<◌, ℕ, List, Option};
+ghost use Rattle.std.specs.Prelude.{◌≡◌, ◌<◌, ℕ, length, List, Option};
 ghost use Rattle.pn_values.specs.declared.identity.Identity.{Identity};
 ghost use Rattle.pn_values.specs.declared.mac.Mac.{Mac};
 ghost use Rattle.frame_codec.specs.declared.udp.Caller.{Caller};
@@ -7,18 +7,20 @@ ghost use Rattle.frame_codec.specs.Frame.{frame_bytes};
 ghost use Rattle.frame_codec.specs.Meaning.{RealTime};
 ghost use Rattle.rpc_core.specs.Call.{Asked as Call};
 ghost use Rattle.rpc_core.specs.declared.interface.Interface.TheVariants.{Controller as controllers, Device as devices};
+ghost use Rattle.rpc_core.specs.Interface.{interface_uuid};
 ghost use Rattle.rpc_core.specs.Response.{Answered};
+ghost use Rattle.connect_blocks.specs.declared.control.ControlBlock.{ControlBlock};
 ghost use Rattle.plans.specs.declared.parts.Controller.{Controller};
 ghost use Rattle.relations.specs.declared.ready.Ready.{Ready};
-ghost use Rattle.device_frames.specs.Heard.{Calls, Garbled, Responds, heard_of as device_hears};
+ghost use Rattle.device_frames.specs.Heard.{Calls, Garbled, Responds, Unreadable, heard_of as device_hears};
 ghost use Rattle.device_frames.specs.Sent.{ready_frame, response_frame};
 ghost use Rattle.controller_frames.specs.declared.request.Request.{Request};
 ghost use Rattle.controller_frames.specs.declared.setup.Setup.{Setup};
 ghost use Rattle.controller_frames.specs.Heard.{Calls as Called, Nothing, Responds as Responded, heard_of as controller_hears};
 ghost use Rattle.controller_frames.specs.Requests.{call_for};
-ghost use Rattle.controller_frames.specs.Sent.{answer_frame, call_frame, calls_at};
+ghost use Rattle.controller_frames.specs.Sent.{answer_frame, call_frame, calls_at, ready_answer};
 ghost use Rattle.frame_laws.specs.Sendable.{IsMac, IsTag, carrying};
-ghost use Rattle.call_laws.specs.Sendable.{CanBeAnswered, CanBeCalled};
+ghost use Rattle.call_laws.specs.Sendable.{CanBeAnswered, CanBeCalled, IsHeader, IsUuid};
 ghost use Rattle.hearing_laws.specs.Hearing.{IsUncalled, IsUntold, comes, mine_told, own_told};
 ghost use Rattle.hearing_laws.specs.Stations.{IsAddress, IsCalled, IsCaller, IsDevice, IsNumbered, IsSetup, ready_call};
 
@@ -28,10 +30,15 @@ use call_laws::{
 };
 use frame_laws::frames_are_read;
 
-/// Each call of a controller over a plan can be sent: a law of the definitions.
+/// Calls and the answer to ApplicationReady can be sent: laws of the definitions.
 pub fn calls_can_be_sent()
-    // Its header and its blocks fit.
-    ensures { (setup : Setup) (request : Request) → IsSetup setup → IsCalled request → IsNumbered request → CanBeCalled devices (call_for setup request) }
+    // Each call of a controller over a plan: its header and its blocks fit.
+    ensures call { (setup : Setup) (request : Request) → IsSetup setup → IsCalled request → IsNumbered request → CanBeCalled devices (call_for setup request) }
+    // ApplicationReady, and the answer to it: they have one block, which fits.
+    ensures ready { (ready : Ready) → IsHeader ready.header → ready.header.interface ≡ interface_uuid controllers → IsUuid ready.block.ar_uuid
+        → CanBeCalled controllers (ready_call ready) }
+    ensures answer { (call : Call) (block : ControlBlock) → IsHeader call.header → call.args_maximum < 4294967296 → IsUuid block.ar_uuid
+        → CanBeAnswered (ready_answer call block) }
 {
     blocks_are_read();
 }
@@ -62,6 +69,13 @@ pub fn responses_are_heard()
     ensures device { (other identity : Identity) (caller : Caller) (address : List ℕ) (answer : Answered)
         → IsDevice identity → IsCaller caller → IsAddress address → CanBeAnswered answer
         → device_hears other (comes (response_frame identity caller address answer)) ≡ own_told other identity.mac caller.mac (calls_at address) caller.endpoint (Responds answer) }
+    // One that does not fit a frame nobody hears.
+    ensures long { (mine : Controller) (identity : Identity) (caller : Caller) (address : List ℕ) (answer : Answered)
+        → IsDevice identity → IsCaller caller → IsAddress address → IsHeader answer.header → 1372 < length answer.blocks
+        → controller_hears mine (response_frame identity caller address answer) ≡ Nothing }
+    ensures unread { (other identity : Identity) (caller : Caller) (address : List ℕ) (answer : Answered)
+        → IsDevice identity → IsCaller caller → IsAddress address → IsHeader answer.header → 1372 < length answer.blocks
+        → device_hears other (comes (response_frame identity caller address answer)) ≡ Unreadable }
 {
     frames_are_read();
     responses_are_read();
