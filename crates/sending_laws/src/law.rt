@@ -6,11 +6,20 @@ ghost use Rattle.controller_frames.specs.Sent.{bytes_of};
 ghost use Rattle.controller_core.specs.declared.event.Event.{Event};
 ghost use Rattle.controller_core.specs.Machine.{first, step_of, turn_of};
 ghost use Rattle.controller_core.specs.State.{Controlling, Live};
-ghost use Rattle.hearing_laws.specs.Stations.{IsSetup};
+ghost use Rattle.pn_values.specs.declared.identity.Identity.{Identity};
+ghost use Rattle.plans.specs.declared.parts.Controller.{Controller};
+ghost use Rattle.device_frames.specs.Sent.{Sent as Message, bytes_of as device_bytes};
+ghost use Rattle.controller_frames.specs.Heard.{heard_of};
+ghost use Rattle.hearing_laws.specs.Stations.{IsDevice, IsSetup};
+ghost use Rattle.sending_laws.specs.Devices.{CanBeSentBy};
 ghost use Rattle.sending_laws.specs.Messages.{CanBeSent};
-ghost use Rattle.sending_laws.specs.Sized.{IsLive, IsSizedEvent};
+ghost use Rattle.sending_laws.specs.Sized.{IsLive, IsSized, IsSizedEvent};
 
 use block_laws::blocks_are_read;
+use hearing_laws::{
+    alarms_are_heard, answers_are_heard, ends_are_heard, inputs_are_heard, packets_are_heard,
+    ready_calls_are_heard, responses_are_heard,
+};
 
 /// Each frame that a controller sends is a message of its machine: a law of the definitions.
 pub fn frames_are_messages()
@@ -27,4 +36,19 @@ pub fn messages_can_be_sent()
         → IsLive (turn_of setup live event).live × AllByRecursion (CanBeSent setup) (turn_of setup live event).sent }
 {
     blocks_are_read();
+}
+
+/// What a controller hears of a device has its sizes: a law of the definitions.
+pub fn messages_are_sized()
+    // Whatever message the device can send, and whichever controller hears it.
+    ensures { (mine : Controller) (identity : Identity) (message : Message) → IsDevice identity → CanBeSentBy identity message
+        → IsSized (heard_of mine (device_bytes identity message)) }
+{
+    answers_are_heard();
+    packets_are_heard();
+    responses_are_heard();
+    ready_calls_are_heard();
+    inputs_are_heard();
+    alarms_are_heard();
+    ends_are_heard();
 }

@@ -3,4 +3,4 @@
 
 mod law;
 
-pub use law::{frames_are_messages, messages_can_be_sent};
+pub use law::{frames_are_messages, messages_are_sized, messages_can_be_sent};

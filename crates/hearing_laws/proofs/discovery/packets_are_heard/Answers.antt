@@ -1,12 +1,15 @@
 -- By the laws of the crates below.
+use Rattle.frame_codec.specs.declared.arp.ArpOperation.TheVariants.{Reply}
 use Rattle.hearing_laws.proofs.Controller as controller
 use Rattle.hearing_laws.proofs.Device as device
 use Rattle.hearing_laws.proofs.discovery.packets_are_heard.Goals as goal
 
 pub returns-clause-controller : goal.returns-clause-controller
 returns-clause-controller c = λ mine identity asker address target is mac from holds.
-    controller.packet_heard c.frames_are_read.ensures.arp mine asker identity.mac _ (record { destination = mac; source = is; tag = tt; content = ((is, from), holds) })
+    controller.packet_heard c.frames_are_read.ensures.arp mine asker identity.mac (record { operation = Reply; sender = record { mac = identity.mac; address = address }; target = target })
+    (record { destination = mac; source = is; tag = tt; content = ((is, from), holds) })
 
 pub returns-clause-device : goal.returns-clause-device
 returns-clause-device c = λ other identity asker address target is mac from holds.
-    device.packet_heard c.frames_are_read.ensures.arp other asker identity.mac _ (record { destination = mac; source = is; tag = tt; content = ((is, from), holds) })
+    device.packet_heard c.frames_are_read.ensures.arp other asker identity.mac (record { operation = Reply; sender = record { mac = identity.mac; address = address }; target = target })
+    (record { destination = mac; source = is; tag = tt; content = ((is, from), holds) })
