@@ -2,7 +2,7 @@ pub mod Given
 pub mod Choices
 pub mod Device
 pub mod Controller
-pub mod Calls
+pub mod Datagrams
 pub mod Sendings
 pub mod Exchanges
-pub mod Discovery
+pub mod Requests

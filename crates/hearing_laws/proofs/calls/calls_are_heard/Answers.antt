@@ -1,5 +1,5 @@
 -- By the laws of the crates below.
-use Rattle.hearing_laws.proofs.Calls.{call_at_controller, call_at_device}
+use Rattle.hearing_laws.proofs.Datagrams.{call_at_controller, call_at_device}
 use Rattle.hearing_laws.proofs.calls.calls_are_heard.Goals as goal
 
 pub returns-clause-device : goal.returns-clause-device

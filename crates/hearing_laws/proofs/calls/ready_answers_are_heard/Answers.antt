@@ -1,5 +1,5 @@
 -- By the laws of the crates below.
-use Rattle.hearing_laws.proofs.Calls.{answer_at_controller, answer_at_device}
+use Rattle.hearing_laws.proofs.Datagrams.{answer_at_controller, answer_at_device}
 use Rattle.hearing_laws.proofs.calls.ready_answers_are_heard.Goals as goal
 
 pub returns-clause-device : goal.returns-clause-device

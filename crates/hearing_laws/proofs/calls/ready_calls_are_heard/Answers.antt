@@ -1,5 +1,5 @@
 -- By the laws of the crates below.
-use Rattle.hearing_laws.proofs.Calls.{ready_at_controller, ready_at_device}
+use Rattle.hearing_laws.proofs.Datagrams.{ready_at_controller, ready_at_device}
 use Rattle.hearing_laws.proofs.calls.ready_calls_are_heard.Goals as goal
 
 pub returns-clause-controller : goal.returns-clause-controller

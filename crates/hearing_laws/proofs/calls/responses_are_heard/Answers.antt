@@ -1,5 +1,5 @@
 -- By the laws of the crates below.
-use Rattle.hearing_laws.proofs.Calls.{response_at_controller, response_at_device}
+use Rattle.hearing_laws.proofs.Datagrams.{response_at_controller, response_at_device}
 use Rattle.hearing_laws.proofs.calls.responses_are_heard.Goals as goal
 
 pub returns-clause-controller : goal.returns-clause-controller

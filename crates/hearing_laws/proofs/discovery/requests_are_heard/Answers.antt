@@ -1,5 +1,5 @@
 -- By the laws of the crates below.
-use Rattle.hearing_laws.proofs.Discovery.{address_heard, identify_heard}
+use Rattle.hearing_laws.proofs.Requests.{address_heard, identify_heard}
 use Rattle.hearing_laws.proofs.discovery.requests_are_heard.Goals as goal
 
 pub returns-clause-identify : goal.returns-clause-identify
