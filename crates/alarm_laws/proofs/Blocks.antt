@@ -26,7 +26,7 @@ pub ack_long : BlocksAreLong → (ack : AlarmAck) → length (block_bytes (is.Al
 ack_long sized ack = sized (is.AlarmAck ack) ∙ ack_size ack
 
 pub ack_read : BlocksAreRead → (ack : AlarmAck) → IsAck ack → ack_of (block_bytes (is.AlarmAck ack)) ≡ Ok ack
-ack_read reads ack is = rw (reads (is.AlarmAck ack) is) refl
+ack_read reads ack good = rw (reads (is.AlarmAck ack) good) refl
 
 alarm_size : (alarm : AlarmNotification) → block_size (is.AlarmNotification alarm) ≡ 28 + length alarm.alarm_data
 unfolding block_size fields_of open_body version alarm_notification alarm_place alarm_subject
@@ -36,4 +36,4 @@ pub alarm_long : BlocksAreLong → (alarm : AlarmNotification) → length (block
 alarm_long sized alarm = sized (is.AlarmNotification alarm) ∙ alarm_size alarm
 
 pub alarm_read : BlocksAreRead → (alarm : AlarmNotification) → IsAlarm alarm → notification_of (block_bytes (is.AlarmNotification alarm)) ≡ Ok alarm
-alarm_read reads alarm is = rw (reads (is.AlarmNotification alarm) is) refl
+alarm_read reads alarm good = rw (reads (is.AlarmNotification alarm) good) refl

@@ -14,6 +14,7 @@ use Rattle.pn_alarms.specs.Abort.{abort_of}
 use Rattle.pn_alarms.specs.Carried.{ack_of, alarm_pdu, notification_of}
 use Rattle.std.proofs.lemmas.Bool.{le-leb}
 use Rattle.std.proofs.lemmas.List.{length-append}
+use Rattle.wire.specs.Codec.{◌>>=◌}
 use Rattle.wire.specs.Formats.{big_bytes}
 use Rattle.pn_alarms.specs.Format.{Said, flags_of, header, is_long, kind, pdu_bytes, pdu_of}
 use Rattle.pn_alarms.specs.Message.{alarm_of, message_of, notice_in, notice_of}
@@ -64,7 +65,10 @@ pdu_long said =
 -- what a PDU of a kind says to a station
 says : {B : Type 0} (block : List ℕ → Result B AlarmFault) (said : Said) (more : List ℕ) (type : PduType) (told : Notice B)
     → CanBeSaid said → said.header.kind ≡ type → notice_in block type said ≡ Ok told → notice_of block (pdu_bytes said ++ more) ≡ Ok (said.header, told)
-says block said more type told is same e = rw (pdu_read said more is, same, e) refl
+says {B = B} block said more type told is same e =
+    ap (λ (r : Result Said AlarmFault). r >>= (λ (s : Said). notice_in block s.header.kind s >>= λ (n : Notice B). Ok (s.header, n))) (pdu_read said more is)
+    ∙ ap (λ (k : PduType). notice_in block k said >>= λ (n : Notice B). Ok (said.header, n)) same
+    ∙ ap (λ (r : Result (Notice B) AlarmFault). r >>= λ (n : Notice B). Ok (said.header, n)) e
 
 any_long : (type : PduType) (size : ℕ) → 4 ≤ size → is_long type size ≡ true
 any_long pdu.Data size many = refl
