@@ -6,6 +6,7 @@ use Rattle.std.proofs.lemmas.List.{length-append}
 use Rattle.std.proofs.Math.Nat.{mod-lt}
 use Rattle.pn_values.specs.declared.identity.Identity.{Identity}
 use Rattle.pn_values.specs.declared.mac.Mac.{Mac}
+use Rattle.pn_values.specs.IpSuite.{Suite}
 use Rattle.frame_codec.specs.Meaning.{ArpPacket, RealTime}
 use Rattle.frame_codec.specs.Frame.{padding_of}
 use Rattle.dcp_core.specs.declared.request.DcpFault.{DcpFault}
@@ -55,15 +56,19 @@ identify_can plan is =
       xid = omega arith;
     }
 
-address_size : (plan : Parts) → length (address_asked plan).blocks ≡ 1
-address_size plan = refl
+suite_long : (suite : Suite) → length suite.address ≡ 4 → length suite.mask ≡ 4 → length suite.gateway ≡ 4 → length (to_be_bytes w16 0 ++ suite_bytes suite) ≡ 14
+suite_long suite one two three =
+    let whole = length-append (to_be_bytes w16 0) ((suite.address ++ suite.mask) ++ suite.gateway) in
+    let both = length-append (suite.address ++ suite.mask) suite.gateway in
+    let first = length-append suite.address suite.mask in
+    let qualifier : length (to_be_bytes w16 0) ≡ 2 = refl in
+    whole ∙ omega (arith, both, first, qualifier, one, two, three)
 
 address_can : (setup : Setup) → IsSetup setup → CanBeAsked (address_asked setup.plan)
 unfolding block_of block kind
 address_can setup is =
     let suite = setup.plan.station.suite in
-    let long : length (to_be_bytes w16 0 ++ suite_bytes suite) ≡ 14 =
-    omega (arith, length-append suite.address (suite.mask ++ suite.gateway), length-append suite.mask suite.gateway, is.station, is.mask, is.gateway) in
+    let long : length (to_be_bytes w16 0 ++ suite_bytes suite) ≡ 14 = suite_long suite is.station is.mask is.gateway in
     record {
       named = ((((refl, omega arith, omega arith), omega (arith, long)), tt), omega (arith, long));
       few = omega arith;

@@ -18,7 +18,8 @@ ghost use Rattle.controller_frames.specs.declared.setup.Setup.{Setup};
 ghost use Rattle.controller_frames.specs.Heard.{Alarms as Alarmed, heard_of as controller_hears};
 ghost use Rattle.controller_frames.specs.Sent.{Confirms, Ends, Replies, bytes_of as controller_bytes, end_pdu};
 ghost use Rattle.frame_laws.specs.Sendable.{IsMac};
-ghost use Rattle.alarm_laws.specs.Sendable.{IsAck, IsAlarm, IsHeader};
+ghost use Rattle.alarm_laws.specs.Sendable.{IsHeader};
+ghost use Rattle.block_laws.specs.Writable.{IsAck, IsAlarm};
 ghost use Rattle.hearing_laws.specs.Hearing.{comes, mine_hears, own_hears};
 ghost use Rattle.hearing_laws.specs.Stations.{IsDevice, IsRoute, IsSetup};
 
