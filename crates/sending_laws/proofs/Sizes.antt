@@ -2,6 +2,8 @@
 use Rattle.std.proofs.Common.{◌≡◌, ◌≤◌, ◌<◌, ◌+◌, ◌%◌, ◌==◌, ◌&&◌, nat_eq, ℕ, Bool, true, false, List, [], ◌++◌, length, Option, Some, None, refl, sym, ap, ◌∙◌, arith}
 use Rattle.std.specs.Cmp.Lexicographic.{pointwise, same_text}
 use Rattle.std.proofs.lemmas.Bool.{and_parts}
+use Rattle.std.proofs.lemmas.List.{length-append}
+use Rattle.wire.specs.Formats.{big_bytes}
 use Rattle.std.proofs.lemmas.List.FromFn.{length-map-range_with_len}
 use Rattle.std.proofs.Math.Nat.{mod-lt}
 use Rattle.block_fields.specs.Fields.{body, version}
@@ -30,7 +32,10 @@ octets_long shown = length-map-range_with_len _ 0 shown.data_length
 
 pub body_few : (shown : Shown) (counter : ℕ) → shown.data_length ≤ 1440 → length (cyclic_body shown counter) ≤ 1498
 unfolding cyclic_frame cyclic_tail
-body_few shown counter few = omega (arith, octets_long shown, few)
+body_few shown counter few =
+    let long : length (cyclic_body shown counter) ≡ length (octets_of shown) + 4 =
+    length-append (octets_of shown) (big_bytes 2 counter ++ (big_bytes 1 0x35 ++ (big_bytes 1 0 ++ []))) in
+    omega (arith, long, octets_long shown, few)
 
 -- ---- numbers
 

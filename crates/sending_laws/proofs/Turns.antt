@@ -1,5 +1,5 @@
 -- What a controller keeps has its sizes, and so has what it sends.
-use Rattle.std.proofs.Common.{◌≡◌, ◌⊎◌, inl, inr, ◌≤◌, ◌<◌, ◌+◌, ◌==◌, ◌&&◌, nat_eq, nat_lt, max, ℕ, Bool, true, false, List, [], ◌∷◌, ◌++◌, length, Option, Some, None, Result, Ok, Err, if◌then◌else◌, unwrap_or, refl, sym, ap, subst, ◌∙◌, arith}
+use Rattle.std.proofs.Common.{◌≡◌, ◌⊎◌, inl, inr, ◌≤◌, ◌<◌, ◌+◌, ◌==◌, ◌&&◌, nat_eq, nat_lt, max, ℕ, Bool, true, false, List, [], ◌∷◌, ◌++◌, length, Option, Some, None, Result, Ok, Err, if◌then◌else◌, unwrap_or, option_and_then, refl, sym, ap, subst, ◌∙◌, arith}
 use Rattle.std.specs.List.{AllByRecursion}
 use Rattle.std.proofs.lemmas.Bool.{ltb-true}
 use Rattle.std.proofs.Math.Nat.{max-le}
@@ -44,7 +44,6 @@ use Rattle.controller_frames.specs.Heard.{Alarms, Answers, Calls, Heard, Nothing
 use Rattle.controller_frames.specs.Heard.{Cyclic as Comes}
 use Rattle.controller_frames.specs.Requests.{writing_from}
 use Rattle.controller_frames.specs.Sent.{Sent}
-use Rattle.controller_core.specs.declared.connect.Found.{Found}
 use Rattle.controller_core.specs.declared.event.Event.{Event}
 use Rattle.controller_core.specs.declared.event.Event.TheVariants.{Frame, Give, Stop, Tick as Ticks}
 use Rattle.controller_core.specs.declared.state.Cause.{Cause}
@@ -61,7 +60,7 @@ use Rattle.block_laws.specs.Writable.{IsAck}
 use Rattle.call_laws.specs.Sendable.{IsHeader as IsCallHeader}
 use Rattle.hearing_laws.specs.Stations.{IsCaller, IsNumbered, IsSetup}
 use Rattle.sending_laws.specs.Messages.{CanBeSent, IsWay}
-use Rattle.sending_laws.specs.Sized.{AreFew, IsAckOrNone, IsFew, IsLive, IsNoted, IsNotice, IsShort, IsSized, IsSizedEvent}
+use Rattle.sending_laws.specs.Sized.{AreFew, Found, IsAckOrNone, IsFew, IsLive, IsNoted, IsNotice, IsShort, IsSized, IsSizedEvent}
 use Rattle.sending_laws.proofs.Sizes.{BlocksAreLong, answer_can, body_few, named_so, next_short}
 
 -- a turn after which all has its sizes
@@ -186,10 +185,10 @@ related_right setup live (Some frame_id) good is small = writing_right setup 0 (
 related_right setup live None good is small = stays_right setup live is
 
 connected_right : (setup : Setup) (live : Live) (read : Option Found) → IsSetup setup → IsLive live
-    → ((found_is : Found) (frame_id : ℕ) → read ≡ Some found_is → found_is.output ≡ Some frame_id → frame_id < 65536) → IsRight setup (connected setup live read)
+    → ((frame_id : ℕ) → option_and_then (λ (found_is : Found). found_is.output) read ≡ Some frame_id → frame_id < 65536) → IsRight setup (connected setup live read)
 connected_right setup live (Some found_is) good is small =
     either (is_whole found_is) _ _
-    (either found_is.differs _ _ (released_right setup cause.ModuleDiff live good is) (related_right setup live found_is.output good is (λ frame_id e. small found_is frame_id refl e)))
+    (either found_is.differs _ _ (released_right setup cause.ModuleDiff live good is) (related_right setup live found_is.output good is small))
     (stays_right setup live is)
 connected_right setup live None good is small = stays_right setup live is
 

@@ -1,28 +1,22 @@
 -- Which messages of a device can be sent.
-use Rattle.std.specs.Prelude.{◌≡◌, ◌⊎◌, ◌≤◌, ◌<◌, ℕ, length, Some}
+use Rattle.std.specs.Prelude.{◌≡◌, ◌⊎◌, ◌≤◌, ◌<◌, length}
 use Rattle.pn_values.specs.declared.identity.Identity.{Identity}
 use Rattle.dcp_core.specs.Get.{get_bytes}
 use Rattle.dcp_core.specs.Identify.{identify_bytes}
 use Rattle.dcp_core.specs.Set.{set_bytes}
 use Rattle.rpc_core.specs.declared.interface.Interface.TheVariants.{Controller}
-use Rattle.rpc_core.specs.Response.{Answered}
 use Rattle.pn_alarms.specs.declared.pdu.PduType.TheVariants.{Ack, Data, Nack}
 use Rattle.cyclic_exchange.specs.declared.route.Route.{Route}
 use Rattle.cyclic_exchange.specs.Frames.{cyclic_body}
 use Rattle.exchanges.specs.Frames.{Frame, Inputs, Notifies, Replies}
 use Rattle.relations.specs.Farewells.{said_by}
 use Rattle.device_frames.specs.Sent.{Sent, IdentifyAnswer, GetAnswer, SetAnswer, ArpReply, CallAnswer, Again, ReadyCall, Ends, Exchanges}
-use Rattle.controller_core.specs.declared.connect.Found.{Found}
-use Rattle.controller_core.specs.Connect.{found_in, nothing}
 use Rattle.frame_laws.specs.Sendable.{IsHolder, IsMac}
 use Rattle.call_laws.specs.Sendable.{CanBeAnswered, CanBeCalled}
 use Rattle.block_laws.specs.Writable.{IsAlarm}
 use Rattle.alarm_laws.specs.Sendable.{IsHeader}
 use Rattle.hearing_laws.specs.Stations.{IsAddress, IsCaller, IsRoute, ready_call}
-
--- of an answer to a Connect the FrameID that the device chose has two octets
-abbrev pub IsChosen : Answered → Type 0
-IsChosen answer = (found : Found) (frame_id : ℕ) → found_in 400 answer.blocks nothing ≡ Some found → found.output ≡ Some frame_id → frame_id < 65536
+use Rattle.sending_laws.specs.Sized.{IsChosen}
 
 -- a frame by which the relation exchanges
 abbrev pub CanBeExchanged : Route → Frame → Type 0
@@ -36,7 +30,7 @@ CanBeSentBy identity (IdentifyAnswer asker running xid) = IsMac asker × (xid < 
 CanBeSentBy identity (GetAnswer asker running request) = IsMac asker × (request.xid < 4294967296) × (length (get_bytes identity running request) ≤ 1498)
 CanBeSentBy identity (SetAnswer asker request outcomes) = IsMac asker × (request.xid < 4294967296) × (length (set_bytes request outcomes) ≤ 1498)
 CanBeSentBy identity (ArpReply asker address target) = IsMac asker × IsAddress address × IsHolder target
-CanBeSentBy identity (CallAnswer caller address answer) = IsCaller caller × IsAddress address × CanBeAnswered answer × IsChosen answer
+CanBeSentBy identity (CallAnswer caller address answer) = IsCaller caller × IsAddress address × CanBeAnswered answer × IsChosen answer.blocks
 CanBeSentBy identity (Again frame) = ⊥
 CanBeSentBy identity (ReadyCall address ready) = IsAddress address × IsMac ready.partner.mac × IsAddress ready.partner.address × CanBeCalled Controller (ready_call ready)
 CanBeSentBy identity (Ends farewell) = IsMac farewell.initiator × (farewell.tag < 65536) × IsHeader (said_by farewell).header

@@ -1,5 +1,5 @@
 -- What a controller keeps and hears, of which each field has its size.
-use Rattle.std.specs.Prelude.{◌≡◌, ◌≤◌, ◌<◌, ℕ, Option, Some, None, ⊤}
+use Rattle.std.specs.Prelude.{◌≡◌, ◌≤◌, ◌<◌, ℕ, List, Option, Some, None, option_and_then, ⊤}
 use Rattle.record_blocks.specs.declared.alarm_ack.AlarmAck.{AlarmAck}
 use Rattle.record_blocks.specs.declared.alarm_notification.AlarmNotification.{AlarmNotification}
 use Rattle.pn_alarms.specs.declared.message.Notice.TheVariants as notice
@@ -8,7 +8,6 @@ use Rattle.controller_frames.specs.declared.request.Request.{Request}
 use Rattle.controller_frames.specs.declared.request.Request.TheVariants as asks
 use Rattle.controller_frames.specs.declared.setup.Setup.{Setup}
 use Rattle.controller_frames.specs.Heard.{Heard, Nothing, Answers, Responds, Calls, Cyclic, Alarms, heard_of}
-use Rattle.controller_core.specs.declared.connect.Found.{Found}
 use Rattle.controller_core.specs.declared.event.Event.{Event}
 use Rattle.controller_core.specs.declared.event.Event.TheVariants.{Frame, Tick, Give, Stop}
 use Rattle.controller_core.specs.Connect.{found_in, nothing}
@@ -69,11 +68,25 @@ IsNotice notice.Nack = ⊤
 IsNotice (notice.Ack number) = ⊤
 IsNotice notice.Abort = ⊤
 
+-- what is found in the answer to a Connect
+abbrev TypeOf : {A : Type 0} → A → Type 0
+TypeOf {A = A} value = A
+
+abbrev pub Found : Type 0
+Found = TypeOf nothing
+
+-- the FrameID that the device chose for outputs, if these blocks are the answer to a Connect
+abbrev pub chosen_in : List ℕ → Option ℕ
+chosen_in blocks = option_and_then (λ (found : Found). found.output) (found_in 400 blocks nothing)
+
+abbrev pub IsChosen : List ℕ → Type 0
+IsChosen blocks = (frame_id : ℕ) → chosen_in blocks ≡ Some frame_id → frame_id < 65536
+
 -- what was heard has its sizes: of the answer to a Connect the FrameID that the device chose
 abbrev pub IsSized : Heard → Type 0
 IsSized Nothing = ⊤
 IsSized (Answers source answer) = IsMac source
-IsSized (Responds response) = (found : Found) (frame_id : ℕ) → found_in 400 response.blocks nothing ≡ Some found → found.output ≡ Some frame_id → frame_id < 65536
+IsSized (Responds response) = IsChosen response.blocks
 IsSized (Calls caller call) = IsCaller caller × IsHeader call.header × (call.args_maximum < 4294967296)
 IsSized (Cyclic source frame_id body) = ⊤
 IsSized (Alarms source header told) = IsNotice told

@@ -5,8 +5,9 @@ use Rattle.plans.specs.declared.parts.Controller.{Controller}
 use Rattle.exchanges.specs.Frames.{Inputs, Notifies, Replies}
 use Rattle.device_frames.specs.Sent.{Sent, IdentifyAnswer, GetAnswer, SetAnswer, ArpReply, CallAnswer, Again, ReadyCall, Ends, Exchanges}
 use Rattle.device_frames.specs.Sent.{bytes_of as device_bytes}
-use Rattle.controller_frames.specs.Heard.{heard_of}
-use Rattle.hearing_laws.specs.Stations.{IsDevice}
+use Rattle.controller_frames.specs.Heard.{Calls, heard_of}
+use Rattle.controller_frames.specs.Sent.{calls_at}
+use Rattle.hearing_laws.specs.Stations.{IsDevice, ready_call}
 use Rattle.sending_laws.specs.Devices.{CanBeSentBy}
 use Rattle.sending_laws.specs.Sized.{IsSized}
 use Rattle.sending_laws.proofs.Heard.{mine_sized, noted, nothing_sized, told_sized}
@@ -21,7 +22,7 @@ sized c mine identity (CallAnswer caller address answer) is can =
     told_sized mine caller.mac caller.endpoint _ _ (c.responses_are_heard.ensures.controller mine identity caller address answer is can.0 can.1 can.2) can.3
 sized c mine identity (Again frame) is can = absurd can
 sized c mine identity (ReadyCall address ready) is can =
-    told_sized mine ready.partner.mac _ _ _ (c.ready_calls_are_heard.ensures.controller mine identity address ready is can.1 can.2 can.0 can.3)
+    told_sized mine ready.partner.mac (calls_at ready.partner.address) (Calls (record { mac = identity.mac; endpoint = calls_at address }) (ready_call ready)) _ (c.ready_calls_are_heard.ensures.controller mine identity address ready is can.1 can.2 can.0 can.3)
     ((record { mac = is; endpoint = (can.0, omega arith) }), can.3.header, can.3.maximum)
 sized c mine identity (Ends farewell) is can = mine_sized mine farewell.initiator _ _ (c.ends_are_heard.ensures.controller mine identity farewell is can.0 can.1 can.2) tt
 sized c mine identity (Exchanges route (Inputs inputs counter)) is can = mine_sized mine route.partner _ _ (c.inputs_are_heard.ensures.controller mine identity route inputs counter is can.0 can.1) tt
