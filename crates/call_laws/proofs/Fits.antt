@@ -89,13 +89,16 @@ pub call_short : (interface : Interface) (asked : Asked) → CanBeCalled interfa
 unfolding call_bytes
 call_short interface asked is = omega (arith, (call_sound interface).sized asked [], call_size interface asked is, is.few)
 
-response_size : (answer : Answered) → CanBeAnswered answer → response.size answer ≡ 100 + length answer.blocks
+response_size : (answer : Answered) → IsHeader answer.header → response.size answer ≡ 100 + length answer.blocks
 unfolding response pdu cut_off
 response_size answer is =
     let inside = body_long (status (order_of 0)) answer.status answer.maximum_count answer.blocks (status_sound (order_of 0)) (status_size answer.status) in
-    let front = head_size 2 0x0A (body_size (length answer.blocks)) answer.header is.header in
+    let front = head_size 2 0x0A (body_size (length answer.blocks)) answer.header is in
     omega (arith, inside, front)
 
-pub response_short : (answer : Answered) → CanBeAnswered answer → length (response_bytes answer) ≤ 1472
+pub response_long : (answer : Answered) → IsHeader answer.header → length (response_bytes answer) ≡ 100 + length answer.blocks
 unfolding response_bytes
-response_short answer is = omega (arith, response_sound.sized answer [], response_size answer is, is.few)
+response_long answer is = omega (arith, response_sound.sized answer [], response_size answer is)
+
+pub response_short : (answer : Answered) → CanBeAnswered answer → length (response_bytes answer) ≤ 1472
+response_short answer is = omega (arith, response_long answer is.header, is.few)

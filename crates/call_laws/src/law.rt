@@ -1,5 +1,5 @@
 //! The laws.
-ghost use Rattle.std.specs.Prelude.{◌≡◌, ◌≤◌, ◌++◌, false, IsErr, List, ℕ, length, Ok};
+ghost use Rattle.std.specs.Prelude.{◌≡◌, ◌≤◌, ◌+◌, ◌++◌, false, IsErr, List, ℕ, length, Ok};
 ghost use Rattle.rpc_core.specs.declared.interface.Interface.{Interface};
 ghost use Rattle.rpc_core.specs.declared.interface.Interface.TheVariants.{Controller, Device};
 ghost use Rattle.rpc_core.specs.Call.{Asked, call_bytes, call_of};
@@ -8,7 +8,7 @@ ghost use Rattle.rpc_core.specs.Response.{Answered, is_done, response_bytes, res
 ghost use Rattle.pnio_status.specs.declared.call_fault.CallFault.{CallFault};
 ghost use Rattle.pnio_status.specs.declared.operation.Operation.{Operation};
 ghost use Rattle.pnio_status.specs.Status.{status_of};
-ghost use Rattle.call_laws.specs.Sendable.{CanBeAnswered, CanBeCalled};
+ghost use Rattle.call_laws.specs.Sendable.{CanBeAnswered, CanBeCalled, IsHeader};
 
 /// What is written for a call is read as that call: a law of the definitions, and no code.
 pub fn calls_are_read()
@@ -24,6 +24,8 @@ pub fn responses_are_read()
     ensures read { (response : Answered) (more : List ℕ) → CanBeAnswered response → response_of (response_bytes response ++ more) ≡ Ok response }
     // It fits a frame.
     ensures short { (response : Answered) → CanBeAnswered response → length (response_bytes response) ≤ 1472 }
+    // How many octets it takes, however many blocks there are.
+    ensures long { (response : Answered) → IsHeader response.header → length (response_bytes response) ≡ 100 + length response.blocks }
 {}
 
 /// No octets are a call and a response: laws of the definitions, and no code.

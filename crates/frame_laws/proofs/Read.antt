@@ -1,6 +1,8 @@
 -- What is written is read.
-use Rattle.std.proofs.Common.{◌≡◌, ◌==◌, ◌+◌, ◌≤◌, ℕ, Bool, true, false, List, [], ◌++◌, length, nat_lt, Option, Result, Ok, Err, if◌then◌else◌, refl, sym, ap, subst, ◌∙◌, append_assoc, arith}
-use Rattle.std.proofs.lemmas.List.{append-nil}
+use Rattle.std.proofs.Common.{◌≡◌, ◌==◌, ◌+◌, ◌≤◌, ◌<◌, ℕ, Bool, true, false, List, [], ◌++◌, length, nat_lt, Option, Some, None, Result, Ok, Err, if◌then◌else◌, refl, sym, ap, subst, ◌∙◌, append_assoc, arith}
+use Rattle.std.specs.Prelude.{IsErr}
+use Rattle.std.proofs.lemmas.Bool.{lt-ltb}
+use Rattle.std.proofs.lemmas.List.{append-nil, length-append}
 use Rattle.wire.specs.Codec.{Codec, ◌>>=◌}
 use Rattle.wire.specs.Formats.{number}
 use Rattle.wire.specs.Whole.{ends_by, everything}
@@ -10,9 +12,10 @@ use Rattle.frame_codec.specs.declared.fault.FrameFault.{FrameFault}
 use Rattle.frame_codec.specs.declared.fault.FrameFault.TheVariants.{TooLong, TooShort}
 use Rattle.frame_codec.specs.declared.udp.Endpoint.{Endpoint}
 use Rattle.frame_codec.specs.Meaning.{Content, RealTime, ArpPacket, UdpDatagram, Meaning}
-use Rattle.frame_codec.specs.Frame.{IsReadBack, content_under, frame_bytes, frame_of, layers, link, link_of, longest, padding_of, profinet, real_time, type_of, with_behind}
+use Rattle.frame_codec.specs.Internet.{internet_header, internet_size, internet_way, packet, size_behind, udp, udp_header}
+use Rattle.frame_codec.specs.Frame.{IsReadBack, content_under, datagram, mac, tag_and_type, frame_bytes, frame_of, layers, link, link_of, longest, padding_of, profinet, real_time, type_of, with_behind}
 use Rattle.frame_codec.proofs.Frames.{read_back}
-use Rattle.frame_codec.proofs.Layers.{link_sound}
+use Rattle.frame_codec.proofs.Layers.{layers_sound, link_sound}
 use Rattle.frame_laws.specs.Sendable.{CanBeSent, IsMac, IsRealTime, IsRealTimeOrNone, IsTag, carrying}
 use Rattle.frame_laws.proofs.Fits.{frame_fits, layers_fit, link_fits}
 
@@ -60,12 +63,46 @@ parts meaning =
     ap (λ (xs : List ℕ). xs ++ padding_of meaning) (link_sound.local header body) ∙ append_assoc (link.write header []) body (padding_of meaning)
     ∙ sym (link_sound.local header (body ++ padding_of meaning))
 
+-- the link header in front of a frame is read
+link_read : (meaning : Meaning) → IsMac meaning.destination → IsMac meaning.source → IsTag meaning.tag
+    → link.read (frame_bytes meaning) ≡ Ok (link_of meaning, (content_under (type_of meaning.content)).write meaning.content ++ padding_of meaning)
+link_read meaning one other tagged =
+    let rest = (content_under (type_of meaning.content)).write meaning.content ++ padding_of meaning in
+    ap (λ (xs : List ℕ). link.read xs) (parts meaning) ∙ link_sound.again _ (link_of meaning) rest (link_sound.written (link_of meaning) rest (link_fits meaning one other tagged))
+
 pub alone : (destination source : Mac) (tag : Option ℕ) (frame_id : ℕ) (body : List ℕ) → IsMac destination → IsMac source → IsTag tag
     → IsRealTimeOrNone (frame_of (frame_bytes (carrying destination source tag (RealTime frame_id body))))
 alone destination source tag frame_id body one other tagged =
     let meaning = carrying destination source tag (RealTime frame_id body) in
-    let rest = (content_under (type_of meaning.content)).write meaning.content ++ padding_of meaning in
-    let header = link_of meaning in
-    let spelled = link_sound.written header rest (link_fits meaning one other tagged) in
-    let reads : link.read (frame_bytes meaning) ≡ Ok (header, rest) = ap (λ (xs : List ℕ). link.read xs) (parts meaning) ∙ link_sound.again _ header rest spelled in
-    under (frame_bytes meaning) rest destination source tag frame_id body reads
+    under (frame_bytes meaning) _ destination source tag frame_id body (link_read meaning one other tagged)
+
+-- ---- what does not fit
+
+too_long : (meaning : Meaning) → IsMac meaning.destination → IsMac meaning.source → IsTag meaning.tag → longest meaning.tag < length (frame_bytes meaning) → IsErr (frame_of (frame_bytes meaning))
+unfolding frame_of
+too_long meaning one other tagged many = rw (link_read meaning one other tagged, lt-ltb (longest meaning.tag) (length (frame_bytes meaning)) many) refl
+
+datagram_size : (from to : Endpoint) (body : List ℕ) → length from.address ≡ 4 → length to.address ≡ 4 → datagram.size (UdpDatagram from to body) ≡ 28 + length body
+unfolding datagram packet internet_header internet_size internet_way size_behind udp udp_header
+datagram_size from to body first second = omega (arith, first, second)
+
+tag_size : (tag : Option ℕ) → longest tag ≤ 1500 + tag_and_type.size (tag, 0x0800) + 12
+unfolding tag_and_type
+tag_size None = omega arith
+tag_size (Some tag) = omega arith
+
+frame_size : (destination source : Mac) (tag : Option ℕ) (from to : Endpoint) (body : List ℕ) → IsMac destination → IsMac source
+    → layers.size (carrying destination source tag (UdpDatagram from to body)) ≡ 12 + tag_and_type.size (tag, 0x0800) + datagram.size (UdpDatagram from to body)
+unfolding layers link mac
+frame_size destination source tag from to body one other = omega (arith, one, other)
+
+longer : (meaning : Meaning) (most : ℕ) → most < length (layers.write meaning) → most < length (frame_bytes meaning)
+unfolding frame_bytes
+longer meaning most many = omega (arith, length-append (layers.write meaning) (padding_of meaning), many)
+
+pub long : (destination source : Mac) (tag : Option ℕ) (from to : Endpoint) (body : List ℕ) → IsMac destination → IsMac source → IsTag tag
+    → length from.address ≡ 4 → length to.address ≡ 4 → 1472 < length body
+    → IsErr (frame_of (frame_bytes (carrying destination source tag (UdpDatagram from to body))))
+long destination source tag from to body one other tagged first second many =
+    let meaning = carrying destination source tag (UdpDatagram from to body) in
+    too_long meaning one other tagged (longer meaning (longest tag) (omega (arith, layers_sound.sized meaning, frame_size destination source tag from to body one other, datagram_size from to body first second, tag_size tag, many)))

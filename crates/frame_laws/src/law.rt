@@ -1,5 +1,5 @@
 //! The laws.
-ghost use Rattle.std.specs.Prelude.{◌≡◌, ◌++◌, List, ℕ, Ok, Option};
+ghost use Rattle.std.specs.Prelude.{◌≡◌, ◌<◌, ◌++◌, IsErr, List, ℕ, length, Ok, Option};
 ghost use Rattle.pn_values.specs.declared.mac.Mac.{Mac};
 ghost use Rattle.frame_codec.specs.declared.arp.Arp.{Arp};
 ghost use Rattle.frame_codec.specs.declared.udp.Endpoint.{Endpoint};
@@ -27,4 +27,8 @@ pub fn frames_are_read()
     // However long real-time data is, and whatever its FrameID, it is never read as a packet of ARP or as a datagram.
     ensures alone { (destination source : Mac) (tag : Option ℕ) (frame_id : ℕ) (body : List ℕ) → IsMac destination → IsMac source → IsTag tag
         → IsRealTimeOrNone (frame_of (frame_bytes (carrying destination source tag (RealTime frame_id body)))) }
+    // A datagram that does not fit a frame is never read.
+    ensures long { (destination source : Mac) (tag : Option ℕ) (from to : Endpoint) (body : List ℕ) → IsMac destination → IsMac source → IsTag tag
+        → length from.address ≡ 4 → length to.address ≡ 4 → 1472 < length body
+        → IsErr (frame_of (frame_bytes (carrying destination source tag (UdpDatagram from to body)))) }
 {}

@@ -1,26 +1,30 @@
 -- Calls and responses, from one end to the other.
-use Rattle.std.proofs.Common.{◌≡◌, ◌≤◌, ◌<◌, ℕ, List, length, Option, Some, None, ◌∙◌, arith}
+use Rattle.std.proofs.Common.{◌≡◌, ◌≤◌, ◌<◌, ℕ, List, length, Option, Some, None, Result, Ok, Err, refl, ◌∙◌, arith}
 use Rattle.pn_values.specs.declared.identity.Identity.{Identity}
 use Rattle.pn_values.specs.declared.mac.Mac.{Mac}
 use Rattle.frame_codec.specs.declared.udp.Caller.{Caller}
 use Rattle.frame_codec.specs.declared.udp.Endpoint.{Endpoint}
-use Rattle.frame_codec.specs.Meaning.{UdpDatagram}
+use Rattle.std.specs.Prelude.{IsErr}
+use Rattle.std.proofs.lemmas.Bool.{false≢true}
+use Rattle.frame_codec.specs.declared.fault.FrameFault.{FrameFault}
+use Rattle.frame_codec.specs.Frame.{frame_of}
+use Rattle.frame_codec.specs.Meaning.{Meaning, UdpDatagram}
 use Rattle.rpc_core.specs.declared.interface.Interface.TheVariants.{Controller as controllers, Device as devices}
 use Rattle.rpc_core.specs.Call.{Asked as Call, call_bytes}
 use Rattle.rpc_core.specs.Response.{Answered, response_bytes}
 use Rattle.cyclic_exchange.specs.Frames.{plain_frame}
 use Rattle.plans.specs.declared.parts.Controller.{Controller}
 use Rattle.relations.specs.declared.ready.Ready.{Ready}
-use Rattle.device_frames.specs.Heard.{Calls, Garbled, Responds, heard_of as device_hears}
+use Rattle.device_frames.specs.Heard.{Calls, Garbled, Responds, Unreadable, heard_frame, heard_of as device_hears}
 use Rattle.device_frames.specs.Sent.{ready_frame, response_frame}
 use Rattle.controller_frames.specs.declared.setup.Setup.{Setup}
-use Rattle.controller_frames.specs.Heard.{Calls as Called, Nothing, Responds as Responded, heard_of as controller_hears}
+use Rattle.controller_frames.specs.Heard.{Calls as Called, Nothing, Responds as Responded, heard_of as controller_hears, heard_read}
 use Rattle.controller_frames.specs.Sent.{answer_frame, call_frame, calls_at}
 use Rattle.frame_laws.specs.Sendable.{CanBeSent, IsEndpoint, IsMac, carrying}
-use Rattle.call_laws.specs.Sendable.{CanBeAnswered, CanBeCalled}
+use Rattle.call_laws.specs.Sendable.{CanBeAnswered, CanBeCalled, IsHeader}
 use Rattle.hearing_laws.specs.Hearing.{comes, mine_told, own_told}
 use Rattle.hearing_laws.specs.Stations.{IsAddress, IsCaller, IsDevice, IsSetup, ready_call}
-use Rattle.hearing_laws.proofs.Given.{CallsAreNoResponses, CallsAreRead, CallsAreShort, ControllerIsMeant, DatagramsAreRead, DeviceIsMeant, ResponsesAreNoCalls, ResponsesAreRead, ResponsesAreShort}
+use Rattle.hearing_laws.proofs.Given.{CallsAreNoResponses, CallsAreRead, CallsAreShort, ControllerIsMeant, DatagramsAreRead, DeviceIsMeant, LongDatagramsAreLost, ResponsesAreLong, ResponsesAreNoCalls, ResponsesAreRead, ResponsesAreShort}
 use Rattle.hearing_laws.proofs.Device.{call_said, ready_said, response_said, told_heard}
 use Rattle.hearing_laws.proofs.Controller.{body_heard, call_is, nothing_told, other_is, response_is}
 
@@ -116,3 +120,31 @@ module _ (datagrams : DatagramsAreRead) (reads : ResponsesAreRead) (short : Resp
   pub answer_at_controller : (mine : Controller) (setup : Setup) (caller : Caller) (answer : Answered) → IsSetup setup → IsCaller caller → CanBeAnswered answer
       → controller_hears mine (answer_frame setup caller answer) ≡ mine_told mine caller.mac caller.endpoint (Responded answer)
   answer_at_controller mine setup caller answer is caller_is can = at_controller mine setup.plan.controller.mac setup.plan.controller.address caller answer is.mac is.address caller_is can
+
+-- ---- what does not fit
+
+unread_at : (identity : Identity) (read : Result Meaning FrameFault) → IsErr read → heard_frame identity read ≡ Unreadable
+unread_at identity (Ok meaning) none = absurd (false≢true none)
+unread_at identity (Err fault) none = refl
+
+lost_at : (mine : Controller) (read : Result Meaning FrameFault) → IsErr read → heard_read mine read ≡ Nothing
+lost_at mine (Ok meaning) none = absurd (false≢true none)
+lost_at mine (Err fault) none = refl
+
+module _ (lost : LongDatagramsAreLost) (sized : ResponsesAreLong) where
+  refused : (identity : Identity) (caller : Caller) (address : List ℕ) (answer : Answered)
+      → IsDevice identity → IsCaller caller → IsAddress address → IsHeader answer.header → 1372 < length answer.blocks → IsErr (frame_of (response_frame identity caller address answer))
+  refused identity caller address answer is caller_is from header many =
+      lost caller.mac identity.mac None (calls_at address) caller.endpoint (response_bytes answer) caller_is.mac is tt from caller_is.endpoint.0 (omega (arith, sized answer header, many))
+
+  pub response_lost : (mine : Controller) (identity : Identity) (caller : Caller) (address : List ℕ) (answer : Answered)
+      → IsDevice identity → IsCaller caller → IsAddress address → IsHeader answer.header → 1372 < length answer.blocks
+      → controller_hears mine (response_frame identity caller address answer) ≡ Nothing
+  unfolding controller_hears
+  response_lost mine identity caller address answer is caller_is from header many = lost_at mine _ (refused identity caller address answer is caller_is from header many)
+
+  pub response_unread : (other identity : Identity) (caller : Caller) (address : List ℕ) (answer : Answered)
+      → IsDevice identity → IsCaller caller → IsAddress address → IsHeader answer.header → 1372 < length answer.blocks
+      → device_hears other (comes (response_frame identity caller address answer)) ≡ Unreadable
+  unfolding device_hears
+  response_unread other identity caller address answer is caller_is from header many = unread_at other _ (refused identity caller address answer is caller_is from header many)

@@ -1,5 +1,5 @@
 -- The laws of the crates below.
-use Rattle.std.proofs.Common.{◌≡◌, ◌≤◌, ◌+◌, ℕ, List, [], ◌++◌, length, Option, Ok}
+use Rattle.std.proofs.Common.{◌≡◌, ◌≤◌, ◌<◌, ◌+◌, ℕ, List, [], ◌++◌, length, Option, Ok}
 use Rattle.std.specs.Prelude.{IsErr}
 use Rattle.pn_values.specs.declared.mac.Mac.{Mac}
 use Rattle.frame_codec.specs.declared.arp.Arp.{Arp}
@@ -14,7 +14,7 @@ use Rattle.block_codec.specs.declared.block.Block.{Block}
 use Rattle.block_codec.specs.Block.{block_bytes, block_size}
 use Rattle.pn_alarms.specs.Format.{Said, pdu_bytes}
 use Rattle.frame_laws.specs.Sendable.{CanBeSent, IsMac, IsRealTimeOrNone, IsTag, carrying}
-use Rattle.call_laws.specs.Sendable.{CanBeAnswered, CanBeCalled}
+use Rattle.call_laws.specs.Sendable.{CanBeAnswered, CanBeCalled, IsHeader}
 
 -- ---- of frames
 
@@ -38,6 +38,11 @@ abbrev pub DataIsAlone : Type 0
 DataIsAlone = (destination source : Mac) (tag : Option ℕ) (frame_id : ℕ) (body : List ℕ) → IsMac destination → IsMac source → IsTag tag
     → IsRealTimeOrNone (frame_of (frame_bytes (carrying destination source tag (RealTime frame_id body))))
 
+abbrev pub LongDatagramsAreLost : Type 0
+LongDatagramsAreLost = (destination source : Mac) (tag : Option ℕ) (from to : Endpoint) (body : List ℕ) → IsMac destination → IsMac source → IsTag tag
+    → length from.address ≡ 4 → length to.address ≡ 4 → 1472 < length body
+    → IsErr (frame_of (frame_bytes (carrying destination source tag (UdpDatagram from to body))))
+
 -- ---- of calls
 
 abbrev pub CallsAreRead : Type 0
@@ -51,6 +56,9 @@ ResponsesAreRead = (response : Answered) (more : List ℕ) → CanBeAnswered res
 
 abbrev pub ResponsesAreShort : Type 0
 ResponsesAreShort = (response : Answered) → CanBeAnswered response → length (response_bytes response) ≤ 1472
+
+abbrev pub ResponsesAreLong : Type 0
+ResponsesAreLong = (response : Answered) → IsHeader response.header → length (response_bytes response) ≡ 100 + length response.blocks
 
 abbrev pub CallsAreNoResponses : Type 0
 CallsAreNoResponses = (interface : Interface) (bytes : List ℕ) (call : Asked) → call_of interface bytes ≡ Ok call → IsErr (response_of bytes)

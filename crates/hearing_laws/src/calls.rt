@@ -12,7 +12,7 @@ ghost use Rattle.rpc_core.specs.Response.{Answered};
 ghost use Rattle.connect_blocks.specs.declared.control.ControlBlock.{ControlBlock};
 ghost use Rattle.plans.specs.declared.parts.Controller.{Controller};
 ghost use Rattle.relations.specs.declared.ready.Ready.{Ready};
-ghost use Rattle.device_frames.specs.Heard.{Calls, Garbled, Responds, heard_of as device_hears};
+ghost use Rattle.device_frames.specs.Heard.{Calls, Garbled, Responds, Unreadable, heard_of as device_hears};
 ghost use Rattle.device_frames.specs.Sent.{ready_frame, response_frame};
 ghost use Rattle.controller_frames.specs.declared.request.Request.{Request};
 ghost use Rattle.controller_frames.specs.declared.setup.Setup.{Setup};
@@ -69,6 +69,13 @@ pub fn responses_are_heard()
     ensures device { (other identity : Identity) (caller : Caller) (address : List ℕ) (answer : Answered)
         → IsDevice identity → IsCaller caller → IsAddress address → CanBeAnswered answer
         → device_hears other (comes (response_frame identity caller address answer)) ≡ own_told other identity.mac caller.mac (calls_at address) caller.endpoint (Responds answer) }
+    // One that does not fit a frame nobody hears.
+    ensures long { (mine : Controller) (identity : Identity) (caller : Caller) (address : List ℕ) (answer : Answered)
+        → IsDevice identity → IsCaller caller → IsAddress address → IsHeader answer.header → 1372 < length answer.blocks
+        → controller_hears mine (response_frame identity caller address answer) ≡ Nothing }
+    ensures unread { (other identity : Identity) (caller : Caller) (address : List ℕ) (answer : Answered)
+        → IsDevice identity → IsCaller caller → IsAddress address → IsHeader answer.header → 1372 < length answer.blocks
+        → device_hears other (comes (response_frame identity caller address answer)) ≡ Unreadable }
 {
     frames_are_read();
     responses_are_read();

@@ -1,7 +1,7 @@
 -- By the proofs of the formats.
 use Rattle.frame_codec.specs.Meaning.{ArpPacket, RealTime, UdpDatagram}
 use Rattle.frame_laws.specs.Sendable.{carrying}
-use Rattle.frame_laws.proofs.Read.{alone, alone_back, back}
+use Rattle.frame_laws.proofs.Read.{alone, alone_back, back, long}
 use Rattle.frame_laws.proofs.law.frames_are_read.Goals as goal
 
 pub returns-clause-back : goal.returns-clause-back
@@ -18,3 +18,6 @@ returns-clause-udp c = λ destination source tag from to body is. alone_back (ca
 
 pub returns-clause-alone : goal.returns-clause-alone
 returns-clause-alone c = alone
+
+pub returns-clause-long : goal.returns-clause-long
+returns-clause-long c = long
