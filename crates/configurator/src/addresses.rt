@@ -86,6 +86,7 @@ fn station_mac_of(controller: &ControllerItem) -> Option<Mac>
     ensures none { IfNone result ((octets : List ℕ) → ¬ IsMacOf controller.now octets) }
 {
     let octets = mac_of(controller.mac.as_bytes())?;
+    // An odd first octet is a group of stations, and no station sends under it.
     if octets[0] % 2 == 0 {
         Some(Mac { octets })
     } else {
@@ -106,6 +107,7 @@ fn host_of(controller: &ControllerItem) -> Option<[u8; 4]>
     ensures none { IfNone result ((address : List ℕ) → ¬ IsHostOf controller.now address) }
 {
     let address = octets_of(controller.address.as_str())?;
+    // The networks 0 and 127 and those from 224 on are of no host on a wire.
     if is_host(address[0]) {
         Some(address)
     } else {

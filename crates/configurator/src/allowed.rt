@@ -53,6 +53,7 @@ fn is_fixed_open(known: &Known, reference: &ModuleReference) -> bool
     let slots = reference.fixed_in.as_slice();
     match known.number(reference.target.as_str()) {
         Some(number) => are_all_open(known, number, slots),
+        // A module that the catalogue does not have can stand nowhere, so it may be named only where it is fixed in no slot.
         None => slots.is_empty(),
     }
 }
@@ -111,6 +112,7 @@ fn are_once(slots: &[SlotItem]) -> bool
     ensures { result ≡ are_once slots.now }
 {
     for entry in slots {
+        // Also where both say the same: which records would be written then, and in what order, nobody said.
         if uses_of(slots, entry.slot) != 1 {
             return false;
         }

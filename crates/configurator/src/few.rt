@@ -90,6 +90,7 @@ fn are_records_few(slots: &[SlotItem]) -> bool
 {
     let mut left = 32;
     for entry in slots {
+        // What is left is counted down, so that no sum can overflow.
         if entry.records.len() > left {
             return false;
         }

@@ -69,6 +69,7 @@ fn numbers_of(alloc: Global, modules: &[ModuleItem]) -> Result<BTreeMap<String, 
 fn fix_in(fixed: &mut BTreeMap<u64, usize>, slot: u64, number: usize) -> Result<(), AllocError>
     ensures { OnOk result ((other : ℕ) → get nat_cmp fixed.new other ≡ option_or (get nat_cmp fixed.old other) (if slot == other then Some number else None)) }
 {
+    // The first module that is fixed there counts; another one is then judged as not allowed.
     if fixed.contains_key(&slot) {
         return Ok(());
     }

@@ -32,6 +32,7 @@ fn field_of(fault: BlockFault) -> u8
 {
     match fault {
         BlockFault::Version(field) | BlockFault::Field(field) => field,
+        // A fault of no single field is told as one of BlockLength, field 1, which counts all of them.
         BlockFault::Truncated | BlockFault::Kind | BlockFault::Length | BlockFault::Count => 1,
     }
 }
@@ -123,6 +124,7 @@ impl<'a> Draft<'a> {
         ensures added { (expected : Expected) → Gives (λ _. sofar_of self.new expected) result (with_block (sofar_of self.old expected) (Block.IocrBlockReq block.entry)) }
         ensures accepted { AreAccepted self.old → IsAccepted (Block.IocrBlockReq block.entry) → AreAccepted self.new }
     {
+        // One input and one output: a relation here has no multicast and no further data.
         if self.has_iocr(block.iocr_type) {
             return Err(CallFault::IocrField(4));
         }
@@ -180,6 +182,7 @@ impl<'a> Draft<'a> {
         if !is_further(number) {
             return Err(CallFault::BlockType);
         }
+        // Before the block is read: a second one is refused whatever it says.
         if number == BlockType::AlarmCrBlockReq.number() && self.alarm.is_some() {
             return Err(CallFault::AlarmCrRepeated);
         }

@@ -82,6 +82,7 @@ fn append_modules(
     requires few_submodules { length submodules.now ≤ 256 }
     ensures { Gives (λ _. expected.new) result (expected_with expected.old (record { modules = modules.now; submodules = submodules.now })) }
 {
+    // Each block says all of its slots: a slot in two blocks would have two modules.
     if repeats_slot(expected.modules.as_slice(), modules) {
         return Err(CallFault::ExpectedField(6));
     }

@@ -51,6 +51,7 @@ pub(crate) fn fill_layouts(
     requires few { length parts.now ≤ 64 }
     ensures { Gives (λ _. (inputs.new, outputs.new)) result (in_order input_first (layout_of parts.now input.now) (layout_of parts.now output.now)) }
 {
+    // The first fault counts in the order of the blocks, and so does the fault of the layout that was asked for first.
     if input_first {
         *inputs = layout_of(input, parts)?;
         *outputs = layout_of(output, parts)?;

@@ -117,6 +117,7 @@ fn given_id(iocr_type: IocrType, class: RtClass, id: u16) -> u16
     ensures { result ≡ given_id iocr_type class id }
 {
     match (iocr_type, class) {
+        // 0xFFFF leaves the number of outputs to the device, which takes the first of the class.
         (IocrType::Output, RtClass::Class1) if id == 0xFFFF => 0xC000,
         (IocrType::Output, RtClass::Class2) if id == 0xFFFF => 0x8000,
         _ => id,

@@ -81,6 +81,7 @@ fn first_block(bytes: &[u8]) -> Result<(Ar, &[u8]), CallFault>
 fn conflict(standing: &Uuid, asked: &Uuid) -> CallFault
     ensures { result ≡ conflict standing.now asked.now }
 {
+    // The same ARUUID is a Connect that was made twice; another one is a second controller.
     if asked.into_bytes() == standing.into_bytes() {
         CallFault::RelationExists
     } else {
@@ -150,6 +151,7 @@ impl ConnectRequest {
         requires draft { AreAccepted draft.now }
         ensures { Gives (λ _. self.new) result (request_with ar (sofar_of draft.now self.old.expected)) }
     {
+        // What is missing is judged behind all blocks: any of them may still have come.
         if !draft.has_expected {
             return Err(CallFault::BlockMissing);
         }

@@ -80,6 +80,7 @@ impl Controller {
                 self.reply(PduType::Ack, outbox);
                 self.confirm(alarm, outbox);
             }
+            // The device did not hear the ACK. Its AlarmAck is repeated by its own timer, so the alarm is not shown twice.
             Taken::Again => self.reply(PduType::Ack, outbox),
             Taken::Refused => self.reply(PduType::Nack, outbox),
         }
@@ -100,6 +101,7 @@ impl Controller {
             Notice::Ack(number) => {
                 self.alarms.hear_ack(*number);
             }
+            // The AlarmAck is sent again at its time anyway, and a NACK says no more than that its number was not expected.
             Notice::Nack => {}
             Notice::Abort => self.end(Cause::Aborted),
         }
@@ -110,6 +112,7 @@ impl Controller {
         ensures { self.new ≡ with_live self.old (over cause self.old.live) }
     {
         self.phase = State::Ended(cause);
+        // What was asked for is of no use to one that is over, and is not sent again.
         self.asked = None;
         self.waited = 0;
         self.stands = false;

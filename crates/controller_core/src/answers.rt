@@ -33,6 +33,7 @@ pub(crate) fn is_told(wanted: &[u8], value: Option<&[u8]>) -> bool
 pub(crate) fn is_found(plan: &Plan, answer: &dcp_core::Response<'_>) -> bool
     ensures { result ≡ is_found plan.now (answered_as answer.now) }
 {
+    // Every station that hears an Identify may answer, and earlier requests of others are under way: name and transaction decide.
     matches!(answer.service, Service::Identify)
         && answer.xid == 1
         && is_told(

@@ -89,6 +89,7 @@ impl Statuses for NothingGiven {
 
     fn status(&self, kind: PlaceKind, _slot: u16, _subslot: u16) -> u8 {
         match kind {
+            // An output that was never given is no value that anybody chose: it is marked bad until the application gives it.
             PlaceKind::Data => 0,
             PlaceKind::Iocs => GOOD,
         }

@@ -86,7 +86,9 @@ impl Controller {
         ensures frames { map (λ frame. frame.items) outbox.new.items ≡ map (bytes_of self.old.setup) (stopped self.old.setup self.old.live self.old.live.phase).sent }
     {
         match self.phase {
+            // No relation was asked for yet, so there is none that a device would have to be told of.
             State::Looking | State::Addressing => self.end(Cause::Stopped),
+            // The first cause stays: what ended a relation is what an engineer looks for.
             State::Ended(_) => {}
             State::Connecting
             | State::Writing
@@ -179,11 +181,13 @@ impl Controller {
         ensures state { self.new ≡ with_live self.old (found self.old.setup self.old.live source (answered_as answer.now)).live }
         ensures frames { map (λ frame. frame.items) outbox.new.items ≡ map (bytes_of self.old.setup) (found self.old.setup self.old.live source (answered_as answer.now)).sent }
     {
+        // A station of another type has the name: going on would write records into the wrong machine.
         if !is_right(&self.setup.plan, answer) {
             self.end(Cause::WrongDevice);
             return;
         }
         self.device = source;
+        // A Set of what stands already would cost the station a write of its flash at each start of the plant.
         if is_addressed(&self.setup.plan, answer) {
             self.ask(State::Connecting, Request::Connect, outbox);
         } else {
@@ -211,6 +215,7 @@ impl Controller {
         match request {
             Request::Identify | Request::Address => false,
             Request::Connect | Request::Write(_) | Request::PrmEnd | Request::Release(_) => {
+                // The activity alone is not enough: a late answer to the request before carries it too.
                 response.header.activity == self.setup.activity
                     && response.header.sequence == request.sequence(&self.setup.plan)
             }
@@ -297,6 +302,7 @@ impl Controller {
         ensures state { self.new ≡ with_live self.old (connected self.old.setup self.old.live (all_found 400 blocks.now nothing)).live }
         ensures frames { map (λ frame. frame.items) outbox.new.items ≡ map (bytes_of self.old.setup) (connected self.old.setup self.old.live (all_found 400 blocks.now nothing)).sent }
     {
+        // Blocks that do not read are no answer: the Connect is sent again, and the device answers as it did.
         if let Some(found) = found_in(MOST_BLOCKS, blocks) {
             self.connect_by(&found, outbox);
         }
@@ -311,6 +317,7 @@ impl Controller {
         if !found.is_whole() {
             return;
         }
+        // The device has made the relation all the same, and keeps it until it is told.
         if found.differs {
             self.release(Cause::ModuleDiff, outbox);
             return;
@@ -354,6 +361,7 @@ impl Controller {
     fn is_ready(&self, block: &ControlBlock) -> bool
         ensures { result ≡ is_ready self.now.setup block.now }
     {
+        // An ApplicationReady of an earlier relation may still be on its way.
         block.ar_uuid == self.setup.ar && block.session_key == SESSION_KEY
     }
 
@@ -371,12 +379,14 @@ impl Controller {
             ≡ map (bytes_of self.old.setup) (readied self.old.live caller.now (asked call.now) block.now self.old.live.phase).sent }
     {
         match self.phase {
+            // Also in Ending: the answer to PrmEnd may be lost or late, and the device says by this call that it has taken it.
             State::Ending | State::Waiting => {
                 self.phase = State::Exchanging;
                 self.asked = None;
                 self.exchange.begin();
                 send_ready_answer(&self.setup, caller, call, block, outbox);
             }
+            // The answer was lost, and the device asks again.
             State::Exchanging => send_ready_answer(&self.setup, caller, call, block, outbox),
             State::Looking
             | State::Addressing
@@ -417,6 +427,7 @@ impl Controller {
         ensures again { result ≡ is_again self.old.live }
         ensures state { self.new ≡ with_live self.old (later self.old.live) }
     {
+        // CycleCounter counts units from the start on, over all states, and goes round as the field does.
         self.units = self.units.wrapping_add(1);
         if self.waited + 1 == SECOND {
             self.waited = 0;
@@ -463,6 +474,7 @@ impl Controller {
         requires empty { outbox.old.items ≡ [] }
         ensures frames { map (λ frame. frame.items) outbox.new.items ≡ map (bytes_of self.now.setup) (due_frames self.now.live is_ack is_request is_cyclic) }
     {
+        // In this order, so that what a step sends is one list for every reader of it.
         self.send_ack_again(is_ack, outbox);
         self.send_request_again(is_request, outbox);
         self.send_outputs(is_cyclic, outbox);

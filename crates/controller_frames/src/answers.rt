@@ -56,6 +56,7 @@ pub fn send_ready_answer(
     let mut datagram = Datagram::new();
     write_response(&call.response(NO_ERROR, blocks.as_slice()), &mut datagram);
     outbox.put(&Layered {
+        // To where the call came from, port and all: a device need not call from the port at which it listens.
         destination: caller.mac,
         source: setup.plan.controller().mac,
         tag: None,

@@ -73,6 +73,7 @@ fn put_record(setup: &Setup, number: u16, entry: &PlanRecord, blocks: &mut Array
 {
     let octets = entry.data.as_slice();
     let block = IodWriteReq {
+        // SeqNumber of a Write counts within the relation, where the Connect was 0.
         seq_number: number + 1,
         ar_uuid: setup.ar,
         api: 0,

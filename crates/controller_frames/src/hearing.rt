@@ -63,6 +63,7 @@ fn heard_body<'a>(caller: Caller, body: &'a [u8]) -> Hearing<'a>
     if let Ok(call) = read_call(Interface::Controller, body) {
         return match call.blocks {
             Some(_) => Hearing::Calls(caller, call),
+            // Blocks that are counted wrong are dropped: a controller has no status by which it could refuse a device.
             None => Hearing::Nothing,
         };
     }

@@ -51,6 +51,7 @@ impl Image {
         self.data_length = layout.data_length;
         self.places.clear();
         let _ = self.places.try_extend_from_slice(layout.places.as_slice());
+        // Octets at no place are sent too: nothing of an earlier relation may be in them.
         self.octets = blank();
     }
 
@@ -62,6 +63,7 @@ impl Image {
         let Some(place) = place_at(self.places.as_slice(), PlaceKind::Data, slot, subslot) else {
             return false;
         };
+        // The IOPS stands behind the data, at the same place.
         if place.size as usize != value.len() + 1 {
             return false;
         }

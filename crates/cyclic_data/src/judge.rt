@@ -60,6 +60,7 @@ impl<'a> Judge<'a> {
     {
         match self.find(slot, subslot, last) {
             Some((_, io_data)) => taken(self.direction, kind, io_data).unwrap_or(1),
+            // An object of no submodule: told as Unknown once all places are inside, so that it is judged here as small as any.
             None => 1,
         }
     }

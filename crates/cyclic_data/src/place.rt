@@ -96,6 +96,7 @@ fn data_in(direction: IocrType, io_data: SubmoduleData) -> Option<u16>
     ensures { result ≡ data_in direction io_data }
 {
     match (direction, io_data.input, io_data.output) {
+        // A submodule without data tells the controller that it is there by its IOPS, which is an object of no octets among the inputs.
         (IocrType::Input, None, None) => Some(0),
         (IocrType::Input, input, _) => input,
         (IocrType::Output, _, output) => output,

@@ -110,6 +110,7 @@ impl ReceivedImage {
         let value = self.get(slot, subslot)?;
         match self.status(PlaceKind::Data, slot, subslot) {
             Some(GOOD) => Some(value),
+            // Under a bad IOPS the data means nothing, and zeros are what outputs fall back to.
             _ => Some(zeros(value.len())),
         }
     }

@@ -86,6 +86,7 @@ fn is_newer(last: Option<u16>, counter: u16) -> bool
 {
     match last {
         Some(last) => {
+            // Modulo 65,536: the counter goes round about every two seconds. More than 61,440 ahead is a frame that was overtaken.
             let gap = (u32::from(counter) + 65_536 - u32::from(last)) % 65_536;
             gap >= 1 && gap <= 61_440
         }
@@ -113,6 +114,7 @@ impl Consumer {
         ensures taken { result ≡ is_taken self.old.last counter data_status.0 transfer_status }
         ensures state { self.new ≡ heard self.old counter data_status.0 transfer_status }
     {
+        // Whether the provider runs or has a problem is told by IOPS for each submodule; only 'valid' speaks of the whole frame.
         let taken = data_status.contains(DataStatus::DATA_VALID)
             && transfer_status == 0
             && is_newer(self.last, counter);
@@ -142,6 +144,7 @@ impl Consumer {
             self.held = held;
             return false;
         }
+        // It stays over, and the sum cannot overflow, however many units go by.
         self.held = self.limit;
         true
     }

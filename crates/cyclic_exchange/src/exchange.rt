@@ -115,6 +115,7 @@ impl CyclicExchange {
     {
         self.begun = false;
         let size = self.taken.data_length();
+        // Nothing is kept over the end: whoever asks later must not drive a machine by values of a partner that is gone.
         self.taken.accept(zeros(size as usize));
     }
 

@@ -28,6 +28,7 @@ impl CyclicExchange {
         // One that is not taken changes nothing.
         ensures refused { result ≢ Received.Taken → self.new ≡ self.old }
     {
+        // Whose frame it is comes before its length: a short frame of a stranger is the stranger's fault.
         if !self.route.is_of_partner(source, frame_id) {
             return Received::Foreign;
         }

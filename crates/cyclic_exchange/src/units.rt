@@ -39,6 +39,7 @@ impl CyclicExchange {
         ensures brought { result ≡ tick_of self.old alarm }
         ensures state { self.new ≡ cyclic_later self.old }
     {
+        // A unit counts also where the relation ends with it, so that the interval never shifts.
         let is_cyclic = self.provider.due();
         if self.begun && self.consumer.expired() {
             return Tick::ending(Abort::DataHold);

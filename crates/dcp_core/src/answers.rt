@@ -45,6 +45,7 @@ fn response_at<'a>(frame_id: u16, bytes: &'a [u8]) -> Result<Response<'a>, DcpFa
     let (id, rest) = u8_at(bytes, DcpFault::Length)?;
     let (service_type, rest) = u8_at(rest, DcpFault::Length)?;
     let (xid, rest) = u32_at(rest, DcpFault::Length)?;
+    // ResponseDelay of the request, which an answer has as a reserved field.
     let (_reserved, rest) = u16_at(rest, DcpFault::Length)?;
     let (length, rest) = u16_at(rest, DcpFault::Length)?;
     let (data, _behind) = split(rest, length as usize, DcpFault::Length)?;
@@ -88,6 +89,7 @@ fn blocks_at(bytes: &[u8]) -> Result<ResponseBlocks<'_>, DcpFault>
 {
     let mut rest = bytes;
     while !rest.is_empty() {
+        // Each block is judged here, so that what is later read in place can have no fault.
         let (_block, behind) = block_at(rest)?;
         rest = behind;
     }
@@ -102,6 +104,7 @@ fn block_at(bytes: &[u8]) -> Result<(ResponseBlock<'_>, &[u8]), DcpFault>
     let (kind, rest) = kind_at(bytes)?;
     let (length, rest) = u16_at(rest, DcpFault::Block)?;
     let (contents, rest) = split(rest, length as usize, DcpFault::Block)?;
+    // The padding octet of a last block may be missing, and its value is not looked at: stations differ in both.
     let rest = skip(rest, contents.len() % 2);
     let block = said_in(kind, contents)?;
     Ok((block, rest))
@@ -178,6 +181,7 @@ impl<'a> Iterator for ResponseBlocks<'a> {
                 self.bytes = rest;
                 Some(block)
             }
+            // Only the end: each block was judged as the answer was read.
             Err(_) => None,
         }
     }

@@ -20,6 +20,7 @@ pub fn get_answer(identity: &Identity, settings: &Settings, request: &Request<'_
     let asked_for = request.blocks.as_slice();
     let mut blocks = Blocks::new();
     for (index, block) in asked_for.iter().enumerate() {
+        // A pair that is asked for twice is answered once, so that an answer never has more than 16 values.
         if !is_among(&asked_for[..index], block.kind) {
             put_pair(&mut blocks, identity, settings, block.kind);
         }

@@ -27,6 +27,7 @@ const KNOWN_OPTIONS: [u8; 24] = [
 pub fn identify_matches(identity: &Identity, settings: &Settings, request: &Request<'_>) -> bool
     ensures { result ≡ matches identity.now settings.now (asked request.now) }
 {
+    // No block asks for nobody in particular, and is no question to all: that has a block 255/255.
     !request.blocks.is_empty()
         && request
             .blocks
@@ -45,6 +46,7 @@ fn matches_block(identity: &Identity, settings: &Settings, block: &Block<'_>) ->
         Kind::MacAddress => contents == identity.mac.octets.as_slice(),
         Kind::IpSuite => contents == octets_of(&settings.suite).as_slice(),
         Kind::StationType => contents == identity.station_type.as_slice(),
+        // Nobody answers to no name: else each station without one would, which is what an Identify of all is for.
         Kind::NameOfStation => !contents.is_empty() && contents == settings.name.as_bytes(),
         Kind::DeviceId => contents == device_id_of(identity).as_slice(),
         Kind::DeviceRole => contents == ROLE.as_slice(),

@@ -26,6 +26,7 @@ fn request_at<'a>(frame_id: u16, bytes: &'a [u8]) -> Result<Request<'a>, DcpFaul
     let (id, rest) = u8_at(bytes, DcpFault::Length)?;
     let (service_type, rest) = u8_at(rest, DcpFault::Length)?;
     let (xid, rest) = u32_at(rest, DcpFault::Length)?;
+    // ResponseDelay spreads the answers of many stations; this one answers at once, which is inside of any delay.
     let (_delay, rest) = u16_at(rest, DcpFault::Length)?;
     let (length, rest) = u16_at(rest, DcpFault::Length)?;
     let (data, _behind) = split(rest, length as usize, DcpFault::Length)?;
@@ -84,6 +85,7 @@ fn block_at(service: Service, bytes: &[u8]) -> Result<(Block<'_>, &[u8]), DcpFau
     }
     let (length, rest) = u16_at(rest, DcpFault::Block)?;
     let (contents, rest) = split(rest, length as usize, DcpFault::Block)?;
+    // Each block of a Set begins with its BlockQualifier.
     if matches!(service, Service::Set) && contents.len() < 2 {
         return Err(DcpFault::Block);
     }

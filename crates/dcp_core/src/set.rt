@@ -52,6 +52,7 @@ fn unless_operating(in_operation: bool, command: Command) -> SetItem
     ensures { result ≡ judged in_operation command }
 {
     if in_operation {
+        // A controller exchanges by this name and address: another one would make it lose the station.
         SetItem::Answer(BlockError::InOperation)
     } else {
         SetItem::Ask(command)
@@ -66,6 +67,7 @@ fn plan_name(contents: &[u8], in_operation: bool) -> SetItem
         return SetItem::Answer(BlockError::Value);
     };
     let permanent = is_permanent(*qualifier);
+    // No octets are how a name is taken away; they are no faulty name.
     if value.is_empty() {
         let name = StationName::none();
         return unless_operating(in_operation, Command::SetName { permanent, name });
@@ -128,6 +130,7 @@ fn plan_signal(contents: &[u8]) -> SetItem
 fn asks_to_flash(contents: &[u8]) -> bool
     ensures { result ≡ is_flash contents.now }
 {
+    // The qualifier is not looked at: nothing is stored, so it has nothing to say.
     matches!(contents, [_, _, 1, 0])
 }
 
@@ -149,6 +152,7 @@ fn plan_reset(contents: &[u8]) -> SetItem
     let [high, low] = contents else {
         return SetItem::Answer(BlockError::Value);
     };
+    // The lowest bit is that of every qualifier, permanent or not; the mode stands above it.
     match u16::from_be_bytes([*high, *low]) >> 1 {
         1 => SetItem::Ask(Command::ResetApplication),
         2 => SetItem::Ask(Command::ResetCommunication),

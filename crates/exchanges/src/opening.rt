@@ -14,6 +14,7 @@ const GOOD: u8 = 0x80;
 fn status_of(rows: &DiffRows, slot: u16, subslot: u16) -> u8
     ensures { result ≡ status_of rows.now slot subslot }
 {
+    // A module that is not the expected one must not be taken for it: its data is marked bad from the first frame on.
     if rows.is_listed(slot, subslot) {
         0
     } else {

@@ -42,6 +42,7 @@ fn and_masked(range: &mut [u8], bytes: &[u8], mask: [u8; 8])
     ensures between { AreBetween range.old (anded range.old bytes.now) range.new }
 {
     for (place, byte) in range.iter_mut().enumerate() {
+        // The mask repeats from the start of the range, so that one order strikes a call of any length.
         *byte = torn_byte(*byte, *byte & bytes[place], mask[place % 8]);
     }
 }

@@ -41,6 +41,7 @@ fn size_at(bytes: &[u8]) -> Result<(u16, &[u8]), FrameFault>
     ensures { Gives (λ x. (x.0, x.1.now)) result (internet_size.read bytes.now) }
 {
     let rest = fixed_u8_at(bytes, VERSION_AND_LENGTH, FrameFault::IpHeader)?;
+    // The service is for those on the way, and plays no part at the end.
     let (_service, rest) = u8_at(rest, FrameFault::IpHeader)?;
     let (size, rest) = size_behind_at(rest, 20, 28, FrameFault::IpHeader)?;
     let (_identification, rest) = u16_at(rest, FrameFault::IpHeader)?;
@@ -53,9 +54,11 @@ fn way_at(bytes: &[u8]) -> Result<&[u8], FrameFault>
     ensures { Gives (λ x. (tt, x.now)) result (internet_way.read bytes.now) }
 {
     let (fragment, rest) = u16_at(bytes, FrameFault::IpHeader)?;
+    // 'Do not fragment' and the reserved bit say nothing of this packet, so only 'more fragments' and the offset are judged.
     if fragment % 0x4000 != 0 {
         return Err(FrameFault::IpHeader);
     }
+    // The packet has come: how many stations might still have passed it on plays no part.
     let (_life, rest) = u8_at(rest, FrameFault::IpHeader)?;
     fixed_u8_at(rest, UDP, FrameFault::IpHeader)
 }

@@ -44,6 +44,7 @@ fn datagram_at(bytes: &[u8]) -> Result<Payload<'_>, FrameFault>
 {
     let (internet, rest) = internet_header_at(bytes)?;
     let (packet, _) = split(rest, internet.size as usize, FrameFault::IpHeader)?;
+    // The checksum is judged by the sum of all words, its own among them, so one that was sent as all ones passes where 0 was meant.
     if ones_sum(front(bytes, rest)) != 0xFFFF {
         return Err(FrameFault::IpChecksum);
     }
@@ -66,6 +67,7 @@ fn datagram_at(bytes: &[u8]) -> Result<Payload<'_>, FrameFault>
 fn content_at(ether_type: u16, bytes: &[u8]) -> Result<Payload<'_>, FrameFault>
     ensures { Gives content_of result ((content_under ether_type).read bytes.now) }
 {
+    // A second tag is told as such, though its frame may be of an EtherType that is read.
     if ether_type == VLAN {
         return Err(FrameFault::Tag);
     }

@@ -100,6 +100,7 @@ fn passes(internet: &InternetHeader, header: &UdpHeader, octets: &[u8]) -> bool
     requires most { header.now.size + 8 ≤ 65535 }
     ensures { result ≡ passes_by internet.now header.now octets.now }
 {
+    // 0 says that the sender computed none, which UDP allows over IPv4.
     if header.checksum == 0 {
         return true;
     }

@@ -131,6 +131,7 @@ fn put_layers(frame: &mut Frame, layered: &Layered)
 fn pad(frame: &mut Frame)
     ensures { frame.new.items ≡ frame.old.items ++ replicate (60 - length frame.old.items) 0 }
 {
+    // Ethernet's least frame has 64 octets, 4 of them the check sequence, which the interface appends.
     if frame.len() < 60 {
         let zeros = [0; 60];
         frame.append(&zeros[frame.len()..]);

@@ -53,6 +53,7 @@ fn push_all(
     ensures few_submodules { length submodules.new.items ≤ 64 }
 {
     for entry in real.modules.as_slice() {
+        // A module with no submodule has no entry, since I&M data is that of submodules.
         if !entry.submodules.is_empty() {
             modules.push(FilterModule {
                 slot_number: entry.slot,

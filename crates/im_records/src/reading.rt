@@ -27,6 +27,7 @@ pub fn read_record(
     ensures { option_map (λ octets. octets.items) result ≡ record_of index slot subslot identity.now real.now settings.now }
 {
     match index {
+        // I&M0 is one for all submodules: they are parts of one product.
         0xAFF0 if is_real(real, slot, subslot) => Some(im0_of(identity)),
         0xAFF1 if is_device(slot, subslot) => Some(im1_of(&settings.im1)),
         0xAFF2 if is_device(slot, subslot) => Some(im2_of(&settings.im2)),

@@ -104,6 +104,7 @@ impl DeviceAlarms {
         match message {
             Message::Data(number, ack) => Heard::Data(self.take(*number, ack)),
             Message::Ack(number) => self.hear_ack(*number),
+            // The alarm is sent again at its time anyway: a NACK says that a number was not expected, which a repeat mends.
             Message::Nack => Heard::Ignored,
             Message::Abort => Heard::Aborted,
         }
@@ -114,6 +115,7 @@ impl DeviceAlarms {
         ensures taken { result ≡ taken_as self.old.seen number }
         ensures state { self.new ≡ record { sender = sender_after self.old.sender ack.now (taken_as self.old.seen number); seen = last_behind self.old.seen number } }
     {
+        // An AlarmAck that came before its ACK counts: it can only answer an alarm that arrived.
         let taken = self.receiver.take(number);
         match taken {
             Taken::New => {

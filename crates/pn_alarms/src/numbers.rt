@@ -8,6 +8,7 @@ pub(crate) fn next_number(last: Option<u16>) -> u16
 {
     match last {
         None => 0xFFFF,
+        // 15 bits go round; the top bit is set in the two numbers alone that say that nothing was sent or taken yet.
         Some(last) => ((u32::from(last) + 1) % 0x8000) as u16,
     }
 }

@@ -31,6 +31,7 @@ fn header_at(bytes: &[u8]) -> Result<(Header, &[u8]), AlarmFault>
     let (destination, rest) = u16_at(bytes, AlarmFault::Short)?;
     let (source, rest) = u16_at(rest, AlarmFault::Short)?;
     let (kind, rest) = kind_at(rest)?;
+    // AddFlags: one window size is all there is, and data is always acknowledged.
     let (_flags, rest) = u8_at(rest, AlarmFault::Short)?;
     let (send_number, rest) = u16_at(rest, AlarmFault::Short)?;
     let (ack_number, rest) = u16_at(rest, AlarmFault::Short)?;

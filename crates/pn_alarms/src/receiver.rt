@@ -69,6 +69,7 @@ impl Receiver {
             self.last = Some(number);
             return Taken::New;
         }
+        // The partner did not hear the answer: it gets it again, and the data is not taken twice.
         if self.last == Some(number) {
             Taken::Again
         } else {

@@ -82,6 +82,7 @@ impl Repeats {
             return Due::Nothing;
         };
         let units = units + 1;
+        // Given up where it would be sent once more than allowed, and not before: the last repeat has its whole time for an answer.
         if units == self.limit {
             self.waiting = None;
             return Due::Spent;

@@ -103,6 +103,7 @@ impl Standing {
     fn is_ended_by(&self, ack: &AlarmAck) -> bool
         ensures { result ≡ is_of ack.now (kept_as self.now) }
     {
+        // PNIOStatus is not looked at: an AlarmAck that tells of an error still says that the alarm was taken.
         ack.alarm_type == PROCESS
             && ack.api == 0
             && ack.slot_number == self.slot_number
@@ -174,6 +175,7 @@ impl Sender {
         // It is refused exactly where one stands.
         ensures busy { is_ok result ≡ is_none self.old.standing }
     {
+        // One at a time: the window of alarms is one, and an AlarmAck has to find the alarm that it is of.
         if self.standing.is_some() {
             return Err(RaiseFault::Busy);
         }

@@ -27,6 +27,7 @@ pub fn put_read_answer<const N: usize>(
     requires { array_vec_len answer.old + 64 + length octets.now ≤ N }
     ensures { answer.new.items ≡ answer.old.items ++ answer_of request.now octets.now }
 {
+    // A reader says how much it has room for, and gets so much of the record.
     let sent = cut_to(octets, request.record_data_length);
     let header = IodReadRes {
         seq_number: request.seq_number,

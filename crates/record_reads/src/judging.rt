@@ -14,6 +14,7 @@ use pnio_status::CallFault;
 pub fn read_request(blocks: &[u8]) -> Result<IodReadReq, CallFault>
     ensures { Gives (λ x. x) result (request_of blocks.now) }
 {
+    // TargetARUUID and padding may follow, and decide nothing.
     let (block, _behind) = single_block(blocks, BlockType::IodReadReq)?;
     match block {
         Block::IodReadReq(request) => Ok(request),

@@ -35,6 +35,7 @@ pub(crate) fn serve(
             put_read_answer(answer, request, record.as_slice());
             Ok(())
         }
+        // A parameter is known, and is for writing only: what is kept is the controller's own.
         None if parameter_length(real, slot, subslot, index).is_some() => Err(CallFault::Access),
         None => Err(CallFault::Index),
     }

@@ -43,6 +43,7 @@ fn request_within(standing: Option<&Uuid>, blocks: &[u8]) -> Result<IodReadReq, 
     ensures { result ≡ request_within (option_map (λ uuid. uuid.now) standing.entry) blocks.now }
 {
     let request = read_request(blocks)?;
+    // Before the place: a stranger is told that he has no relation, and not what is plugged.
     check_relation(standing, &request.ar_uuid)?;
     Ok(request)
 }

@@ -36,6 +36,7 @@ fn judge_request(
 ) -> Result<Write, CallFault>
     ensures { result ≡ judged_request (option_map (λ uuid. uuid.now) standing.entry) real.now request.now behind.now }
 {
+    // Whose call it is comes first: nothing is told of a record to one without the relation.
     check_target(standing, real, request)?;
     match check_record(real, request, behind) {
         Ok(effect) => Ok(Write {
@@ -77,6 +78,7 @@ fn check_record(real: &Real, request: &IodWriteReq, behind: &[u8]) -> Result<Eff
     if is_read_only(request.index) {
         return Err(CallFault::Access);
     }
+    // Judged behind index and access, so that a wrong record is told as such even where its octets are missing.
     if behind.len() < size {
         return Err(CallFault::WriteLength);
     }

@@ -62,6 +62,7 @@ impl TakenRecords {
         if self.records.is_full() {
             return Err(CallFault::TooManyRecords);
         }
+        // Also where the same record is there already: a parameter may be written twice, and both are shown in their order.
         self.records.push(taken);
         Ok(())
     }

@@ -77,6 +77,7 @@ impl Relation {
     {
         let block = control_block(blocks, BlockType::PrmEnd)?;
         self.check_control(&block, PRM_END)?;
+        // A second PrmEnd would begin ApplicationReady anew; a repeat of the first is answered from what is kept and never comes here.
         if !matches!(self.phase, Some(Phase::Started)) {
             return Err(CallFault::Phase);
         }
@@ -108,6 +109,7 @@ impl Relation {
         let done = done(block);
         let _size = control_len(&done);
         write_block(answer, &Block::ReleaseRes(done));
+        // What stands in the other fields means nothing from here on, and the next Connect fills them anew.
         self.phase = None;
         Ok(())
     }

@@ -110,6 +110,7 @@ impl Relation {
         ensures refused { IfErr result (λ fault. (connect_answer identity.now real.now self.old blocks.now ≡ Err fault) × (answer.new.items ≡ [])) }
         ensures state { self.new ≡ moved (making real.now partner (connect_of self.old blocks.now)) self.old }
     {
+        // One relation, and whoever has it keeps it: a second controller must not take a running station from the first.
         if let Some(_) = self.phase {
             return Err(refuse(&self.request.ar().uuid, blocks));
         }
@@ -117,6 +118,7 @@ impl Relation {
         let rows = diff(self.request.expected(), real);
         put_differing(&mut self.differing, &rows);
         self.exchange.open(&self.request, &rows);
+        // Parameters of an earlier relation are not those of this one.
         self.taken.clear();
         self.partner = partner;
         self.quiet = 0;

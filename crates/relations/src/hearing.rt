@@ -42,9 +42,11 @@ impl Relation {
             return Heard::NotWanted;
         };
         let uuid = self.request.ar().uuid;
+        // Who sent it is not looked at: an activity is unique, and a controller may answer from another port.
         if !is_answer_to(&uuid, &response.header) {
             return Heard::NotWanted;
         }
+        // Before its blocks: a refusal may have none.
         if !response.status.is_done() {
             self.phase = None;
             let header = self.exchange.header(PduType::Error);

@@ -154,6 +154,7 @@ impl Relation {
     pub fn hear_controller(&mut self, is_named: bool, came: Result<(), CallFault>)
         ensures { self.new ≡ moved (answered (if is_named then Named else Unmoved) came) self.old }
     {
+        // A refused call shows that somebody is there, and not that it is the controller with a purpose.
         if is_named && came.is_ok() {
             self.quiet = 0;
         }

@@ -134,6 +134,7 @@ impl Relation {
         let Some(phase) = self.phase else {
             return Elapsed::ending(None);
         };
+        // In each phase: inputs are sent from the answer to the Connect on.
         let tick = self.exchange.tick();
         let ending = if is_timed(phase) {
             let limit = u32::from(self.request.ar().timeout_factor) * TENTH_OF_A_SECOND;

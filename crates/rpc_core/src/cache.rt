@@ -135,6 +135,7 @@ impl<const N: usize> CallCache<N> {
         if sequence == slot.sequence {
             return Looked::Again(&slot.frame);
         }
+        // Answering it again would hand its caller the answer to another call.
         if sequence < slot.sequence {
             return Looked::Old;
         }

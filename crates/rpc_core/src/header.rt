@@ -82,6 +82,7 @@ impl Head {
 pub(crate) fn order_under(representation: u8) -> Order
     ensures { result ≡ order_of representation }
 {
+    // Whatever is neither order is read as big endian, and refused once the header is judged.
     if representation / 16 == 1 {
         Order::Little
     } else {

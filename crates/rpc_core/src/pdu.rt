@@ -53,6 +53,7 @@ fn serves(interface: Option<Interface>, head: &Head) -> bool
     ensures { result ≡ is_served interface head.now }
 {
     match interface {
+        // A response is told apart by its activity, and stations differ in which interface they name.
         None => true,
         Some(served) => head.names.interface == served.uuid().into_bytes(),
     }
@@ -71,6 +72,7 @@ pub(crate) fn pdu_at(
     if !has_version(packet_type, &head) {
         return Err(RpcFault::Version);
     }
+    // Numbers before it were read in big endian where it is neither, so that a short or foreign datagram is told as that.
     if head.opening.representation / 16 >= 2 {
         return Err(RpcFault::Representation);
     }

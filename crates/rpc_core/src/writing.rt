@@ -70,6 +70,7 @@ fn put_extent(out: &mut Datagram, value: &Extent)
     ensures len { array_vec_len out.new ≡ array_vec_len out.old + 10 }
     ensures fits { (extent Big).Fits value.now }
 {
+    // No hint of an interface or an activity: hints save a look-up that no station here makes.
     append(out, &[0xFF; 4]);
     append_u16(out, value.length);
     append_u16(out, value.fragment);

@@ -61,6 +61,7 @@ pub(crate) fn read_slots<F: Flash<S>, const S: usize>(
     let mut next = 0;
     for number in 0..slots_of(S) {
         read_slot(flash, sector, number, &mut slot)?;
+        // A slot that was cut short counts as written: what is torn in it could read as something else under a second write.
         next = behind(&slot, number, next);
         let Some(()) = follow(version, &slot, settings) else {
             return Ok(None);
@@ -104,6 +105,7 @@ pub(crate) fn write_base<F: Flash<S>, const S: usize>(
     ensures lost { StaysLost (F.is_lost flash.old) (F.is_lost flash.new) result }
     ensures reliable { F.is_reliable flash.old → IsOk result × F.is_reliable flash.new }
 {
+    // The sector is erased first: its old gate must be gone before any octet of the new base is there.
     flash.erase(sector)?;
     flash.program(sector, 0, base)?;
     flash.program(sector, GATE, &[OPEN])

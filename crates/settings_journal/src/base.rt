@@ -42,6 +42,7 @@ pub(crate) fn encode(generation: u16, settings: &Settings) -> ArrayVec<u8, BASE>
 {
     let name = settings.name.as_bytes();
     let mut base = ArrayVec::new();
+    // Version 1 is read and never written, so that a station comes to version 2 with its next base.
     put(&mut base, &magic(Version::Two));
     put(&mut base, &(u16::MAX - generation).to_be_bytes());
     put(&mut base, &[name.len() as u8]);
@@ -97,6 +98,7 @@ fn im4_of(head: &[u8; HEAD]) -> Padded<54>
     ensures { result ≡ im4_at (version_at head.now) head.now }
 {
     match version_of(head) {
+        // I&M4 that was never kept is as one that was never set.
         Version::One => Padded::zero(),
         Version::Two => Padded::new(part(head, IM4)),
     }

@@ -33,6 +33,7 @@ pub(crate) fn generation_of(head: &[u8; HEAD]) -> Option<u16>
         return None;
     }
     let generation = u16::MAX - u16::from_be_bytes(part(head, LEFT));
+    // 0 is what erased octets say: no base has it, so an erased sector never counts.
     (generation > 0).then_some(generation)
 }
 
