@@ -35,6 +35,7 @@ fn is_request(operation: ArpOperation) -> bool
 {
     match operation {
         ArpOperation::Request => true,
+        // Replies are of no use here: the device answers to where a call came from, and looks nobody up.
         ArpOperation::Reply => false,
     }
 }
@@ -43,5 +44,6 @@ fn is_request(operation: ArpOperation) -> bool
 pub(crate) fn is_running(running: &Settings, address: [u8; 4]) -> bool
     ensures { result ≡ runs running.now address }
 {
+    // A device without an address has zeros, which nobody may be given by a reply.
     address == running.suite.address() && address != [0; 4]
 }

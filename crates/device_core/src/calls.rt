@@ -53,6 +53,7 @@ impl<F: Flash<S>, const S: usize> Device<F, S> {
         }
         match read_call(Interface::Device, body) {
             Ok(call) => self.serve_call(caller, &call, outbox),
+            // What is no call may be an answer: both come to the same port.
             Err(_) => match read_response(body) {
                 Ok(response) => self.hear_response(&response, outbox),
                 Err(_) => Note::Fault,
@@ -88,9 +89,11 @@ impl<F: Flash<S>, const S: usize> Device<F, S> {
         ensures reliable { F.is_reliable self.old.flash → F.is_reliable self.new.flash × (self.new.live.values.has_failed ≡ self.old.live.values.has_failed) }
     {
         let Some(operation) = Operation::of(call.header.operation) else {
+            // An operation that is none cannot be answered: a status says which kind of call failed.
             return Note::Fault;
         };
         let Some(blocks) = call.blocks else {
+            // Answered whatever is kept, and the answer is not kept: the call may come again, whole.
             return self.refuse_arguments(operation, caller, call, outbox);
         };
         match self.cache.look(&call.header.activity, call.header.sequence) {
@@ -320,6 +323,7 @@ impl<F: Flash<S>, const S: usize> Device<F, S> {
             &mut self.blocks,
         );
         let is_named = names_relation(self.relation.uuid(), blocks);
+        // Whoever reads need not be the controller; only one that names the relation shows that it is there.
         self.relation.hear_controller(is_named, came);
         answer(
             &self.identity,

@@ -70,6 +70,7 @@ impl<F: Flash<S>, const S: usize> Device<F, S> {
     {
         let running = self.store.running();
         if !identify_matches(&self.identity, running, request) {
+            // An Identify that means others is nothing wrong, and not answered: else every station would speak at once.
             return Note::Filter;
         }
         let answer = identify_answer(&self.identity, running, request.xid);
@@ -106,7 +107,9 @@ impl<F: Flash<S>, const S: usize> Device<F, S> {
         fill_plan(request, is_in_operation(&self.relation), &mut self.plan);
         let answers = self.store.carry_out(self.plan.as_slice());
         self.lamp = lamp_after(self.lamp, self.plan.as_slice());
+        // A reset that failed leaves the station as it was, and with it the relation.
         let is_ended = is_ended(self.plan.as_slice(), answers.as_slice());
+        // Its ERR goes before the answer, so that a controller does not exchange with a station that was reset.
         end_if(is_ended, &self.identity, &mut self.relation, outbox);
         let answer = set_answer(request, &answers);
         send_dcp_answer(&self.identity, asker, DCP_GET_SET, &answer, outbox);

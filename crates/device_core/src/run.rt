@@ -40,6 +40,7 @@ impl<F: Flash<S>, const S: usize> Device<F, S> {
             F.is_reliable self.new.flash × (self.new.live.values.has_failed ≡ false) }
     {
         let _ = self.step(event, outbox);
+        // A step in which power was lost has sent nothing that anybody can rely on.
         if !self.is_lost() {
             hand_on(outbox, sink);
         }

@@ -80,6 +80,7 @@ impl<F: Flash<S>, const S: usize> Device<F, S> {
         self.lamp = 0;
         self.units = 0;
         self.cache = CallCache::new();
+        // No frame goes out: whoever had the relation hears nothing, and finds out by its own data hold.
         let _ = self.relation.end(Abort::Other);
         Ok(())
     }

@@ -220,9 +220,11 @@ impl<F: Flash<S>, const S: usize> Device<F, S> {
         // Its invariant, for those who do not look into it.
         ensures stored { Holds (F.image self.old.flash) self.old.live.values }
     {
+        // The lamp's time and CycleCounter go on over the ends of relations: they belong to the station.
         self.lamp = self.lamp.saturating_sub(1);
         self.units = self.units.wrapping_add(1);
         let elapsed = self.relation.elapse();
+        // Most units bring nothing, and nothing is made for them.
         if elapsed.is_nothing() {
             return Note::Done;
         }
@@ -261,6 +263,7 @@ impl<F: Flash<S>, const S: usize> Device<F, S> {
             (record { farewell = None; is_alarm = is_alarm; is_ready = is_ready; is_cyclic = is_cyclic }) self.now.live.rest.link) }
     {
         match (is_alarm, is_ready, is_cyclic) {
+            // The one thing that is due each interval has a way of its own, which costs no look at the others.
             (false, false, true) => self.send_inputs(outbox),
             _ => self.send_each(is_alarm, is_ready, is_cyclic, outbox),
         }
@@ -378,6 +381,7 @@ impl<F: Flash<S>, const S: usize> Device<F, S> {
                 Note::Done
             }
             Fate::Done | Fate::Aborted => Note::Done,
+            // A NACK or an ACK of another number is nothing wrong, and changes nothing.
             Fate::Ignored => Note::Filter,
         }
     }

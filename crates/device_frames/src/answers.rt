@@ -77,6 +77,7 @@ pub fn send_response(
     let mut datagram = Datagram::new();
     write_response(response, &mut datagram);
     outbox.put(&Layered {
+        // To whence the call came, without a look at who has that address: a wrong table of addresses misleads nobody.
         destination: caller.mac,
         source: identity.mac,
         tag: None,

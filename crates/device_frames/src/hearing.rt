@@ -61,6 +61,7 @@ pub fn kind_of(identity: &Identity, destination: Mac, frame_id: u16) -> Kind
     if is_taken(identity, destination, frame_id) {
         return Kind::Request;
     }
+    // Cyclic data and alarms go to one station: multicast of them is not part of this device.
     if !is_own(identity, destination) {
         return Kind::Elsewhere;
     }
@@ -100,6 +101,7 @@ fn is_taken(identity: &Identity, destination: Mac, frame_id: u16) -> bool
 {
     let is_own = is_own(identity, destination);
     match frame_id {
+        // A Get or Set of all stations at once would give each the same name or address.
         DCP_GET_SET => is_own,
         DCP_IDENTIFY_REQUEST => is_own || destination.is(&IDENTIFY_MULTICAST),
         _ => false,

@@ -56,6 +56,7 @@ pub fn send_ready(identity: &Identity, address: [u8; 4], relation: &Relation, ou
         &mut datagram,
     );
     outbox.put(&Layered {
+        // To whence the Connect came, at the port of calls: a controller serves its interface there, whatever port it called from.
         destination: ready.partner.mac,
         source: identity.mac,
         tag: None,
