@@ -55,6 +55,14 @@ so_far_front old mid new rest whole so more = record {
 pub keeps_front : (old new : Option (List ℕ)) (text : List ℕ) → Keeps old new → AppendsFront old new text
 keeps_front old new text k = record { front = []; behind = text; parts = refl; appended = keeps_appends old new k }
 
+-- nothing is a front of any text
+pub none_front : (old : Option (List ℕ)) (text : List ℕ) → AppendsFront old old text
+none_front old text = record { front = []; behind = text; parts = refl; appended = appends_none old }
+
+-- all of a text is a front of it
+pub all_front : (old new : Option (List ℕ)) (text : List ℕ) → Appends old new text → AppendsFront old new text
+all_front old new text all = record { front = text; behind = []; parts = sym (append-nil text); appended = all }
+
 -- a front of a text is a front of a longer one
 pub front_longer : (old new : Option (List ℕ)) (text more : List ℕ) → AppendsFront old new text → AppendsFront old new (text ++ more)
 front_longer old new text more f = record {

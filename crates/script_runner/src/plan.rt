@@ -7,10 +7,10 @@ ghost use Rattle.script_runner.specs.Planned.{HasText, HasNoText, IsPlanned, kin
 use crate::RunFault;
 use crate::input::read_all;
 use crate::output::put;
-use crate::show::number;
 use configurator::plan_from_json;
 use cyclic_data::{Layout, Place, PlaceKind};
 use plans::Plan;
+use script_lines::show::number;
 use std::alloc::{AllocError, Global};
 use std::io::{Read, Write};
 
