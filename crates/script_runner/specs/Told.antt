@@ -63,7 +63,17 @@ IsTold plans old new input (Err (Line n)) = IsPlayed plans old new input (Err (L
 IsTold plans old new input (Err (Config n)) = IsPlayed plans old new input (Err (Config n))
 IsTold plans old new input (Err Write) = IsPlayed plans old new input (Err Write)
 
--- The same, whatever plans its catalogues have: each has the one that the configurator says, and none where it is refused.
+-- Whatever a reader gives: after Read and EndlessInput nothing was written.
+abbrev pub IsSilent : Option (List ℕ) → Option (List ℕ) → Result (Unit {0}) RunFault → Type 0
+IsSilent old new (Err Read) = Keeps old new
+IsSilent old new (Err EndlessInput) = Keeps old new
+IsSilent old new (Err OutOfMemory) = Unit {0}
+IsSilent old new (Ok done) = Unit {0}
+IsSilent old new (Err (Line n)) = Unit {0}
+IsSilent old new (Err (Config n)) = Unit {0}
+IsSilent old new (Err Write) = Unit {0}
+
+-- What was written of its output, whatever plans its catalogues have: each has the one that the configurator says, and none where it is refused.
 abbrev pub IsToldByPlans : Option (List ℕ) → Option (List ℕ) → List ℕ → Result (Unit {0}) RunFault → Type 0
 IsToldByPlans old new input result = (plans : List ℕ → Option Parts) → ArePlansOf plans input → IsTold plans old new input result
 
