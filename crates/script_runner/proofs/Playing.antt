@@ -11,7 +11,7 @@ use Rattle.script_lines.specs.Line.{Line, meaning_of}
 use Rattle.script_session.specs.Ends.{Network}
 use Rattle.script_session.specs.Power.{Held}
 use Rattle.script_session.specs.Said.{Answer, Outcome, Answers, Refuses, HasNoPlan, is_order, outcome_of}
-use Rattle.script_session.specs.Session.{Are, AreRightFor, Comes, IsObeyed, IsWithoutPlan, Obeys}
+use Rattle.script_session.specs.Session.{Are, AreRightFor, Comes, IsObeyed, IsWithoutPlan}
 use Rattle.script_runner.specs.declared.fault.RunFault.{RunFault}
 use Rattle.script_runner.specs.declared.fault.RunFault.TheVariants.{Write, OutOfMemory, Config}
 use Rattle.script_runner.specs.Fault.{fault_of}
@@ -200,10 +200,10 @@ played_config : (plans : List ℕ → Option Parts) (old new : Option (List ℕ)
 played_config plans old new input catalogue n fault written end refused config = rw config (inl (written, catalogue, end, (fault, refused, sym config)))
 
 -- at a line that fails
-pub played_failed : (plans : List ℕ → Option Parts) (network : Network) (old new : Option (List ℕ)) (before after : Held) (number : ℕ) (rest line later input text : List ℕ) (fault : PlanFault) → IsPlaying plans network old new before number rest input → lines rest ≡ line ∷ lines later → is_order (meaning_of line) ≡ false → Obeys (outcome_of plans network (meaning_of line)) after [] text (Err fault) → IsPlayed plans old new input (Err (fault_of fault))
-played_failed plans network old new before after number rest line later input text fault playing e plain (inl memory) =
+pub played_failed : (plans : List ℕ → Option Parts) (network : Network) (old new : Option (List ℕ)) (before : Held) (number : ℕ) (rest line later input : List ℕ) (fault : PlanFault) → IsPlaying plans network old new before number rest input → lines rest ≡ line ∷ lines later → is_order (meaning_of line) ≡ false → (fault ≡ plan.OutOfMemory) ⊎ IsWithoutPlan (outcome_of plans network (meaning_of line)) fault → IsPlayed plans old new input (Err (fault_of fault))
+played_failed plans network old new before number rest line later input fault playing e plain (inl memory) =
     played_without plans network old new before number rest input (fault_of fault) playing (ap fault_of memory)
-played_failed plans network old new before after number rest line later input text fault playing e plain (inr without) =
+played_failed plans network old new before number rest line later input fault playing e plain (inr without) =
     let none = without_plan (outcome_of plans network (meaning_of line)) fault without in
     let written = so_far_all old new (told plans network (before_order (lines rest))) (output_of plans input) playing.so_far (told_at plans network rest line later (HasNoPlan none.0) e plain none.1) in
     let end = playing.ended ∙ ended_at plans network (number + 1) rest line later (HasNoPlan none.0) e plain none.1 in
