@@ -1,0 +1,105 @@
+// Readers and writers that fail somewhere in a start-up.
+use super::{output, started_up};
+use script_runner::{RunFault, run};
+use std::alloc::Global;
+use std::io::{self, ErrorKind, Read, Write};
+use std::process::Abort;
+use std::test::Fail;
+
+/// How many octets a reader gives at a time.
+const AT_ONCE: usize = 100;
+
+/// Up to which octet of the output writes fail in turn.
+const OCTETS: usize = 2000;
+
+/// A reader that gives 100 octets at a time, and fails at a later read.
+#[derive(Drop)]
+struct Breaking<'a> {
+    rest: &'a [u8],
+    reads: usize,
+}
+
+impl<'a> Read for Breaking<'a> {
+    fn read(&mut self, buf: &mut [u8]) -> io::Result<usize> {
+        if self.reads == 0 {
+            return Err(io::Error::from(ErrorKind::Other));
+        }
+        self.reads -= 1;
+        let most = buf.len().min(AT_ONCE);
+        self.rest.read(&mut buf[..most])
+    }
+}
+
+/// A writer with room for some octets more, which fails behind them.
+#[derive(Drop)]
+struct Filling {
+    taken: Vec<u8>,
+    room: usize,
+}
+
+impl Write for Filling {
+    fn write(&mut self, buf: &[u8]) -> io::Result<usize> {
+        let most = buf.len().min(self.room);
+        if most == 0 {
+            return Err(io::Error::from(ErrorKind::Other));
+        }
+        self.room -= most;
+        self.taken.write(&buf[..most])
+    }
+
+    fn flush(&mut self) -> io::Result<()> {
+        Ok(())
+    }
+}
+
+/// A start-up whose output has more octets than the writers below have room for.
+fn long(alloc: Global) -> Result<String, Fail> {
+    Ok(started_up(alloc, "show\nshow\nshow\nshow\nstop\ndeliver\n")?)
+}
+
+#[test]
+fn each_of_the_first_reads_fails(rt: HostRuntime) -> Result<(), Fail> {
+    let alloc = rt.alloc();
+    let script = long(alloc)?;
+    for reads in 0..script.len() / AT_ONCE + 1 {
+        let mut reader = Breaking {
+            rest: script.as_bytes(),
+            reads,
+        };
+        let mut writer = Vec::new(alloc);
+        assert_eq!(rt; run(alloc, &mut reader, &mut writer), Err(RunFault::Read));
+        assert_eq!(rt; writer.len(), 0);
+    }
+    Ok(())
+}
+
+/// With this room the first octets of the output are written, and then a write fails.
+fn fills(
+    rt: &impl Abort,
+    alloc: Global,
+    script: &[u8],
+    whole: &[u8],
+    room: usize,
+) -> Result<(), Fail> {
+    let mut writer = Filling {
+        taken: Vec::new(alloc),
+        room,
+    };
+    let mut reader = script;
+    assert_eq!(rt; run(alloc, &mut reader, &mut writer), Err(RunFault::Write));
+    assert_eq!(rt; Some(writer.taken.as_slice()), whole.get(..room));
+    Ok(())
+}
+
+#[test]
+fn each_of_the_first_octets_is_refused(rt: HostRuntime) -> Result<(), Fail> {
+    let alloc = rt.alloc();
+    let script = long(alloc)?;
+    let (result, whole) = output(alloc, script.as_bytes());
+    assert_eq!(rt; result, Ok(()));
+    assert!(rt; whole.len() > OCTETS);
+    for room in 0..OCTETS {
+        fills(&rt, alloc, script.as_bytes(), whole.as_slice(), room)?;
+    }
+    Ok(())
+}
