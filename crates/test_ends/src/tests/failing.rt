@@ -9,9 +9,6 @@ use std::test::Fail;
 /// How many octets a reader gives at a time.
 const AT_ONCE: usize = 100;
 
-/// Up to which octet of the output writes fail in turn.
-const OCTETS: usize = 2000;
-
 /// A reader that gives 100 octets at a time, and fails at a later read.
 #[derive(Drop)]
 struct Breaking<'a> {
@@ -91,15 +88,34 @@ fn fills(
     Ok(())
 }
 
-#[test]
-fn each_of_the_first_octets_is_refused(rt: HostRuntime) -> Result<(), Fail> {
-    let alloc = rt.alloc();
+/// Writes are refused in turn behind so many octets, each from `first` on, up to `last`.
+fn refused_between(rt: &impl Abort, alloc: Global, first: usize, last: usize) -> Result<(), Fail> {
     let script = long(alloc)?;
     let (result, whole) = output(alloc, script.as_bytes());
     assert_eq!(rt; result, Ok(()));
-    assert!(rt; whole.len() > OCTETS);
-    for room in 0..OCTETS {
-        fills(&rt, alloc, script.as_bytes(), whole.as_slice(), room)?;
+    assert!(rt; whole.len() > last);
+    for room in first..last {
+        fills(rt, alloc, script.as_bytes(), whole.as_slice(), room)?;
     }
     Ok(())
+}
+
+#[test]
+fn each_of_the_first_500_octets_is_refused(rt: HostRuntime) -> Result<(), Fail> {
+    refused_between(&rt, rt.alloc(), 0, 500)
+}
+
+#[test]
+fn each_of_the_next_500_octets_is_refused(rt: HostRuntime) -> Result<(), Fail> {
+    refused_between(&rt, rt.alloc(), 500, 1000)
+}
+
+#[test]
+fn each_octet_from_1000_on_is_refused(rt: HostRuntime) -> Result<(), Fail> {
+    refused_between(&rt, rt.alloc(), 1000, 1500)
+}
+
+#[test]
+fn each_octet_from_1500_on_is_refused(rt: HostRuntime) -> Result<(), Fail> {
+    refused_between(&rt, rt.alloc(), 1500, 2000)
 }
