@@ -21,7 +21,7 @@ impl<'a> Read for Breaking<'a> {
         if self.reads == 0 {
             return Err(io::Error::from(ErrorKind::Other));
         }
-        self.reads -= 1;
+        self.reads = self.reads.saturating_sub(1);
         let most = buf.len().min(AT_ONCE);
         self.rest.read(&mut buf[..most])
     }
@@ -40,7 +40,7 @@ impl Write for Filling {
         if most == 0 {
             return Err(io::Error::from(ErrorKind::Other));
         }
-        self.room -= most;
+        self.room = self.room.saturating_sub(most);
         self.taken.write(&buf[..most])
     }
 
@@ -58,7 +58,8 @@ fn long(alloc: Global) -> Result<String, Fail> {
 fn each_of_the_first_reads_fails(rt: HostRuntime) -> Result<(), Fail> {
     let alloc = rt.alloc();
     let script = long(alloc)?;
-    for reads in 0..script.len() / AT_ONCE + 1 {
+    let most = (script.len() / AT_ONCE).wrapping_add(1);
+    for reads in 0..most {
         let mut reader = Breaking {
             rest: script.as_bytes(),
             reads,
