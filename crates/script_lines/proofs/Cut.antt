@@ -1,9 +1,9 @@
 -- Cutting bytes at a separator, and a text into lines.
-use Rattle.std.proofs.Common.{◌≡◌, ◌≢◌, ℕ, ◌+◌, ◌-◌, ◌==◌, ◌<◌, ◌≤◌, Bool, true, false, List, [], ◌∷◌, ◌++◌, Some, None, length, take, drop, arith, cond, refl, ap, sym, ◌∙◌, not}
+use Rattle.std.proofs.Common.{◌≡◌, ◌≢◌, ℕ, ◌+◌, ◌-◌, ◌==◌, ◌<◌, ◌≤◌, Bool, true, false, List, [], ◌∷◌, Some, None, length, take, drop, arith, cond, refl, ap, sym, ◌∙◌, not}
 use Rattle.std.specs.List.{slice_split, onto_first, position, position_or_len, join_with_byte}
 use Rattle.std.specs.Str.Lines.{lines, lines_of_parts, strip_carriage_return}
 use Rattle.std.proofs.lemmas.List.Splits.{slice_split_first, length-slice_split, join_with_byte-slice_split}
-use Rattle.std.proofs.lemmas.List.{take-append-drop, take_rest}
+use Rattle.std.proofs.lemmas.List.{take_rest}
 use Rattle.std.proofs.lemmas.Bool.Decides.{nat_tests}
 use Rattle.std.proofs.lemmas.Option.{cond_some}
 
@@ -27,10 +27,6 @@ cut_some c place xs e =
     let h = cond_some _ _ _ e in
     let within : position_or_len (λ b. b == c) xs < length xs = grind (arith, nat_tests, h.0) in
     rw (take_rest xs (place + 1)) (rw h.1 at (slice_split_first (λ b. b == c) xs 0 within))
-
--- a list in two parts
-pub two_parts : (xs : List ℕ) (i : ℕ) → xs ≡ take i xs ++ take (length xs - i) (drop i xs)
-two_parts xs i = rw (take_rest xs i) (sym (take-append-drop i xs))
 
 split_parts : (parts : List (List ℕ)) → 0 < length parts → (first : List ℕ) × (more : List (List ℕ)) × (parts ≡ first ∷ more)
 split_parts [] h = absurd (omega arith)

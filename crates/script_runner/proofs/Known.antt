@@ -19,6 +19,10 @@ appends_on (Some xs) None new a b f g = absurd f
 appends_on (Some xs) (Some ys) None a b f g = absurd g
 appends_on (Some xs) (Some ys) (Some zs) a b f g = g ∙ ap (λ t. t ++ b) f ∙ append_assoc xs a b
 
+pub same_keeps : (old : Option (List ℕ)) → Keeps old old
+same_keeps None = tt
+same_keeps (Some xs) = refl
+
 keeps_appends : (old new : Option (List ℕ)) → Keeps old new → Appends old new []
 keeps_appends None new k = tt
 keeps_appends (Some xs) None k = absurd k

@@ -11,14 +11,14 @@ use Rattle.script_lines.specs.Line.{Line, meaning_of}
 use Rattle.script_session.specs.Ends.{Network}
 use Rattle.script_session.specs.Power.{Held}
 use Rattle.script_session.specs.Said.{Answer, Outcome, Answers, Refuses, HasNoPlan, is_order, outcome_of}
-use Rattle.script_session.specs.Session.{Are, AreRightFor, Comes, IsObeyed, IsWithoutPlan, Obeys}
+use Rattle.script_session.specs.Session.{Are, AreRightFor, Comes, IsObeyed, IsWithoutPlan}
 use Rattle.script_runner.specs.declared.fault.RunFault.{RunFault}
 use Rattle.script_runner.specs.declared.fault.RunFault.TheVariants.{Write, OutOfMemory, Config}
 use Rattle.script_runner.specs.Fault.{fault_of}
 use Rattle.script_runner.specs.Output.{AppendsFront, Grows}
 use Rattle.script_runner.specs.Script.{AllRight, ArePlansOf, End, AllDone, Refused, Unplanned, then_told, told, then_ended, ended, has_order, before_order, output_of, end_of}
 use Rattle.script_runner.specs.Told.{Plays, PlaysOn, IsPlayed, IsPlayFault}
-use Rattle.script_runner.proofs.Known.{IsSoFar, so_far_on, so_far_all, so_far_front, front_longer, appends_none, appends_on}
+use Rattle.script_runner.proofs.Known.{IsSoFar, so_far_on, so_far_all, so_far_front, front_longer, none_front, appends_on}
 
 -- Between two lines, none of which was an order to the flash: both ends are as this says, a front of the output was written, and the
 -- rest of it, how it ends, whether an order comes and what is known of catalogues are those of the lines that are left.
@@ -64,17 +64,17 @@ right_at plans rest line later right e plain = subst (AllRight plans) (left_plai
 
 -- ---- one line
 
--- what comes of a line that a script may have here
-came_answered : (outcome : Outcome) (held : Held) (text : List ℕ) → Comes outcome held [] text true → (answer : Answer) × (outcome ≡ Answers answer) × IsObeyed answer held [] text
-came_answered (Answers answer) held text comes = (answer, refl, comes.1)
-came_answered Refuses held text comes = absurd (false≢true (sym comes))
-came_answered (HasNoPlan catalogue) held text comes = absurd comes
+-- what comes of a line that a script may have here, whose text was rendered where none was
+came_answered : (outcome : Outcome) (held : Held) (cleared text : List ℕ) (is : Bool) → cleared ≡ [] → is ≡ true → Comes outcome held cleared text is → (answer : Answer) × (outcome ≡ Answers answer) × IsObeyed answer held [] text
+came_answered (Answers answer) held cleared text is none may comes = (answer, refl, subst (λ before. IsObeyed answer held before text) none comes.1)
+came_answered Refuses held cleared text is none may comes = absurd (false≢true (sym comes ∙ may))
+came_answered (HasNoPlan catalogue) held cleared text is none may comes = absurd comes
 
 -- and of one that it may not
-came_refused : (outcome : Outcome) (held : Held) (text : List ℕ) → Comes outcome held [] text false → outcome ≡ Refuses
-came_refused (Answers answer) held text comes = absurd (false≢true comes.0)
-came_refused Refuses held text comes = refl
-came_refused (HasNoPlan catalogue) held text comes = absurd comes
+came_refused : (outcome : Outcome) (held : Held) (cleared text : List ℕ) (is : Bool) → is ≡ false → Comes outcome held cleared text is → outcome ≡ Refuses
+came_refused (Answers answer) held cleared text is may_not comes = absurd (false≢true (sym may_not ∙ comes.0))
+came_refused Refuses held cleared text is may_not comes = refl
+came_refused (HasNoPlan catalogue) held cleared text is may_not comes = absurd comes
 
 -- of one whose catalogue has no plan
 without_plan : (outcome : Outcome) (fault : PlanFault) → IsWithoutPlan outcome fault → (catalogue : List ℕ) × (outcome ≡ HasNoPlan catalogue) × IsRefused catalogue fault
@@ -83,32 +83,33 @@ without_plan (Answers answer) fault without = absurd without
 without_plan Refuses fault without = absurd without
 
 -- after a line that was answered, whose text was written
-pub playing_on : (plans : List ℕ → Option Parts) (network : Network) (old mid new : Option (List ℕ)) (before after : Held) (number : ℕ) (rest line later input text : List ℕ) → IsPlaying plans network old mid before number rest input → lines rest ≡ line ∷ lines later → is_order (meaning_of line) ≡ false → Comes (outcome_of plans network (meaning_of line)) after [] text true → Appends mid new text → IsBetween plans old new after (number + 1) later input
-playing_on plans network old mid new before after number rest line later input text playing e plain comes written =
-    let came = came_answered (outcome_of plans network (meaning_of line)) after text comes in
+pub playing_on : (plans : List ℕ → Option Parts) (network : Network) (old mid new : Option (List ℕ)) (before after : Held) (number : ℕ) (rest line later input cleared text shown : List ℕ) (is : Bool) → IsPlaying plans network old mid before number rest input → lines rest ≡ line ∷ lines later → is_order (meaning_of line) ≡ false → cleared ≡ [] → is ≡ true → Comes (outcome_of plans network (meaning_of line)) after cleared text is → shown ≡ text → Appends mid new shown → IsBetween plans old new after (number + 1) later input
+playing_on plans network old mid new before after number rest line later input cleared text shown is playing e plain none may comes same written =
+    let came = came_answered (outcome_of plans network (meaning_of line)) after cleared text is none may comes in
     let answer = came.0 in
     inl (
       answer.network,
       record {
         right = (right_at plans rest line later playing.right e plain).1;
         ends = (came.2.runs, came.2.waits);
-        so_far = so_far_on old mid new _ _ _ answer.text playing.so_far (told_at plans network rest line later (Answers answer) e plain came.1) (subst (Appends mid new) came.2.text written);
+        so_far = so_far_on old mid new _ _ _ answer.text playing.so_far (told_at plans network rest line later (Answers answer) e plain came.1) (subst (Appends mid new) (same ∙ came.2.text) written);
         ended = playing.ended ∙ ended_at plans network (number + 1) rest line later (Answers answer) e plain came.1;
         ordered = playing.ordered ∙ ap has_order e ∙ has_plain line (lines later) plain;
       },
     )
 
 -- at a line whose text was written in part: a front of the output was
-pub playing_broken : (plans : List ℕ → Option Parts) (network : Network) (old mid new : Option (List ℕ)) (before after : Held) (number : ℕ) (rest line later input text : List ℕ) → IsPlaying plans network old mid before number rest input → lines rest ≡ line ∷ lines later → is_order (meaning_of line) ≡ false → Comes (outcome_of plans network (meaning_of line)) after [] text true → AppendsFront mid new text → AppendsFront old new (output_of plans input)
-playing_broken plans network old mid new before after number rest line later input text playing e plain comes written =
-    let came = came_answered (outcome_of plans network (meaning_of line)) after text comes in
-    so_far_front old mid new _ _ playing.so_far
-    (rw (told_at plans network rest line later (Answers came.0) e plain came.1) (front_longer mid new came.0.text _ (subst (AppendsFront mid new) came.2.text written)))
+pub playing_broken : (plans : List ℕ → Option Parts) (network : Network) (old mid new : Option (List ℕ)) (before after : Held) (number : ℕ) (rest line later input cleared text shown : List ℕ) (is : Bool) → IsPlaying plans network old mid before number rest input → lines rest ≡ line ∷ lines later → is_order (meaning_of line) ≡ false → cleared ≡ [] → is ≡ true → Comes (outcome_of plans network (meaning_of line)) after cleared text is → shown ≡ text → AppendsFront mid new shown → AppendsFront old new (output_of plans input)
+playing_broken plans network old mid new before after number rest line later input cleared text shown is playing e plain none may comes same written =
+    let came = came_answered (outcome_of plans network (meaning_of line)) after cleared text is none may comes in
+    so_far_front old mid new (told plans network (before_order (lines rest))) (output_of plans input) playing.so_far
+    (subst (AppendsFront mid new) (sym (told_at plans network rest line later (Answers came.0) e plain came.1))
+    (front_longer mid new came.0.text (told plans came.0.network (before_order (lines later))) (subst (AppendsFront mid new) (same ∙ came.2.text) written)))
 
 -- at a line that is refused: all that the lines before it print was written
-pub played_refused : (plans : List ℕ → Option Parts) (network : Network) (old new : Option (List ℕ)) (before after : Held) (number : ℕ) (rest line later input text : List ℕ) → IsPlaying plans network old new before number rest input → lines rest ≡ line ∷ lines later → is_order (meaning_of line) ≡ false → Comes (outcome_of plans network (meaning_of line)) after [] text false → Appends old new (output_of plans input) × (end_of plans input ≡ Refused (number + 1))
-played_refused plans network old new before after number rest line later input text playing e plain comes =
-    let none = came_refused (outcome_of plans network (meaning_of line)) after text comes in (
+pub played_refused : (plans : List ℕ → Option Parts) (network : Network) (old new : Option (List ℕ)) (before after : Held) (number : ℕ) (rest line later input cleared text : List ℕ) (is : Bool) → IsPlaying plans network old new before number rest input → lines rest ≡ line ∷ lines later → is_order (meaning_of line) ≡ false → is ≡ false → Comes (outcome_of plans network (meaning_of line)) after cleared text is → Appends old new (output_of plans input) × (end_of plans input ≡ Refused (number + 1))
+played_refused plans network old new before after number rest line later input cleared text is playing e plain may_not comes =
+    let none = came_refused (outcome_of plans network (meaning_of line)) after cleared text is may_not comes in (
       so_far_all old new (told plans network (before_order (lines rest))) (output_of plans input) playing.so_far (told_at plans network rest line later Refuses e plain none),
       playing.ended ∙ ended_at plans network (number + 1) rest line later Refuses e plain none,
     )
@@ -186,24 +187,27 @@ fault_cases plan.Address = inr (10, refl)
 
 pub fault_plays : (fault : PlanFault) → IsPlayFault (fault_of fault)
 fault_plays fault = elim (fault_cases fault) [
-  | inl memory ↦ rw memory tt
-  | inr config ↦ rw config.1 tt
+  | inl memory ↦ subst IsPlayFault (sym memory) tt
+  | inr config ↦ subst IsPlayFault (sym config.1) tt
 ]
 
 -- where memory was refused, a front of the output was written
 pub played_without : (plans : List ℕ → Option Parts) (network : Network) (old new : Option (List ℕ)) (held : Held) (number : ℕ) (rest input : List ℕ) (fault : RunFault) → IsPlaying plans network old new held number rest input → fault ≡ OutOfMemory → IsPlayed plans old new input (Err fault)
 played_without plans network old new held number rest input fault playing memory =
-    rw memory (inl (so_far_front old new new _ _ playing.so_far (record { front = []; behind = told plans network (before_order (lines rest)); parts = refl; appended = appends_none new })))
+    subst (λ fault. IsPlayed plans old new input (Err fault)) (sym memory)
+    (inl (so_far_front old new new (told plans network (before_order (lines rest))) (output_of plans input) playing.so_far (none_front new (told plans network (before_order (lines rest))))))
 
 -- where a catalogue has no plan, all that the lines before it print was
 played_config : (plans : List ℕ → Option Parts) (old new : Option (List ℕ)) (input catalogue : List ℕ) (n : ℕ) (fault : PlanFault) → Appends old new (output_of plans input) → end_of plans input ≡ Unplanned catalogue → IsRefused catalogue fault → fault_of fault ≡ Config n → IsPlayed plans old new input (Err (fault_of fault))
-played_config plans old new input catalogue n fault written end refused config = rw config (inl (written, catalogue, end, (fault, refused, sym config)))
+played_config plans old new input catalogue n fault written end refused config =
+    subst (λ fault. IsPlayed plans old new input (Err fault)) (sym config)
+    (inl (written, record { catalogue = catalogue; ended = end; unplanned = (fault, refused, sym config) }))
 
 -- at a line that fails
-pub played_failed : (plans : List ℕ → Option Parts) (network : Network) (old new : Option (List ℕ)) (before after : Held) (number : ℕ) (rest line later input text : List ℕ) (fault : PlanFault) → IsPlaying plans network old new before number rest input → lines rest ≡ line ∷ lines later → is_order (meaning_of line) ≡ false → Obeys (outcome_of plans network (meaning_of line)) after [] text (Err fault) → IsPlayed plans old new input (Err (fault_of fault))
-played_failed plans network old new before after number rest line later input text fault playing e plain (inl memory) =
+pub played_failed : (plans : List ℕ → Option Parts) (network : Network) (old new : Option (List ℕ)) (before : Held) (number : ℕ) (rest line later input : List ℕ) (fault : PlanFault) → IsPlaying plans network old new before number rest input → lines rest ≡ line ∷ lines later → is_order (meaning_of line) ≡ false → (fault ≡ plan.OutOfMemory) ⊎ IsWithoutPlan (outcome_of plans network (meaning_of line)) fault → IsPlayed plans old new input (Err (fault_of fault))
+played_failed plans network old new before number rest line later input fault playing e plain (inl memory) =
     played_without plans network old new before number rest input (fault_of fault) playing (ap fault_of memory)
-played_failed plans network old new before after number rest line later input text fault playing e plain (inr without) =
+played_failed plans network old new before number rest line later input fault playing e plain (inr without) =
     let none = without_plan (outcome_of plans network (meaning_of line)) fault without in
     let written = so_far_all old new (told plans network (before_order (lines rest))) (output_of plans input) playing.so_far (told_at plans network rest line later (HasNoPlan none.0) e plain none.1) in
     let end = playing.ended ∙ ended_at plans network (number + 1) rest line later (HasNoPlan none.0) e plain none.1 in

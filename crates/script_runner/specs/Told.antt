@@ -15,13 +15,19 @@ use Rattle.script_runner.specs.Script.{AllDone, ArePlansOf, Refused, Unplanned, 
 abbrev pub IsUnplanned : List ℕ → RunFault → Type 0
 IsUnplanned catalogue fault = (plan : PlanFault) × IsRefused catalogue plan × (fault ≡ fault_of plan)
 
+-- a run ends at a catalogue that has no plan, for the fault with this number
+pub record EndsWithoutPlan (plans : List ℕ → Option Parts) (input : List ℕ) (n : ℕ) : Type 0 where
+  pub catalogue : List ℕ
+  pub ended : end_of plans input ≡ Unplanned catalogue
+  pub unplanned : IsUnplanned catalogue (Config n)
+
 -- What comes of a script up to its first line that orders a failure of the flash: at the end, where there is no such line, all of
 -- its output was written, at a line that is refused or a catalogue that has no plan the output of the lines before it, and where a
 -- write failed or memory was refused a front of the output.
 abbrev pub Plays : (List ℕ → Option Parts) → Option (List ℕ) → Option (List ℕ) → List ℕ → Result (Unit {0}) RunFault → Type 0
 Plays plans old new input (Ok done) = Appends old new (output_of plans input) × (end_of plans input ≡ AllDone) × (has_order (lines input) ≡ false)
 Plays plans old new input (Err (Line n)) = Appends old new (output_of plans input) × (end_of plans input ≡ Refused n)
-Plays plans old new input (Err (Config n)) = Appends old new (output_of plans input) × (catalogue : List ℕ) × (end_of plans input ≡ Unplanned catalogue) × IsUnplanned catalogue (Config n)
+Plays plans old new input (Err (Config n)) = Appends old new (output_of plans input) × EndsWithoutPlan plans input n
 Plays plans old new input (Err Write) = AppendsFront old new (output_of plans input)
 Plays plans old new input (Err OutOfMemory) = AppendsFront old new (output_of plans input)
 Plays plans old new input (Err Read) = ⊥
@@ -63,7 +69,17 @@ IsTold plans old new input (Err (Line n)) = IsPlayed plans old new input (Err (L
 IsTold plans old new input (Err (Config n)) = IsPlayed plans old new input (Err (Config n))
 IsTold plans old new input (Err Write) = IsPlayed plans old new input (Err Write)
 
--- The same, whatever plans its catalogues have: each has the one that the configurator says, and none where it is refused.
+-- Whatever a reader gives: after Read and EndlessInput nothing was written.
+abbrev pub IsSilent : Option (List ℕ) → Option (List ℕ) → Result (Unit {0}) RunFault → Type 0
+IsSilent old new (Err Read) = Keeps old new
+IsSilent old new (Err EndlessInput) = Keeps old new
+IsSilent old new (Err OutOfMemory) = Unit {0}
+IsSilent old new (Ok done) = Unit {0}
+IsSilent old new (Err (Line n)) = Unit {0}
+IsSilent old new (Err (Config n)) = Unit {0}
+IsSilent old new (Err Write) = Unit {0}
+
+-- What was written of its output, whatever plans its catalogues have: each has the one that the configurator says, and none where it is refused.
 abbrev pub IsToldByPlans : Option (List ℕ) → Option (List ℕ) → List ℕ → Result (Unit {0}) RunFault → Type 0
 IsToldByPlans old new input result = (plans : List ℕ → Option Parts) → ArePlansOf plans input → IsTold plans old new input result
 

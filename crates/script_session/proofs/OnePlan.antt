@@ -1,5 +1,5 @@
 -- A catalogue has one plan at most, and one that has a plan is refused for want of memory alone.
-use Rattle.std.proofs.Common.{◌≡◌, ◌≢◌, ◌⊎◌, inl, inr, ℕ, Bool, true, false, List, Option, Some, None, Result, Ok, Err, ap, sym, subst, ◌∙◌}
+use Rattle.std.proofs.Common.{◌≡◌, ◌≢◌, ◌⊎◌, inl, inr, ℕ, Bool, true, false, List, Option, Some, None, Result, Ok, Err, ap, refl, sym, subst, ◌∙◌}
 use Rattle.std.specs.declared.net.ipv4_addr.Ipv4Addr.{Ipv4Addr}
 use Rattle.std.specs.Net.Addr.{ipv4_octets}
 use Rattle.std.specs.Net.Grammar.{IsDotted}
@@ -85,25 +85,25 @@ too_long found parts other fault are plan have long =
     let same = parts_same found other parts have are in
     ok_not parts fault (plan_of parts) plan (subst (λ p. plan_of p ≡ Err fault) same long)
 
--- one whose parts are a plan is not refused over the whole
-judged_not : (found : Catalogue) (parts : Parts) (fault : PlanFault) → ArePartsOf found parts → plan_of parts ≡ Ok parts → Judged found (Err fault) → ⊥
-judged_not found parts Name are plan judged = judged are.addressed.named
-judged_not found parts Address are plan judged = judged.1 are.addressed.addresses are.addressed.addressed
-judged_not found parts NotAllowedInSlot are plan judged = true_not (are_allowed found) are.allowed judged.1
-judged_not found parts TooManySlots are plan judged = true_not (are_few found) are.few judged.2
-judged_not found parts FrameTooLong are plan judged = too_long found parts judged.0 long.Frame are plan judged.1 judged.2
-judged_not found parts ConnectTooLong are plan judged = too_long found parts judged.0 long.Connect are plan judged.1 judged.2
-judged_not found parts Json are plan judged = judged
-judged_not found parts MissingKey are plan judged = judged
-judged_not found parts WrongKind are plan judged = judged
-judged_not found parts Number are plan judged = judged
-judged_not found parts OutOfMemory are plan judged = judged
+-- one whose parts are a plan is refused over the whole for want of memory alone
+judged_for_memory : (found : Catalogue) (parts : Parts) (fault : PlanFault) → ArePartsOf found parts → plan_of parts ≡ Ok parts → Judged found (Err fault) → fault ≡ OutOfMemory
+judged_for_memory found parts Name are plan judged = absurd (judged are.addressed.named)
+judged_for_memory found parts Address are plan judged = absurd (judged.1 are.addressed.addresses are.addressed.addressed)
+judged_for_memory found parts NotAllowedInSlot are plan judged = absurd (true_not (are_allowed found) are.allowed judged.1)
+judged_for_memory found parts TooManySlots are plan judged = absurd (true_not (are_few found) are.few judged.2)
+judged_for_memory found parts FrameTooLong are plan judged = absurd (too_long found parts judged.0 long.Frame are plan judged.1 judged.2)
+judged_for_memory found parts ConnectTooLong are plan judged = absurd (too_long found parts judged.0 long.Connect are plan judged.1 judged.2)
+judged_for_memory found parts Json are plan judged = absurd judged
+judged_for_memory found parts MissingKey are plan judged = absurd judged
+judged_for_memory found parts WrongKind are plan judged = absurd judged
+judged_for_memory found parts Number are plan judged = absurd judged
+judged_for_memory found parts OutOfMemory are plan judged = refl
 
 pub memory_alone : (text : List ℕ) (parts : Parts) (fault : PlanFault) → IsPlanOf text parts → IsRefused text fault → fault ≡ OutOfMemory
 memory_alone text parts fault plan (inl read) = read.2 ∙ ap of_catalogue (read_refused text plan.0 read.0 plan.1 read.1)
 memory_alone text parts fault plan (inr judged) =
     let found = found_same text judged.0 plan.0 judged.1 plan.1 in
-    absurd (judged_not plan.0 parts fault plan.2.0 plan.2.1 (subst (λ f. Judged f (Err fault)) found judged.2))
+    judged_for_memory plan.0 parts fault plan.2.0 plan.2.1 (subst (λ f. Judged f (Err fault)) found judged.2)
 
 -- ---- tables of plans
 
