@@ -72,14 +72,8 @@ impl<F: Flash<S>, const S: usize> Device<F, S> {
         if !identify_matches(&self.identity, running, request) {
             return Note::Filter;
         }
-        let answer = identify_answer(&self.identity, running, request.xid);
-        send_dcp_answer(
-            &self.identity,
-            asker,
-            DCP_IDENTIFY_RESPONSE,
-            &answer,
-            outbox,
-        );
+        let told = identify_answer(&self.identity, running, request.xid);
+        send_dcp_answer(&self.identity, asker, DCP_IDENTIFY_RESPONSE, &told, outbox);
         Note::Done
     }
 
