@@ -75,34 +75,34 @@ same_extends {A = A} xs ys same = subst (λ (zs : List A). Extends xs zs) (sym s
 
 -- ---- what comes from the network raises nothing
 
-abbrev RaisesNothing : Heard → Type 0
-RaisesNothing heard = (station : Station) (link : Option Link) → rung station link heard ≡ []
+record RaisesNothing (heard : Heard) : Type 0 where
+  so : (station : Station) (link : Option Link) → rung station link heard ≡ []
 
 nothing_if : (b : Bool) (one other : Heard) → RaisesNothing one → RaisesNothing other → RaisesNothing (cond b one other)
 nothing_if true one other first second = first
 nothing_if false one other first second = second
 
 nothing_asked : (source : Mac) (read : Result Asked DcpFault) → RaisesNothing (heard_request source read)
-nothing_asked source (Ok request) = λ station link. refl
-nothing_asked source (Err fault) = λ station link. refl
+nothing_asked source (Ok request) = record { so = λ station link. refl }
+nothing_asked source (Err fault) = record { so = λ station link. refl }
 
 nothing_alarmed : (source : Mac) (read : Result (Header × ToDevice) AlarmFault) → RaisesNothing (heard_alarm source read)
-nothing_alarmed source (Ok x) = λ station link. refl
-nothing_alarmed source (Err fault) = λ station link. refl
+nothing_alarmed source (Ok x) = record { so = λ station link. refl }
+nothing_alarmed source (Err fault) = record { so = λ station link. refl }
 
 nothing_in : (identity : Identity) (destination source : Mac) (content : Content) → RaisesNothing (heard_content identity destination source content)
 nothing_in identity destination source (RealTime frame_id body) =
     nothing_if (is_taken identity destination frame_id) _ _ (nothing_asked source (request_of frame_id body))
     (nothing_if (is_own identity destination && is_alarm frame_id) _ _ (nothing_alarmed source (message_of body))
-    (nothing_if (is_own identity destination && is_cyclic frame_id) _ _ (λ station link. refl) (λ station link. refl)))
+    (nothing_if (is_own identity destination && is_cyclic frame_id) _ _ (record { so = record { so = λ station link. refl } }) (record { so = record { so = λ station link. refl } })))
 nothing_in identity destination source (ArpPacket arp) =
-    nothing_if (is_own identity destination || pointwise nat_eq destination.octets broadcast) _ _ (λ station link. refl) (λ station link. refl)
+    nothing_if (is_own identity destination || pointwise nat_eq destination.octets broadcast) _ _ (record { so = record { so = λ station link. refl } }) (record { so = record { so = λ station link. refl } })
 nothing_in identity destination source (UdpDatagram from to body) =
-    nothing_if (is_own identity destination && to.port == 34964) _ _ (λ station link. refl) (λ station link. refl)
+    nothing_if (is_own identity destination && to.port == 34964) _ _ (record { so = record { so = λ station link. refl } }) (record { so = record { so = λ station link. refl } })
 
 nothing_read : (identity : Identity) (read : Result Meaning FrameFault) → RaisesNothing (heard_frame identity read)
 nothing_read identity (Ok meaning) = nothing_in identity meaning.destination meaning.source meaning.content
-nothing_read identity (Err fault) = λ station link. refl
+nothing_read identity (Err fault) = record { so = λ station link. refl }
 
 comes_quietly : (identity : Identity) (octets : List ℕ) → RaisesNothing (heard_of identity (Frame (record { items = octets })))
 unfolding heard_of
@@ -265,7 +265,7 @@ module _ {F : Type 0} where
       comes_to_device number octets true there meant noted comes = rests comes
       comes_to_device number octets false there meant noted comes =
           let fine = frame_fine number octets there in
-          subst (λ (more : List AlarmNotification). FollowsAt after (raised ++ more)) (comes_quietly before.device.station.identity octets before.device.station before.device.live.rest.link)
+          subst (λ (more : List AlarmNotification). FollowsAt after (raised ++ more)) ((comes_quietly before.device.station.identity octets).so before.device.station before.device.live.rest.link)
           (at_device_follows before after raised (heard_of before.device.station.identity (Frame (record { items = octets }))) follows fine.said fine.first meant noted comes)
 
       comes_to_controller : (number : ℕ) (octets : List ℕ) (skipped : Bool) → slice_get before.sent number ≡ Some octets
@@ -364,7 +364,8 @@ last_or_before taken raised shown prefix few is = by_rest prefix.0 prefix.1
     by_rest (one ∷ []) same = inr (taken, one, sym same, is)
     by_rest (one ∷ next ∷ rest) same =
         let long : length raised ≡ length (taken ++ one ∷ next ∷ rest) = ap (λ (alarms : List AlarmNotification). length alarms) (sym same) in
-        absurd (omega (arith, few, long, length-append taken (one ∷ next ∷ rest)))
+        let two : length (one ∷ next ∷ rest) ≡ suc (suc (length rest)) = refl in
+        absurd (omega (arith, few, long, two, length-append taken (one ∷ next ∷ rest)))
 
 module _ {F : Type 0} (image : F → Image) (failures : F → ℕ) (asked : F → List Call → F → Type 0) where
   pub shows_in_order : AreTakenInOrder → LackAtMostTheLast → ShowsTheLast → (first : World F) (run : List (Move × World F)) → Begins first → HasNoAlarms first

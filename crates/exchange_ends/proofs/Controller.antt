@@ -50,8 +50,8 @@ IsNow shown (Replies route header) = Unit {0}
 IsNow shown (Ends route header reason) = Unit {0}
 
 -- a turn that sends no others
-abbrev Tells : Turn → Type 0
-Tells turn = AllByRecursion (IsNow turn.live.cyclic.shown) turn.sent
+record Tells (turn : Turn) : Type 0 where
+  told : AllByRecursion (IsNow turn.live.cyclic.shown) turn.sent
 
 either : (test : Bool) (one other : Turn) → Tells one → Tells other → Tells (if test then one else other)
 either true one other first second = first
@@ -62,44 +62,44 @@ all_append P [] ys one other = other
 all_append P (x ∷ xs) ys one other = (one.0, all_append P xs ys one.1 other)
 
 stopped_tells : (setup : Setup) (live : Live) (phase : State) → Tells (stopped setup live phase)
-stopped_tells setup live Looking = tt
-stopped_tells setup live Addressing = tt
-stopped_tells setup live Connecting = (tt, tt)
-stopped_tells setup live Writing = (tt, tt)
-stopped_tells setup live Ending = (tt, tt)
-stopped_tells setup live Waiting = (tt, tt)
-stopped_tells setup live Exchanging = (tt, tt)
-stopped_tells setup live (Ended why) = tt
+stopped_tells setup live Looking = record { told = tt }
+stopped_tells setup live Addressing = record { told = tt }
+stopped_tells setup live Connecting = record { told = (tt, tt) }
+stopped_tells setup live Writing = record { told = (tt, tt) }
+stopped_tells setup live Ending = record { told = (tt, tt) }
+stopped_tells setup live Waiting = record { told = (tt, tt) }
+stopped_tells setup live Exchanging = record { told = (tt, tt) }
+stopped_tells setup live (Ended why) = record { told = tt }
 
 answered_tells : (setup : Setup) (live : Live) (source : Mac) (answer : Answered) (phase : State) → Tells (answered setup live source answer phase)
 answered_tells setup live source answer Looking =
-    either (is_found setup.plan answer) _ _ (either (is_right setup.plan answer) _ _ (either (is_addressed setup.plan answer) _ _ (tt, tt) (tt, tt)) tt) tt
-answered_tells setup live source answer Addressing = either (is_set_answer answer) _ _ (either (is_agreed answer) _ _ (tt, tt) tt) tt
-answered_tells setup live source answer Connecting = tt
-answered_tells setup live source answer Writing = tt
-answered_tells setup live source answer Ending = tt
-answered_tells setup live source answer Waiting = tt
-answered_tells setup live source answer Exchanging = tt
-answered_tells setup live source answer (Ended why) = tt
+    either (is_found setup.plan answer) _ _ (either (is_right setup.plan answer) _ _ (either (is_addressed setup.plan answer) _ _ (record { told = (tt, tt) }) (record { told = (tt, tt) })) (record { told = tt })) (record { told = tt })
+answered_tells setup live source answer Addressing = either (is_set_answer answer) _ _ (either (is_agreed answer) _ _ (record { told = (tt, tt) }) (record { told = tt })) (record { told = tt })
+answered_tells setup live source answer Connecting = record { told = tt }
+answered_tells setup live source answer Writing = record { told = tt }
+answered_tells setup live source answer Ending = record { told = tt }
+answered_tells setup live source answer Waiting = record { told = tt }
+answered_tells setup live source answer Exchanging = record { told = tt }
+answered_tells setup live source answer (Ended why) = record { told = tt }
 
 related_tells : (setup : Setup) (live : Live) (output : Option ℕ) → Tells (related_by setup live output)
-related_tells setup live (Some frame_id) = (tt, tt)
-related_tells setup live None = tt
+related_tells setup live (Some frame_id) = record { told = (tt, tt) }
+related_tells setup live None = record { told = tt }
 
 connected_tells : (setup : Setup) (live : Live) (read : Option Found) → Tells (connected setup live read)
-connected_tells setup live (Some found_is) = either (is_whole found_is) _ _ (either found_is.differs _ _ (tt, tt) (related_tells setup live found_is.output)) tt
-connected_tells setup live None = tt
+connected_tells setup live (Some found_is) = either (is_whole found_is) _ _ (either found_is.differs _ _ (record { told = (tt, tt) }) (related_tells setup live found_is.output)) (record { told = tt })
+connected_tells setup live None = record { told = tt }
 
 done_tells : (setup : Setup) (live : Live) (blocks : List ℕ) (request : Request) → Tells (done setup live blocks request)
-done_tells setup live blocks asks.Identify = tt
-done_tells setup live blocks asks.Address = tt
+done_tells setup live blocks asks.Identify = record { told = tt }
+done_tells setup live blocks asks.Address = record { told = tt }
 done_tells setup live blocks asks.Connect = connected_tells setup live (found_in 400 blocks nothing)
-done_tells setup live blocks (asks.Write number) = (tt, tt)
-done_tells setup live blocks asks.PrmEnd = tt
-done_tells setup live blocks (asks.Release sequence) = tt
+done_tells setup live blocks (asks.Write number) = record { told = (tt, tt) }
+done_tells setup live blocks asks.PrmEnd = record { told = tt }
+done_tells setup live blocks (asks.Release sequence) = record { told = tt }
 
 judged_tells : (setup : Setup) (live : Live) (response : Response) (request : Request) → Tells (judged setup live response request)
-judged_tells setup live response request = either (is_done response.status) _ _ (done_tells setup live response.blocks request) tt
+judged_tells setup live response request = either (is_done response.status) _ _ (done_tells setup live response.blocks request) (record { told = tt })
 
 decided_tells : (setup : Setup) (live : Live) (response : Response) (request : Request) → Tells (decided setup live response request)
 decided_tells setup live response asks.Identify = judged_tells setup live response asks.Identify
@@ -107,44 +107,44 @@ decided_tells setup live response asks.Address = judged_tells setup live respons
 decided_tells setup live response asks.Connect = judged_tells setup live response asks.Connect
 decided_tells setup live response (asks.Write number) = judged_tells setup live response (asks.Write number)
 decided_tells setup live response asks.PrmEnd = judged_tells setup live response asks.PrmEnd
-decided_tells setup live response (asks.Release sequence) = tt
+decided_tells setup live response (asks.Release sequence) = record { told = tt }
 
 responded_tells : (setup : Setup) (live : Live) (response : Response) (asked : Option Request) → Tells (responded setup live response asked)
-responded_tells setup live response (Some request) = either (is_answer setup request response.header) _ _ (decided_tells setup live response request) tt
-responded_tells setup live response None = tt
+responded_tells setup live response (Some request) = either (is_answer setup request response.header) _ _ (decided_tells setup live response request) (record { told = tt })
+responded_tells setup live response None = record { told = tt }
 
 readied_tells : (live : Live) (caller : Caller) (call : Call) (block : ControlBlock) (phase : State) → Tells (readied live caller call block phase)
-readied_tells live caller call block Looking = tt
-readied_tells live caller call block Addressing = tt
-readied_tells live caller call block Connecting = tt
-readied_tells live caller call block Writing = tt
-readied_tells live caller call block Ending = (tt, tt)
-readied_tells live caller call block Waiting = (tt, tt)
-readied_tells live caller call block Exchanging = (tt, tt)
-readied_tells live caller call block (Ended why) = tt
+readied_tells live caller call block Looking = record { told = tt }
+readied_tells live caller call block Addressing = record { told = tt }
+readied_tells live caller call block Connecting = record { told = tt }
+readied_tells live caller call block Writing = record { told = tt }
+readied_tells live caller call block Ending = record { told = (tt, tt) }
+readied_tells live caller call block Waiting = record { told = (tt, tt) }
+readied_tells live caller call block Exchanging = record { told = (tt, tt) }
+readied_tells live caller call block (Ended why) = record { told = tt }
 
 called_tells : (setup : Setup) (live : Live) (caller : Caller) (call : Call) (block : Option ControlBlock) → Tells (called setup live caller call block)
-called_tells setup live caller call (Some block) = either (is_ready setup block) _ _ (readied_tells live caller call block live.phase) tt
-called_tells setup live caller call None = tt
+called_tells setup live caller call (Some block) = either (is_ready setup block) _ _ (readied_tells live caller call block live.phase) (record { told = tt })
+called_tells setup live caller call None = record { told = tt }
 
 taken_tells : (live : Live) (alarm : AlarmNotification) (as_is : Taken) → Tells (taken live alarm as_is)
-taken_tells live alarm New = (tt, (tt, tt))
-taken_tells live alarm Again = (tt, tt)
-taken_tells live alarm Refused = (tt, tt)
+taken_tells live alarm New = record { told = (tt, (tt, tt)) }
+taken_tells live alarm Again = record { told = (tt, tt) }
+taken_tells live alarm Refused = record { told = (tt, tt) }
 
 noticed_tells : (live : Live) (told : ToController) → Tells (noticed live told)
 noticed_tells live (notice.Data number alarm) = taken_tells (behind_data live number) alarm (taken_as live.alarms.seen number)
-noticed_tells live (notice.Ack number) = tt
-noticed_tells live notice.Nack = tt
-noticed_tells live notice.Abort = tt
+noticed_tells live (notice.Ack number) = record { told = tt }
+noticed_tells live notice.Nack = record { told = tt }
+noticed_tells live notice.Abort = record { told = tt }
 
 turned_tells : (setup : Setup) (live : Live) (heard : Heard) → Tells (turned setup live heard)
-turned_tells setup live Nothing = tt
+turned_tells setup live Nothing = record { told = tt }
 turned_tells setup live (Answers source answer) = answered_tells setup live source answer live.phase
 turned_tells setup live (Responds response) = responded_tells setup live response live.asked
 turned_tells setup live (Calls caller call) = called_tells setup live caller call (ready_in call)
-turned_tells setup live (Comes source frame_id body) = tt
-turned_tells setup live (Alarms source header told) = either (live.stands && is_alarm live.cyclic.route source header) _ _ (noticed_tells live told) tt
+turned_tells setup live (Comes source frame_id body) = record { told = tt }
+turned_tells setup live (Alarms source header told) = either (live.stands && is_alarm live.cyclic.route source header) _ _ (noticed_tells live told) (record { told = tt })
 
 due_tells : (shown : Image) (test : Bool) (sent : List Sent) → AllByRecursion (IsNow shown) sent → AllByRecursion (IsNow shown) (where_due test sent)
 due_tells shown true sent all = all
@@ -159,25 +159,28 @@ acks_tell shown live (Some ack) = (tt, tt)
 acks_tell shown live None = tt
 
 flowed_tells : (live : Live) (is_request : Bool) (tick : Tick) (ending : Option Abort) → Tells (flowed live is_request tick ending)
-flowed_tells live is_request tick (Some reason) = (tt, tt)
+flowed_tells live is_request tick (Some reason) = record { told = (tt, tt) }
 flowed_tells live is_request tick None =
     let shown = live.cyclic.shown in
-    all_append (IsNow shown) (where_due tick.is_alarm (acks_in live live.alarms.confirming)) _
+    record { told = all_append (IsNow shown) (where_due tick.is_alarm (acks_in live live.alarms.confirming)) _
     (due_tells shown tick.is_alarm _ (acks_tell shown live live.alarms.confirming))
     (all_append (IsNow shown) (where_due is_request (requests_of live.device live.asked)) _
     (due_tells shown is_request _ (request_tells shown live.device live.asked))
-    (due_tells shown tick.is_cyclic _ (refl, tt)))
+    (due_tells shown tick.is_cyclic _ (refl, tt))) }
 
 ticked_tells : (live : Live) → Tells (ticked live)
 ticked_tells live =
     either live.stands _ _ (flowed_tells (flow_later live) (is_again live) (brought live) (brought live).ending)
-    (due_tells live.cyclic.shown (is_again live) _ (request_tells live.cyclic.shown live.device live.asked))
+    (record { told = due_tells live.cyclic.shown (is_again live) (requests_of live.device live.asked) (request_tells live.cyclic.shown live.device live.asked) })
+
+turn_told : (setup : Setup) (live : Live) (event : Event) → Tells (turn_of setup live event)
+turn_told setup live (Frame bytes) = turned_tells setup live (heard_of setup.plan.controller bytes.items)
+turn_told setup live Ticks = ticked_tells live
+turn_told setup live (Give slot subslot value) = record { told = tt }
+turn_told setup live Stop = stopped_tells setup live live.phase
 
 pub turn_tells : (setup : Setup) (live : Live) (event : Event) → AllByRecursion (IsNow (turn_of setup live event).live.cyclic.shown) (turn_of setup live event).sent
-turn_tells setup live (Frame bytes) = turned_tells setup live (heard_of setup.plan.controller bytes.items)
-turn_tells setup live Ticks = ticked_tells live
-turn_tells setup live (Give slot subslot value) = tt
-turn_tells setup live Stop = stopped_tells setup live live.phase
+turn_tells setup live event = (turn_told setup live event).told
 
 -- ---- what its frames bring
 

@@ -15,11 +15,12 @@ use Rattle.pn_alarms.specs.declared.device.Heard.{Heard as Fate}
 use Rattle.pn_alarms.specs.declared.device.Heard.TheVariants as fate
 use Rattle.pn_alarms.specs.declared.receiver.Taken.{Taken as TakenAs}
 use Rattle.pn_alarms.specs.Message.{ToDevice as Message}
-use Rattle.pn_alarms.specs.Device.{heard_as as pdu_heard}
+use Rattle.pn_alarms.specs.Device.{end_with, heard_as as pdu_heard}
+use Rattle.pn_alarms.specs.Sender.{notice_of}
 use Rattle.cyclic_data.specs.declared.place.PlaceKind.TheVariants.{Data}
 use Rattle.cyclic_data.specs.declared.tail.CyclicTail.{CyclicTail}
 use Rattle.cyclic_data.specs.declared.tail.ShortFrame.{ShortFrame}
-use Rattle.cyclic_data.specs.Image.{Cell, Shown as Image, cell_at, cell_of, has_size, with_frame}
+use Rattle.cyclic_data.specs.Image.{Cell, Shown as Image, cell_at, cell_of, changed, has_size, with_frame, with_value}
 use Rattle.cyclic_data.specs.Tail.{cyclic_of}
 use Rattle.cyclic_data.specs.Timing.{Hearing, held_on}
 use Rattle.cyclic_exchange.specs.declared.received.Received.{Received}
@@ -96,10 +97,10 @@ IsSameFlow (Some link) flow = IsSame link.flow.cyclic flow.cyclic
 
 abbrev IsMild : Option Link → Moving → Type 0
 IsMild link (Made request partner rows) = ⊥
-IsMild link Parameterized = Unit {0}
-IsMild link Confirmed = Unit {0}
-IsMild link Named = Unit {0}
-IsMild link (Took taken) = Unit {0}
+IsMild link Parameterized = ⊥
+IsMild link Confirmed = ⊥
+IsMild link Named = ⊥
+IsMild link (Took taken) = ⊥
 IsMild link (Exchanged flow) = IsSameFlow link flow
 IsMild link Passed = Unit {0}
 IsMild link Ended = Unit {0}
@@ -111,14 +112,10 @@ stays_so (Some link) = same link.flow.cyclic
 
 mild_stays : (judged : Moving) (link : Option Link) → IsMild link judged → Stays link (moved judged link)
 mild_stays (Made request partner rows) link mild = absurd mild
-mild_stays Parameterized None mild = tt
-mild_stays Parameterized (Some link) mild = same link.flow.cyclic
-mild_stays Confirmed None mild = tt
-mild_stays Confirmed (Some link) mild = record { route = refl; last = refl; taken = refl }
-mild_stays Named None mild = tt
-mild_stays Named (Some link) mild = same link.flow.cyclic
-mild_stays (Took taken) None mild = tt
-mild_stays (Took taken) (Some link) mild = same link.flow.cyclic
+mild_stays Parameterized link mild = absurd mild
+mild_stays Confirmed link mild = absurd mild
+mild_stays Named link mild = absurd mild
+mild_stays (Took taken) link mild = absurd mild
 mild_stays (Exchanged flow) None mild = tt
 mild_stays (Exchanged flow) (Some link) mild = mild
 mild_stays Passed None mild = tt
@@ -157,14 +154,16 @@ given_if link false image = tt
 
 given_same : (slot subslot : ℕ) (value : List ℕ) (link : Option Link) → IsSameOpt link (given_to slot subslot value link)
 given_same slot subslot value None = tt
-given_same slot subslot value (Some link) = given_if link (has_size (length value) (cell_at Data slot subslot link.flow.cyclic.shown.cells)) _
+given_same slot subslot value (Some link) = given_if link (has_size (length value) (cell_at Data slot subslot link.flow.cyclic.shown.cells)) (changed Data slot subslot (with_value value) link.flow.cyclic.shown)
 
 raised_if : (link : Link) (may : Bool) (flow : Flow) → IsSame link.flow.cyclic flow.cyclic → IsSameOpt (Some link) (cond may (Some flow) None)
 raised_if link true flow is = is
 raised_if link false flow is = tt
 
 raised_by_same : (link : Link) (slot subslot : ℕ) (octets : List ℕ) (ident part : Option ℕ) → IsSameOpt (Some link) (raised_by link.flow slot subslot octets ident part)
-raised_by_same link slot subslot octets (Some ident) (Some part) = raised_if link (may_raise link.flow octets) _ (same link.flow.cyclic)
+raised_by_same link slot subslot octets (Some ident) (Some part) = 
+    raised_if link (may_raise link.flow octets)
+    (record link.flow { alarms = end_with link.flow.alarms (notice_of link.flow.alarms.sender.specifier slot subslot ident part octets) }) (same link.flow.cyclic)
 raised_by_same link slot subslot octets (Some ident) None = tt
 raised_by_same link slot subslot octets None part = tt
 
