@@ -132,6 +132,79 @@ record Follows (setup : Setup) (station : Station) (device : Live) (live : Contr
   kept : AreKept (IsFine setup station now.alarms.pdus now.acks now.told) device.rest.calls
   fine : AllByRecursion (IsFine setup station now.alarms.pdus now.acks now.told) sent
 
+-- ---- a step of the controller
+
+module _ (setup : Setup) (station : Station) (device : Live) (live : ControllerLive) (sent : List (List ℕ)) (raised : List AlarmNotification)
+    (follows : Follows setup station device live sent raised) where
+  told_grows : (turn_sent : List Said) (now : Relation) → now.told ≡ follows.now.told ++ turn_sent → Extends follows.now.told now.told
+  told_grows turn_sent now same = subst (λ (t : List Said). Extends follows.now.told t) (sym same) (extended follows.now.told turn_sent)
+
+  turned_follows : (event : Event) → TurnsTo setup follows.now (turn_of setup follows.now.live event)
+      → AllByRecursion (IsMeantBy setup station) (turn_of setup follows.now.live event).sent
+      → Follows setup station device (turn_of setup follows.now.live event).live (sent ++ map (bytes_of setup) (turn_of setup follows.now.live event).sent) raised
+  turned_follows event turns meant =
+      let x = follows.now in
+      let now = turns.now in
+      let turn = turn_of setup x.live event in
+      let on : (frame : List ℕ) → IsFine setup station x.alarms.pdus x.acks x.told frame → IsFine setup station now.alarms.pdus now.acks now.told frame =
+      fine_on setup station x.alarms.pdus now.alarms.pdus x.acks now.acks x.told now.told
+      (same_extends x.alarms.pdus now.alarms.pdus turns.pdus) (same_extends x.acks now.acks turns.acks) (told_grows turn.sent now turns.told_is) in
+      record {
+        moves = follows.moves ++ turns.moves;
+        now = now;
+        made = runs_on setup follows.moves turns.moves (start setup) ∙ (ap (λ (r : Relation). behind setup turns.moves r) follows.made ∙ turns.made);
+        control = turns.live;
+        raises = turns.sent ∙ follows.raises;
+        ends = subst (λ (d : DeviceEnd). HasEnd setup station d device.rest.link) (sym turns.device) follows.ends;
+        starts = subst (λ (d : DeviceEnd). IsBefore setup station d (kept_of setup.activity device.rest.calls) device.rest.link) (sym turns.device) follows.starts;
+        kept = kept_on setup station (IsFine setup station x.alarms.pdus x.acks x.told) (IsFine setup station now.alarms.pdus now.acks now.told) on device.rest.calls follows.kept;
+        fine = all_behind (IsFine setup station now.alarms.pdus now.acks now.told) sent (map (bytes_of setup) turn.sent)
+            (all_on setup station (IsFine setup station x.alarms.pdus x.acks x.told) (IsFine setup station now.alarms.pdus now.acks now.told) on sent follows.fine)
+            (all_said setup station now.alarms.pdus now.acks now.told x.told turn.sent turns.told_is meant);
+      }
+
+  -- ---- a step of the device
+
+  stepped_follows : (heard : Heard) (after : Live) (frames : List (List ℕ)) (step_live : Live) (step_sent : List Sent)
+      → Goes setup station follows.now (rung station device.rest.link heard) device.rest step_live.rest step_sent
+      → AllByRecursion (IsMeantAs setup station) step_sent → after ≡ step_live
+      → ((pdus : List (ℕ × AlarmNotification)) (acks : List ℕ) (told_all : List Said) → AllByRecursion (IsThere setup station pdus acks told_all) step_sent
+      → AllByRecursion (IsFine setup station pdus acks told_all) frames)
+      → Follows setup station after live (sent ++ frames) (raised ++ rung station device.rest.link heard)
+  stepped_follows heard after frames step_live step_sent goes meant same frames_are_fine =
+      let x = follows.now in
+      let now = goes.now in
+      let on : (frame : List ℕ) → IsFine setup station x.alarms.pdus x.acks x.told frame → IsFine setup station now.alarms.pdus now.acks now.told frame =
+      fine_on setup station x.alarms.pdus now.alarms.pdus x.acks now.acks x.told now.told goes.pdus goes.acks (same_extends x.told now.told goes.told_same) in
+      subst (λ (l : Live). Follows setup station l live (sent ++ frames) (raised ++ rung station device.rest.link heard)) (sym same) (record {
+        moves = follows.moves ++ goes.moves;
+        now = now;
+        made = runs_on setup follows.moves goes.moves (start setup) ∙ (ap (λ (r : Relation). behind setup goes.moves r) follows.made ∙ goes.made);
+        control = goes.live ∙ follows.control;
+        raises = goes.raises ∙ ap (λ (before : List AlarmNotification). before ++ rung station device.rest.link heard) follows.raises;
+        ends = goes.ends;
+        starts = goes.starts;
+        kept = goes.kept meant;
+        fine = all_behind (IsFine setup station now.alarms.pdus now.acks now.told) sent frames
+            (all_on setup station (IsFine setup station x.alarms.pdus x.acks x.told) (IsFine setup station now.alarms.pdus now.acks now.told) on sent follows.fine)
+            (frames_are_fine now.alarms.pdus now.acks now.told goes.there);
+      })
+
+first_fine : (setup : Setup) (station : Station) (frames : List (List ℕ)) → AllByRecursion (IsDull (rules_of setup station)) frames
+    → AllByRecursion (λ (frame : List ℕ). (noted_at setup frame ≡ None) × (told_at station.identity frame ≡ None)) frames → AllByRecursion (IsFine setup station [] [] []) frames
+first_fine setup station [] dull none = tt
+first_fine setup station (frame ∷ frames) dull none = (
+  record {
+    noted = subst (λ (n : Option ToController). IsNotedIn [] [] n) (sym none.0.0) tt;
+    said = subst (λ (t : Option ToDevice). IsToldIn [] t) (sym none.0.1) tt;
+    first = λ sequence call. absurd (not_call sequence (sym dull.0.0 ∙ call));
+  },
+  first_fine setup station frames dull.1 none.1,
+)
+  where
+    not_call : (sequence : ℕ) → small.Idle ≡ small.Call sequence small.Connects → ⊥
+    not_call sequence e = absurd cc
+
 module _ {F : Type 0} where
   abbrev FollowsAt : World F → List AlarmNotification → Type 0
   FollowsAt w raised = Follows w.controller.setup w.device.station w.device.live w.controller.live w.sent raised
@@ -142,64 +215,6 @@ module _ {F : Type 0} where
   at_same w setup station raised same_setup same_station follows =
       subst (λ (s : Setup). Follows s w.device.station w.device.live w.controller.live w.sent raised) (sym same_setup)
       (subst (λ (s : Station). Follows setup s w.device.live w.controller.live w.sent raised) (sym same_station) follows)
-
-  -- ---- a step of the controller
-
-  module _ (setup : Setup) (station : Station) (device : Live) (live : ControllerLive) (sent : List (List ℕ)) (raised : List AlarmNotification)
-      (follows : Follows setup station device live sent raised) where
-    told_grows : (turn_sent : List Said) (now : Relation) → now.told ≡ follows.now.told ++ turn_sent → Extends follows.now.told now.told
-    told_grows turn_sent now same = subst (λ (t : List Said). Extends follows.now.told t) (sym same) (extended follows.now.told turn_sent)
-
-    turned_follows : (event : Event) → TurnsTo setup follows.now (turn_of setup follows.now.live event)
-        → AllByRecursion (IsMeantBy setup station) (turn_of setup follows.now.live event).sent
-        → Follows setup station device (turn_of setup follows.now.live event).live (sent ++ map (bytes_of setup) (turn_of setup follows.now.live event).sent) raised
-    turned_follows event turns meant =
-        let x = follows.now in
-        let now = turns.now in
-        let turn = turn_of setup x.live event in
-        let on : (frame : List ℕ) → IsFine setup station x.alarms.pdus x.acks x.told frame → IsFine setup station now.alarms.pdus now.acks now.told frame =
-        fine_on setup station x.alarms.pdus now.alarms.pdus x.acks now.acks x.told now.told
-        (same_extends x.alarms.pdus now.alarms.pdus turns.pdus) (same_extends x.acks now.acks turns.acks) (told_grows turn.sent now turns.told_is) in
-        record {
-          moves = follows.moves ++ turns.moves;
-          now = now;
-          made = runs_on setup follows.moves turns.moves (start setup) ∙ (ap (λ (r : Relation). behind setup turns.moves r) follows.made ∙ turns.made);
-          control = turns.live;
-          raises = turns.sent ∙ follows.raises;
-          ends = subst (λ (d : DeviceEnd). HasEnd setup station d device.rest.link) (sym turns.device) follows.ends;
-          starts = subst (λ (d : DeviceEnd). IsBefore setup station d (kept_of setup.activity device.rest.calls) device.rest.link) (sym turns.device) follows.starts;
-          kept = kept_on setup station (IsFine setup station x.alarms.pdus x.acks x.told) (IsFine setup station now.alarms.pdus now.acks now.told) on device.rest.calls follows.kept;
-          fine = all_behind (IsFine setup station now.alarms.pdus now.acks now.told) sent (map (bytes_of setup) turn.sent)
-              (all_on setup station (IsFine setup station x.alarms.pdus x.acks x.told) (IsFine setup station now.alarms.pdus now.acks now.told) on sent follows.fine)
-              (all_said setup station now.alarms.pdus now.acks now.told x.told turn.sent turns.told_is meant);
-        }
-
-    -- ---- a step of the device
-
-    stepped_follows : (heard : Heard) (after : Live) (frames : List (List ℕ)) (step_live : Live) (step_sent : List Sent)
-        → Goes setup station follows.now (rung station device.rest.link heard) device.rest step_live.rest step_sent
-        → AllByRecursion (IsMeantAs setup station) step_sent → after ≡ step_live
-        → ((pdus : List (ℕ × AlarmNotification)) (acks : List ℕ) (told_all : List Said) → AllByRecursion (IsThere setup station pdus acks told_all) step_sent
-        → AllByRecursion (IsFine setup station pdus acks told_all) frames)
-        → Follows setup station after live (sent ++ frames) (raised ++ rung station device.rest.link heard)
-    stepped_follows heard after frames step_live step_sent goes meant same frames_are_fine =
-        let x = follows.now in
-        let now = goes.now in
-        let on : (frame : List ℕ) → IsFine setup station x.alarms.pdus x.acks x.told frame → IsFine setup station now.alarms.pdus now.acks now.told frame =
-        fine_on setup station x.alarms.pdus now.alarms.pdus x.acks now.acks x.told now.told goes.pdus goes.acks (same_extends x.told now.told goes.told_same) in
-        subst (λ (l : Live). Follows setup station l live (sent ++ frames) (raised ++ rung station device.rest.link heard)) (sym same) (record {
-          moves = follows.moves ++ goes.moves;
-          now = now;
-          made = runs_on setup follows.moves goes.moves (start setup) ∙ (ap (λ (r : Relation). behind setup goes.moves r) follows.made ∙ goes.made);
-          control = goes.live ∙ follows.control;
-          raises = goes.raises ∙ ap (λ (before : List AlarmNotification). before ++ rung station device.rest.link heard) follows.raises;
-          ends = goes.ends;
-          starts = goes.starts;
-          kept = goes.kept meant;
-          fine = all_behind (IsFine setup station now.alarms.pdus now.acks now.told) sent frames
-              (all_on setup station (IsFine setup station x.alarms.pdus x.acks x.told) (IsFine setup station now.alarms.pdus now.acks now.told) on sent follows.fine)
-              (frames_are_fine now.alarms.pdus now.acks now.told goes.there);
-        })
 
   -- what comes to the controller was sent
   abbrev EventFine : (w : World F) (raised : List AlarmNotification) → FollowsAt w raised → Event → Type 0
@@ -321,21 +336,6 @@ module _ {F : Type 0} where
         (run_follows one.1 run (raised ++ raised_with before one.0) (happens_follows before one.1 raised follows one.0 meant.0 alarms.0 made.0) made.1 meant.1 alarms.1)
 
   -- ---- the beginning
-
-  first_fine : (setup : Setup) (station : Station) (frames : List (List ℕ)) → AllByRecursion (IsDull (rules_of setup station)) frames
-      → AllByRecursion (λ (frame : List ℕ). (noted_at setup frame ≡ None) × (told_at station.identity frame ≡ None)) frames → AllByRecursion (IsFine setup station [] [] []) frames
-  first_fine setup station [] dull none = tt
-  first_fine setup station (frame ∷ frames) dull none = (
-    record {
-      noted = subst (λ (n : Option ToController). IsNotedIn [] [] n) (sym none.0.0) tt;
-      said = subst (λ (t : Option ToDevice). IsToldIn [] t) (sym none.0.1) tt;
-      first = λ sequence call. absurd (not_call sequence (sym dull.0.0 ∙ call));
-    },
-    first_fine setup station frames dull.1 none.1,
-  )
-    where
-      not_call : (sequence : ℕ) → small.Idle ≡ small.Call sequence small.Connects → ⊥
-      not_call sequence e = absurd cc
 
   first_follows : (first : World F) → Begins first → HasNoAlarms first → FollowsAt first []
   first_follows first begins none =

@@ -37,14 +37,24 @@ frames_are : (old : Controlling) (event : Event) → (step_of old event).frames 
 unfolding step_of
 frames_are old event = refl
 
+-- the relation is that of the plan, and the answers that are kept bring no outputs
+record HoldsBy (setup : Setup) (station : Station) (link : Option Link) (calls : List Answer) : Type 0 where
+  ours : IsOursIn setup station link
+  calls_silent : AreKeptSilent setup station calls
+
+abbrev seen : Setup → Option Link → Image → List (List ℕ) → Shown Image Image
+seen setup link given sent = record { accepted = accepted_in link; outputs = image_in setup link; given = given; sent = sent }
+
+shows_as : (setup : Setup) (station : Station) (brought : Option (List ℕ)) (before after : Option Link) (given now : Image) (sent all : List (List ℕ)) → ShowsIn setup station brought before after
+    → Shows (outputs_of setup station.identity) brought (seen setup before given sent) (seen setup after now all)
+shows_as setup station brought before after given now sent all (inl stays) = inl stays
+shows_as setup station brought before after given now sent all (inr (inl none)) = inr (inl none)
+shows_as setup station brought before after given now sent all (inr (inr accepts)) =
+    inr (inr (record { octets = accepts.octets; brings = accepts.brings; accepted = accepts.accepted; shown = accepts.shown }))
+
 module _ {F : Type 0} where
   abbrev rules_at : World F → Outputs Image Image
   rules_at w = outputs_of w.controller.setup w.device.station.identity
-
-  -- the relation is that of the plan, and the answers that are kept bring no outputs
-  record HoldsBy (setup : Setup) (station : Station) (link : Option Link) (calls : List Answer) : Type 0 where
-    ours : IsOursIn setup station link
-    calls_silent : AreKeptSilent setup station calls
 
   abbrev Holds : World F → Type 0
   Holds w = HoldsBy w.controller.setup w.device.station w.device.live.rest.link w.device.live.rest.calls
@@ -55,16 +65,6 @@ module _ {F : Type 0} where
     setup : after.controller.setup ≡ before.controller.setup
     station : after.device.station ≡ before.device.station
     holds : Holds after
-
-  abbrev seen : Setup → Option Link → Image → List (List ℕ) → Shown Image Image
-  seen setup link given sent = record { accepted = accepted_in link; outputs = image_in setup link; given = given; sent = sent }
-
-  shows_as : (setup : Setup) (station : Station) (brought : Option (List ℕ)) (before after : Option Link) (given now : Image) (sent all : List (List ℕ)) → ShowsIn setup station brought before after
-      → Shows (outputs_of setup station.identity) brought (seen setup before given sent) (seen setup after now all)
-  shows_as setup station brought before after given now sent all (inl stays) = inl stays
-  shows_as setup station brought before after given now sent all (inr (inl none)) = inr (inl none)
-  shows_as setup station brought before after given now sent all (inr (inr accepts)) =
-      inr (inr (record { octets = accepts.octets; brings = accepts.brings; accepted = accepts.accepted; shown = accepts.shown }))
 
   -- ---- a step of the controller
 

@@ -187,20 +187,20 @@ module _ (setup : Setup) (identity : Identity) (good : IsDevice identity) (apart
   dcp_nothing : (asker : Mac) (frame_id : ℕ) (body : List ℕ) → IsMac asker → frame_id < 65536 → length body ≤ 1498 → is_alarm frame_id ≡ false
       → IsNothing setup identity (frame_bytes (carrying asker identity.mac None (RealTime frame_id body)))
   dcp_nothing asker frame_id body mac small few calm =
-      data_nothing setup reads identity asker identity.mac None frame_id body (record { destination = mac; source = good; tag = tt; content = (small, few) }) apart.device
+      data_nothing setup reads identity asker identity.mac None frame_id body (record { destination = mac; source = good; tag = tt; content = (small, few) }) apart.forth
       (ap (λ (b : Bool). is_own identity asker && b) calm ∙ calm_so (is_own identity asker))
 
   -- ---- alarms
 
   away : (destination : Mac) (frame_id : ℕ) → destination ≡ setup.plan.controller.mac → (is_own identity destination && is_alarm frame_id) ≡ false
   away destination frame_id is =
-      ap (λ (m : Mac). is_own identity m && is_alarm frame_id) is ∙ ap (λ (b : Bool). b && is_alarm frame_id) apart.controller
+      ap (λ (m : Mac). is_own identity m && is_alarm frame_id) is ∙ ap (λ (b : Bool). b && is_alarm frame_id) apart.back
 
   pdu_nothing : (destination : Mac) (tag : ℕ) (kind : PduType) (said : Pdu) → destination ≡ setup.plan.controller.mac → IsMac destination → tag < 65536 → length said.body ≤ 1486
       → IsNothing setup identity (frame_bytes (carrying destination identity.mac (Some tag) (RealTime (frame_id_of kind) (pdu_bytes said))))
   pdu_nothing destination tag kind said goes mac small few =
       data_nothing setup reads identity destination identity.mac (Some tag) (frame_id_of kind) (pdu_bytes said)
-      (record { destination = mac; source = good; tag = small; content = (kind_small kind, omega (arith, long said, few)) }) apart.device (away destination (frame_id_of kind) goes)
+      (record { destination = mac; source = good; tag = small; content = (kind_small kind, omega (arith, long said, few)) }) apart.forth (away destination (frame_id_of kind) goes)
 
   -- ---- calls
 
@@ -229,7 +229,7 @@ module _ (setup : Setup) (identity : Identity) (good : IsDevice identity) (apart
         let octets = bytes_of identity (Exchanges route (Inputs inputs counter)) in
         let body = padded identity.mac route.partner (Some route.sent_tag) route.sent_id (cyclic_body inputs counter) in
         let nothing = is_nothing setup identity octets (own_hears identity route.partner (device.Cyclic identity.mac route.sent_id body)) (inputs_come identity identity route inputs counter good on few)
-        (nothing_own setup identity route.partner identity.mac route.sent_id body apart.device) in (
+        (nothing_own setup identity route.partner identity.mac route.sent_id body apart.forth) in (
           nothing.brought,
           (mine_noted setup octets route.partner (controller.Cyclic identity.mac route.sent_id body) (inputs_heard setup.plan.controller identity route inputs counter good on few), nothing.told),
         )

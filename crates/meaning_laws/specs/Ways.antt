@@ -7,8 +7,8 @@ use Rattle.controller_frames.specs.declared.setup.Setup.{Setup}
 
 -- both ends have different addresses of Ethernet
 pub record AreApart (setup : Setup) (identity : Identity) : Type 0 where
-  pub device : pointwise nat_eq identity.mac.octets setup.plan.controller.mac.octets ≡ false
-  pub controller : pointwise nat_eq setup.plan.controller.mac.octets identity.mac.octets ≡ false
+  pub forth : pointwise nat_eq identity.mac.octets setup.plan.controller.mac.octets ≡ false
+  pub back : pointwise nat_eq setup.plan.controller.mac.octets identity.mac.octets ≡ false
 
 -- a message of the device that is of a relation goes to its controller
 abbrev pub GoesTo : Setup → Sent → Type 0
