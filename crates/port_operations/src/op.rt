@@ -1,10 +1,12 @@
-// One operation, as it lies in the memory of the host.
+//! One operation, as it lies in the memory of the host.
+ghost use Rattle.std.specs.Prelude.{◌≡◌, ◌≤◌, length, take};
 
-/// Bytes of each of both sectors.
-pub const SECTOR_SIZE: usize = 4096;
+/// The most octets of an operation.
+pub const MOST_OCTETS: usize = 1520;
 
 /// One operation: what is asked, and what is answered.
 #[repr(C)]
+#[derive(Drop)]
 pub struct Op {
     /// Which operation.
     pub what: u32,
@@ -20,9 +22,9 @@ pub struct Op {
     pub work: u32,
     /// 0 or 1.
     pub sector: u32,
-    /// The first byte of a program call in its sector.
+    /// The first octet of a program call in its sector.
     pub place: u32,
-    /// How many of the bytes count.
+    /// How many of the octets count.
     pub length: u32,
     pub octets: [u8; 1520],
 }
