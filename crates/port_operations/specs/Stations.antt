@@ -1,6 +1,6 @@
 -- What a device is, as a host writes it down.
-use Rattle.std.specs.Prelude.{◌&&◌, ℕ, Bool, nat_le, List, take, map}
-use Rattle.std.specs.List.{list_all}
+use Rattle.std.specs.Prelude.{◌&&◌, ◌≤◌, Bool, nat_le, List, take, map}
+use Rattle.std.specs.List.{AllByRecursion, list_all}
 use Rattle.pn_values.specs.declared.real.ParameterRecord.{ParameterRecord}
 use Rattle.pn_values.specs.declared.real.Real.{Real}
 use Rattle.pn_values.specs.declared.real.RealModule.{RealModule}
@@ -32,7 +32,14 @@ abbrev pub is_module : Module → Bool
 is_module plugged = nat_le plugged.submodule_count 4 && list_all is_submodule (submodules_in plugged)
 
 abbrev pub is_station : Station → Bool
-is_station station = nat_le station.station_type_length 25 && nat_le station.module_count 16 && list_all is_module (modules_in station)
+is_station station = nat_le station.station_type_length 25 && (nat_le station.module_count 16 && list_all is_module (modules_in station))
+
+-- the same, said of each in a list
+abbrev pub IsSmall : Submodule → Type 0
+IsSmall submodule = submodule.parameter_count ≤ 2
+
+abbrev pub IsSmallModule : Module → Type 0
+IsSmallModule plugged = (plugged.submodule_count ≤ 4) × AllByRecursion IsSmall (submodules_in plugged)
 
 -- ---- what they are
 

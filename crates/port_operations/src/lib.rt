@@ -3,9 +3,9 @@
 
 mod op;
 mod operation;
-mod serve;
+mod serving;
 mod station;
 
 pub use op::Op;
-pub use serve::serve;
+pub use serving::serve;
 pub use station::{Module, Parameter, Station, Submodule, judge, port_of};

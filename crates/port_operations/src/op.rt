@@ -1,8 +1,4 @@
 //! One operation, as it lies in the memory of the host.
-ghost use Rattle.std.specs.Prelude.{◌≡◌, ◌≤◌, length, take};
-
-/// The most octets of an operation.
-pub const MOST_OCTETS: usize = 1520;
 
 /// One operation: what is asked, and what is answered.
 #[repr(C)]

@@ -1,9 +1,9 @@
 //! What a device is, as it lies in the memory of the host.
 ghost use Rattle.std.specs.Prelude.{◌≡◌, ◌≤◌, true, length, map};
-ghost use Rattle.std.specs.List.{list_all};
+ghost use Rattle.std.specs.List.{AllByRecursion, list_all};
 ghost use Rattle.port_operations.specs.Made.{IsMade, why_not_made};
-ghost use Rattle.port_operations.specs.Stations.{identity_of, is_module, is_station as is_written, is_submodule};
-ghost use Rattle.port_operations.specs.Stations.{module_of, parameter_of, real_of, submodule_of};
+ghost use Rattle.port_operations.specs.Stations.{IsSmall, IsSmallModule, identity_of, is_module, is_station as is_written, is_submodule};
+ghost use Rattle.port_operations.specs.Stations.{module_of, modules_in, parameter_of, real_of, submodule_of, submodules_in};
 
 use arrayvec::ArrayVec;
 use device_port::Port;
@@ -91,7 +91,7 @@ pub fn port_of(station: &Station) -> Port
     requires { is_written station.now ≡ true }
     ensures { IsMade station.now result }
 {
-    Port::new(identity(station), real(station))
+    Port::new(identity_in(station), real_in(station))
 }
 
 // Whether no count of a station is more than its list holds.
@@ -134,8 +134,8 @@ fn are_submodules(submodules: &[Submodule]) -> bool
 }
 
 // The identity of a device.
-fn identity(station: &Station) -> Identity
-    requires { is_written station.now ≡ true }
+fn identity_in(station: &Station) -> Identity
+    requires { station.now.station_type_length ≤ 25 }
     ensures { result ≡ identity_of station.now }
 {
     let mut station_type = ArrayVec::new();
@@ -161,8 +161,9 @@ fn identity(station: &Station) -> Identity
 
 // What is plugged in.
 #[inline(never)]
-fn real(station: &Station) -> Real
-    requires { is_written station.now ≡ true }
+fn real_in(station: &Station) -> Real
+    requires few { station.now.module_count ≤ 16 }
+    requires small { AllByRecursion IsSmallModule (modules_in station.now) }
     ensures { result ≡ real_of station.now }
 {
     Real {
@@ -172,7 +173,7 @@ fn real(station: &Station) -> Real
 
 fn modules(written: &[Module]) -> ArrayVec<RealModule, 16>
     requires few { length written.now ≤ 16 }
-    requires small { list_all is_module written.now ≡ true }
+    requires small { AllByRecursion IsSmallModule written.now }
     ensures { result ≡ record { items = map module_of written.now } }
 {
     let mut modules = ArrayVec::new();
@@ -183,7 +184,8 @@ fn modules(written: &[Module]) -> ArrayVec<RealModule, 16>
 }
 
 fn plugged(entry: &Module) -> RealModule
-    requires { is_module entry.now ≡ true }
+    requires few { entry.now.submodule_count ≤ 4 }
+    requires small { AllByRecursion IsSmall (submodules_in entry.now) }
     ensures { result ≡ module_of entry.now }
 {
     RealModule {
@@ -195,7 +197,7 @@ fn plugged(entry: &Module) -> RealModule
 
 fn submodules(written: &[Submodule]) -> ArrayVec<RealSubmodule, 4>
     requires few { length written.now ≤ 4 }
-    requires small { list_all is_submodule written.now ≡ true }
+    requires small { AllByRecursion IsSmall written.now }
     ensures { result ≡ record { items = map submodule_of written.now } }
 {
     let mut submodules = ArrayVec::new();
@@ -206,7 +208,7 @@ fn submodules(written: &[Submodule]) -> ArrayVec<RealSubmodule, 4>
 }
 
 fn plugged_in(submodule: &Submodule) -> RealSubmodule
-    requires { is_submodule submodule.now ≡ true }
+    requires { submodule.now.parameter_count ≤ 2 }
     ensures { result ≡ submodule_of submodule.now }
 {
     RealSubmodule {
