@@ -2,6 +2,7 @@
 use device_port::{Port, Refusal, Work};
 use flash_model::Sector;
 use pn_values::Real;
+use recorded_flash::Recorded;
 use test_stations::{SET, identity, plugged};
 
 /// Sets how many octets of input and output the first submodule of a module has.
@@ -61,10 +62,8 @@ pub(crate) fn number<T: Drop>(outcome: Result<T, Refusal>) -> u32 {
 /// What kind of work is next: 1 is a program call, 2 an erase, 3 a frame, and 0 nothing.
 pub(crate) fn kind(port: &Port) -> u32 {
     match port.work() {
-        Ok(Work::Carry(call)) => match call {
-            recorded_flash::Recorded::Program { .. } => 1,
-            recorded_flash::Recorded::Erase { .. } => 2,
-        },
+        Ok(Work::Carry(Recorded::Program { .. })) => 1,
+        Ok(Work::Carry(Recorded::Erase { .. })) => 2,
         Ok(Work::Send(_)) => 3,
         Ok(Work::Nothing) | Err(_) => 0,
     }

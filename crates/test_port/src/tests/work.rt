@@ -3,8 +3,7 @@ use crate::tests::stations::{booted, busy, kind};
 use device_core::Note;
 use device_port::{Stage, Work};
 use std::process::Abort;
-use std::test::Fail;
-use test_stations::{DONE, IDENTIFY, SET, is_filled};
+use test_stations::{DONE, IDENTIFY, is_filled};
 
 #[test]
 fn calls_come_first(rt: HostRuntime) {
@@ -18,37 +17,35 @@ fn calls_come_first(rt: HostRuntime) {
 }
 
 #[test]
-fn the_frame_behind_them_says_done(rt: HostRuntime) -> Result<(), Fail> {
+fn the_frame_behind_them_says_done(rt: HostRuntime) {
     let mut port = busy();
     for _ in 0..3 {
         port.advance();
     }
-    match port.work() {
-        Ok(Work::Send(frame)) => assert!(rt; is_filled(frame, &DONE)),
-        _ => return Err("a frame is next".into()),
-    }
-    Ok(())
+    let is_done = match port.work() {
+        Ok(Work::Send(frame)) => is_filled(frame, &DONE),
+        _ => false,
+    };
+    assert!(rt; is_done);
 }
 
 #[test]
-fn notes_are_answers(rt: HostRuntime) -> Result<(), Fail> {
+fn notes_are_answers(rt: HostRuntime) {
     let mut port = booted();
-    assert!(rt; port.frame(&IDENTIFY) == Ok(Note::Done));
+    assert!(rt; matches!(port.frame(&IDENTIFY), Ok(Note::Done)));
     port.advance();
-    assert!(rt; port.frame(&[]) == Ok(Note::Fault));
-    assert!(rt; port.input(2, 1, &[1, 2]) == Ok(Note::Refused));
-    assert!(rt; port.alarm(2, 1, &[1, 2]) == Ok(Note::Refused));
-    assert!(rt; port.frame(&[0; 2000]) == Ok(Note::Fault));
-    Ok(())
+    assert!(rt; matches!(port.frame(&[]), Ok(Note::Fault)));
+    assert!(rt; matches!(port.input(2, 1, &[1, 2]), Ok(Note::Refused)));
+    assert!(rt; matches!(port.alarm(2, 1, &[1, 2]), Ok(Note::Refused)));
+    assert!(rt; matches!(port.frame(&[0; 2000]), Ok(Note::Fault)));
 }
 
 #[test]
-fn a_loss_drops_what_is_left(rt: HostRuntime) -> Result<(), Fail> {
+fn a_loss_drops_what_is_left(rt: HostRuntime) {
     let mut port = busy();
     assert!(rt; port.stage() == Stage::Booted);
     assert!(rt; port.has_work());
     assert!(rt; port.lose().is_ok());
     assert!(rt; port.stage() == Stage::Lost);
     assert!(rt; !port.has_work());
-    Ok(())
 }
