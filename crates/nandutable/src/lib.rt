@@ -28,8 +28,7 @@ pub extern "C" fn pn_judge(size: usize, abi: u32, op_size: usize, station: &Stat
 /// Makes a device that did not start in the room, of a station that `pn_judge` answered 0 for.
 #[unsafe(no_mangle)]
 pub unsafe extern "C" fn pn_put(room: *mut u8, station: &Station)
-    requires { is_station station.now ≡ true }
-    requires* { sem 𝓛 (room_at Row room) }
+    requires* { sem 𝓛 (room_at Row room) ∗ ⌜ is_station station.now ≡ true ⌝ }
     ensures* { ex 𝓤 (λ (port : State). sem 𝓛 (lies_at Row full_share room port) ∗ ⌜ IsMade station.now port ⌝) }
 {
     unsafe { std::ptr::write(room as *mut Port, port_of(station)) };

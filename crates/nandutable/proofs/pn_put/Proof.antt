@@ -55,8 +55,8 @@ pn_put_spec 𝓤 𝓛 𝓜 𝓡 wired =
     let Told = λ (b o : ℕ) (port : State). sep 𝓤 (types.Logic.sem 𝓛 (lies_at R full_share (block_ptr b o) port)) (fact 𝓤 (IsMade station.now port)) in
     let told : (b o : ℕ) (port : State) → IsMade station.now port → ent 𝓤 (types.Logic.sem 𝓛 (lies_at R full_share (block_ptr b o) port)) (ex 𝓤 (Told b o)) = λ b o port made.
     qed 𝓛 (‵ (lies_at R full_share (block_ptr b o) port) ∷ []) ∵ show ! (Told b o) port $ says ! made $ done ! in
-    qed 𝓛 ((Tokens ⊛ ‵ (owns Params a (vals a.0))) ∷ (raw (fact 𝓤 (is_station station.now ≡ true)) ⊛ ‵ (room_at R a.0)) ∷ []) ∵
-    split ! $ move ! (1 ∷ []) $ fsplit ! $ drop ! $ fsplit ! $ move ! (1 ∷ []) $ drop ! $ move ! (2 ∷ []) $ split ! $ heard ! _ (λ fits.
+    qed 𝓛 ((Tokens ⊛ ‵ (owns Params a (vals a.0))) ∷ (‵ (room_at R a.0) ⊛ raw (fact 𝓤 (is_station station.now ≡ true))) ∷ []) ∵
+    split ! $ move ! (1 ∷ []) $ fsplit ! $ drop ! $ fsplit ! $ move ! (1 ∷ []) $ drop ! $ move ! (2 ∷ []) $ split ! $ move ! (1 ∷ []) $ heard ! _ (λ fits.
     -- [the room; the station; the tokens]
     in_a_block ! a.0 (λ p. room_at R p) (id⊢ 𝓤 _) (λ b o e.
     regoal ! (λ p. prop (WpFn 𝓤 𝓛.H 𝓣.C 𝓣.Λ code.function (flat Params (vals p)) (W.post (y p)))) e refl $
