@@ -1,0 +1,37 @@
+//! The library that firmware links: a PROFINET IO device behind three calls. `include/nandutable.h` says how they are used.
+//!
+//! Each call is proved down to its raw pointer: what lies in the room before it, and what lies there behind it.
+#![tactic(auto)]
+
+ghost use Rattle.std.specs.Prelude.{◌≡◌, true};
+ghost use Rattle.std.specs.Borrow.{full_share};
+ghost use base.Logic.{ex};
+ghost use types.Logic.{sem};
+ghost use denote.RawPtr.{lies_at, room_at};
+ghost use Rattle.mini.specs.Serves.{State};
+ghost use Rattle.mini.specs.contracts.Port.{the_row as Row};
+ghost use Rattle.mini.specs.Serves.{IsMade};
+ghost use Rattle.mini.specs.Serves.{Serves, operation_of};
+ghost use Rattle.mini.specs.Serves.{is_station};
+
+use mini::Port;
+use mini::{Op, Station, port_of, serve};
+
+/// Makes a device that did not start in the room, of a station that `pn_judge` answered 0 for.
+#[unsafe(no_mangle)]
+pub unsafe extern "C" fn pn_put(room: *mut u8, station: &Station)
+    requires* { sem 𝓛 (room_at Row room) ∗ ⌜ is_station station.now ≡ true ⌝ }
+    ensures* { ex 𝓤 (λ (port : State). sem 𝓛 (lies_at Row full_share room port) ∗ ⌜ IsMade station.now port ⌝) }
+{
+    unsafe { std::ptr::write(room as *mut Port, port_of(station)) };
+}
+
+/// Carries one operation out on the device in the room.
+#[unsafe(no_mangle)]
+pub unsafe extern "C" fn pn_step(room: *mut u8, op: &mut Op, given: &[u8]) -> u32
+    ghost port: { State }
+    requires* { sem 𝓛 (lies_at Row full_share room port) }
+    ensures* { ex 𝓤 (λ (new : State). sem 𝓛 (lies_at Row full_share room new) ∗ ⌜ Serves (operation_of op.old.what) port op.old given.now result new op.new ⌝) }
+{
+    serve(unsafe { &mut *(room as *mut Port) }, op, given)
+}
