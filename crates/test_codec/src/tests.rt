@@ -1,5 +1,4 @@
 // A module for each codec, by what it reads and writes.
-mod calls;
 mod dcp;
 mod fields;
 mod frames;
