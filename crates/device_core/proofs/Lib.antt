@@ -1,7 +1,7 @@
 pub mod Machine
 pub mod Faults
 pub mod Judged
-pub mod Kept
+pub mod OfKind
 pub mod Served
 pub mod Placed
 pub mod Steps

@@ -1,5 +1,9 @@
 -- How a call comes out, from what serves it.
-use Rattle.std.proofs.Common.{◌≡◌, ℕ, List, Result, Ok, Err, IfErr, OnOk, IsOk, refl, ap, ◌∙◌}
+use Rattle.std.proofs.Common.{◌≡◌, ℕ, false, List, map, Result, Ok, Err, IfErr, OnOk, IsOk, refl, ap, ◌∙◌}
+use Rattle.flash_model.specs.Calls.{Call as Asking}
+use Rattle.flash_model.specs.Image.{Image}
+use Rattle.settings_store.specs.Carries.{Holds}
+use Rattle.pnio_status.specs.declared.operation.Operation.{Operation}
 use Rattle.pnio_status.specs.declared.call_fault.CallFault.{CallFault}
 use Rattle.record_blocks.specs.declared.write_record.IodWriteReq.{IodWriteReq}
 use Rattle.record_writes.specs.declared.taken.Taken.{Taken}
@@ -9,8 +13,15 @@ use Rattle.record_writes.specs.declared.write.Write.{Write}
 use Rattle.rpc_core.specs.Call.{Asked as Call}
 use Rattle.relations.specs.Phases.{Judged as Moving, answered}
 use Rattle.frame_codec.specs.declared.udp.Caller.{Caller}
-use Rattle.device_core.specs.State.{Station, Live}
-use Rattle.device_core.specs.Judged.{came_with, judged_effect, judged_write, kept_answer}
+use Rattle.device_frames.specs.Heard.{Heard}
+use Rattle.device_frames.specs.Sent.{bytes_of}
+use Rattle.device_core.specs.declared.note.Note.{Note}
+use Rattle.device_core.specs.State.{Station, Live, State, with_rest}
+use Rattle.device_core.specs.Judged.{came_with, judged, judged_effect, judged_new, judged_write, kept_answer}
+use Rattle.device_core.specs.Machine.{end_of}
+use Rattle.device_core.specs.Steps.{Steps}
+use Rattle.device_core.proofs.Machine.{is_asking}
+use Rattle.device_core.proofs.Steps.{quiet_steps}
 
 -- a parameter record that is kept, or not: how it is answered, and what it does to the relation
 pub kept_as : (came : Result (Unit {0}) CallFault) (kept : Result (List Taken) CallFault) (header : IodWriteReq)
@@ -36,3 +47,15 @@ same_moving moving (Err fault) blocks = refl
 pub effect_as : (station : Station) (live : Live) (caller : Caller) (call : Call) (made : Result Write CallFault) (write : Write) (effect : Effect)
     → made ≡ Ok write → write.effect ≡ effect → judged_write station live caller call made ≡ judged_effect station live caller call write.request effect
 effect_as station live caller call made write effect is asks = ap (judged_write station live caller call) is ∙ ap (judged_effect station live caller call write.request) asks
+
+-- a call that is new, of an operation that asks nothing of the settings
+pub new_steps : {F : Type 0} (image : F → Image) (failures : F → ℕ) (asked : F → List Asking → F → Type 0) (old new : State F) (caller : Caller) (call : Call) (blocks : List ℕ) (asks operation : Operation)
+    (frames : List (List ℕ)) (said : Note) → Holds (image old.flash) old.live.values → asks ≡ operation
+    → is_asking (judged_new old.station old.live caller call blocks operation) ≡ false
+    → new ≡ with_rest old (end_of old.station old.live (judged_new old.station old.live caller call blocks operation)).rest
+    → frames ≡ map (bytes_of old.station.identity) (end_of old.station old.live (judged_new old.station old.live caller call blocks operation)).sent
+    → said ≡ (end_of old.station old.live (judged_new old.station old.live caller call blocks operation)).note
+    → (heard : Heard) → judged old.station old.live heard ≡ judged_new old.station old.live caller call blocks asks → Steps image failures asked old heard frames said new
+new_steps image failures asked old new caller call blocks asks operation frames said holds asks_so none is frames_are note_is heard judged_so =
+    quiet_steps image failures asked old new heard (judged_new old.station old.live caller call blocks operation) frames said holds
+    (judged_so ∙ ap (judged_new old.station old.live caller call blocks) asks_so) none is frames_are note_is

@@ -2,6 +2,7 @@ pub mod State
 pub mod Judged
 pub mod Machine
 pub mod Faults
+pub mod Behind
 pub mod Steps
 pub mod Cycle
 pub mod Notes

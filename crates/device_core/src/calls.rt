@@ -1,5 +1,5 @@
 // Calls, and the answers that are kept of them (IEC 61158-6-10, 4.10; C706, 9.5).
-ghost use Rattle.std.specs.Prelude.{◌≡◌, ◌<◌, ◌≤◌, [], ◌∷◌, length, map, Err};
+ghost use Rattle.std.specs.Prelude.{◌≡◌, ◌<◌, [], ◌∷◌, map, Err};
 ghost use Rattle.arrayvec.specs.ArrayVec.{array_vec_len};
 ghost use Rattle.settings_store.specs.Carries.{Holds};
 ghost use Rattle.rpc_core.specs.Call.{asked};
@@ -8,14 +8,14 @@ ghost use Rattle.rpc_core.specs.Response.{answered};
 ghost use Rattle.pnio_status.specs.declared.call_fault.CallFault.TheVariants.{Arguments};
 ghost use Rattle.pnio_status.specs.declared.operation.Operation.TheVariants as operation;
 ghost use Rattle.relations.specs.Ready.{answer_of as ready_answer};
-ghost use Rattle.device_core.specs.State.{with_rest};
 ghost use Rattle.record_blocks.specs.declared.write_record.IodWriteReq.{IodWriteReq as Header};
 ghost use Rattle.record_writes.specs.Answer.{answer_of};
 ghost use Rattle.record_writes.specs.declared.write.Effect.TheVariants.{Keeps};
 ghost use Rattle.pnio_status.specs.Operation.{operation_of};
 ghost use Rattle.device_frames.specs.Heard.{Heard as Hears, Told, said_by};
 ghost use Rattle.device_frames.specs.Sent.{bytes_of};
-ghost use Rattle.device_core.specs.Judged.{Writes, answer_from, came_with, kept_for, judged, judged_new, judged_answer, judged_call, judged_effect, judged_write};
+ghost use Rattle.device_core.specs.Judged.{Writes, answer_from, came_with, kept_for, judged, judged_answer, judged_call, judged_effect, judged_write, outcome_of};
+ghost use Rattle.device_core.specs.Behind.{behind, called, frames_of, octets_in};
 ghost use Rattle.device_core.specs.Machine.{end_of, written_as as comes_out};
 ghost use Rattle.device_core.specs.Steps.{Steps};
 
@@ -30,7 +30,7 @@ use pnio_status::{CallFault, Operation, done};
 use record_reads::{Blocks, names_relation, read_implicit, read_within};
 use record_writes::{Effect, Taken, Write, judge_write, put_write_answer};
 use relations::{Heard, Partner};
-use rpc_core::{Call, CallCache, Interface, Looked, Response, read_call, read_response};
+use rpc_core::{Call, CallCache, Interface, Looked, Response, Status, read_call, read_response};
 
 impl<F: Flash<S>, const S: usize> Device<F, S> {
     // A datagram to the device's MAC address and the port of calls. Its IP address is looked at before it is read.
@@ -64,9 +64,10 @@ impl<F: Flash<S>, const S: usize> Device<F, S> {
     // A response of the controller: one to ApplicationReady may be waited for.
     fn hear_response(&mut self, response: &Response<'_>, outbox: &mut Outbox) -> Note
         requires empty { outbox.old.items ≡ [] }
-        ensures state { self.new ≡ with_rest self.old (end_of self.old.station self.old.live (judged_answer self.old.live (ready_answer (answered response.now) self.old.live.rest.link))).rest }
-        ensures frames { map (λ frame. frame.items) outbox.new.items
-            ≡ map (bytes_of self.old.station.identity) (end_of self.old.station self.old.live (judged_answer self.old.live (ready_answer (answered response.now) self.old.live.rest.link))).sent }
+        ensures state { self.new
+            ≡ behind self.old (judged_answer self.old.live (ready_answer (answered response.now) self.old.live.rest.link)) }
+        ensures frames { octets_in outbox.new
+            ≡ frames_of self.old (judged_answer self.old.live (ready_answer (answered response.now) self.old.live.rest.link)) }
         ensures note { result ≡ (end_of self.old.station self.old.live (judged_answer self.old.live (ready_answer (answered response.now) self.old.live.rest.link))).note }
     {
         match self.relation.hear_ready(response) {
@@ -96,8 +97,18 @@ impl<F: Flash<S>, const S: usize> Device<F, S> {
             // Answered whatever is kept, and the answer is not kept: the call may come again, whole.
             return self.refuse_arguments(operation, caller, call, outbox);
         };
-        match self.cache.look(&call.header.activity, call.header.sequence) {
-            Looked::New => self.serve_new(operation, caller, call, blocks, outbox),
+        let serving = Serving {
+            caller,
+            call,
+            operation,
+            blocks,
+        };
+        match self
+            .answers
+            .kept
+            .look(&call.header.activity, call.header.sequence)
+        {
+            Looked::New => self.serve_new(&serving, outbox),
             Looked::Again(frame) => {
                 outbox.put_copy(frame);
                 Note::Done
@@ -131,375 +142,278 @@ impl<F: Flash<S>, const S: usize> Device<F, S> {
     }
 
     // A call that is new: its answer is sent, and kept.
-    fn serve_new(
-        &mut self,
-        operation: Operation,
-        caller: &Caller,
-        call: &Call<'_>,
-        blocks: &[u8],
-        outbox: &mut Outbox,
-    ) -> Note
+    fn serve_new(&mut self, serving: &Serving<'_>, outbox: &mut Outbox) -> Note
         requires stored { Holds (F.image self.old.flash) self.old.live.values }
         requires empty { outbox.old.items ≡ [] }
-        ensures steps { (heard : Hears) → judged self.old.station self.old.live heard ≡ judged_new self.old.station self.old.live caller.now (asked call.now) blocks.now operation →
+        ensures steps { (heard : Hears) → judged self.old.station self.old.live heard ≡ called self.old serving.now serving.now.operation →
             Steps F.image F.failures F.asked self.old heard (map (λ frame. frame.items) outbox.new.items) result self.new }
         ensures reliable { F.is_reliable self.old.flash → F.is_reliable self.new.flash × (self.new.live.values.has_failed ≡ self.old.live.values.has_failed) }
     {
-        match operation {
-            Operation::Connect => self.connect(caller, call, blocks, outbox),
-            Operation::Release => self.release(caller, call, blocks, outbox),
-            Operation::Read => self.read(caller, call, blocks, outbox),
-            Operation::Write => self.write(caller, call, blocks, outbox),
-            Operation::Control => self.control(caller, call, blocks, outbox),
-            Operation::ReadImplicit => self.read_implicit(caller, call, blocks, outbox),
+        match serving.operation {
+            Operation::Connect => self.connect(serving, outbox),
+            Operation::Release => self.release(serving, outbox),
+            Operation::Read => self.read(serving, outbox),
+            Operation::Write => self.write(serving, outbox),
+            Operation::Control => self.control(serving, outbox),
+            Operation::ReadImplicit => self.read_implicit(serving, outbox),
         }
     }
 
     // Each operation but a Write: state, frames and note are those of `judged_new .. OPERATION`.
-    fn connect(
-        &mut self,
-        caller: &Caller,
-        call: &Call<'_>,
-        blocks: &[u8],
-        outbox: &mut Outbox,
-    ) -> Note
+    fn connect(&mut self, serving: &Serving<'_>, outbox: &mut Outbox) -> Note
+        requires operation { serving.now.operation ≡ operation.Connect }
         requires empty { outbox.old.items ≡ [] }
-        ensures state { self.new ≡ with_rest self.old (end_of self.old.station self.old.live (judged_new self.old.station self.old.live caller.now (asked call.now) blocks.now operation.Connect)).rest }
-        ensures frames { map (λ frame. frame.items) outbox.new.items
-            ≡ map (bytes_of self.old.station.identity) (end_of self.old.station self.old.live (judged_new self.old.station self.old.live caller.now (asked call.now) blocks.now operation.Connect)).sent }
+        ensures state { self.new ≡ behind self.old (called self.old serving.now operation.Connect) }
+        ensures frames { octets_in outbox.new ≡ frames_of self.old (called self.old serving.now operation.Connect) }
         ensures note { result ≡ Note.Done }
     {
         let partner = Partner {
-            mac: caller.mac,
-            address: caller.endpoint.address,
+            mac: serving.caller.mac,
+            address: serving.caller.endpoint.address,
         };
-        self.blocks.clear();
+        self.answers.blocks.clear();
         let came = self.relation.connect(
             &self.identity,
             &self.real,
             partner,
-            blocks,
-            &mut self.blocks,
+            serving.blocks,
+            &mut self.answers.blocks,
         );
-        answer(
-            &self.identity,
-            self.store.running().suite.address(),
-            &mut self.cache,
-            &Serving {
-                caller,
-                call,
-                operation: Operation::Connect,
-            },
-            came,
-            self.blocks.as_slice(),
-            outbox,
-        );
+        let address = self.store.running().suite.address();
+        self.answers
+            .give(&self.identity, address, serving, came, outbox);
         Note::Done
     }
 
-    fn release(
-        &mut self,
-        caller: &Caller,
-        call: &Call<'_>,
-        blocks: &[u8],
-        outbox: &mut Outbox,
-    ) -> Note
+    fn release(&mut self, serving: &Serving<'_>, outbox: &mut Outbox) -> Note
+        requires operation { serving.now.operation ≡ operation.Release }
         requires empty { outbox.old.items ≡ [] }
-        ensures state { self.new ≡ with_rest self.old (end_of self.old.station self.old.live (judged_new self.old.station self.old.live caller.now (asked call.now) blocks.now operation.Release)).rest }
-        ensures frames { map (λ frame. frame.items) outbox.new.items
-            ≡ map (bytes_of self.old.station.identity) (end_of self.old.station self.old.live (judged_new self.old.station self.old.live caller.now (asked call.now) blocks.now operation.Release)).sent }
+        ensures state { self.new ≡ behind self.old (called self.old serving.now operation.Release) }
+        ensures frames { octets_in outbox.new ≡ frames_of self.old (called self.old serving.now operation.Release) }
         ensures note { result ≡ Note.Done }
     {
-        self.blocks.clear();
-        let came = self.relation.release(blocks, &mut self.blocks);
-        answer(
-            &self.identity,
-            self.store.running().suite.address(),
-            &mut self.cache,
-            &Serving {
-                caller,
-                call,
-                operation: Operation::Release,
-            },
-            came,
-            self.blocks.as_slice(),
-            outbox,
-        );
+        self.answers.blocks.clear();
+        let came = self
+            .relation
+            .release(serving.blocks, &mut self.answers.blocks);
+        let address = self.store.running().suite.address();
+        self.answers
+            .give(&self.identity, address, serving, came, outbox);
         Note::Done
     }
 
     // A PrmEnd that is accepted is answered, and then ApplicationReady is sent.
-    fn control(
-        &mut self,
-        caller: &Caller,
-        call: &Call<'_>,
-        blocks: &[u8],
-        outbox: &mut Outbox,
-    ) -> Note
+    fn control(&mut self, serving: &Serving<'_>, outbox: &mut Outbox) -> Note
+        requires operation { serving.now.operation ≡ operation.Control }
         requires empty { outbox.old.items ≡ [] }
-        ensures state { self.new ≡ with_rest self.old (end_of self.old.station self.old.live (judged_new self.old.station self.old.live caller.now (asked call.now) blocks.now operation.Control)).rest }
-        ensures frames { map (λ frame. frame.items) outbox.new.items
-            ≡ map (bytes_of self.old.station.identity) (end_of self.old.station self.old.live (judged_new self.old.station self.old.live caller.now (asked call.now) blocks.now operation.Control)).sent }
+        ensures state { self.new ≡ behind self.old (called self.old serving.now operation.Control) }
+        ensures frames { octets_in outbox.new ≡ frames_of self.old (called self.old serving.now operation.Control) }
         ensures note { result ≡ Note.Done }
     {
         let address = self.store.running().suite.address();
-        self.blocks.clear();
-        let came = self.relation.control(blocks, &mut self.blocks);
-        answer(
-            &self.identity,
-            address,
-            &mut self.cache,
-            &Serving {
-                caller,
-                call,
-                operation: Operation::Control,
-            },
-            came,
-            self.blocks.as_slice(),
-            outbox,
-        );
+        self.answers.blocks.clear();
+        let came = self
+            .relation
+            .control(serving.blocks, &mut self.answers.blocks);
+        self.answers
+            .give(&self.identity, address, serving, came, outbox);
         if came.is_ok() {
             send_ready(&self.identity, address, &self.relation, outbox);
         }
         Note::Done
     }
 
-    fn read(&mut self, caller: &Caller, call: &Call<'_>, blocks: &[u8], outbox: &mut Outbox) -> Note
+    fn read(&mut self, serving: &Serving<'_>, outbox: &mut Outbox) -> Note
+        requires operation { serving.now.operation ≡ operation.Read }
         requires empty { outbox.old.items ≡ [] }
-        ensures state { self.new ≡ with_rest self.old (end_of self.old.station self.old.live (judged_new self.old.station self.old.live caller.now (asked call.now) blocks.now operation.Read)).rest }
-        ensures frames { map (λ frame. frame.items) outbox.new.items
-            ≡ map (bytes_of self.old.station.identity) (end_of self.old.station self.old.live (judged_new self.old.station self.old.live caller.now (asked call.now) blocks.now operation.Read)).sent }
+        ensures state { self.new ≡ behind self.old (called self.old serving.now operation.Read) }
+        ensures frames { octets_in outbox.new ≡ frames_of self.old (called self.old serving.now operation.Read) }
         ensures note { result ≡ Note.Done }
     {
         let running = self.store.running();
-        self.blocks.clear();
+        self.answers.blocks.clear();
         let came = read_within(
             self.relation.uuid(),
             self.relation.differing(),
             &self.identity,
             &self.real,
             running,
-            blocks,
-            &mut self.blocks,
+            serving.blocks,
+            &mut self.answers.blocks,
         );
         self.relation.hear_controller(true, came);
-        answer(
-            &self.identity,
-            running.suite.address(),
-            &mut self.cache,
-            &Serving {
-                caller,
-                call,
-                operation: Operation::Read,
-            },
-            came,
-            self.blocks.as_slice(),
-            outbox,
-        );
+        let address = running.suite.address();
+        self.answers
+            .give(&self.identity, address, serving, came, outbox);
         Note::Done
     }
 
     // Anybody reads so. Where the call names the relation it shows that the controller is there.
-    fn read_implicit(
-        &mut self,
-        caller: &Caller,
-        call: &Call<'_>,
-        blocks: &[u8],
-        outbox: &mut Outbox,
-    ) -> Note
+    fn read_implicit(&mut self, serving: &Serving<'_>, outbox: &mut Outbox) -> Note
+        requires operation { serving.now.operation ≡ operation.ReadImplicit }
         requires empty { outbox.old.items ≡ [] }
-        ensures state { self.new ≡ with_rest self.old (end_of self.old.station self.old.live (judged_new self.old.station self.old.live caller.now (asked call.now) blocks.now operation.ReadImplicit)).rest }
-        ensures frames { map (λ frame. frame.items) outbox.new.items
-            ≡ map (bytes_of self.old.station.identity) (end_of self.old.station self.old.live (judged_new self.old.station self.old.live caller.now (asked call.now) blocks.now operation.ReadImplicit)).sent }
+        ensures state { self.new ≡ behind self.old (called self.old serving.now operation.ReadImplicit) }
+        ensures frames { octets_in outbox.new ≡ frames_of self.old (called self.old serving.now operation.ReadImplicit) }
         ensures note { result ≡ Note.Done }
     {
         let running = self.store.running();
-        self.blocks.clear();
+        self.answers.blocks.clear();
         let came = read_implicit(
             &self.identity,
             &self.real,
             running,
-            blocks,
-            &mut self.blocks,
+            serving.blocks,
+            &mut self.answers.blocks,
         );
-        let is_named = names_relation(self.relation.uuid(), blocks);
+        let is_named = names_relation(self.relation.uuid(), serving.blocks);
         // Whoever reads need not be the controller; only one that names the relation shows that it is there.
         self.relation.hear_controller(is_named, came);
-        answer(
-            &self.identity,
-            running.suite.address(),
-            &mut self.cache,
-            &Serving {
-                caller,
-                call,
-                operation: Operation::ReadImplicit,
-            },
-            came,
-            self.blocks.as_slice(),
-            outbox,
-        );
+        let address = running.suite.address();
+        self.answers
+            .give(&self.identity, address, serving, came, outbox);
         Note::Done
     }
 
     // A Write: an I&M text is stored, a parameter record is kept.
-    fn write(
-        &mut self,
-        caller: &Caller,
-        call: &Call<'_>,
-        blocks: &[u8],
-        outbox: &mut Outbox,
-    ) -> Note
+    fn write(&mut self, serving: &Serving<'_>, outbox: &mut Outbox) -> Note
+        requires operation { serving.now.operation ≡ operation.Write }
         requires stored { Holds (F.image self.old.flash) self.old.live.values }
         requires empty { outbox.old.items ≡ [] }
-        ensures steps { (heard : Hears) → judged self.old.station self.old.live heard ≡ judged_new self.old.station self.old.live caller.now (asked call.now) blocks.now operation.Write →
+        ensures steps { (heard : Hears) → judged self.old.station self.old.live heard ≡ called self.old serving.now operation.Write →
             Steps F.image F.failures F.asked self.old heard (map (λ frame. frame.items) outbox.new.items) result self.new }
         ensures reliable { F.is_reliable self.old.flash → F.is_reliable self.new.flash × (self.new.live.values.has_failed ≡ self.old.live.values.has_failed) }
     {
-        match judge_write(blocks, self.relation.uuid(), &self.real) {
+        match judge_write(serving.blocks, self.relation.uuid(), &self.real) {
             Ok(Write { request, effect }) => match effect {
-                Effect::Stores(value) => self.store_text(caller, call, &request, value, outbox),
-                Effect::Keeps(parameter) => self.keep_parameter(
-                    caller, call, &request, parameter, outbox,
-                ),
+                Effect::Stores(value) => self.store_text(serving, &request, value, outbox),
+                Effect::Keeps(parameter) => {
+                    self.keep_parameter(serving, &request, parameter, outbox)
+                }
             },
-            Err(fault) => self.refuse_write(caller, call, fault, outbox),
+            Err(fault) => self.refuse_write(serving, fault, outbox),
         }
     }
 
     // A Write that is refused.
-    fn refuse_write(
-        &mut self,
-        caller: &Caller,
-        call: &Call<'_>,
-        fault: CallFault,
-        outbox: &mut Outbox,
-    ) -> Note
+    fn refuse_write(&mut self, serving: &Serving<'_>, fault: CallFault, outbox: &mut Outbox) -> Note
+        requires operation { serving.now.operation ≡ operation.Write }
         requires empty { outbox.old.items ≡ [] }
-        ensures state { self.new ≡ with_rest self.old (end_of self.old.station self.old.live (judged_write self.old.station self.old.live caller.now (asked call.now) (Err fault))).rest }
-        ensures frames { map (λ frame. frame.items) outbox.new.items
-            ≡ map (bytes_of self.old.station.identity) (end_of self.old.station self.old.live (judged_write self.old.station self.old.live caller.now (asked call.now) (Err fault))).sent }
+        ensures state { self.new
+            ≡ behind self.old (judged_write self.old.station self.old.live serving.now.caller.now (asked serving.now.call.now) (Err fault)) }
+        ensures frames { octets_in outbox.new
+            ≡ frames_of self.old (judged_write self.old.station self.old.live serving.now.caller.now (asked serving.now.call.now) (Err fault)) }
         ensures note { result ≡ Note.Done }
     {
-        answer(
-            &self.identity,
-            self.store.running().suite.address(),
-            &mut self.cache,
-            &Serving {
-                caller,
-                call,
-                operation: Operation::Write,
-            },
-            Err(fault),
-            &[],
-            outbox,
-        );
+        let address = self.store.running().suite.address();
+        self.answers
+            .give(&self.identity, address, serving, Err(fault), outbox);
         Note::Done
     }
 
     // An I&M text: its answer is made from what became of its command, and kept behind the commit.
     fn store_text(
         &mut self,
-        caller: &Caller,
-        call: &Call<'_>,
+        serving: &Serving<'_>,
         header: &IodWriteReq,
         value: ImValue,
         outbox: &mut Outbox,
     ) -> Note
+        requires operation { serving.now.operation ≡ operation.Write }
         requires empty { outbox.old.items ≡ [] }
-        ensures steps { (heard : Hears) → judged self.old.station self.old.live heard ≡ Writes caller.now self.old.live.values.running.suite.address (asked call.now) header.now value →
+        ensures steps { (heard : Hears) → judged self.old.station self.old.live heard ≡ Writes serving.now.caller.now self.old.live.values.running.suite.address (asked serving.now.call.now) header.now value →
             Steps F.image F.failures F.asked self.old heard (map (λ frame. frame.items) outbox.new.items) result self.new }
         ensures reliable { F.is_reliable self.old.flash → F.is_reliable self.new.flash × (self.new.live.values.has_failed ≡ self.old.live.values.has_failed) }
     {
         let address = self.store.running().suite.address();
         let came = written_as(self.store.carry(&SetItem::Ask(Command::SetIm(value))));
-        put_written(&mut self.blocks, header, came);
+        put_written(&mut self.answers.blocks, header, came);
         self.relation.hear_controller(true, came);
-        answer(
-            &self.identity,
-            address,
-            &mut self.cache,
-            &Serving {
-                caller,
-                call,
-                operation: Operation::Write,
-            },
-            came,
-            self.blocks.as_slice(),
-            outbox,
-        );
+        self.answers
+            .give(&self.identity, address, serving, came, outbox);
         Note::Done
     }
 
     // A parameter record.
     fn keep_parameter(
         &mut self,
-        caller: &Caller,
-        call: &Call<'_>,
+        serving: &Serving<'_>,
         header: &IodWriteReq,
         parameter: Taken,
         outbox: &mut Outbox,
     ) -> Note
+        requires operation { serving.now.operation ≡ operation.Write }
         requires empty { outbox.old.items ≡ [] }
-        ensures state { self.new ≡ with_rest self.old (end_of self.old.station self.old.live (judged_effect self.old.station self.old.live caller.now (asked call.now) header.now (Keeps parameter))).rest }
-        ensures frames { map (λ frame. frame.items) outbox.new.items
-            ≡ map (bytes_of self.old.station.identity) (end_of self.old.station self.old.live (judged_effect self.old.station self.old.live caller.now (asked call.now) header.now (Keeps parameter))).sent }
+        ensures state { self.new
+            ≡ behind self.old (judged_effect self.old.station self.old.live serving.now.caller.now (asked serving.now.call.now) header.now (Keeps parameter)) }
+        ensures frames { octets_in outbox.new
+            ≡ frames_of self.old (judged_effect self.old.station self.old.live serving.now.caller.now (asked serving.now.call.now) header.now (Keeps parameter)) }
         ensures note { result ≡ Note.Done }
     {
         let came = self.relation.keep(parameter);
-        put_written(&mut self.blocks, header, came);
+        put_written(&mut self.answers.blocks, header, came);
         self.relation.hear_controller(true, came);
-        answer(
-            &self.identity,
-            self.store.running().suite.address(),
-            &mut self.cache,
-            &Serving {
-                caller,
-                call,
-                operation: Operation::Write,
-            },
-            came,
-            self.blocks.as_slice(),
-            outbox,
-        );
+        let address = self.store.running().suite.address();
+        self.answers
+            .give(&self.identity, address, serving, came, outbox);
         Note::Done
     }
 }
 
-// A call that is served, and who calls.
+// A call that is served: who calls, what is asked, and its blocks.
 #[derive(Clone, Copy)]
 struct Serving<'a> {
     caller: &'a Caller,
     call: &'a Call<'a>,
     operation: Operation,
+    blocks: &'a [u8],
 }
 
-// Puts the answer to a new call into the empty box, and keeps it. A negative one has no blocks.
-fn answer(
-    identity: &Identity,
-    address: [u8; 4],
-    cache: &mut CallCache<4>,
-    serving: &Serving<'_>,
-    came: Result<(), CallFault>,
-    blocks: &[u8],
-    outbox: &mut Outbox,
-)
-    requires empty { outbox.old.items ≡ [] }
-    requires few { length blocks.now ≤ 1372 }
-    ensures frames { map (λ frame. frame.items) outbox.new.items ≡ bytes_of identity.now (answer_from address serving.now.caller.now (asked serving.now.call.now) serving.now.operation (came_with came blocks.now)) ∷ [] }
-    ensures one { array_vec_len outbox.new ≡ 1 }
-    ensures kept { cache.new ≡ kept_more 4 (kept_for identity.now (asked serving.now.call.now) (answer_from address serving.now.caller.now (asked serving.now.call.now) serving.now.operation (came_with came blocks.now))) cache.old }
+// The answers to calls: those that are kept, and room for the blocks of the next one.
+#[derive(Drop)]
+pub(crate) struct Answering {
+    pub(crate) kept: CallCache<4>,
+    pub(crate) blocks: Blocks,
+}
+
+impl Answering {
+    // Puts the answer to a new call into the empty box, and keeps it.
+    fn give(
+        &mut self,
+        identity: &Identity,
+        address: [u8; 4],
+        serving: &Serving<'_>,
+        came: Result<(), CallFault>,
+        outbox: &mut Outbox,
+    )
+        requires empty { outbox.old.items ≡ [] }
+        ensures frames { map (λ frame. frame.items) outbox.new.items ≡ bytes_of identity.now (answer_from address serving.now.caller.now (asked serving.now.call.now) serving.now.operation (came_with came self.old.blocks.items)) ∷ [] }
+        ensures one { array_vec_len outbox.new ≡ 1 }
+        ensures kept { self.new.kept ≡ kept_more 4 (kept_for identity.now (asked serving.now.call.now) (answer_from address serving.now.caller.now (asked serving.now.call.now) serving.now.operation (came_with came self.old.blocks.items))) self.old.kept }
+    {
+        let call = serving.call;
+        let status = settle(serving.operation, came, &mut self.blocks);
+        let response = call.response(status, self.blocks.as_slice());
+        send_response(identity, address, serving.caller, &response, outbox);
+        self.kept.keep(
+            &call.header.activity,
+            call.header.sequence,
+            &outbox.as_slice()[0],
+        );
+    }
+}
+
+// The status that answers a call which came out so. A negative answer has no blocks.
+fn settle(operation: Operation, came: Result<(), CallFault>, blocks: &mut Blocks) -> Status
+    ensures status { result ≡ (outcome_of operation (came_with came blocks.old.items)).0 }
+    ensures blocks { blocks.new.items ≡ (outcome_of operation (came_with came blocks.old.items)).1 }
 {
-    let call = serving.call;
-    let response = match came {
-        Ok(()) => call.response(done(), blocks),
-        Err(fault) => call.response(fault.number(serving.operation), &[]),
-    };
-    send_response(identity, address, serving.caller, &response, outbox);
-    cache.keep(
-        &call.header.activity,
-        call.header.sequence,
-        &outbox.as_slice()[0],
-    );
+    match came {
+        Ok(()) => done(),
+        Err(fault) => {
+            blocks.clear();
+            fault.number(operation)
+        }
+    }
 }
 
 // How a Write comes out whose command is answered so.

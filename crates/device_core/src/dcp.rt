@@ -73,14 +73,8 @@ impl<F: Flash<S>, const S: usize> Device<F, S> {
             // An Identify that means others is nothing wrong, and not answered: else every station would speak at once.
             return Note::Filter;
         }
-        let answer = identify_answer(&self.identity, running, request.xid);
-        send_dcp_answer(
-            &self.identity,
-            asker,
-            DCP_IDENTIFY_RESPONSE,
-            &answer,
-            outbox,
-        );
+        let told = identify_answer(&self.identity, running, request.xid);
+        send_dcp_answer(&self.identity, asker, DCP_IDENTIFY_RESPONSE, &told, outbox);
         Note::Done
     }
 

@@ -11,13 +11,13 @@ ghost use Rattle.relations.specs.Link.{phase_of, taken_of, uuid_of};
 ghost use Rattle.relations.specs.Outputs.{output_of};
 ghost use Rattle.device_core.specs.Cycle.{started};
 
+use crate::calls::Answering;
 use arrayvec::ArrayVec;
 use flash_model::{Flash, Order};
 use pn_values::{Identity, Real, SetItem, Settings};
-use record_reads::Blocks;
 use record_writes::Taken;
 use relations::{Phase, Relation};
-use rpc_core::{CallCache, Uuid};
+use rpc_core::Uuid;
 use settings_journal::BootFault;
 use settings_store::Store;
 use std::marker::Model;
@@ -29,15 +29,14 @@ pub struct Device<F: Flash<S>, const S: usize> {
     pub(crate) real: Real,
     pub(crate) store: Store<F, S>,
     pub(crate) lamp: u32,
-    pub(crate) cache: CallCache<4>,
+    // The answers to calls.
+    pub(crate) answers: Answering,
     // The application relation, if there is one.
     pub(crate) relation: Relation,
     // The units since the start, modulo 65,536.
     pub(crate) units: u16,
     // Room for the plan of a Set, in which the last one lies.
     pub(crate) plan: ArrayVec<SetItem, 16>,
-    // Room for the blocks of an answer to a call.
-    pub(crate) blocks: Blocks,
 }
 
 impl<F: Flash<S>, const S: usize> Model for Device<F, S> {
@@ -49,7 +48,7 @@ impl<F: Flash<S>, const S: usize> Model for Device<F, S> {
     ghost view = { λ device. record {
       flash = device.store.flash;
       station = record { identity = device.identity; real = device.real };
-      live = record { values = device.store.values; rest = record { lamp = device.lamp; calls = device.cache; link = device.relation; units = device.units } };
+      live = record { values = device.store.values; rest = record { lamp = device.lamp; calls = device.answers.kept; link = device.relation; units = device.units } };
     } };
 
     ghost invariant = { λ device. Holds (F.image device.store.flash) device.store.values };
@@ -191,11 +190,10 @@ impl<F: Flash<S>, const S: usize> Device<F, S> {
             real,
             store,
             lamp: _,
-            cache: _,
+            answers: _,
             relation: _,
             units: _,
             plan: _,
-            blocks: _,
         } = self;
         (identity, real, store.into_flash())
     }

@@ -8,6 +8,7 @@ ghost use Rattle.settings_journal.specs.Image.{StartsWith, IsAmple, capacity, Is
 ghost use Rattle.device_core.specs.Cycle.{started};
 
 use crate::Device;
+use crate::calls::Answering;
 use arrayvec::ArrayVec;
 use flash_model::Flash;
 use pn_alarms::Abort;
@@ -30,11 +31,13 @@ impl<F: Flash<S>, const S: usize> Device<F, S> {
             real,
             store: Store::unstarted(flash),
             lamp: 0,
-            cache: CallCache::new(),
+            answers: Answering {
+                kept: CallCache::new(),
+                blocks: Blocks::new(),
+            },
             relation: Relation::new(),
             units: 0,
             plan: ArrayVec::new(),
-            blocks: Blocks::new(),
         }
     }
 
@@ -79,7 +82,7 @@ impl<F: Flash<S>, const S: usize> Device<F, S> {
         self.store.load()?;
         self.lamp = 0;
         self.units = 0;
-        self.cache = CallCache::new();
+        self.answers.kept = CallCache::new();
         // No frame goes out: whoever had the relation hears nothing, and finds out by its own data hold.
         let _ = self.relation.end(Abort::Other);
         Ok(())

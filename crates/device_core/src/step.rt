@@ -12,6 +12,7 @@ ghost use Rattle.device_core.specs.State.{Live, Station, with_rest};
 ghost use Rattle.device_frames.specs.Sent.{bytes_of};
 ghost use Rattle.device_core.specs.Judged.{judged_alarm, judged_message, judged_cyclic, judged_given, judged_raised, judged_received, ticked};
 ghost use Rattle.device_frames.specs.Relation.{due_frames, farewells_in, inputs_of};
+ghost use Rattle.device_core.specs.Behind.{behind, frames_of, octets_in};
 ghost use Rattle.device_core.specs.Machine.{end_of};
 ghost use Rattle.rpc_core.specs.Call.{Asked as Called};
 ghost use Rattle.rpc_core.specs.Cache.{looked, again};
@@ -213,9 +214,8 @@ impl<F: Flash<S>, const S: usize> Device<F, S> {
     // A unit of time is over: timers advance. A timeout ends the relation, and nothing more is done.
     fn tick(&mut self, outbox: &mut Outbox) -> Note
         requires empty { outbox.old.items ≡ [] }
-        ensures state { self.new ≡ with_rest self.old (end_of self.old.station self.old.live (ticked self.old.live)).rest }
-        ensures frames { map (λ frame. frame.items) outbox.new.items
-            ≡ map (bytes_of self.old.station.identity) (end_of self.old.station self.old.live (ticked self.old.live)).sent }
+        ensures state { self.new ≡ behind self.old (ticked self.old.live) }
+        ensures frames { octets_in outbox.new ≡ frames_of self.old (ticked self.old.live) }
         ensures note { result ≡ Note.Done }
         // Its invariant, for those who do not look into it.
         ensures stored { Holds (F.image self.old.flash) self.old.live.values }
@@ -288,21 +288,16 @@ impl<F: Flash<S>, const S: usize> Device<F, S> {
             (record { farewell = None; is_alarm = is_alarm; is_ready = is_ready; is_cyclic = is_cyclic }) self.now.live.rest.link) }
     {
         let address = self.store.running().suite.address();
+        let counter = self.units;
         send_alarm_again(&self.identity, is_alarm, &self.relation, outbox);
         send_ready_again(&self.identity, address, is_ready, &self.relation, outbox);
-        send_inputs(
-            &self.identity,
-            self.units,
-            is_cyclic,
-            &self.relation,
-            outbox,
-        );
+        send_inputs(&self.identity, counter, is_cyclic, &self.relation, outbox);
     }
 
     // A cyclic frame: its outputs are taken, or it changes nothing.
     #[inline(always)]
     fn hear_cyclic(&mut self, source: Mac, frame_id: u16, body: &[u8]) -> Note
-        ensures state { self.new ≡ with_rest self.old (end_of self.old.station self.old.live (judged_cyclic self.old.live source frame_id body.now)).rest }
+        ensures state { self.new ≡ behind self.old (judged_cyclic self.old.live source frame_id body.now) }
         ensures note { result ≡ (end_of self.old.station self.old.live (judged_cyclic self.old.live source frame_id body.now)).note }
     {
         let received = self.relation.receive(source, frame_id, body);
@@ -312,7 +307,7 @@ impl<F: Flash<S>, const S: usize> Device<F, S> {
     // An input that the application gives.
     #[inline(never)]
     fn give(&mut self, slot: u16, subslot: u16, value: &[u8]) -> Note
-        ensures state { self.new ≡ with_rest self.old (end_of self.old.station self.old.live (judged_given self.old.live slot subslot value.now)).rest }
+        ensures state { self.new ≡ behind self.old (judged_given self.old.live slot subslot value.now) }
         ensures note { result ≡ (end_of self.old.station self.old.live (judged_given self.old.live slot subslot value.now)).note }
         // Its invariant, for those who do not look into it.
         ensures stored { Holds (F.image self.old.flash) self.old.live.values }
@@ -328,9 +323,8 @@ impl<F: Flash<S>, const S: usize> Device<F, S> {
     #[inline(never)]
     fn raise(&mut self, slot: u16, subslot: u16, octets: &[u8], outbox: &mut Outbox) -> Note
         requires empty { outbox.old.items ≡ [] }
-        ensures state { self.new ≡ with_rest self.old (end_of self.old.station self.old.live (judged_raised self.old.station self.old.live slot subslot octets.now)).rest }
-        ensures frames { map (λ frame. frame.items) outbox.new.items
-            ≡ map (bytes_of self.old.station.identity) (end_of self.old.station self.old.live (judged_raised self.old.station self.old.live slot subslot octets.now)).sent }
+        ensures state { self.new ≡ behind self.old (judged_raised self.old.station self.old.live slot subslot octets.now) }
+        ensures frames { octets_in outbox.new ≡ frames_of self.old (judged_raised self.old.station self.old.live slot subslot octets.now) }
         ensures note { result ≡ (end_of self.old.station self.old.live (judged_raised self.old.station self.old.live slot subslot octets.now)).note }
         // Its invariant, for those who do not look into it.
         ensures stored { Holds (F.image self.old.flash) self.old.live.values }
@@ -352,9 +346,8 @@ impl<F: Flash<S>, const S: usize> Device<F, S> {
         outbox: &mut Outbox,
     ) -> Note
         requires empty { outbox.old.items ≡ [] }
-        ensures state { self.new ≡ with_rest self.old (end_of self.old.station self.old.live (judged_alarm self.old.live source header.now message.now)).rest }
-        ensures frames { map (λ frame. frame.items) outbox.new.items
-            ≡ map (bytes_of self.old.station.identity) (end_of self.old.station self.old.live (judged_alarm self.old.live source header.now message.now)).sent }
+        ensures state { self.new ≡ behind self.old (judged_alarm self.old.live source header.now message.now) }
+        ensures frames { octets_in outbox.new ≡ frames_of self.old (judged_alarm self.old.live source header.now message.now) }
         ensures note { result ≡ (end_of self.old.station self.old.live (judged_alarm self.old.live source header.now message.now)).note }
     {
         if !self
@@ -370,9 +363,8 @@ impl<F: Flash<S>, const S: usize> Device<F, S> {
     #[tactic(auto, using(crate::proofs::Exchanged::stays_ignored))]
     fn hear_message(&mut self, message: &Message, outbox: &mut Outbox) -> Note
         requires empty { outbox.old.items ≡ [] }
-        ensures state { self.new ≡ with_rest self.old (end_of self.old.station self.old.live (judged_message self.old.live message.now)).rest }
-        ensures frames { map (λ frame. frame.items) outbox.new.items
-            ≡ map (bytes_of self.old.station.identity) (end_of self.old.station self.old.live (judged_message self.old.live message.now)).sent }
+        ensures state { self.new ≡ behind self.old (judged_message self.old.live message.now) }
+        ensures frames { octets_in outbox.new ≡ frames_of self.old (judged_message self.old.live message.now) }
         ensures note { result ≡ (end_of self.old.station self.old.live (judged_message self.old.live message.now)).note }
     {
         match self.relation.hear(message) {

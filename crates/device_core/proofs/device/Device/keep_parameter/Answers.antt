@@ -9,7 +9,7 @@ returns-clause-state g c =
     let kept = keeping c.args.parameter c.self.inside.relation in
     let out = kept_as c.keep-came.result kept c.args.header.now c.keep-came.ensures.kept c.keep-came.ensures.refused in
     let moves = kept_moving Named c.keep-came.result kept c.keep-came.ensures.kept c.keep-came.ensures.refused in
-    let calls = rw (c.address.ensures.value, c.running.ensures, c.as_slice.ensures.value, c.put_written.ensures, out) at c.answer.ensures.kept in
+    let calls = rw (c.address-address.ensures.value, c.running.ensures, c.requires.operation, c.put_written.ensures, out) at c.give.ensures.kept in
     let link = rw (moves, c.keep-came.ensures.state) at c.hear_controller.ensures in
     rw (← c.self.view_is) (rw (calls, link) refl)
 
@@ -17,4 +17,4 @@ pub returns-clause-frames : goal.returns-clause-frames
 returns-clause-frames g c =
     let kept = keeping c.args.parameter c.self.inside.relation in
     let out = kept_as c.keep-came.result kept c.args.header.now c.keep-came.ensures.kept c.keep-came.ensures.refused in
-    rw (← c.self.view_is) (rw (c.address.ensures.value, c.running.ensures, c.as_slice.ensures.value, c.put_written.ensures, out) at c.answer.ensures.frames)
+    rw (← c.self.view_is) (rw (c.address-address.ensures.value, c.running.ensures, c.requires.operation, c.put_written.ensures, out) at c.give.ensures.frames)

@@ -3,45 +3,31 @@ use Rattle.std.proofs.Common.{refl, ap, ◌∙◌}
 use Rattle.rpc_core.specs.Call.{asked}
 use Rattle.pnio_status.specs.declared.operation.Operation.TheVariants as operation
 use Rattle.device_core.specs.Judged.{judged_new}
-use Rattle.device_core.proofs.Steps.{quiet_steps}
+use Rattle.device_core.proofs.Served.{new_steps}
 use Rattle.device_core.proofs.device.Device.serve_new.Goals as goal
 
 pub returns-in-Connect-clause-steps : goal.returns-in-Connect-clause-steps
-returns-in-Connect-clause-steps g c = λ heard is.
-    let old = c.args.self.now in
-    let judged_as = judged_new old.station old.live c.args.caller.now (asked c.args.call.now) c.args.blocks.now in
-    quiet_steps g.F.Flash.image g.F.Flash.failures g.F.Flash.asked old _ heard (judged_as operation.Connect) _ _ c.requires.stored
-    (is ∙ ap judged_as c.in-Connect.is) refl c.connect.ensures.state c.connect.ensures.frames c.connect.ensures.note
+returns-in-Connect-clause-steps g c = new_steps g.F.Flash.image g.F.Flash.failures g.F.Flash.asked c.args.self.now _ c.args.serving.now.caller.now (asked c.args.serving.now.call.now)
+    c.args.serving.now.blocks.now _ operation.Connect _ _ c.requires.stored c.in-Connect.is refl c.connect.ensures.state c.connect.ensures.frames c.connect.ensures.note
 
 pub returns-in-Release-clause-steps : goal.returns-in-Release-clause-steps
-returns-in-Release-clause-steps g c = λ heard is.
-    let old = c.args.self.now in
-    let judged_as = judged_new old.station old.live c.args.caller.now (asked c.args.call.now) c.args.blocks.now in
-    quiet_steps g.F.Flash.image g.F.Flash.failures g.F.Flash.asked old _ heard (judged_as operation.Release) _ _ c.requires.stored
-    (is ∙ ap judged_as c.in-Release.is) refl c.release.ensures.state c.release.ensures.frames c.release.ensures.note
+returns-in-Release-clause-steps g c = new_steps g.F.Flash.image g.F.Flash.failures g.F.Flash.asked c.args.self.now _ c.args.serving.now.caller.now (asked c.args.serving.now.call.now)
+    c.args.serving.now.blocks.now _ operation.Release _ _ c.requires.stored c.in-Release.is refl c.release.ensures.state c.release.ensures.frames c.release.ensures.note
 
 pub returns-in-Read-clause-steps : goal.returns-in-Read-clause-steps
-returns-in-Read-clause-steps g c = λ heard is.
-    let old = c.args.self.now in
-    let judged_as = judged_new old.station old.live c.args.caller.now (asked c.args.call.now) c.args.blocks.now in
-    quiet_steps g.F.Flash.image g.F.Flash.failures g.F.Flash.asked old _ heard (judged_as operation.Read) _ _ c.requires.stored
-    (is ∙ ap judged_as c.in-Read.is) refl c.read.ensures.state c.read.ensures.frames c.read.ensures.note
+returns-in-Read-clause-steps g c = new_steps g.F.Flash.image g.F.Flash.failures g.F.Flash.asked c.args.self.now _ c.args.serving.now.caller.now (asked c.args.serving.now.call.now)
+    c.args.serving.now.blocks.now _ operation.Read _ _ c.requires.stored c.in-Read.is refl c.read.ensures.state c.read.ensures.frames c.read.ensures.note
 
 pub returns-in-Control-clause-steps : goal.returns-in-Control-clause-steps
-returns-in-Control-clause-steps g c = λ heard is.
-    let old = c.args.self.now in
-    let judged_as = judged_new old.station old.live c.args.caller.now (asked c.args.call.now) c.args.blocks.now in
-    quiet_steps g.F.Flash.image g.F.Flash.failures g.F.Flash.asked old _ heard (judged_as operation.Control) _ _ c.requires.stored
-    (is ∙ ap judged_as c.in-Control.is) refl c.control.ensures.state c.control.ensures.frames c.control.ensures.note
+returns-in-Control-clause-steps g c = new_steps g.F.Flash.image g.F.Flash.failures g.F.Flash.asked c.args.self.now _ c.args.serving.now.caller.now (asked c.args.serving.now.call.now)
+    c.args.serving.now.blocks.now _ operation.Control _ _ c.requires.stored c.in-Control.is refl c.control.ensures.state c.control.ensures.frames c.control.ensures.note
 
 pub returns-in-ReadImplicit-clause-steps : goal.returns-in-ReadImplicit-clause-steps
-returns-in-ReadImplicit-clause-steps g c = λ heard is.
-    let old = c.args.self.now in
-    let judged_as = judged_new old.station old.live c.args.caller.now (asked c.args.call.now) c.args.blocks.now in
-    quiet_steps g.F.Flash.image g.F.Flash.failures g.F.Flash.asked old _ heard (judged_as operation.ReadImplicit) _ _ c.requires.stored
-    (is ∙ ap judged_as c.in-ReadImplicit.is) refl c.read_implicit.ensures.state c.read_implicit.ensures.frames c.read_implicit.ensures.note
+returns-in-ReadImplicit-clause-steps g c = new_steps g.F.Flash.image g.F.Flash.failures g.F.Flash.asked c.args.self.now _ c.args.serving.now.caller.now (asked c.args.serving.now.call.now)
+    c.args.serving.now.blocks.now _ operation.ReadImplicit _ _ c.requires.stored c.in-ReadImplicit.is refl c.read_implicit.ensures.state c.read_implicit.ensures.frames c.read_implicit.ensures.note
 
 pub returns-in-Write-clause-steps : goal.returns-in-Write-clause-steps
 returns-in-Write-clause-steps g c = λ heard is.
     let old = c.args.self.now in
-    c.write.ensures.steps heard (is ∙ ap (judged_new old.station old.live c.args.caller.now (asked c.args.call.now) c.args.blocks.now) c.in-Write.is)
+    let serving = c.args.serving.now in
+    c.write.ensures.steps heard (is ∙ ap (judged_new old.station old.live serving.caller.now (asked serving.call.now) serving.blocks.now) c.in-Write.is)

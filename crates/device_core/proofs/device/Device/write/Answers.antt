@@ -12,26 +12,26 @@ use Rattle.device_core.proofs.device.Device.write.Goals as goal
 pub returns-in-Stores-clause-steps : goal.returns-in-Stores-clause-steps
 returns-in-Stores-clause-steps g c = λ heard is.
     let old = c.args.self.now in
-    let made : write_of (uuid_of old.live.rest.link) old.station.real c.args.blocks.now ≡ Ok c.in-Ok.field-0 =
+    let made : write_of (uuid_of old.live.rest.link) old.station.real c.args.serving.now.blocks.now ≡ Ok c.in-Ok.field-0 =
     rw (← c.self.view_is) (rw (← c.uuid.ensures) (sym c.judge_write.ensures ∙ c.in-Ok.is)) in
-    c.store_text.ensures.steps heard (is ∙ effect_as old.station old.live c.args.caller.now (asked c.args.call.now) _ c.in-Ok.field-0 (Stores c.in-Stores.value) made c.in-Stores.is)
+    c.store_text.ensures.steps heard (is ∙ effect_as old.station old.live c.args.serving.now.caller.now (asked c.args.serving.now.call.now) _ c.in-Ok.field-0 (Stores c.in-Stores.value) made c.in-Stores.is)
 
 pub returns-in-Keeps-clause-steps : goal.returns-in-Keeps-clause-steps
 returns-in-Keeps-clause-steps g c = λ heard is.
     let old = c.args.self.now in
-    let call = asked c.args.call.now in
-    let made : write_of (uuid_of old.live.rest.link) old.station.real c.args.blocks.now ≡ Ok c.in-Ok.field-0 =
+    let call = asked c.args.serving.now.call.now in
+    let made : write_of (uuid_of old.live.rest.link) old.station.real c.args.serving.now.blocks.now ≡ Ok c.in-Ok.field-0 =
     rw (← c.self.view_is) (rw (← c.uuid.ensures) (sym c.judge_write.ensures ∙ c.in-Ok.is)) in
-    quiet_steps g.F.Flash.image g.F.Flash.failures g.F.Flash.asked old _ heard (judged_effect old.station old.live c.args.caller.now call c.in-Ok.field-0.request (Keeps c.in-Keeps.parameter)) _ _ c.requires.stored
-    (is ∙ effect_as old.station old.live c.args.caller.now call _ c.in-Ok.field-0 (Keeps c.in-Keeps.parameter) made c.in-Keeps.is)
+    quiet_steps g.F.Flash.image g.F.Flash.failures g.F.Flash.asked old _ heard (judged_effect old.station old.live c.args.serving.now.caller.now call c.in-Ok.field-0.request (Keeps c.in-Keeps.parameter)) _ _ c.requires.stored
+    (is ∙ effect_as old.station old.live c.args.serving.now.caller.now call _ c.in-Ok.field-0 (Keeps c.in-Keeps.parameter) made c.in-Keeps.is)
     refl c.keep_parameter.ensures.state c.keep_parameter.ensures.frames c.keep_parameter.ensures.note
 
 pub returns-in-Err-clause-steps : goal.returns-in-Err-clause-steps
 returns-in-Err-clause-steps g c = λ heard is.
     let old = c.args.self.now in
-    let call = asked c.args.call.now in
-    let made : write_of (uuid_of old.live.rest.link) old.station.real c.args.blocks.now ≡ Err c.in-Err.fault =
+    let call = asked c.args.serving.now.call.now in
+    let made : write_of (uuid_of old.live.rest.link) old.station.real c.args.serving.now.blocks.now ≡ Err c.in-Err.fault =
     rw (← c.self.view_is) (rw (← c.uuid.ensures) (sym c.judge_write.ensures ∙ c.in-Err.is)) in
-    quiet_steps g.F.Flash.image g.F.Flash.failures g.F.Flash.asked old _ heard (judged_write old.station old.live c.args.caller.now call (Err c.in-Err.fault)) _ _ c.requires.stored
-    (is ∙ ap (judged_write old.station old.live c.args.caller.now call) made)
+    quiet_steps g.F.Flash.image g.F.Flash.failures g.F.Flash.asked old _ heard (judged_write old.station old.live c.args.serving.now.caller.now call (Err c.in-Err.fault)) _ _ c.requires.stored
+    (is ∙ ap (judged_write old.station old.live c.args.serving.now.caller.now call) made)
     refl c.refuse_write.ensures.state c.refuse_write.ensures.frames c.refuse_write.ensures.note

@@ -1,0 +1,26 @@
+-- What is behind an event that asks nothing of the settings.
+use Rattle.std.specs.Prelude.{ℕ, List, map}
+use Rattle.arrayvec.specs.ArrayVec.{ArrayVec as Items}
+use Rattle.rpc_core.specs.Call.{asked}
+use Rattle.pnio_status.specs.declared.operation.Operation.{Operation}
+use Rattle.device_frames.specs.Sent.{bytes_of}
+use Rattle.device_core.specs.declared.calls.Serving.{Serving}
+use Rattle.device_core.specs.State.{State, with_rest}
+use Rattle.device_core.specs.Judged.{Judged, judged_new}
+use Rattle.device_core.specs.Machine.{end_of}
+
+-- the octets of each frame in a box
+abbrev pub octets_in : Items (Items ℕ) → List (List ℕ)
+octets_in outbox = map (λ (frame : Items ℕ). frame.items) outbox.items
+
+-- the device then
+abbrev pub behind : {F : Type 0} → State F → Judged → State F
+behind old what = with_rest old (end_of old.station old.live what).rest
+
+-- the frames that it sends
+abbrev pub frames_of : {F : Type 0} → State F → Judged → List (List ℕ)
+frames_of old what = map (bytes_of old.station.identity) (end_of old.station old.live what).sent
+
+-- what a call that is served comes to, if it asks for this
+abbrev pub called : {F : Type 0} → State F → Serving → Operation → Judged
+called old serving operation = judged_new old.station old.live serving.caller.now (asked serving.call.now) serving.blocks.now operation
