@@ -10,7 +10,7 @@ use Rattle.exchanges.specs.Received.{behind_frame, received_as}
 use Rattle.relations.specs.Link.{Link, flow_of}
 use Rattle.relations.specs.Phases.{moved}
 use Rattle.relations.specs.Exchanged.{becoming, heard_by, hearing, received_by, receiving, receiving_as}
-use Rattle.device_core.specs.declared.note.Note.TheVariants.{Done, Refused}
+use Rattle.device_frames.specs.declared.note.Note.TheVariants.{Done, Refused}
 use Rattle.device_core.specs.State.{Station, Live}
 use Rattle.device_core.specs.Judged.{judged_cyclic, judged_notice, judged_received}
 use Rattle.device_frames.specs.Relation.{alarms_of}

@@ -12,7 +12,7 @@ use Rattle.settings_store.specs.State.{Values}
 use Rattle.settings_store.specs.Machine.{Outcome, rest_of, carried}
 use Rattle.settings_store.specs.Faults.{answer_after_fault, GoesOn}
 use Rattle.device_frames.specs.declared.event.Event.{Event}
-use Rattle.device_core.specs.declared.note.Note.{Note}
+use Rattle.device_frames.specs.declared.note.Note.{Note}
 use Rattle.device_core.specs.State.{Station, State, Live}
 use Rattle.device_frames.specs.Sent.{bytes_of}
 use Rattle.device_frames.specs.Heard.{Heard, heard_of}

@@ -8,7 +8,7 @@ use Rattle.frame_codec.specs.Meaning.{RealTime}
 use Rattle.device_frames.specs.declared.hearing.Kind.{Kind}
 use Rattle.device_frames.specs.Heard.{heard_content}
 use Rattle.device_frames.specs.Hearing.{heard_as}
-use Rattle.device_core.specs.declared.note.Note.{Note}
+use Rattle.device_frames.specs.declared.note.Note.{Note}
 use Rattle.device_core.specs.State.{State}
 use Rattle.device_core.specs.Steps.{Steps}
 

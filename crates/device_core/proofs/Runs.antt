@@ -11,7 +11,7 @@ use Rattle.device_frames.specs.declared.event.Event.{Event}
 use Rattle.device_core.specs.State.{State, store_of}
 use Rattle.device_frames.specs.Heard.{Heard, heard_of}
 use Rattle.device_core.specs.Machine.{Ran, Stepped, items_of, heard_step, step_of, run_of}
-use Rattle.device_core.specs.declared.note.Note.{Note}
+use Rattle.device_frames.specs.declared.note.Note.{Note}
 use Rattle.device_core.specs.Steps.{Steps, HandsOn, Runs, IsExactStep, IsExactRun, TakesRoom}
 use Rattle.device_core.proofs.Machine.{then_step, joined, joined_quiet, run_joined}
 use Rattle.device_core.proofs.Placed.{placed_more}

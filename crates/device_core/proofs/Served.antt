@@ -15,7 +15,7 @@ use Rattle.relations.specs.Phases.{Judged as Moving, answered}
 use Rattle.frame_codec.specs.declared.udp.Caller.{Caller}
 use Rattle.device_frames.specs.Heard.{Heard}
 use Rattle.device_frames.specs.Sent.{bytes_of}
-use Rattle.device_core.specs.declared.note.Note.{Note}
+use Rattle.device_frames.specs.declared.note.Note.{Note}
 use Rattle.device_core.specs.State.{Station, Live, State, with_rest}
 use Rattle.device_core.specs.Judged.{came_with, judged, judged_effect, judged_new, judged_write, kept_answer}
 use Rattle.device_core.specs.Machine.{end_of}

@@ -18,8 +18,8 @@ use Rattle.dcp_core.specs.declared.request.Service.TheVariants as service
 use Rattle.dcp_core.specs.Request.{Asked}
 use Rattle.dcp_core.specs.Identify.{matches}
 use Rattle.dcp_core.specs.Set.{plan_of}
-use Rattle.device_core.specs.declared.note.Note.{Note}
-use Rattle.device_core.specs.declared.note.Note.TheVariants as note
+use Rattle.device_frames.specs.declared.note.Note.{Note}
+use Rattle.device_frames.specs.declared.note.Note.TheVariants as note
 use Rattle.device_core.specs.Cycle.{started}
 use Rattle.device_core.specs.State.{Station, State, Rest, Live, store_of, with_rest}
 use Rattle.device_frames.specs.Heard.{Heard, Asks}

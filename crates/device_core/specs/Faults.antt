@@ -5,7 +5,7 @@ use Rattle.pn_values.specs.declared.set_item.SetItem.TheVariants.{Ask, Signal, A
 use Rattle.pn_values.specs.declared.set_item.BlockError.{BlockError}
 use Rattle.settings_store.specs.Faults.{GoesOn}
 use Rattle.device_frames.specs.declared.event.Event.{Event}
-use Rattle.device_core.specs.declared.note.Note.{Note}
+use Rattle.device_frames.specs.declared.note.Note.{Note}
 use Rattle.device_core.specs.State.{Station, State, Live}
 use Rattle.device_frames.specs.Sent.{bytes_of}
 use Rattle.device_frames.specs.Heard.{Heard, heard_of}

@@ -50,8 +50,8 @@ use Rattle.relations.specs.Connect.{connect_of, connect_answer, making}
 use Rattle.relations.specs.Ready.{answer_of as ready_answer, judged_by}
 use Rattle.relations.specs.Timers.{due_of}
 use Rattle.relations.specs.Phases.{Judged as Moving, Parameterized, Named, Ended, Exchanged, Unmoved, answered, keeping, moved, passing, taking}
-use Rattle.device_core.specs.declared.note.Note.{Note}
-use Rattle.device_core.specs.declared.note.Note.TheVariants as note
+use Rattle.device_frames.specs.declared.note.Note.{Note}
+use Rattle.device_frames.specs.declared.note.Note.TheVariants as note
 use Rattle.frame_codec.specs.declared.udp.Caller.{Caller}
 use Rattle.device_core.specs.State.{Station, Rest, Live}
 use Rattle.device_frames.specs.Relation.{alarms_of, due_frames, ready_calls, replies_of}

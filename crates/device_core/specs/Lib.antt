@@ -5,4 +5,3 @@ pub mod Faults
 pub mod Behind
 pub mod Steps
 pub mod Cycle
-pub mod Notes

@@ -19,8 +19,8 @@ use Rattle.pn_values.specs.declared.identity.Identity.{Identity}
 use Rattle.settings_store.specs.Machine.{Outcome, Accepted, carried}
 use Rattle.dcp_core.specs.Set.{plan_of}
 use Rattle.device_frames.specs.declared.event.Event.{Event}
-use Rattle.device_core.specs.declared.note.Note.{Note}
-use Rattle.device_core.specs.declared.note.Note.TheVariants as note
+use Rattle.device_frames.specs.declared.note.Note.{Note}
+use Rattle.device_frames.specs.declared.note.Note.TheVariants as note
 use Rattle.device_core.specs.State.{Station, Rest, Live}
 use Rattle.device_frames.specs.Sent.{Sent, SetAnswer, Ends, bytes_of}
 use Rattle.device_frames.specs.Heard.{Heard, heard_of}

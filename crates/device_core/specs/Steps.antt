@@ -15,8 +15,8 @@ use Rattle.pnio_status.specs.declared.operation.Operation.{Operation}
 use Rattle.pnio_status.specs.Operation.{operation_of}
 use Rattle.dcp_core.specs.Identify.{matches, identify_bytes}
 use Rattle.device_frames.specs.declared.event.Event.{Event}
-use Rattle.device_core.specs.declared.note.Note.{Note}
-use Rattle.device_core.specs.declared.note.Note.TheVariants.{Done, Filter}
+use Rattle.device_frames.specs.declared.note.Note.{Note}
+use Rattle.device_frames.specs.declared.note.Note.TheVariants.{Done, Filter}
 use Rattle.frame_codec.specs.declared.udp.Caller.{Caller}
 use Rattle.device_core.specs.State.{Station, State, Live, store_of}
 use Rattle.device_frames.specs.Sent.{answer_frame}

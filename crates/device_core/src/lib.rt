@@ -6,14 +6,12 @@ mod calls;
 mod dcp;
 mod device;
 mod headline;
-mod note;
 mod run;
 mod sink;
 mod start;
 mod step;
 
 pub use device::Device;
-pub use device_frames::Event;
+pub use device_frames::{Event, Note};
 pub use headline::cycle;
-pub use note::Note;
 pub use sink::Sink;

@@ -67,8 +67,8 @@ use Rattle.relations.specs.Exchanged.{received_by, receiving, receiving_as, give
 use Rattle.device_frames.specs.Heard.{Heard, Ticks, Unreadable, Elsewhere, Asks, Resolves, Told, Cyclic, Alarms, Given, Raised, Said, Calls, Responds, Garbled}
 use Rattle.device_frames.specs.Relation.{alarms_of, due_frames, farewells_in, frames_in, inputs_of, ready_calls, replies_of, where_due}
 use Rattle.device_frames.specs.Sent.{Sent, IdentifyAnswer, GetAnswer, SetAnswer, ArpReply, CallAnswer, Again, ReadyCall, Ends, Exchanges, bytes_of}
-use Rattle.device_core.specs.declared.note.Note.{Note}
-use Rattle.device_core.specs.declared.note.Note.TheVariants.{Filter, NotMine, NoRelation}
+use Rattle.device_frames.specs.declared.note.Note.{Note}
+use Rattle.device_frames.specs.declared.note.Note.TheVariants.{Filter, NotMine, NoRelation}
 use Rattle.device_core.specs.State.{Station, Rest, Live}
 use Rattle.settings_store.specs.Machine.{Outcome, carried}
 use Rattle.device_core.specs.Judged.{Judged, Refuses, Sets, Writes, Moves, is_running, is_request, outcome_of, answer_from, kept_for, kept_behind, served, ready_behind, partner_of, kept_answer, judged_effect, judged_write, judged_new, judged_looked, judged_blocks, judged_call, judged_answer, judged_said, judged_datagram, judged_received, judged_input, judged_notice, judged_pdu, judged_message, judged_alarm, judged_request, judged_arp, ticked, judged}

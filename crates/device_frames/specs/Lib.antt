@@ -2,3 +2,4 @@ pub mod Heard
 pub mod Hearing
 pub mod Sent
 pub mod Relation
+pub mod Notes

@@ -1,4 +1,4 @@
-//! What comes to a device, and what it sends: an event by what it says, and messages by their frames.
+//! What comes to a device, what became of it, and what is sent: an event by what it says, a note of it, and messages by their frames.
 //!
 //! Who holds the device's state judges what was heard, and says what is sent; between that and the octets of frames stands this crate.
 #![tactic(auto)]
@@ -7,6 +7,7 @@ mod answers;
 mod event;
 mod exchange;
 mod hearing;
+mod note;
 mod relation;
 
 pub use answers::{send_arp_reply, send_dcp_answer, send_response};
@@ -14,4 +15,5 @@ pub use event::Event;
 pub use exchange::{send_alarm, send_alarm_again, send_alarm_reply, send_inputs, send_ready_again};
 pub use frame_codec::Caller;
 pub use hearing::{Kind, is_asked, is_called, kind_of, read_layers, real_time_in};
+pub use note::Note;
 pub use relation::{send_farewell, send_ready};

@@ -3,7 +3,7 @@ use Rattle.std.proofs.Common.{◌≡◌, ◌+◌, ℕ, Bool, true, false, suc, L
 use Rattle.flash_model.specs.Calls.{Call}
 use Rattle.settings_journal.specs.declared.journal.BootFault.{BootFault}
 use Rattle.settings_journal.specs.declared.journal.BootFault.TheVariants.{Foreign, FlashFault}
-use Rattle.device_core.specs.declared.note.Note.{Note}
+use Rattle.device_frames.specs.declared.note.Note.{Note}
 use Rattle.device_frames.specs.declared.event.Event.TheVariants.{Tick}
 use Rattle.device_port.specs.declared.refusal.Refusal.TheVariants as refusal
 use Rattle.device_port.specs.declared.stage.Stage.{Stage}

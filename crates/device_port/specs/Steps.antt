@@ -8,7 +8,7 @@ use Rattle.device_frames.specs.declared.event.Event.TheVariants.{Tick}
 use Rattle.device_core.specs.Cycle.{started}
 use Rattle.device_core.specs.Machine.{step_of}
 use Rattle.device_core.specs.Steps.{IsExactStep}
-use Rattle.device_core.specs.declared.note.Note.{Note}
+use Rattle.device_frames.specs.declared.note.Note.{Note}
 use Rattle.recorded_flash.specs.Record.{image_of, record_of, filled}
 use Rattle.recorded_device.specs.Recorded.{Records}
 use Rattle.device_port.specs.declared.refusal.Refusal.{Refusal}

@@ -10,7 +10,7 @@ use Rattle.call_blocks.specs.Naming.{is_relation}
 use Rattle.relations.specs.Link.{uuid_of}
 use Rattle.device_frames.specs.declared.event.Event.TheVariants.{Frame}
 use Rattle.device_frames.specs.Heard.{Heard, Ticks, Given, Raised, heard_of}
-use Rattle.device_core.specs.declared.note.Note.{Note}
+use Rattle.device_frames.specs.declared.note.Note.{Note}
 use Rattle.device_core.specs.State.{State}
 use Rattle.device_core.specs.Steps.{Steps}
 use Rattle.controller_core.specs.declared.state.State.{State as ControllerState}

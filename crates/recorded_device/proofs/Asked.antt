@@ -42,8 +42,8 @@ use Rattle.relations.specs.declared.hearing.Heard.TheVariants as to_ready
 use Rattle.device_frames.specs.declared.event.Event.{Event}
 use Rattle.device_frames.specs.declared.event.Event.TheVariants.{Frame, Tick, Input, Alarm}
 use Rattle.device_frames.specs.Heard.{is_own, is_taken, said_by, Heard, Ticks, Unreadable, Elsewhere, Asks, Resolves, Told, Cyclic, Alarms, Given, Raised, Said, Calls, Responds, Garbled, heard_alarm, heard_request, heard_content, heard_frame, heard_of}
-use Rattle.device_core.specs.declared.note.Note.{Note}
-use Rattle.device_core.specs.declared.note.Note.TheVariants as note
+use Rattle.device_frames.specs.declared.note.Note.{Note}
+use Rattle.device_frames.specs.declared.note.Note.TheVariants as note
 use Rattle.device_frames.specs.Sent.{IdentifyAnswer, ArpReply}
 use Rattle.device_core.specs.Judged.{Judged, Refuses, Sets, Writes, Moves, judged_request, judged_effect, judged_write, judged_new, judged_looked, judged_blocks, judged_call, judged_answer, judged_said, judged_message, judged_received, judged_input, judged_notice, judged_pdu, judged}
 use Rattle.device_core.specs.Machine.{items_in, items_of}

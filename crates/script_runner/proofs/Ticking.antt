@@ -1,7 +1,7 @@
 -- Units of time, one after another.
 use Rattle.std.proofs.Common.{◌≡◌, ℕ, ◌-◌, ◌<◌, List, [], ◌++◌, suc, append_assoc, append-nil, arith, ap, subst, sym, ◌∙◌}
 use Rattle.flash_model.specs.declared.memory.MemoryFlash.{MemoryFlash}
-use Rattle.device_core.specs.declared.note.Note.{Note}
+use Rattle.device_frames.specs.declared.note.Note.{Note}
 use Rattle.device_frames.specs.declared.event.Event.TheVariants as event
 use Rattle.device_core.specs.State.{State}
 use Rattle.device_core.specs.Machine.{step_of}

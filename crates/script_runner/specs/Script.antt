@@ -7,7 +7,7 @@ use Rattle.pn_values.specs.declared.settings.Settings.{Settings}
 use Rattle.settings_journal.specs.Image.{capacity}
 use Rattle.relations.specs.Link.{phase_of}
 use Rattle.device_frames.specs.declared.event.Event.TheVariants as event
-use Rattle.device_core.specs.declared.note.Note.TheVariants.{Done}
+use Rattle.device_frames.specs.declared.note.Note.TheVariants.{Done}
 use Rattle.device_core.specs.State.{Station as Device, Live}
 use Rattle.device_core.specs.Machine.{Stepped, step_of}
 use Rattle.device_core.specs.Cycle.{started}

@@ -4,7 +4,7 @@ use Rattle.std.proofs.lemmas.Bool.{cond-true, cond-false}
 use Rattle.rpc_core.specs.Call.{asked}
 use Rattle.rpc_core.specs.Response.{answered}
 use Rattle.relations.specs.Ready.{answer_of}
-use Rattle.device_core.specs.declared.note.Note.TheVariants.{Fault, NotMine}
+use Rattle.device_frames.specs.declared.note.Note.TheVariants.{Fault, NotMine}
 use Rattle.device_frames.specs.Heard.{Told, Calls, Responds, Garbled, said_by}
 use Rattle.device_core.specs.Judged.{is_running, judged_answer, judged_said}
 use Rattle.device_core.proofs.Judged.{answer_asks_nothing}

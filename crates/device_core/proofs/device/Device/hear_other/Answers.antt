@@ -2,7 +2,7 @@
 use Rattle.std.proofs.Common.{ap, map, option_map, refl, rules, subst, sym, ◌∙◌}
 use Rattle.frame_codec.specs.Meaning.{meaning_of}
 use Rattle.settings_store.specs.Carries.{Holds}
-use Rattle.device_core.specs.declared.note.Note.TheVariants.{Fault}
+use Rattle.device_frames.specs.declared.note.Note.TheVariants.{Fault}
 use Rattle.device_frames.specs.Heard.{Unreadable}
 use Rattle.device_frames.specs.Hearing.{heard_in}
 use Rattle.device_core.specs.Steps.{Steps}

@@ -1,7 +1,7 @@
 -- A packet of ARP to this station or to all is looked at.
 use Rattle.std.proofs.Common.{ap, map, nat_eq, refl, subst, sym, ◌∙◌, ◌||◌, if◌then◌else◌}
 use Rattle.std.specs.Cmp.Lexicographic.{pointwise}
-use Rattle.device_core.specs.declared.note.Note.TheVariants.{NotMine}
+use Rattle.device_frames.specs.declared.note.Note.TheVariants.{NotMine}
 use Rattle.device_core.specs.State.{with_rest}
 use Rattle.device_frames.specs.Heard.{Elsewhere, Resolves, broadcast, is_own}
 use Rattle.device_core.specs.Judged.{judged_arp}

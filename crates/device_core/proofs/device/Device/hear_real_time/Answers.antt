@@ -1,6 +1,6 @@
 -- What a frame of EtherType 0x8892 asks of the relation is carried out, and what is for nobody here is refused.
 use Rattle.std.proofs.Common.{ap, map, refl, sym, ◌∙◌}
-use Rattle.device_core.specs.declared.note.Note.TheVariants.{NotMine}
+use Rattle.device_frames.specs.declared.note.Note.TheVariants.{NotMine}
 use Rattle.device_frames.specs.Sent.{bytes_of}
 use Rattle.device_frames.specs.Heard.{Cyclic, Elsewhere as elsewhere}
 use Rattle.device_frames.specs.declared.hearing.Kind.TheVariants as kind

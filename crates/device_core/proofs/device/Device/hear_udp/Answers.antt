@@ -1,6 +1,6 @@
 -- A datagram to the port of calls is looked at.
 use Rattle.std.proofs.Common.{ap, map, refl, subst, sym, ◌∙◌, ◌==◌, ◌&&◌, if◌then◌else◌}
-use Rattle.device_core.specs.declared.note.Note.TheVariants.{NotMine}
+use Rattle.device_frames.specs.declared.note.Note.TheVariants.{NotMine}
 use Rattle.device_frames.specs.Heard.{Elsewhere, Told, is_own, said_by}
 use Rattle.device_core.specs.Steps.{Steps}
 use Rattle.device_core.proofs.Steps.{refuses_steps}

@@ -1,7 +1,7 @@
 -- An alarm frame is judged by what it says, or cannot be read.
 use Rattle.std.proofs.Common.{ap, map, refl, subst, sym, ◌∙◌}
 use Rattle.pn_alarms.specs.Message.{message_of}
-use Rattle.device_core.specs.declared.note.Note.TheVariants.{Fault}
+use Rattle.device_frames.specs.declared.note.Note.TheVariants.{Fault}
 use Rattle.device_frames.specs.Heard.{Alarms, Unreadable, heard_alarm}
 use Rattle.device_core.specs.Judged.{judged_alarm}
 use Rattle.device_core.specs.Steps.{Steps}

@@ -1,6 +1,6 @@
 -- What cannot be read is refused.
 use Rattle.std.proofs.Common.{ap, map, refl}
-use Rattle.device_core.specs.declared.note.Note.TheVariants.{Fault}
+use Rattle.device_frames.specs.declared.note.Note.TheVariants.{Fault}
 use Rattle.device_frames.specs.Heard.{Unreadable}
 use Rattle.device_core.proofs.Steps.{refuses_steps}
 use Rattle.device_core.proofs.device.Device.read_and_serve.Goals as goal

@@ -4,7 +4,7 @@ use Rattle.rpc_core.specs.Call.{asked}
 use Rattle.rpc_core.specs.Cache.{looked, again, old}
 use Rattle.pnio_status.specs.Operation.{operation_of}
 use Rattle.pnio_status.specs.declared.call_fault.CallFault.TheVariants.{Arguments}
-use Rattle.device_core.specs.declared.note.Note.TheVariants.{Fault, OldCall}
+use Rattle.device_frames.specs.declared.note.Note.TheVariants.{Fault, OldCall}
 use Rattle.device_frames.specs.Sent.{Again}
 use Rattle.device_core.specs.Judged.{answer_from, judged_blocks, judged_call, judged_looked}
 use Rattle.device_core.proofs.Steps.{moves_steps, refuses_steps}

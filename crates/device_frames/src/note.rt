@@ -1,6 +1,6 @@
 // What became of an event.
 ghost use Rattle.std.specs.Prelude.{◌≡◌};
-ghost use Rattle.device_core.specs.Notes.{note_number};
+ghost use Rattle.device_frames.specs.Notes.{note_number};
 
 /// What became of an event.
 #[derive(Clone, Copy, Debug, PartialEq, Eq)]

@@ -1,7 +1,7 @@
 -- The numbers of what becomes of an event.
 use Rattle.std.specs.Prelude.{ℕ}
-use Rattle.device_core.specs.declared.note.Note.{Note}
-use Rattle.device_core.specs.declared.note.Note.TheVariants.{Done, NotMine, Fault, Filter, OldCall, NoRelation, StaleCycle, Refused}
+use Rattle.device_frames.specs.declared.note.Note.{Note}
+use Rattle.device_frames.specs.declared.note.Note.TheVariants.{Done, NotMine, Fault, Filter, OldCall, NoRelation, StaleCycle, Refused}
 
 -- 0 of what is done
 abbrev pub note_number : Note → ℕ
