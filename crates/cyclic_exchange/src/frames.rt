@@ -1,7 +1,7 @@
 //! Cyclic frames that are sent.
-ghost use Rattle.std.specs.Prelude.{◌≡◌, ◌<◌, ◌+◌, ◌++◌, ◌∷◌, [], map};
+ghost use Rattle.std.specs.Prelude.{◌≡◌, ◌<◌, ◌≤◌, ◌+◌, ◌++◌, ◌∷◌, [], length, map};
 ghost use Rattle.arrayvec.specs.ArrayVec.{array_vec_len};
-ghost use Rattle.cyclic_exchange.specs.Frames.{cyclic_frame};
+ghost use Rattle.cyclic_exchange.specs.Frames.{cyclic_body, cyclic_frame};
 
 use crate::CyclicExchange;
 use frame_codec::{Outbox, Pieces};
@@ -13,6 +13,7 @@ pub fn send_cyclic(source: Mac, counter: u16, exchange: &CyclicExchange, outbox:
     requires room { array_vec_len outbox.old < 4 }
     ensures frames { map (λ frame. frame.items) outbox.new.items
         ≡ map (λ frame. frame.items) outbox.old.items ++ cyclic_frame source exchange.now.route exchange.now.shown counter ∷ [] }
+    ensures fits { length (cyclic_body exchange.now.shown counter) ≤ 1498 }
     ensures len { array_vec_len outbox.new ≡ array_vec_len outbox.old + 1 }
 {
     let route = exchange.route();

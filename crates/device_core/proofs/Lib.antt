@@ -2,6 +2,7 @@ pub mod Machine
 pub mod Faults
 pub mod Judged
 pub mod OfKind
+pub mod Sendable
 pub mod Served
 pub mod Placed
 pub mod Steps

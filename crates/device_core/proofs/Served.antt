@@ -14,6 +14,7 @@ use Rattle.rpc_core.specs.Call.{Asked as Call}
 use Rattle.relations.specs.Phases.{Judged as Moving, answered}
 use Rattle.frame_codec.specs.declared.udp.Caller.{Caller}
 use Rattle.device_frames.specs.Heard.{Heard}
+use Rattle.device_frames.specs.Sendable.{AreSendable}
 use Rattle.device_frames.specs.Sent.{bytes_of}
 use Rattle.device_frames.specs.declared.note.Note.{Note}
 use Rattle.device_core.specs.State.{Station, Live, State, with_rest}
@@ -55,7 +56,8 @@ pub new_steps : {F : Type 0} (image : F → Image) (failures : F → ℕ) (asked
     → new ≡ with_rest old (end_of old.station old.live (judged_new old.station old.live caller call blocks operation)).rest
     → frames ≡ map (bytes_of old.station.identity) (end_of old.station old.live (judged_new old.station old.live caller call blocks operation)).sent
     → said ≡ (end_of old.station old.live (judged_new old.station old.live caller call blocks operation)).note
+    → AreSendable old.station.identity (end_of old.station old.live (judged_new old.station old.live caller call blocks operation)).sent
     → (heard : Heard) → judged old.station old.live heard ≡ judged_new old.station old.live caller call blocks asks → Steps image failures asked old heard frames said new
-new_steps image failures asked old new caller call blocks asks operation frames said holds asks_so none is frames_are note_is heard judged_so =
+new_steps image failures asked old new caller call blocks asks operation frames said holds asks_so none is frames_are note_is sendable heard judged_so =
     quiet_steps image failures asked old new heard (judged_new old.station old.live caller call blocks operation) frames said holds
-    (judged_so ∙ ap (judged_new old.station old.live caller call blocks) asks_so) none is frames_are note_is
+    (judged_so ∙ ap (judged_new old.station old.live caller call blocks) asks_so) none is frames_are note_is sendable

@@ -23,12 +23,14 @@ use Rattle.device_frames.specs.declared.note.Note.TheVariants as note
 use Rattle.device_core.specs.Cycle.{started}
 use Rattle.device_core.specs.State.{Station, State, Rest, Live, store_of, with_rest}
 use Rattle.device_frames.specs.Heard.{Heard, Asks}
+use Rattle.device_frames.specs.Sendable.{AreSendable, IsSendable}
 use Rattle.device_frames.specs.Sent.{Sent, GetAnswer, SetAnswer, Again, bytes_of}
 use Rattle.device_core.specs.Judged.{Judged, Refuses, Sets, Writes, Moves, identified, judged_request, judged_looked, judged_blocks, judged_call, judged}
-use Rattle.device_core.specs.Machine.{Stepped, items_in, items_of, farewells_at, resets, finished, end_of, judged_step, heard_step}
+use Rattle.device_core.specs.Machine.{Finished, Stepped, items_in, items_of, farewells_at, resets, finished, end_of, judged_step, heard_step}
 use Rattle.device_core.specs.Steps.{Steps, Identifies, IsIdentified, IsServed, IsAgain}
 use Rattle.device_core.proofs.Machine.{is_asking, nothing_asked, quiet_step, is_quiet, judged_as}
 use Rattle.device_core.proofs.Faults.{step_goes_on}
+use Rattle.device_core.proofs.Sendable.{all_sendable}
 
 -- a state by its parts
 pub same_state : {F : Type 0} (a b : State F) → a.flash ≡ b.flash → a.station ≡ b.station → a.live ≡ b.live → a ≡ b
@@ -55,6 +57,7 @@ pub record IsQuiet {F : Type 0} (old new : State F) (heard : Heard) (frames : Li
   pub same : new.station ≡ old.station
   pub live : new.live ≡ record { values = old.live.values; rest = (finished old.station.identity old.live.rest (judged old.station old.live heard) []).rest }
   pub frames_are : frames ≡ map (bytes_of old.station.identity) (finished old.station.identity old.live.rest (judged old.station old.live heard) []).sent
+  pub sendable : AreSendable old.station.identity (finished old.station.identity old.live.rest (judged old.station old.live heard) []).sent
   pub note_is : said ≡ (finished old.station.identity old.live.rest (judged old.station old.live heard) []).note
 
 -- where nothing is asked for, nothing happens to the settings
@@ -80,6 +83,7 @@ is_quiet_steps image failures asked old new heard frames said holds parts =
     let nothing = nothing_asked old.station old.live heard parts.asks_nothing in
     let live_is : new.live ≡ step.live = rw quiet parts.live in
     let frames_are : frames ≡ step.frames = rw quiet parts.frames_are in
+    let sendable : AreSendable old.station.identity step.sent = rw quiet parts.sendable in
     let note_is : said ≡ step.note = rw quiet parts.note_is in
     let same_store : store_of new ≡ store_of old = ap (λ f. record { flash = f; values = new.live.values }) parts.flash ∙ ap (λ l. record { flash = old.flash; values = l.values }) parts.live in
     record {
@@ -87,6 +91,7 @@ is_quiet_steps image failures asked old new heard frames said holds parts =
       same = parts.same;
       live = live_is;
       frames = frames_are;
+      sendable = sendable;
       note = note_is;
       quiet = λ _. refl;
       placed = subst (λ items. OneByOne image failures asked [] (store_of old) items (store_of new)) (sym nothing) same_store;
@@ -111,8 +116,8 @@ is_quiet_steps image failures asked old new heard frames said holds parts =
 pub quiet_steps : {F : Type 0} (image : F → Image) (failures : F → ℕ) (asked : F → List Call → F → Type 0) (old new : State F) (heard : Heard) (what : Judged) (frames : List (List ℕ)) (said : Note)
     → Holds (image old.flash) old.live.values → judged old.station old.live heard ≡ what → is_asking what ≡ false
     → new ≡ with_rest old (end_of old.station old.live what).rest → frames ≡ map (bytes_of old.station.identity) (end_of old.station old.live what).sent → said ≡ (end_of old.station old.live what).note
-    → Steps image failures asked old heard frames said new
-quiet_steps image failures asked old new heard what frames said holds judged_so none is frames_are note_is =
+    → AreSendable old.station.identity (end_of old.station old.live what).sent → Steps image failures asked old heard frames said new
+quiet_steps image failures asked old new heard what frames said holds judged_so none is frames_are note_is sendable =
     let end = ap (end_of old.station old.live) judged_so in
     is_quiet_steps image failures asked old new heard frames said holds (record {
       asks_nothing = ap is_asking judged_so ∙ none;
@@ -120,6 +125,7 @@ quiet_steps image failures asked old new heard what frames said holds judged_so 
       same = ap (λ s. s.station) is;
       live = ap (λ s. s.live) is ∙ ap (λ r. record { values = old.live.values; rest = r }) (sym (ap (λ e. e.rest) end));
       frames_are = frames_are ∙ ap (map (bytes_of old.station.identity)) (sym (ap (λ e. e.sent) end));
+      sendable = subst (λ (e : Finished). AreSendable old.station.identity e.sent) (sym end) sendable;
       note_is = note_is ∙ sym (ap (λ e. e.note) end);
     })
 
@@ -127,16 +133,16 @@ quiet_steps image failures asked old new heard what frames said holds judged_so 
 pub moves_steps : {F : Type 0} (image : F → Image) (failures : F → ℕ) (asked : F → List Call → F → Type 0) (old new : State F) (heard : Heard) (rest : Rest) (sent : List Sent) (frames : List (List ℕ)) (said : Note)
     → Holds (image old.flash) old.live.values → judged old.station old.live heard ≡ Moves rest sent
     → new ≡ with_rest old rest → frames ≡ map (bytes_of old.station.identity) sent → said ≡ note.Done
-    → Steps image failures asked old heard frames said new
-moves_steps image failures asked old new heard rest sent frames said holds moves is frames_are done =
-    quiet_steps image failures asked old new heard (Moves rest sent) frames said holds moves refl is frames_are done
+    → AreSendable old.station.identity sent → Steps image failures asked old heard frames said new
+moves_steps image failures asked old new heard rest sent frames said holds moves is frames_are done sendable =
+    quiet_steps image failures asked old new heard (Moves rest sent) frames said holds moves refl is frames_are done sendable
 
 -- what was judged to be refused
 pub refuses_steps : {F : Type 0} (image : F → Image) (failures : F → ℕ) (asked : F → List Call → F → Type 0) (state : State F) (heard : Heard) (why : Note) (frames : List (List ℕ)) (said : Note)
     → Holds (image state.flash) state.live.values → judged state.station state.live heard ≡ Refuses why → frames ≡ [] → said ≡ why
     → Steps image failures asked state heard frames said state
 refuses_steps image failures asked state heard why frames said holds refuses none is =
-    quiet_steps image failures asked state state heard (Refuses why) frames said holds refuses refl refl none is
+    quiet_steps image failures asked state state heard (Refuses why) frames said holds refuses refl refl none is tt
 
 -- an Identify request
 identify_leaves : (station : Station) (live : Live) (asker : Mac) (request : Asked)
@@ -148,8 +154,9 @@ pub identify_steps : {F : Type 0} (image : F → Image) (failures : F → ℕ) (
     → Holds (image state.flash) state.live.values → request.service ≡ service.Identify
     → frames ≡ map (bytes_of state.station.identity) (finished state.station.identity state.live.rest (identified state.station state.live asker request) []).sent
     → said ≡ (finished state.station.identity state.live.rest (identified state.station state.live asker request) []).note
+    → AreSendable state.station.identity (finished state.station.identity state.live.rest (identified state.station state.live asker request) []).sent
     → Steps image failures asked state (Asks asker request) frames said state
-identify_steps image failures asked state asker request frames said holds identify frames_are note_is =
+identify_steps image failures asked state asker request frames said holds identify frames_are note_is sendable =
     let is = ap (λ s. judged_request state.station state.live asker s request) identify in
     let leaves = identify_leaves state.station state.live asker request in
     is_quiet_steps image failures asked state state (Asks asker request) frames said holds (record {
@@ -158,6 +165,7 @@ identify_steps image failures asked state asker request frames said holds identi
       same = refl;
       live = ap (λ r. record { values = state.live.values; rest = r }) (sym (ap (λ what. (finished state.station.identity state.live.rest what []).rest) is ∙ leaves.1));
       frames_are = frames_are ∙ sym (ap (λ what. map (bytes_of state.station.identity) (finished state.station.identity state.live.rest what []).sent) is);
+      sendable = subst (λ what. AreSendable state.station.identity (finished state.station.identity state.live.rest what []).sent) (sym is) sendable;
       note_is = note_is ∙ sym (ap (λ what. (finished state.station.identity state.live.rest what []).note) is);
     })
 
@@ -165,10 +173,10 @@ identify_steps image failures asked state asker request frames said holds identi
 pub get_steps : {F : Type 0} (image : F → Image) (failures : F → ℕ) (asked : F → List Call → F → Type 0) (state : State F) (asker : Mac) (request : Asked) (frames : List (List ℕ)) (said : Note)
     → Holds (image state.flash) state.live.values → request.service ≡ service.Get
     → frames ≡ bytes_of state.station.identity (GetAnswer asker state.live.values.running request) ∷ [] → said ≡ note.Done
-    → Steps image failures asked state (Asks asker request) frames said state
-get_steps image failures asked state asker request frames said holds get frames_are done =
+    → IsSendable state.station.identity (GetAnswer asker state.live.values.running request) → Steps image failures asked state (Asks asker request) frames said state
+get_steps image failures asked state asker request frames said holds get frames_are done sendable =
     moves_steps image failures asked state state (Asks asker request) state.live.rest (GetAnswer asker state.live.values.running request ∷ []) frames said holds
-    (ap (λ s. judged_request state.station state.live asker s request) get) refl frames_are done
+    (ap (λ s. judged_request state.station state.live asker s request) get) refl frames_are done (sendable, tt)
 
 -- what was judged and asks the settings for something, which is carried out
 pub settled_steps : {F : Type 0} (image : F → Image) (failures : F → ℕ) (asked : F → List Call → F → Type 0) (old new : State F) (heard : Heard) (what : Judged) (answers : List BlockError)
@@ -176,9 +184,9 @@ pub settled_steps : {F : Type 0} (image : F → Image) (failures : F → ℕ) (a
     → Carries image failures asked (store_of old) (items_in what) answers (store_of new)
     → new.station ≡ old.station → new.live.rest ≡ (finished old.station.identity old.live.rest what answers).rest
     → frames ≡ map (bytes_of old.station.identity) (finished old.station.identity old.live.rest what answers).sent → said ≡ (finished old.station.identity old.live.rest what answers).note
-    → Steps image failures asked old heard frames said new
+    → AreSendable old.station.identity (finished old.station.identity old.live.rest what answers).sent → Steps image failures asked old heard frames said new
 unfolding judged_step
-settled_steps image failures asked old new heard what answers frames said is_what carries same rest frames_are note_is =
+settled_steps image failures asked old new heard what answers frames said is_what carries same rest frames_are note_is sendable =
     let step = heard_step carries.outcomes old.station old.live heard in
     let is = judged_as carries.outcomes old.station old.live heard what is_what in
     let items : items_of old.station old.live heard ≡ items_in what = ap items_in is_what in
@@ -187,12 +195,14 @@ settled_steps image failures asked old new heard what answers frames said is_wha
     let accepted : (carried carries.outcomes old.live.values (items_in what)).accepted ≡ step.accepted = sym (ap (λ s. s.accepted) is) in
     let live_now : new.live ≡ step.live = rw is (same_live _ _ carries.values (rest ∙ ap (λ e. e.rest) end)) in
     let frames_now : frames ≡ step.frames = rw is (frames_are ∙ ap (λ e. map (bytes_of old.station.identity) e.sent) end) in
+    let sendable_now : AreSendable old.station.identity step.sent = rw is (subst (λ (e : Finished). AreSendable old.station.identity e.sent) end sendable) in
     let note_now : said ≡ step.note = rw is (note_is ∙ ap (λ e. e.note) end) in
     record {
       outcomes = carries.outcomes;
       same = same;
       live = live_now;
       frames = frames_now;
+      sendable = sendable_now;
       note = note_now;
       quiet = carries.quiet;
       placed = subst (λ i. OneByOne image failures asked carries.outcomes (store_of old) i (store_of new)) (sym items) carries.placed;
@@ -208,11 +218,13 @@ pub asked_set_steps : {F : Type 0} (image : F → Image) (failures : F → ℕ) 
     → request.service ≡ service.Set → Carries image failures asked (store_of old) (plan_of (is_some old.live.rest.link) request) answers (store_of new) → new.station ≡ old.station
     → new.live.rest ≡ (finished old.station.identity old.live.rest (Sets asker request (is_some old.live.rest.link)) answers).rest
     → frames ≡ map (bytes_of old.station.identity) (farewells_at (resets (plan_of (is_some old.live.rest.link) request) answers) old.live.rest.link) ++ bytes_of old.station.identity (SetAnswer asker request answers) ∷ []
-    → said ≡ note.Done → Steps image failures asked old (Asks asker request) frames said new
-asked_set_steps image failures asked old new asker request answers frames said set carries same rest frames_are done =
+    → said ≡ note.Done → AreSendable old.station.identity (farewells_at (resets (plan_of (is_some old.live.rest.link) request) answers) old.live.rest.link)
+    → IsSendable old.station.identity (SetAnswer asker request answers) → Steps image failures asked old (Asks asker request) frames said new
+asked_set_steps image failures asked old new asker request answers frames said set carries same rest frames_are done ends last =
     settled_steps image failures asked old new (Asks asker request) (Sets asker request (is_some old.live.rest.link)) answers frames said
     (ap (λ s. judged_request old.station old.live asker s request) set) carries same rest
     (frames_are ∙ sym (map-append (bytes_of old.station.identity) (farewells_at (resets (plan_of (is_some old.live.rest.link) request) answers) old.live.rest.link) (SetAnswer asker request answers ∷ []))) done
+    (all_sendable old.station.identity _ (SetAnswer asker request answers ∷ []) ends (last, tt))
 
 -- what is not done changes nothing and sends nothing
 pub record IsNothing (live : Live) (step : Stepped) : Type 0 where

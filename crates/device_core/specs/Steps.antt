@@ -20,6 +20,7 @@ use Rattle.device_frames.specs.declared.note.Note.TheVariants.{Done, Filter}
 use Rattle.frame_codec.specs.declared.udp.Caller.{Caller}
 use Rattle.device_core.specs.State.{Station, State, Live, store_of}
 use Rattle.device_frames.specs.Sent.{answer_frame}
+use Rattle.device_frames.specs.Sendable.{AreSendable}
 use Rattle.device_frames.specs.Heard.{Heard, Asks, Told, Calls, heard_of}
 use Rattle.device_core.specs.Judged.{is_running}
 use Rattle.device_core.specs.Machine.{Stepped, items_of, heard_step, step_of, first_step, later_steps, run_of}
@@ -27,12 +28,14 @@ use Rattle.device_core.specs.Faults.{StepGoesOn}
 
 -- What was heard is carried out, for some outcomes of the calls that store, which the flash chose: what changes, the frames
 -- and the note are those of the step, there are no outcomes where no commit failed, each has its cause in its own item, what
--- happened to the settings is a stretch of a cycle and continues any, and whatever the flash does the device goes on.
+-- happened to the settings is a stretch of a cycle and continues any, and whatever the flash does the device goes on. Each message that
+-- is sent can be sent: it fits a frame, and so is read as what is written.
 pub record Steps {F : Type 0} (image : F → Image) (failures : F → ℕ) (asked : F → List Call → F → Type 0) (old : State F) (heard : Heard) (sent : List (List ℕ)) (said : Note) (new : State F) : Type 0 where
   pub outcomes : List Outcome
   pub same : new.station ≡ old.station
   pub live : new.live ≡ (heard_step outcomes old.station old.live heard).live
   pub frames : sent ≡ (heard_step outcomes old.station old.live heard).frames
+  pub sendable : AreSendable old.station.identity (heard_step outcomes old.station old.live heard).sent
   pub note : said ≡ (heard_step outcomes old.station old.live heard).note
   pub quiet : new.live.values.has_failed ≡ old.live.values.has_failed → outcomes ≡ []
   pub placed : OneByOne image failures asked outcomes (store_of old) (items_of old.station old.live heard) (store_of new)

@@ -1,6 +1,6 @@
 // Address resolution (RFC 826).
-ghost use Rattle.std.specs.Prelude.{◌≡◌, ◌<◌, [], ◌∷◌, map};
-ghost use Rattle.device_frames.specs.Sent.{bytes_of};
+ghost use Rattle.std.specs.Prelude.{◌≡◌, ◌<◌, [], ◌∷◌};
+ghost use Rattle.device_core.specs.Behind.{CanSend, frames_of, octets_in};
 ghost use Rattle.device_core.specs.Judged.{is_running as runs, is_request as requests, judged_arp};
 ghost use Rattle.device_core.specs.Machine.{end_of};
 
@@ -15,8 +15,8 @@ impl<F: Flash<S>, const S: usize> Device<F, S> {
     #[inline(never)]
     pub(crate) fn resolve(&self, asker: Mac, packet: &Arp, outbox: &mut Outbox) -> Note
         requires empty { outbox.old.items ≡ [] }
-        ensures frames { map (λ frame. frame.items) outbox.new.items
-            ≡ map (bytes_of self.now.station.identity) (end_of self.now.station self.now.live (judged_arp self.now.live asker packet.now)).sent }
+        ensures frames { octets_in outbox.new ≡ frames_of self.now (judged_arp self.now.live asker packet.now) }
+        ensures sendable { CanSend self.now (judged_arp self.now.live asker packet.now) }
         ensures note { result ≡ (end_of self.now.station self.now.live (judged_arp self.now.live asker packet.now)).note }
     {
         let running = self.store.running();

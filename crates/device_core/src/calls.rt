@@ -13,9 +13,10 @@ ghost use Rattle.record_writes.specs.Answer.{answer_of};
 ghost use Rattle.record_writes.specs.declared.write.Effect.TheVariants.{Keeps};
 ghost use Rattle.pnio_status.specs.Operation.{operation_of};
 ghost use Rattle.device_frames.specs.Heard.{Heard as Hears, Told, said_by};
+ghost use Rattle.device_frames.specs.Sendable.{IsSendable};
 ghost use Rattle.device_frames.specs.Sent.{bytes_of};
 ghost use Rattle.device_core.specs.Judged.{Writes, answer_from, came_with, kept_for, judged, judged_answer, judged_call, judged_effect, judged_write, outcome_of};
-ghost use Rattle.device_core.specs.Behind.{behind, called, frames_of, octets_in};
+ghost use Rattle.device_core.specs.Behind.{CanSend, behind, called, frames_of, octets_in};
 ghost use Rattle.device_core.specs.Machine.{end_of, written_as as comes_out};
 ghost use Rattle.device_core.specs.Steps.{Steps};
 
@@ -68,6 +69,7 @@ impl<F: Flash<S>, const S: usize> Device<F, S> {
             ≡ behind self.old (judged_answer self.old.live (ready_answer (answered response.now) self.old.live.rest.link)) }
         ensures frames { octets_in outbox.new
             ≡ frames_of self.old (judged_answer self.old.live (ready_answer (answered response.now) self.old.live.rest.link)) }
+        ensures sendable { CanSend self.old (judged_answer self.old.live (ready_answer (answered response.now) self.old.live.rest.link)) }
         ensures note { result ≡ (end_of self.old.station self.old.live (judged_answer self.old.live (ready_answer (answered response.now) self.old.live.rest.link))).note }
     {
         match self.relation.hear_ready(response) {
@@ -128,6 +130,7 @@ impl<F: Flash<S>, const S: usize> Device<F, S> {
         requires empty { outbox.old.items ≡ [] }
         ensures frames { map (λ frame. frame.items) outbox.new.items
             ≡ bytes_of self.now.station.identity (answer_from self.now.live.values.running.suite.address caller.now (asked call.now) operation (Err Arguments)) ∷ [] }
+        ensures sendable { IsSendable self.now.station.identity (answer_from self.now.live.values.running.suite.address caller.now (asked call.now) operation (Err Arguments)) }
         ensures note { result ≡ Note.Done }
     {
         let status = CallFault::Arguments.number(operation);
@@ -165,6 +168,7 @@ impl<F: Flash<S>, const S: usize> Device<F, S> {
         requires empty { outbox.old.items ≡ [] }
         ensures state { self.new ≡ behind self.old (called self.old serving.now operation.Connect) }
         ensures frames { octets_in outbox.new ≡ frames_of self.old (called self.old serving.now operation.Connect) }
+        ensures sendable { CanSend self.old (called self.old serving.now operation.Connect) }
         ensures note { result ≡ Note.Done }
     {
         let partner = Partner {
@@ -190,6 +194,7 @@ impl<F: Flash<S>, const S: usize> Device<F, S> {
         requires empty { outbox.old.items ≡ [] }
         ensures state { self.new ≡ behind self.old (called self.old serving.now operation.Release) }
         ensures frames { octets_in outbox.new ≡ frames_of self.old (called self.old serving.now operation.Release) }
+        ensures sendable { CanSend self.old (called self.old serving.now operation.Release) }
         ensures note { result ≡ Note.Done }
     {
         self.answers.blocks.clear();
@@ -208,6 +213,7 @@ impl<F: Flash<S>, const S: usize> Device<F, S> {
         requires empty { outbox.old.items ≡ [] }
         ensures state { self.new ≡ behind self.old (called self.old serving.now operation.Control) }
         ensures frames { octets_in outbox.new ≡ frames_of self.old (called self.old serving.now operation.Control) }
+        ensures sendable { CanSend self.old (called self.old serving.now operation.Control) }
         ensures note { result ≡ Note.Done }
     {
         let address = self.store.running().suite.address();
@@ -228,6 +234,7 @@ impl<F: Flash<S>, const S: usize> Device<F, S> {
         requires empty { outbox.old.items ≡ [] }
         ensures state { self.new ≡ behind self.old (called self.old serving.now operation.Read) }
         ensures frames { octets_in outbox.new ≡ frames_of self.old (called self.old serving.now operation.Read) }
+        ensures sendable { CanSend self.old (called self.old serving.now operation.Read) }
         ensures note { result ≡ Note.Done }
     {
         let running = self.store.running();
@@ -254,6 +261,7 @@ impl<F: Flash<S>, const S: usize> Device<F, S> {
         requires empty { outbox.old.items ≡ [] }
         ensures state { self.new ≡ behind self.old (called self.old serving.now operation.ReadImplicit) }
         ensures frames { octets_in outbox.new ≡ frames_of self.old (called self.old serving.now operation.ReadImplicit) }
+        ensures sendable { CanSend self.old (called self.old serving.now operation.ReadImplicit) }
         ensures note { result ≡ Note.Done }
     {
         let running = self.store.running();
@@ -302,6 +310,7 @@ impl<F: Flash<S>, const S: usize> Device<F, S> {
             ≡ behind self.old (judged_write self.old.station self.old.live serving.now.caller.now (asked serving.now.call.now) (Err fault)) }
         ensures frames { octets_in outbox.new
             ≡ frames_of self.old (judged_write self.old.station self.old.live serving.now.caller.now (asked serving.now.call.now) (Err fault)) }
+        ensures sendable { CanSend self.old (judged_write self.old.station self.old.live serving.now.caller.now (asked serving.now.call.now) (Err fault)) }
         ensures note { result ≡ Note.Done }
     {
         let address = self.store.running().suite.address();
@@ -347,6 +356,7 @@ impl<F: Flash<S>, const S: usize> Device<F, S> {
             ≡ behind self.old (judged_effect self.old.station self.old.live serving.now.caller.now (asked serving.now.call.now) header.now (Keeps parameter)) }
         ensures frames { octets_in outbox.new
             ≡ frames_of self.old (judged_effect self.old.station self.old.live serving.now.caller.now (asked serving.now.call.now) header.now (Keeps parameter)) }
+        ensures sendable { CanSend self.old (judged_effect self.old.station self.old.live serving.now.caller.now (asked serving.now.call.now) header.now (Keeps parameter)) }
         ensures note { result ≡ Note.Done }
     {
         let came = self.relation.keep(parameter);
@@ -387,6 +397,7 @@ impl Answering {
     )
         requires empty { outbox.old.items ≡ [] }
         ensures frames { map (λ frame. frame.items) outbox.new.items ≡ bytes_of identity.now (answer_from address serving.now.caller.now (asked serving.now.call.now) serving.now.operation (came_with came self.old.blocks.items)) ∷ [] }
+        ensures sendable { IsSendable identity.now (answer_from address serving.now.caller.now (asked serving.now.call.now) serving.now.operation (came_with came self.old.blocks.items)) }
         ensures one { array_vec_len outbox.new ≡ 1 }
         ensures kept { self.new.kept ≡ kept_more 4 (kept_for identity.now (asked serving.now.call.now) (answer_from address serving.now.caller.now (asked serving.now.call.now) serving.now.operation (came_with came self.old.blocks.items))) self.old.kept }
     {

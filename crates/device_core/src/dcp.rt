@@ -6,7 +6,9 @@ ghost use Rattle.settings_store.specs.Carries.{Holds};
 ghost use Rattle.dcp_core.specs.Reading.{request_of};
 ghost use Rattle.dcp_core.specs.Request.{asked};
 ghost use Rattle.device_frames.specs.Heard.{Asks, heard_request};
+ghost use Rattle.device_frames.specs.Sendable.{AreSendable, IsSendable};
 ghost use Rattle.device_frames.specs.Sent.{GetAnswer, bytes_of};
+ghost use Rattle.device_core.specs.Behind.{CanSend, frames_of, octets_in};
 ghost use Rattle.device_core.specs.Judged.{identified};
 ghost use Rattle.device_core.specs.Machine.{farewells_at, finished, is_done as is_done_by, is_reset as is_reset_by, is_signal, lamp_after as lamp_of, link_after, resets};
 ghost use Rattle.device_core.specs.Steps.{Steps};
@@ -64,8 +66,8 @@ impl<F: Flash<S>, const S: usize> Device<F, S> {
     // An Identify request (IEC 61158-6-10, 4.3.2.3).
     fn identify(&self, asker: Mac, request: &Request<'_>, outbox: &mut Outbox) -> Note
         requires { outbox.old.items ≡ [] }
-        ensures frames { let end = finished self.now.station.identity self.now.live.rest (identified self.now.station self.now.live asker (asked request.now)) [] in
-            map (λ frame. frame.items) outbox.new.items ≡ map (bytes_of self.now.station.identity) end.sent }
+        ensures frames { octets_in outbox.new ≡ frames_of self.now (identified self.now.station self.now.live asker (asked request.now)) }
+        ensures sendable { CanSend self.now (identified self.now.station self.now.live asker (asked request.now)) }
         ensures note { result ≡ (finished self.now.station.identity self.now.live.rest (identified self.now.station self.now.live asker (asked request.now)) []).note }
     {
         let running = self.store.running();
@@ -83,6 +85,7 @@ impl<F: Flash<S>, const S: usize> Device<F, S> {
         requires { outbox.old.items ≡ [] }
         ensures frames { map (λ frame. frame.items) outbox.new.items
             ≡ bytes_of self.now.station.identity (GetAnswer asker self.now.live.values.running (asked request.now)) ∷ [] }
+        ensures sendable { IsSendable self.now.station.identity (GetAnswer asker self.now.live.values.running (asked request.now)) }
         ensures note { result ≡ Note.Done }
     {
         let answer = get_answer(&self.identity, self.store.running(), request);
@@ -151,6 +154,7 @@ fn end_if(is_ended: bool, identity: &Identity, relation: &mut Relation, outbox: 
     ensures link { relation.new ≡ link_after is_ended relation.old }
     ensures frames { map (λ frame. frame.items) outbox.new.items
         ≡ map (λ frame. frame.items) outbox.old.items ++ map (bytes_of identity.now) (farewells_at is_ended relation.old) }
+    ensures sendable { AreSendable identity.now (farewells_at is_ended relation.old) }
     ensures few { array_vec_len outbox.new ≤ array_vec_len outbox.old + 1 }
 {
     if !is_ended {

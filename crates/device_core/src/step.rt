@@ -1,5 +1,5 @@
 // One step: what an event is, and what comes of it.
-ghost use Rattle.std.specs.Prelude.{◌≡◌, ◌≢◌, ◌<◌, ◌-◌, ◌^◌, [], true, false, List, ℕ, None, Option, map, option_map};
+ghost use Rattle.std.specs.Prelude.{◌≡◌, ◌≢◌, ◌<◌, ◌-◌, ◌^◌, [], true, false, List, ℕ, Option, map, option_map};
 ghost use Rattle.settings_store.specs.Carries.{Holds};
 ghost use Rattle.dcp_core.specs.Request.{Asked};
 ghost use Rattle.device_frames.specs.Heard.{Asks, heard_alarm, heard_content, heard_of};
@@ -9,10 +9,11 @@ ghost use Rattle.device_frames.specs.declared.event.Event.TheVariants.{Frame};
 ghost use Rattle.relations.specs.Farewells.{farewell_of};
 ghost use Rattle.relations.specs.Link.{Link, flow_of};
 ghost use Rattle.device_core.specs.State.{Live, Station, with_rest};
+ghost use Rattle.device_frames.specs.Sendable.{AreSendable};
 ghost use Rattle.device_frames.specs.Sent.{bytes_of};
 ghost use Rattle.device_core.specs.Judged.{judged_alarm, judged_message, judged_cyclic, judged_given, judged_raised, judged_received, ticked};
-ghost use Rattle.device_frames.specs.Relation.{due_frames, farewells_in, inputs_of};
-ghost use Rattle.device_core.specs.Behind.{behind, frames_of, octets_in};
+ghost use Rattle.device_frames.specs.Relation.{farewells_in, inputs_of};
+ghost use Rattle.device_core.specs.Behind.{CanSend, behind, due_in, frames_of, octets_in};
 ghost use Rattle.device_core.specs.Machine.{end_of};
 ghost use Rattle.rpc_core.specs.Call.{Asked as Called};
 ghost use Rattle.rpc_core.specs.Cache.{looked, again};
@@ -216,6 +217,7 @@ impl<F: Flash<S>, const S: usize> Device<F, S> {
         requires empty { outbox.old.items ≡ [] }
         ensures state { self.new ≡ behind self.old (ticked self.old.live) }
         ensures frames { octets_in outbox.new ≡ frames_of self.old (ticked self.old.live) }
+        ensures sendable { CanSend self.old (ticked self.old.live) }
         ensures note { result ≡ Note.Done }
         // Its invariant, for those who do not look into it.
         ensures stored { Holds (F.image self.old.flash) self.old.live.values }
@@ -247,6 +249,7 @@ impl<F: Flash<S>, const S: usize> Device<F, S> {
         ensures state { self.new ≡ with_rest self.old (record self.old.live.rest { link = None }) }
         ensures frames { map (λ frame. frame.items) outbox.new.items
             ≡ map (bytes_of self.old.station.identity) (farewells_in (option_map (farewell_of reason) self.old.live.rest.link)) }
+        ensures sendable { AreSendable self.old.station.identity (farewells_in (option_map (farewell_of reason) self.old.live.rest.link)) }
     {
         match self.relation.end(reason) {
             Some(farewell) => send_farewell(&self.identity, &farewell, outbox),
@@ -258,9 +261,8 @@ impl<F: Flash<S>, const S: usize> Device<F, S> {
     #[inline(always)]
     fn send_due(&self, is_alarm: bool, is_ready: bool, is_cyclic: bool, outbox: &mut Outbox)
         requires { outbox.old.items ≡ [] }
-        ensures { map (λ frame. frame.items) outbox.new.items
-            ≡ map (bytes_of self.now.station.identity) (due_frames self.now.live.values.running.suite.address self.now.live.rest.units
-            (record { farewell = None; is_alarm = is_alarm; is_ready = is_ready; is_cyclic = is_cyclic }) self.now.live.rest.link) }
+        ensures frames { octets_in outbox.new ≡ map (bytes_of self.now.station.identity) (due_in self.now is_alarm is_ready is_cyclic) }
+        ensures sendable { AreSendable self.now.station.identity (due_in self.now is_alarm is_ready is_cyclic) }
     {
         match (is_alarm, is_ready, is_cyclic) {
             // The one thing that is due each interval has a way of its own, which costs no look at the others.
@@ -273,8 +275,9 @@ impl<F: Flash<S>, const S: usize> Device<F, S> {
     #[inline(never)]
     fn send_inputs(&self, outbox: &mut Outbox)
         requires { outbox.old.items ≡ [] }
-        ensures { map (λ frame. frame.items) outbox.new.items
+        ensures frames { map (λ frame. frame.items) outbox.new.items
             ≡ map (bytes_of self.now.station.identity) (inputs_of self.now.live.rest.units (flow_of self.now.live.rest.link)) }
+        ensures sendable { AreSendable self.now.station.identity (inputs_of self.now.live.rest.units (flow_of self.now.live.rest.link)) }
     {
         send_inputs(&self.identity, self.units, true, &self.relation, outbox);
     }
@@ -283,9 +286,8 @@ impl<F: Flash<S>, const S: usize> Device<F, S> {
     #[inline(never)]
     fn send_each(&self, is_alarm: bool, is_ready: bool, is_cyclic: bool, outbox: &mut Outbox)
         requires { outbox.old.items ≡ [] }
-        ensures { map (λ frame. frame.items) outbox.new.items
-            ≡ map (bytes_of self.now.station.identity) (due_frames self.now.live.values.running.suite.address self.now.live.rest.units
-            (record { farewell = None; is_alarm = is_alarm; is_ready = is_ready; is_cyclic = is_cyclic }) self.now.live.rest.link) }
+        ensures frames { octets_in outbox.new ≡ map (bytes_of self.now.station.identity) (due_in self.now is_alarm is_ready is_cyclic) }
+        ensures sendable { AreSendable self.now.station.identity (due_in self.now is_alarm is_ready is_cyclic) }
     {
         let address = self.store.running().suite.address();
         let counter = self.units;
@@ -325,6 +327,7 @@ impl<F: Flash<S>, const S: usize> Device<F, S> {
         requires empty { outbox.old.items ≡ [] }
         ensures state { self.new ≡ behind self.old (judged_raised self.old.station self.old.live slot subslot octets.now) }
         ensures frames { octets_in outbox.new ≡ frames_of self.old (judged_raised self.old.station self.old.live slot subslot octets.now) }
+        ensures sendable { CanSend self.old (judged_raised self.old.station self.old.live slot subslot octets.now) }
         ensures note { result ≡ (end_of self.old.station self.old.live (judged_raised self.old.station self.old.live slot subslot octets.now)).note }
         // Its invariant, for those who do not look into it.
         ensures stored { Holds (F.image self.old.flash) self.old.live.values }
@@ -348,6 +351,7 @@ impl<F: Flash<S>, const S: usize> Device<F, S> {
         requires empty { outbox.old.items ≡ [] }
         ensures state { self.new ≡ behind self.old (judged_alarm self.old.live source header.now message.now) }
         ensures frames { octets_in outbox.new ≡ frames_of self.old (judged_alarm self.old.live source header.now message.now) }
+        ensures sendable { CanSend self.old (judged_alarm self.old.live source header.now message.now) }
         ensures note { result ≡ (end_of self.old.station self.old.live (judged_alarm self.old.live source header.now message.now)).note }
     {
         if !self
@@ -365,6 +369,7 @@ impl<F: Flash<S>, const S: usize> Device<F, S> {
         requires empty { outbox.old.items ≡ [] }
         ensures state { self.new ≡ behind self.old (judged_message self.old.live message.now) }
         ensures frames { octets_in outbox.new ≡ frames_of self.old (judged_message self.old.live message.now) }
+        ensures sendable { CanSend self.old (judged_message self.old.live message.now) }
         ensures note { result ≡ (end_of self.old.station self.old.live (judged_message self.old.live message.now)).note }
     {
         match self.relation.hear(message) {

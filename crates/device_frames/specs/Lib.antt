@@ -3,3 +3,4 @@ pub mod Hearing
 pub mod Sent
 pub mod Relation
 pub mod Notes
+pub mod Sendable

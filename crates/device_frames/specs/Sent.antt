@@ -53,28 +53,42 @@ abbrev pub answer_frame : Identity → Mac → ℕ → List ℕ → List ℕ
 answer_frame identity asker frame_id answer = own_frame identity asker (RealTime frame_id answer)
 
 -- an ARP reply (RFC 826) to whom asked: this device holds the address
+abbrev pub reply_content : Identity → List ℕ → Holder → Content
+reply_content identity address target =
+    ArpPacket (record { operation = Reply; sender = record { mac = identity.mac; address = address }; target = target })
+
 abbrev pub reply_frame : Identity → Mac → List ℕ → Holder → List ℕ
-reply_frame identity asker address target =
-    own_frame identity asker (ArpPacket (record { operation = Reply; sender = record { mac = identity.mac; address = address }; target = target }))
+reply_frame identity asker address target = own_frame identity asker (reply_content identity address target)
 
 -- a response to whom called, to the port that the call came from
+abbrev pub response_content : Caller → List ℕ → Answered → Content
+response_content caller address answer = UdpDatagram (record { address = address; port = 34964 }) caller.endpoint (response_bytes answer)
+
 abbrev pub response_frame : Identity → Caller → List ℕ → Answered → List ℕ
-response_frame identity caller address answer =
-    own_frame identity caller.mac (UdpDatagram (record { address = address; port = 34964 }) caller.endpoint (response_bytes answer))
+response_frame identity caller address answer = own_frame identity caller.mac (response_content caller address answer)
 
 -- ApplicationReady, to the station that asked for the relation: its response may have 1,372 octets of blocks
+abbrev pub ready_content : List ℕ → Ready → Content
+ready_content address ready =
+    UdpDatagram (record { address = address; port = 34964 }) (record { address = ready.partner.address; port = 34964 })
+    (call_bytes Controller (record { header = ready.header; args_maximum = 1372; blocks = Some (block_bytes (is.ApplicationReady ready.block)) }))
+
 abbrev pub ready_frame : Identity → List ℕ → Ready → List ℕ
-ready_frame identity address ready =
-    own_frame identity ready.partner.mac (UdpDatagram (record { address = address; port = 34964 }) (record { address = ready.partner.address; port = 34964 })
-    (call_bytes Controller (record { header = ready.header; args_maximum = 1372; blocks = Some (block_bytes (is.ApplicationReady ready.block)) })))
+ready_frame identity address ready = own_frame identity ready.partner.mac (ready_content address ready)
 
 -- an ERR, to CMInitiatorMacAdd
+abbrev pub farewell_content : Farewell → Content
+farewell_content farewell = RealTime (frame_id_of Error) (pdu_bytes (said_by farewell))
+
 abbrev pub farewell_frame : Identity → Farewell → List ℕ
-farewell_frame identity farewell = alarm_frame identity farewell.initiator farewell.tag (RealTime (frame_id_of Error) (pdu_bytes (said_by farewell)))
+farewell_frame identity farewell = alarm_frame identity farewell.initiator farewell.tag (farewell_content farewell)
 
 -- a frame of inputs, of an alarm, or of the answer to an AlarmAck, to the partner
+abbrev pub exchange_content : Route → Frame → Content
+exchange_content route frame = RealTime (id_of route frame) (body_of frame)
+
 abbrev pub exchange_frame : Identity → Route → Frame → List ℕ
-exchange_frame identity route frame = alarm_frame identity route.partner (tag_of route frame) (RealTime (id_of route frame) (body_of frame))
+exchange_frame identity route frame = alarm_frame identity route.partner (tag_of route frame) (exchange_content route frame)
 
 -- the octets of a message
 abbrev pub bytes_of : Identity → Sent → List ℕ

@@ -1,10 +1,14 @@
 //! The answers of a device: to a request of DCP, to a packet of ARP, and to a call.
-ghost use Rattle.std.specs.Prelude.{◌≡◌, ◌<◌, ◌≤◌, ◌+◌, [], ◌∷◌, ◌++◌, length, map};
+ghost use Rattle.std.specs.Prelude.{◌≡◌, ◌<◌, ◌≤◌, ◌+◌, [], ◌∷◌, ◌++◌, None, length, map};
 ghost use Rattle.arrayvec.specs.ArrayVec.{array_vec_len};
 ghost use Rattle.rpc_core.specs.Response.{answered};
-ghost use Rattle.device_frames.specs.Sent.{answer_frame, reply_frame, response_frame};
+ghost use Rattle.device_frames.specs.Sendable.{IsSendable};
+ghost use Rattle.device_frames.specs.Sent.{ArpReply, CallAnswer, answer_frame, reply_frame, response_frame};
+ghost use Rattle.frame_codec.specs.Meaning.{RealTime};
+ghost use Rattle.frame_laws.specs.Sendable.{CanBeSent, carrying};
 
 use crate::Caller;
+use crate::sizes::can_be_sent;
 use dcp_core::Answer;
 use frame_codec::{Arp, ArpOperation, Endpoint, Holder, Layered, Outbox, Payload, RPC_PORT, Udp};
 use pn_values::{Identity, Mac};
@@ -19,7 +23,8 @@ pub fn send_dcp_answer(
     outbox: &mut Outbox,
 )
     requires { array_vec_len outbox.old < 4 }
-    ensures { map (λ frame. frame.items) outbox.new.items ≡ map (λ frame. frame.items) outbox.old.items ++ answer_frame identity.now asker frame_id answer.now.items ∷ [] }
+    ensures frames { map (λ frame. frame.items) outbox.new.items ≡ map (λ frame. frame.items) outbox.old.items ++ answer_frame identity.now asker frame_id answer.now.items ∷ [] }
+    ensures sendable { CanBeSent (carrying asker identity.now.mac None (RealTime frame_id answer.now.items)) }
 {
     let layered = Layered {
         destination: asker,
@@ -30,6 +35,7 @@ pub fn send_dcp_answer(
             body: answer.as_slice(),
         },
     };
+    can_be_sent(&layered);
     outbox.put(&layered);
 }
 
@@ -42,13 +48,14 @@ pub fn send_arp_reply(
     outbox: &mut Outbox,
 )
     requires room { array_vec_len outbox.old < 4 }
-    ensures { map (λ frame. frame.items) outbox.new.items ≡ map (λ frame. frame.items) outbox.old.items ++ reply_frame identity.now asker address target ∷ [] }
+    ensures frames { map (λ frame. frame.items) outbox.new.items ≡ map (λ frame. frame.items) outbox.old.items ++ reply_frame identity.now asker address target ∷ [] }
+    ensures sendable { IsSendable identity.now (ArpReply asker address target) }
 {
     let sender = Holder {
         mac: identity.mac,
         address,
     };
-    outbox.put(&Layered {
+    let layered = Layered {
         destination: asker,
         source: identity.mac,
         tag: None,
@@ -57,7 +64,9 @@ pub fn send_arp_reply(
             sender,
             target,
         }),
-    });
+    };
+    can_be_sent(&layered);
+    outbox.put(&layered);
 }
 
 /// Puts the response to a call into the box, behind what is in it.
@@ -73,10 +82,11 @@ pub fn send_response(
     ensures one { array_vec_len outbox.new ≡ array_vec_len outbox.old + 1 }
     ensures frames { map (λ frame. frame.items) outbox.new.items
         ≡ map (λ frame. frame.items) outbox.old.items ++ response_frame identity.now caller.now address (answered response.now) ∷ [] }
+    ensures sendable { IsSendable identity.now (CallAnswer caller.now address (answered response.now)) }
 {
     let mut datagram = Datagram::new();
     write_response(response, &mut datagram);
-    outbox.put(&Layered {
+    let layered = Layered {
         // To whence the call came, without a look at who has that address: a wrong table of addresses misleads nobody.
         destination: caller.mac,
         source: identity.mac,
@@ -89,5 +99,7 @@ pub fn send_response(
             destination: caller.endpoint,
             body: datagram.as_slice(),
         }),
-    });
+    };
+    can_be_sent(&layered);
+    outbox.put(&layered);
 }

@@ -1,11 +1,13 @@
 // What a device sends of what its relation exchanges (IEC 61158-6-10, 4.7 and 4.8), and what is due with a unit of time.
 ghost use Rattle.std.specs.Prelude.{◌≡◌, ◌<◌, ◌≤◌, ◌+◌, ◌++◌, ◌∷◌, [], map};
 ghost use Rattle.arrayvec.specs.ArrayVec.{array_vec_len};
+ghost use Rattle.device_frames.specs.Sendable.{AreSendable};
 ghost use Rattle.device_frames.specs.Sent.{bytes_of};
 ghost use Rattle.device_frames.specs.Relation.{alarms_of, inputs_of, ready_calls, replies_of, where_due};
 ghost use Rattle.relations.specs.Link.{flow_of};
 
 use crate::relation::send_ready;
+use crate::sizes::{can_be_sent_in, cyclic_can_be_sent};
 use arrayvec::ArrayVec;
 use cyclic_exchange::send_cyclic;
 use frame_codec::{Outbox, Pieces};
@@ -24,6 +26,7 @@ pub fn send_inputs(
     requires room { array_vec_len outbox.old < 4 }
     ensures frames { map (λ frame. frame.items) outbox.new.items
         ≡ map (λ frame. frame.items) outbox.old.items ++ map (bytes_of identity.now) (where_due is_due (inputs_of counter (flow_of relation.now))) }
+    ensures sendable { AreSendable identity.now (where_due is_due (inputs_of counter (flow_of relation.now))) }
     ensures few { array_vec_len outbox.new ≤ array_vec_len outbox.old + 1 }
 {
     if !is_due {
@@ -32,7 +35,9 @@ pub fn send_inputs(
     let Some(exchange) = relation.exchange() else {
         return;
     };
-    send_cyclic(identity.mac, counter, exchange.cyclic(), outbox);
+    let cyclic = exchange.cyclic();
+    cyclic_can_be_sent(&identity.mac, cyclic.route());
+    send_cyclic(identity.mac, counter, cyclic, outbox);
 }
 
 /// Puts the alarm that stands in the relation into the box, behind what is in it, if there is one.
@@ -41,6 +46,7 @@ pub fn send_alarm(identity: &Identity, relation: &Relation, outbox: &mut Outbox)
     requires room { array_vec_len outbox.old < 4 }
     ensures frames { map (λ frame. frame.items) outbox.new.items
         ≡ map (λ frame. frame.items) outbox.old.items ++ map (bytes_of identity.now) (alarms_of (flow_of relation.now)) }
+    ensures sendable { AreSendable identity.now (alarms_of (flow_of relation.now)) }
     ensures few { array_vec_len outbox.new ≤ array_vec_len outbox.old + 1 }
 {
     let Some(exchange) = relation.exchange() else {
@@ -51,14 +57,16 @@ pub fn send_alarm(identity: &Identity, relation: &Relation, outbox: &mut Outbox)
     };
     let front = alarm.0;
     let route = exchange.route();
-    outbox.put_pieces(&Pieces {
+    let pieces = Pieces {
         destination: route.partner,
         source: identity.mac,
         tag: Some(route.alarm_tag),
         frame_id: PduType::Data.frame_id(),
         front: &front,
         behind: alarm.1,
-    });
+    };
+    can_be_sent_in(&pieces);
+    outbox.put_pieces(&pieces);
 }
 
 /// Puts the alarm that stands in the relation into the box, behind what is in it: if it is due, and there is one.
@@ -67,6 +75,7 @@ pub fn send_alarm_again(identity: &Identity, is_due: bool, relation: &Relation, 
     requires room { array_vec_len outbox.old < 4 }
     ensures frames { map (λ frame. frame.items) outbox.new.items
         ≡ map (λ frame. frame.items) outbox.old.items ++ map (bytes_of identity.now) (where_due is_due (alarms_of (flow_of relation.now))) }
+    ensures sendable { AreSendable identity.now (where_due is_due (alarms_of (flow_of relation.now))) }
     ensures few { array_vec_len outbox.new ≤ array_vec_len outbox.old + 1 }
 {
     if is_due {
@@ -77,8 +86,9 @@ pub fn send_alarm_again(identity: &Identity, is_due: bool, relation: &Relation, 
 /// Puts the answer to the data of an alarm that was taken so into the box, behind what is in it, if there is a relation.
 pub fn send_alarm_reply(identity: &Identity, taken: Taken, relation: &Relation, outbox: &mut Outbox)
     requires room { array_vec_len outbox.old < 4 }
-    ensures { map (λ frame. frame.items) outbox.new.items
+    ensures frames { map (λ frame. frame.items) outbox.new.items
         ≡ map (λ frame. frame.items) outbox.old.items ++ map (bytes_of identity.now) (replies_of taken (flow_of relation.now)) }
+    ensures sendable { AreSendable identity.now (replies_of taken (flow_of relation.now)) }
 {
     let Some(exchange) = relation.exchange() else {
         return;
@@ -86,14 +96,16 @@ pub fn send_alarm_reply(identity: &Identity, taken: Taken, relation: &Relation, 
     let route = exchange.route();
     let mut body: ArrayVec<u8, 12> = ArrayVec::new();
     exchange.put_reply(taken, &mut body);
-    outbox.put_pieces(&Pieces {
+    let pieces = Pieces {
         destination: route.partner,
         source: identity.mac,
         tag: Some(route.alarm_tag),
         frame_id: taken.answer().frame_id(),
         front: body.as_slice(),
         behind: &[],
-    });
+    };
+    can_be_sent_in(&pieces);
+    outbox.put_pieces(&pieces);
 }
 
 /// Puts ApplicationReady into the box, behind what is in it: if it is due, and there is a relation.
@@ -107,6 +119,7 @@ pub fn send_ready_again(
     requires room { array_vec_len outbox.old < 4 }
     ensures frames { map (λ frame. frame.items) outbox.new.items
         ≡ map (λ frame. frame.items) outbox.old.items ++ map (bytes_of identity.now) (where_due is_due (ready_calls address relation.now)) }
+    ensures sendable { AreSendable identity.now (where_due is_due (ready_calls address relation.now)) }
     ensures few { array_vec_len outbox.new ≤ array_vec_len outbox.old + 1 }
 {
     if is_due {

@@ -9,6 +9,7 @@ mod exchange;
 mod hearing;
 mod note;
 mod relation;
+mod sizes;
 
 pub use answers::{send_arp_reply, send_dcp_answer, send_response};
 pub use event::Event;

@@ -1,9 +1,11 @@
 // What a device sends of its relation: ApplicationReady, and the ERR that ends it (IEC 61158-6-10, 5.2.4.5 and 5.2.6).
 ghost use Rattle.std.specs.Prelude.{◌≡◌, ◌<◌, ◌≤◌, ◌+◌, ◌++◌, ◌∷◌, [], map};
 ghost use Rattle.arrayvec.specs.ArrayVec.{array_vec_len};
-ghost use Rattle.device_frames.specs.Sent.{bytes_of, farewell_frame};
+ghost use Rattle.device_frames.specs.Sendable.{AreSendable, IsSendable};
+ghost use Rattle.device_frames.specs.Sent.{Ends, bytes_of, farewell_frame};
 ghost use Rattle.device_frames.specs.Relation.{ready_calls};
 
+use crate::sizes::can_be_sent;
 use arrayvec::ArrayVec;
 use frame_codec::{Endpoint, Layered, Outbox, Payload, RPC_PORT, Udp};
 use pn_alarms::write_pdu;
@@ -18,12 +20,13 @@ const ARGS_MAXIMUM: u32 = 1_372;
 pub fn send_farewell(identity: &Identity, farewell: &Farewell, outbox: &mut Outbox)
     requires room { array_vec_len outbox.old < 4 }
     ensures frames { map (λ frame. frame.items) outbox.new.items ≡ map (λ frame. frame.items) outbox.old.items ++ farewell_frame identity.now farewell.now ∷ [] }
+    ensures sendable { IsSendable identity.now (Ends farewell.now) }
     ensures len { array_vec_len outbox.new ≡ array_vec_len outbox.old + 1 }
 {
     let pdu = farewell.pdu();
     let mut body: ArrayVec<u8, 16> = ArrayVec::new();
     write_pdu(&mut body, &pdu);
-    outbox.put(&Layered {
+    let layered = Layered {
         destination: farewell.initiator,
         source: identity.mac,
         tag: Some(farewell.tag),
@@ -31,7 +34,9 @@ pub fn send_farewell(identity: &Identity, farewell: &Farewell, outbox: &mut Outb
             frame_id: pdu.header.kind.frame_id(),
             body: body.as_slice(),
         },
-    });
+    };
+    can_be_sent(&layered);
+    outbox.put(&layered);
 }
 
 /// Puts ApplicationReady of the relation, if there is one, into the box, behind what is in it.
@@ -39,6 +44,7 @@ pub fn send_ready(identity: &Identity, address: [u8; 4], relation: &Relation, ou
     requires room { array_vec_len outbox.old < 4 }
     ensures frames { map (λ frame. frame.items) outbox.new.items
         ≡ map (λ frame. frame.items) outbox.old.items ++ map (bytes_of identity.now) (ready_calls address relation.now) }
+    ensures sendable { AreSendable identity.now (ready_calls address relation.now) }
     ensures few { array_vec_len outbox.new ≤ array_vec_len outbox.old + 1 }
 {
     let Some(ready) = relation.ready() else {
@@ -55,7 +61,7 @@ pub fn send_ready(identity: &Identity, address: [u8; 4], relation: &Relation, ou
         },
         &mut datagram,
     );
-    outbox.put(&Layered {
+    let layered = Layered {
         // To whence the Connect came, at the port of calls: a controller serves its interface there, whatever port it called from.
         destination: ready.partner.mac,
         source: identity.mac,
@@ -71,5 +77,7 @@ pub fn send_ready(identity: &Identity, address: [u8; 4], relation: &Relation, ou
             },
             body: datagram.as_slice(),
         }),
-    });
+    };
+    can_be_sent(&layered);
+    outbox.put(&layered);
 }

@@ -39,7 +39,7 @@ returns-in-Ok-read_response-clause-steps g c =
     let answer = answer_of (answered c.in-Ok-read_response.response) here.live.rest.link in
     quiet_steps g.F.Flash.image g.F.Flash.failures g.F.Flash.asked here _ (Told c.args.caller.now c.args.address (said_by c.args.body.now)) (judged_answer here.live answer) _ _ c.requires.stored
     (cond-true _ _ _ runs ∙ ap (judged_said here.station here.live c.args.caller.now) said)
-    (answer_asks_nothing here.live answer) c.hear_response.ensures.state c.hear_response.ensures.frames c.hear_response.ensures.note
+    (answer_asks_nothing here.live answer) c.hear_response.ensures.state c.hear_response.ensures.frames c.hear_response.ensures.note c.hear_response.ensures.sendable
 
 pub returns-in-Err-read_response-clause-steps : goal.returns-in-Err-read_response-clause-steps
 unfolding said_by

@@ -24,4 +24,4 @@ returns-clause-steps g c =
     let said = sym (ap (λ s. is_own s.station.identity c.args.destination || pointwise nat_eq c.args.destination.octets broadcast) c.self.view_is) ∙ sym c.is_asked.ensures ∙ c.if-not-is_asked.false in
     subst (λ is_asked. Steps g.F.Flash.image g.F.Flash.failures g.F.Flash.asked old (if is_asked then Resolves asker packet else Elsewhere) (map (λ frame. frame.items) c.resolve.new.outbox.items) c.resolve.result old) (sym said)
     (quiet_steps g.F.Flash.image g.F.Flash.failures g.F.Flash.asked old _ (Resolves asker packet) (judged_arp old.live asker packet) _ _ c.requires.stored refl
-    (arp_asks_nothing old.live asker packet) (ap (with_rest old) (sym (arp_leaves old.station old.live asker packet))) c.resolve.ensures.frames c.resolve.ensures.note)
+    (arp_asks_nothing old.live asker packet) (ap (with_rest old) (sym (arp_leaves old.station old.live asker packet))) c.resolve.ensures.frames c.resolve.ensures.note c.resolve.ensures.sendable)

@@ -7,6 +7,7 @@ use Rattle.device_frames.specs.declared.hearing.Kind.TheVariants as kind
 use Rattle.device_core.specs.Judged.{judged_cyclic}
 use Rattle.device_core.proofs.Judged.{cyclic_asks_nothing, cyclic_sends_nothing}
 use Rattle.device_core.proofs.OfKind.{kind_steps}
+use Rattle.device_core.proofs.Sendable.{none_sendable}
 use Rattle.device_core.proofs.Steps.{quiet_steps, refuses_steps}
 use Rattle.device_core.proofs.device.Device.hear_real_time.Goals as goal
 
@@ -21,7 +22,7 @@ returns-in-Cyclic-clause-steps g c =
     (quiet_steps g.F.Flash.image g.F.Flash.failures g.F.Flash.asked old _ (Cyclic source frame_id body) (judged_cyclic old.live source frame_id body) _ _ c.requires.stored refl
     (cyclic_asks_nothing old.live source frame_id body) c.hear_cyclic.ensures.state
     (ap (map (λ frame. frame.items)) c.requires.empty ∙ sym (ap (map (bytes_of old.station.identity)) (cyclic_sends_nothing old.station old.live source frame_id body)))
-    c.hear_cyclic.ensures.note)
+    c.hear_cyclic.ensures.note (none_sendable old.station.identity _ (cyclic_sends_nothing old.station old.live source frame_id body)))
 
 pub returns-in-Alarm-clause-steps : goal.returns-in-Alarm-clause-steps
 returns-in-Alarm-clause-steps g c =

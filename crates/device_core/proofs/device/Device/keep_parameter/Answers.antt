@@ -13,6 +13,13 @@ returns-clause-state g c =
     let link = rw (moves, c.keep-came.ensures.state) at c.hear_controller.ensures in
     rw (← c.self.view_is) (rw (calls, link) refl)
 
+pub returns-clause-sendable : goal.returns-clause-sendable
+returns-clause-sendable g c =
+    let kept = keeping c.args.parameter c.self.inside.relation in
+    let out = kept_as c.keep-came.result kept c.args.header.now c.keep-came.ensures.kept c.keep-came.ensures.refused in
+    let sendable = rw (c.address-address.ensures.value, c.running.ensures, c.requires.operation, c.put_written.ensures, out) at c.give.ensures.sendable in
+    rw (← c.self.view_is) (sendable, tt)
+
 pub returns-clause-frames : goal.returns-clause-frames
 returns-clause-frames g c =
     let kept = keeping c.args.parameter c.self.inside.relation in

@@ -7,6 +7,7 @@ use Rattle.device_core.specs.State.{with_rest}
 use Rattle.device_frames.specs.Sent.{bytes_of}
 use Rattle.device_frames.specs.Relation.{alarms_of}
 use Rattle.device_core.proofs.Exchanged.{notice_refused, notice_raised}
+use Rattle.device_core.proofs.Sendable.{none_sendable}
 use Rattle.settings_store.specs.Carries.{Holds}
 use Rattle.device_core.proofs.device.Device.raise.Goals as goal
 
@@ -43,3 +44,17 @@ returns-then-not-raise-clause-stored g c = subst (λ s. Holds (g.F.Flash.image s
 
 pub returns-clause-stored : goal.returns-clause-stored
 returns-clause-stored g c = subst (λ s. Holds (g.F.Flash.image s.flash) s.live.values) c.self.view_is c.self.invariant
+
+pub returns-then-not-raise-clause-sendable : goal.returns-then-not-raise-clause-sendable
+returns-then-not-raise-clause-sendable g c =
+    let old = c.args.self.now in
+    let flow = raised_to old.station.real.modules.items c.args.slot c.args.subslot c.args.octets.now old.live.rest.link in
+    let none : is_some flow ≡ false = rw (← c.self.view_is) (sym c.raise.ensures.done ∙ c.if-not-raise.true) in
+    none_sendable old.station.identity _ (ap (λ e. e.sent) (notice_refused old.station old.live flow none))
+
+pub returns-clause-sendable : goal.returns-clause-sendable
+returns-clause-sendable g c =
+    let old = c.args.self.now in
+    let flow = raised_to old.station.real.modules.items c.args.slot c.args.subslot c.args.octets.now old.live.rest.link in
+    let some : is_some flow ≡ true = rw (← c.self.view_is) (sym c.raise.ensures.done ∙ c.if-not-raise.false) in
+    rw (notice_raised old.station old.live flow some) (rw (← c.self.view_is) (rw c.raise.ensures.state at c.send_alarm.ensures.sendable))

@@ -5,13 +5,14 @@ use Rattle.relations.specs.Exchanged.{given_to, raised_to}
 use Rattle.device_frames.specs.Heard.{Ticks, Given, Raised, heard_of}
 use Rattle.device_core.specs.Judged.{judged_given, judged_raised}
 use Rattle.device_core.proofs.Judged.{input_asks_nothing, input_sends_nothing, notice_asks_nothing}
+use Rattle.device_core.proofs.Sendable.{none_sendable}
 use Rattle.device_core.proofs.Steps.{quiet_steps, moves_steps}
 use Rattle.device_core.proofs.device.Device.respond.Goals as goal
 
 pub returns-in-Tick-clause-steps : goal.returns-in-Tick-clause-steps
 unfolding heard_of
 returns-in-Tick-clause-steps g c = rw c.in-Tick.is
-    (moves_steps g.F.Flash.image g.F.Flash.failures g.F.Flash.asked c.args.self.now _ Ticks _ _ _ _ c.tick.ensures.stored refl c.tick.ensures.state c.tick.ensures.frames c.tick.ensures.note)
+    (moves_steps g.F.Flash.image g.F.Flash.failures g.F.Flash.asked c.args.self.now _ Ticks _ _ _ _ c.tick.ensures.stored refl c.tick.ensures.state c.tick.ensures.frames c.tick.ensures.note c.tick.ensures.sendable)
 
 pub returns-in-Input-clause-steps : goal.returns-in-Input-clause-steps
 unfolding heard_of
@@ -25,7 +26,7 @@ returns-in-Input-clause-steps g c =
     (quiet_steps g.F.Flash.image g.F.Flash.failures g.F.Flash.asked old _ (Given slot subslot value) (judged_given old.live slot subslot value) _ _ c.give.ensures.stored refl
     (input_asks_nothing old.live flow) c.give.ensures.state
     (ap (map (λ frame. frame.items)) c.requires.empty ∙ sym (ap (map (bytes_of old.station.identity)) (input_sends_nothing old.station old.live flow)))
-    c.give.ensures.note)
+    c.give.ensures.note (none_sendable old.station.identity _ (input_sends_nothing old.station old.live flow)))
 
 pub returns-in-Alarm-clause-steps : goal.returns-in-Alarm-clause-steps
 unfolding heard_of
@@ -36,4 +37,4 @@ returns-in-Alarm-clause-steps g c =
     let octets = c.as_slice-in-Alarm.result.now in
     rw (c.in-Alarm.is, ← c.as_slice-in-Alarm.ensures.value)
     (quiet_steps g.F.Flash.image g.F.Flash.failures g.F.Flash.asked old _ (Raised slot subslot octets) (judged_raised old.station old.live slot subslot octets) _ _ c.raise.ensures.stored refl
-    (notice_asks_nothing old.live (raised_to old.station.real.modules.items slot subslot octets old.live.rest.link)) c.raise.ensures.state c.raise.ensures.frames c.raise.ensures.note)
+    (notice_asks_nothing old.live (raised_to old.station.real.modules.items slot subslot octets old.live.rest.link)) c.raise.ensures.state c.raise.ensures.frames c.raise.ensures.note c.raise.ensures.sendable)

@@ -27,7 +27,7 @@ returns-in_default-blocks-clause-steps g c = λ heard is.
     let none : call.blocks ≡ None = rw c.in_default-blocks.is refl in
     moves_steps g.F.Flash.image g.F.Flash.failures g.F.Flash.asked here _ heard here.live.rest (answer_from here.live.values.running.suite.address caller call operation (Err Arguments) ∷ []) _ _ c.requires.stored
     (is ∙ ap (judged_call here.station here.live caller call) some ∙ ap (judged_blocks here.station here.live caller call operation) none)
-    refl c.refuse_arguments.ensures.frames c.refuse_arguments.ensures.note
+    refl c.refuse_arguments.ensures.frames c.refuse_arguments.ensures.note (c.refuse_arguments.ensures.sendable, tt)
 
 pub returns-in-Again-clause-steps : goal.returns-in-Again-clause-steps
 returns-in-Again-clause-steps g c = λ heard is.
@@ -43,7 +43,7 @@ returns-in-Again-clause-steps g c = λ heard is.
     moves_steps g.F.Flash.image g.F.Flash.failures g.F.Flash.asked here _ heard here.live.rest (Again frame ∷ []) _ _ c.requires.stored
     (is ∙ ap (judged_call here.station here.live caller call) some ∙ ap (judged_blocks here.station here.live caller call operation) counted
     ∙ ap (judged_looked here.station here.live caller call c.in-Some-blocks.blocks.now operation) told)
-    refl (rw (c.put_copy.ensures.items, c.requires.empty) refl) refl
+    refl (rw (c.put_copy.ensures.items, c.requires.empty) refl) refl (tt, tt)
 
 pub returns-in-Old-clause-steps : goal.returns-in-Old-clause-steps
 returns-in-Old-clause-steps g c = λ heard is.

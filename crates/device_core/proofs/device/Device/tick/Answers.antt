@@ -20,7 +20,7 @@ returns-in-Some-clause-frames g c =
 
 pub returns-in-None-clause-frames : goal.returns-in-None-clause-frames
 returns-in-None-clause-frames g c =
-    rw (← c.self.view_is) (rw (c.send_due.ensures, c.elapse-elapsed.ensures.due, c.elapse-elapsed.ensures.state, c.in-None.is) refl)
+    rw (← c.self.view_is) (rw (c.send_due.ensures.frames, c.elapse-elapsed.ensures.due, c.elapse-elapsed.ensures.state, c.in-None.is) refl)
 
 pub returns-in-Some-clause-state : goal.returns-in-Some-clause-state
 returns-in-Some-clause-state g c =
@@ -38,3 +38,13 @@ returns-in-None-clause-stored g c = subst (λ s. Holds (g.F.Flash.image s.flash)
 
 pub returns-then-is_nothing-clause-stored : goal.returns-then-is_nothing-clause-stored
 returns-then-is_nothing-clause-stored g c = subst (λ s. Holds (g.F.Flash.image s.flash) s.live.values) c.self.view_is c.self.invariant
+
+pub returns-in-Some-clause-sendable : goal.returns-in-Some-clause-sendable
+returns-in-Some-clause-sendable g c =
+    let elapsed = c.elapse-elapsed.result in
+    rw (← c.self.view_is) (rw (c.elapse-elapsed.ensures.due, c.elapse-elapsed.ensures.state, c.in-Some.is)
+    (rw (idle elapsed.is_alarm, idle elapsed.is_ready, idle elapsed.is_cyclic, append-nil (farewells_in (option_map (farewell_of c.in-Some.reason) c.elapse-elapsed.new.self))) c.end.ensures.sendable))
+
+pub returns-in-None-clause-sendable : goal.returns-in-None-clause-sendable
+returns-in-None-clause-sendable g c =
+    rw (← c.self.view_is) (rw (c.elapse-elapsed.ensures.due, c.elapse-elapsed.ensures.state, c.in-None.is) c.send_due.ensures.sendable)

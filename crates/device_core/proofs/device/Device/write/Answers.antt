@@ -24,7 +24,7 @@ returns-in-Keeps-clause-steps g c = λ heard is.
     rw (← c.self.view_is) (rw (← c.uuid.ensures) (sym c.judge_write.ensures ∙ c.in-Ok.is)) in
     quiet_steps g.F.Flash.image g.F.Flash.failures g.F.Flash.asked old _ heard (judged_effect old.station old.live c.args.serving.now.caller.now call c.in-Ok.field-0.request (Keeps c.in-Keeps.parameter)) _ _ c.requires.stored
     (is ∙ effect_as old.station old.live c.args.serving.now.caller.now call _ c.in-Ok.field-0 (Keeps c.in-Keeps.parameter) made c.in-Keeps.is)
-    refl c.keep_parameter.ensures.state c.keep_parameter.ensures.frames c.keep_parameter.ensures.note
+    refl c.keep_parameter.ensures.state c.keep_parameter.ensures.frames c.keep_parameter.ensures.note c.keep_parameter.ensures.sendable
 
 pub returns-in-Err-clause-steps : goal.returns-in-Err-clause-steps
 returns-in-Err-clause-steps g c = λ heard is.
@@ -34,4 +34,4 @@ returns-in-Err-clause-steps g c = λ heard is.
     rw (← c.self.view_is) (rw (← c.uuid.ensures) (sym c.judge_write.ensures ∙ c.in-Err.is)) in
     quiet_steps g.F.Flash.image g.F.Flash.failures g.F.Flash.asked old _ heard (judged_write old.station old.live c.args.serving.now.caller.now call (Err c.in-Err.fault)) _ _ c.requires.stored
     (is ∙ ap (judged_write old.station old.live c.args.serving.now.caller.now call) made)
-    refl c.refuse_write.ensures.state c.refuse_write.ensures.frames c.refuse_write.ensures.note
+    refl c.refuse_write.ensures.state c.refuse_write.ensures.frames c.refuse_write.ensures.note c.refuse_write.ensures.sendable

@@ -1,0 +1,108 @@
+// What is written has the sizes that its types say, so what fits a frame can be sent.
+ghost use Rattle.std.specs.Prelude.{◌≤◌, ◌<◌, List, Some, length, ℕ};
+ghost use Rattle.frame_codec.specs.Frame.{FitsFrame, content_size};
+ghost use Rattle.frame_codec.specs.Meaning.{RealTime, content_of, meaning_in, meaning_of};
+ghost use Rattle.frame_laws.specs.Sendable.{CanBeSent, IsContent, IsEndpoint, IsHolder, IsMac, IsTag, carrying};
+
+use cyclic_exchange::Route;
+use frame_codec::{Endpoint, Holder, Layered, Payload, Pieces};
+use pn_values::Mac;
+
+// Layers whose content fits.
+#[inline(always)]
+pub(crate) fn can_be_sent(layered: &Layered<'_>)
+    requires { FitsFrame (meaning_of layered.now) }
+    ensures { CanBeSent (meaning_of layered.now) }
+{
+    has_six(&layered.destination);
+    has_six(&layered.source);
+    has_two(layered.tag);
+    has_content(&layered.payload);
+}
+
+// A body in two pieces that fits.
+#[inline(always)]
+pub(crate) fn can_be_sent_in(pieces: &Pieces<'_>)
+    requires { FitsFrame (meaning_in pieces.now) }
+    ensures { CanBeSent (meaning_in pieces.now) }
+{
+    has_six(&pieces.destination);
+    has_six(&pieces.source);
+    has_two(pieces.tag);
+    let _frame_id = pieces.frame_id;
+}
+
+// A cyclic frame, whatever fits it.
+#[inline(always)]
+pub(crate) fn cyclic_can_be_sent(source: &Mac, route: &Route)
+    ensures { (body : List ℕ) → length body ≤ 1498 → CanBeSent (carrying route.now.partner source.now (Some route.now.sent_tag) (RealTime route.now.sent_id body)) }
+{
+    has_six(&route.partner);
+    has_six(source);
+    let _tag = route.sent_tag;
+    let _frame_id = route.sent_id;
+}
+
+// What a frame carries.
+#[inline(always)]
+fn has_content(payload: &Payload<'_>)
+    requires { content_size (content_of payload.now) ≤ 1500 }
+    ensures { IsContent (content_of payload.now) }
+{
+    match payload {
+        Payload::RealTime { frame_id, body: _ } => {
+            let _frame_id = *frame_id;
+        }
+        Payload::Arp(packet) => {
+            is_held(&packet.sender);
+            is_held(&packet.target);
+        }
+        Payload::Udp(datagram) => {
+            is_an_end(&datagram.source);
+            is_an_end(&datagram.destination);
+        }
+    }
+}
+
+// An address of Ethernet has six octets.
+#[inline(always)]
+fn has_six(mac: &Mac)
+    ensures { IsMac mac.now }
+{
+    let _octets: &[u8] = &mac.octets;
+}
+
+// The word of a tag has two.
+#[inline(always)]
+fn has_two(tag: Option<u16>)
+    ensures { IsTag tag }
+{
+    match tag {
+        Some(_word) => {}
+        None => {}
+    }
+}
+
+// Who holds an address.
+#[inline(always)]
+fn is_held(holder: &Holder)
+    ensures { IsHolder holder.now }
+{
+    has_six(&holder.mac);
+    let _octets: &[u8] = &holder.address;
+}
+
+// One end of a datagram.
+#[inline(always)]
+fn is_an_end(endpoint: &Endpoint)
+    ensures { IsEndpoint endpoint.now }
+{
+    let _octets: &[u8] = &endpoint.address;
+    is_port(endpoint.port);
+}
+
+// A port has two octets.
+#[inline(always)]
+fn is_port(port: u16)
+    ensures { port < 65536 }
+{}
