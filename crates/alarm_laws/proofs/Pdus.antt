@@ -13,13 +13,9 @@ use Rattle.pn_alarms.specs.declared.pdu.PduType.TheVariants as pdu
 use Rattle.pn_alarms.specs.Abort.{abort_of}
 use Rattle.pn_alarms.specs.Carried.{ack_of, alarm_pdu, notification_of}
 use Rattle.std.proofs.lemmas.Bool.{le-leb}
-use Rattle.std.proofs.lemmas.List.{length-append}
 use Rattle.wire.specs.Codec.{◌>>=◌}
-use Rattle.wire.specs.Formats.{big_bytes}
 use Rattle.pn_alarms.specs.Format.{Said, flags_of, header, is_long, kind, pdu_bytes, pdu_of}
 use Rattle.pn_alarms.specs.Message.{alarm_of, message_of, notice_in, notice_of}
-use Rattle.pn_alarms.proofs.Sound.{pdu_again, pdu_behind, pdu_spelled}
-use Rattle.pn_alarms.proofs.Sound.{header_sound, pdu_parts}
 use Rattle.block_laws.specs.Writable.{IsAck, IsAlarm}
 use Rattle.alarm_laws.specs.Sendable.{CanBeSaid, IsHeader, ack_pdu, empty_pdu}
 use Rattle.alarm_laws.proofs.Blocks.{BlocksAreLong, BlocksAreRead, ack_long, ack_read, alarm_long, alarm_read}
@@ -46,27 +42,20 @@ header_fits value is = (
   (omega (arith, is.source), (kind_fits value.kind, (flags_fit value.kind, (omega (arith, is.send_number), omega (arith, is.ack_number))))),
 )
 
-pub pdu_read : (said : Said) (more : List ℕ) → CanBeSaid said → pdu_of (pdu_bytes said ++ more) ≡ Ok said
-pdu_read said more is =
-    pdu_again _ said (pdu_behind (pdu_bytes said) more said (pdu_spelled said is.long (header_fits said.header is.header) (omega (arith, is.few))))
+-- what fits the format is read: a clause of the format
+abbrev pub FittingIsRead : Type 0
+FittingIsRead = (said : Said) (more : List ℕ) → header.Fits said.header → is_long said.header.kind (length said.body) ≡ true → length said.body < 65536 → pdu_of (pdu_bytes said ++ more) ≡ Ok said
 
--- a header has ten octets, and VarPartLen two
-header_size : (value : Header) → header.size value ≡ 10
-unfolding header kind
-header_size value = refl
-
-pub pdu_long : (said : Said) → length (pdu_bytes said) ≡ 12 + length said.body
-pdu_long said =
-    let front = header_sound.sized said.header [] in
-    ap (λ (xs : List ℕ). length xs) (pdu_parts said) ∙ omega (arith, length-append (header.write said.header []) (big_bytes 2 (length said.body) ++ said.body), front, header_size said.header)
+pub pdu_read : FittingIsRead → (said : Said) (more : List ℕ) → CanBeSaid said → pdu_of (pdu_bytes said ++ more) ≡ Ok said
+pdu_read fitting said more is = fitting said more (header_fits said.header is.header) is.long (omega (arith, is.few))
 
 -- ---- what it says
 
 -- what a PDU of a kind says to a station
-says : {B : Type 0} (block : List ℕ → Result B AlarmFault) (said : Said) (more : List ℕ) (type : PduType) (told : Notice B)
+says : {B : Type 0} (fitting : FittingIsRead) (block : List ℕ → Result B AlarmFault) (said : Said) (more : List ℕ) (type : PduType) (told : Notice B)
     → CanBeSaid said → said.header.kind ≡ type → notice_in block type said ≡ Ok told → notice_of block (pdu_bytes said ++ more) ≡ Ok (said.header, told)
-says {B = B} block said more type told is same e =
-    ap (λ (r : Result Said AlarmFault). r >>= (λ (s : Said). notice_in block s.header.kind s >>= λ (n : Notice B). Ok (s.header, n))) (pdu_read said more is)
+says {B = B} fitting block said more type told is same e =
+    ap (λ (r : Result Said AlarmFault). r >>= (λ (s : Said). notice_in block s.header.kind s >>= λ (n : Notice B). Ok (s.header, n))) (pdu_read fitting said more is)
     ∙ ap (λ (k : PduType). notice_in block k said >>= λ (n : Notice B). Ok (said.header, n)) same
     ∙ ap (λ (r : Result (Notice B) AlarmFault). r >>= λ (n : Notice B). Ok (said.header, n)) e
 
@@ -76,33 +65,33 @@ any_long pdu.Nack size many = refl
 any_long pdu.Ack size many = refl
 any_long pdu.Error size many = le-leb 4 size many
 
-pub ack_said : BlocksAreRead → BlocksAreLong → (value : Header) (ack : AlarmAck) (more : List ℕ) → value.kind ≡ pdu.Data → IsHeader value → IsAck ack
+pub ack_said : FittingIsRead → BlocksAreRead → BlocksAreLong → (value : Header) (ack : AlarmAck) (more : List ℕ) → value.kind ≡ pdu.Data → IsHeader value → IsAck ack
     → message_of (pdu_bytes (ack_pdu value ack) ++ more) ≡ Ok (value, notice.Data value.send_number ack)
-ack_said reads sized value ack more same is good =
+ack_said fitting reads sized value ack more same is good =
     let can : CanBeSaid (ack_pdu value ack) = record { header = is; long = any_long value.kind (length (ack_pdu value ack).body) (omega (arith, ack_long sized ack)); few = omega (arith, ack_long sized ack) } in
-    says ack_of (ack_pdu value ack) more pdu.Data (notice.Data value.send_number ack) can same (rw (ack_read reads ack good) refl)
+    says fitting ack_of (ack_pdu value ack) more pdu.Data (notice.Data value.send_number ack) can same (rw (ack_read reads ack good) refl)
 
-pub alarm_said : BlocksAreRead → BlocksAreLong → (value : Header) (alarm : AlarmNotification) (more : List ℕ) → value.kind ≡ pdu.Data → IsHeader value → IsAlarm alarm
+pub alarm_said : FittingIsRead → BlocksAreRead → BlocksAreLong → (value : Header) (alarm : AlarmNotification) (more : List ℕ) → value.kind ≡ pdu.Data → IsHeader value → IsAlarm alarm
     → alarm_of (pdu_bytes (alarm_pdu value alarm) ++ more) ≡ Ok (value, notice.Data value.send_number alarm)
-alarm_said reads sized value alarm more same is good =
+alarm_said fitting reads sized value alarm more same is good =
     let can : CanBeSaid (alarm_pdu value alarm) =
     record { header = is; long = any_long value.kind (length (alarm_pdu value alarm).body) (omega (arith, alarm_long sized alarm)); few = omega (arith, alarm_long sized alarm, good.few) } in
-    says notification_of (alarm_pdu value alarm) more pdu.Data (notice.Data value.send_number alarm) can same (rw (alarm_read reads alarm good) refl)
+    says fitting notification_of (alarm_pdu value alarm) more pdu.Data (notice.Data value.send_number alarm) can same (rw (alarm_read reads alarm good) refl)
 
 -- a PDU that carries nothing
 empty_is : (value : Header) (type : PduType) → value.kind ≡ type → is_long type 0 ≡ true → IsHeader value → CanBeSaid (empty_pdu value)
 empty_is value type same long is = record { header = is; long = rw same long; few = omega arith }
 
-pub ack_replied : {B : Type 0} (block : List ℕ → Result B AlarmFault) (value : Header) (more : List ℕ) → value.kind ≡ pdu.Ack → IsHeader value
+pub ack_replied : {B : Type 0} (fitting : FittingIsRead) (block : List ℕ → Result B AlarmFault) (value : Header) (more : List ℕ) → value.kind ≡ pdu.Ack → IsHeader value
     → notice_of block (pdu_bytes (empty_pdu value) ++ more) ≡ Ok (value, notice.Ack value.ack_number)
-ack_replied block value more same is = says block (empty_pdu value) more pdu.Ack (notice.Ack value.ack_number) (empty_is value pdu.Ack same refl is) same refl
+ack_replied fitting block value more same is = says fitting block (empty_pdu value) more pdu.Ack (notice.Ack value.ack_number) (empty_is value pdu.Ack same refl is) same refl
 
-pub nack_replied : {B : Type 0} (block : List ℕ → Result B AlarmFault) (value : Header) (more : List ℕ) → value.kind ≡ pdu.Nack → IsHeader value
+pub nack_replied : {B : Type 0} (fitting : FittingIsRead) (block : List ℕ → Result B AlarmFault) (value : Header) (more : List ℕ) → value.kind ≡ pdu.Nack → IsHeader value
     → notice_of block (pdu_bytes (empty_pdu value) ++ more) ≡ Ok (value, notice.Nack)
-nack_replied block value more same is = says block (empty_pdu value) more pdu.Nack notice.Nack (empty_is value pdu.Nack same refl is) same refl
+nack_replied fitting block value more same is = says fitting block (empty_pdu value) more pdu.Nack notice.Nack (empty_is value pdu.Nack same refl is) same refl
 
-pub end_said : {B : Type 0} (block : List ℕ → Result B AlarmFault) (reason : Abort) (destination source send_number ack_number : ℕ) (more : List ℕ)
+pub end_said : {B : Type 0} (fitting : FittingIsRead) (block : List ℕ → Result B AlarmFault) (reason : Abort) (destination source send_number ack_number : ℕ) (more : List ℕ)
     → IsHeader (abort_of reason destination source send_number ack_number).header
     → notice_of block (pdu_bytes (abort_of reason destination source send_number ack_number) ++ more) ≡ Ok ((abort_of reason destination source send_number ack_number).header, notice.Abort)
-end_said block reason destination source send_number ack_number more is =
-    says block (abort_of reason destination source send_number ack_number) more pdu.Error notice.Abort (record { header = is; long = refl; few = omega arith }) refl refl
+end_said fitting block reason destination source send_number ack_number more is =
+    says fitting block (abort_of reason destination source send_number ack_number) more pdu.Error notice.Abort (record { header = is; long = refl; few = omega arith }) refl refl

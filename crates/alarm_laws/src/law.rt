@@ -16,6 +16,7 @@ ghost use Rattle.block_laws.specs.Writable.{IsAck, IsAlarm};
 ghost use Rattle.alarm_laws.specs.Sendable.{CanBeSaid, IsHeader, ack_pdu, empty_pdu};
 
 use block_laws::blocks_are_read;
+use pn_alarms::fitting_pdus_are_read;
 
 /// What is written of a PDU is read as that PDU: a law of the definitions, and no code.
 pub fn pdus_are_read()
@@ -23,7 +24,9 @@ pub fn pdus_are_read()
     ensures read { (said : Said) (more : List ℕ) → CanBeSaid said → pdu_of (pdu_bytes said ++ more) ≡ Ok said }
     // How many octets it takes.
     ensures long { (said : Said) → length (pdu_bytes said) ≡ 12 + length said.body }
-{}
+{
+    fitting_pdus_are_read();
+}
 
 /// What a device reads of an AlarmAck: a law of the definitions, and no code.
 pub fn acks_are_read()
@@ -34,6 +37,7 @@ pub fn acks_are_read()
     ensures long { (ack : AlarmAck) → length (block_bytes (ack_block ack)) ≡ 22 }
 {
     blocks_are_read();
+    fitting_pdus_are_read();
 }
 
 /// What a controller reads of an alarm: a law of the definitions, and no code.
@@ -45,6 +49,7 @@ pub fn alarms_are_read()
     ensures long { (alarm : AlarmNotification) → length (block_bytes (alarm_block alarm)) ≡ 28 + length alarm.alarm_data }
 {
     blocks_are_read();
+    fitting_pdus_are_read();
 }
 
 /// What either end reads of an ACK or a NACK: laws of the definitions, and no code.
@@ -59,7 +64,9 @@ pub fn replies_are_read()
         → message_of (pdu_bytes (empty_pdu header) ++ more) ≡ Ok (header, notice.Nack) }
     ensures controller_nack { (header : Header) (more : List ℕ) → header.kind ≡ pdu.Nack → IsHeader header
         → alarm_of (pdu_bytes (empty_pdu header) ++ more) ≡ Ok (header, notice.Nack) }
-{}
+{
+    fitting_pdus_are_read();
+}
 
 /// What either end reads of an ERR: laws of the definitions, and no code.
 pub fn ends_are_read()
@@ -72,4 +79,6 @@ pub fn ends_are_read()
         → IsHeader (abort_of reason destination source send_number ack_number).header
         → alarm_of (pdu_bytes (abort_of reason destination source send_number ack_number) ++ more)
         ≡ Ok ((abort_of reason destination source send_number ack_number).header, notice.Abort) }
-{}
+{
+    fitting_pdus_are_read();
+}

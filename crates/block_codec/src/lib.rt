@@ -19,6 +19,7 @@
 mod block;
 mod block_reader;
 mod block_type;
+mod law;
 mod reading;
 mod writing;
 
@@ -30,6 +31,7 @@ pub use connect_blocks::{
     AlarmCrBlockReq, AlarmCrBlockRes, ArBlockReq, ArBlockRes, ControlBlock, IoObject, IoObjects,
     IocrBlockReq, IocrBlockRes, IocrType, RtClass,
 };
+pub use law::fitting_blocks_are_read;
 pub use module_blocks::{
     DiffModule, DiffModules, DiffSubmodule, ExpectedModule, ExpectedModules, ExpectedSubmodule,
     ExpectedSubmoduleBlockReq, ModuleDiffBlock, SubmoduleData,

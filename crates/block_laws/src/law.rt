@@ -5,6 +5,8 @@ ghost use Rattle.block_codec.specs.declared.block.Block.{Block};
 ghost use Rattle.block_codec.specs.Block.{block_bytes, block_of, block_size, front};
 ghost use Rattle.block_laws.specs.Writable.{AreRead, CanBeWritten, octets_of};
 
+use block_codec::fitting_blocks_are_read;
+
 /// What is written for a block is read as that block: laws of the definitions, and no code.
 pub fn blocks_are_read()
     // Whatever stands behind it, and where nothing does.
@@ -14,4 +16,6 @@ pub fn blocks_are_read()
     ensures each { (blocks : List Block) (rest : List ℕ) → AllByRecursion CanBeWritten blocks → AreRead (octets_of blocks ++ rest) blocks rest }
     // How many octets a block takes.
     ensures long { (block : Block) → length (block_bytes block) ≡ block_size block }
-{}
+{
+    fitting_blocks_are_read();
+}

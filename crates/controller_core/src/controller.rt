@@ -120,7 +120,8 @@ fn interval_of(times: Times) -> u32
     u32::from(times.send_clock_factor) * u32::from(times.reduction_ratio)
 }
 
-/// Opens the exchange of a plan: nothing was given, and the device is not known.
+/// Opens the exchange of a plan: nothing was given, and the device is not known. Both layouts stand on its own frame of the stack alone.
+#[inline(never)]
 fn open(exchange: &mut CyclicExchange, plan: &Plan)
     ensures { exchange.new ≡ first_cyclic plan.now }
 {
@@ -143,9 +144,7 @@ impl Controller {
     pub fn new(plan: Plan, ar: Uuid, activity: Uuid) -> Controller
         ensures { result ≡ fresh plan ar activity }
     {
-        let mut exchange = CyclicExchange::new();
-        open(&mut exchange, &plan);
-        Controller {
+        let mut controller = Controller {
             setup: Setup { plan, ar, activity },
             phase: State::Looking,
             device: Mac { octets: [0; 6] },
@@ -153,10 +152,13 @@ impl Controller {
             waited: 0,
             units: 0,
             stands: false,
-            exchange,
+            exchange: CyclicExchange::new(),
             alarms: ControllerAlarms::new(TIMEOUT_FACTOR, RETRIES),
             alarm: None,
-        }
+        };
+        // The exchange is large: it is opened where it stays.
+        open(&mut controller.exchange, &controller.setup.plan);
+        controller
     }
 
     /// The Identify with which it begins.

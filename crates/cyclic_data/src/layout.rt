@@ -45,6 +45,7 @@ impl Layout {
     ///
     /// A submodule with input, or with no data, has a data object in the input frames and an IOCS in the output frames; one with
     /// output has a data object in the output frames and an IOCS in the input frames.
+    #[inline(never)]
     pub fn check(
         direction: IocrType,
         data_length: u16,

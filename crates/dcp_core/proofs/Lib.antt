@@ -5,3 +5,4 @@ pub mod Every
 pub mod AnswerSound
 pub mod AnswerWritten
 pub mod Written
+pub mod Laws

@@ -13,3 +13,4 @@ pub mod Answer
 pub mod Answered
 pub mod Told
 pub mod Writing
+pub mod Sendable

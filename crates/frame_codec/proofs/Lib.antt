@@ -3,3 +3,4 @@ pub mod Layers
 pub mod Datagrams
 pub mod Frames
 pub mod Others
+pub mod Law

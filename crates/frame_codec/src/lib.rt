@@ -8,6 +8,7 @@ mod fields;
 mod frame;
 mod frame_id;
 mod internet;
+mod law;
 mod layered;
 mod limits;
 mod link;
@@ -24,6 +25,7 @@ pub use frame_id::{
     ALARM_HIGH, ALARM_LOW, DCP_GET_SET, DCP_IDENTIFY_REQUEST, DCP_IDENTIFY_RESPONSE, is_alarm,
     is_cyclic,
 };
+pub use law::{fitting_frames_are_read, formats_are_sound};
 pub use layered::{Layered, Payload, Pieces, RealTimeFrame};
 pub use limits::Bytes;
 pub use outbox::Outbox;

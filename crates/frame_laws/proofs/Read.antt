@@ -3,7 +3,7 @@ use Rattle.std.proofs.Common.{◌≡◌, ◌==◌, ◌+◌, ◌≤◌, ◌<◌, 
 use Rattle.std.specs.Prelude.{IsErr}
 use Rattle.std.proofs.lemmas.Bool.{lt-ltb}
 use Rattle.std.proofs.lemmas.List.{append-nil, length-append}
-use Rattle.wire.specs.Codec.{Codec, ◌>>=◌}
+use Rattle.wire.specs.Codec.{Codec, IsSound, IsSoundWhole, ◌>>=◌}
 use Rattle.wire.specs.Formats.{number}
 use Rattle.wire.specs.Whole.{ends_by, everything}
 use Rattle.pn_values.specs.declared.mac.Mac.{Mac}
@@ -13,19 +13,21 @@ use Rattle.frame_codec.specs.declared.fault.FrameFault.TheVariants.{TooLong, Too
 use Rattle.frame_codec.specs.declared.udp.Endpoint.{Endpoint}
 use Rattle.frame_codec.specs.Meaning.{Content, RealTime, ArpPacket, UdpDatagram, Meaning}
 use Rattle.frame_codec.specs.Internet.{internet_header, internet_size, internet_way, packet, size_behind, udp, udp_header}
-use Rattle.frame_codec.specs.Frame.{IsReadBack, content_under, datagram, mac, tag_and_type, frame_bytes, frame_of, layers, link, link_of, longest, padding_of, profinet, real_time, type_of, with_behind}
-use Rattle.frame_codec.proofs.Frames.{read_back}
-use Rattle.frame_codec.proofs.Layers.{layers_sound, link_sound}
+use Rattle.frame_codec.specs.Frame.{FitsFrame, IsReadBack, content_under, datagram, mac, tag_and_type, frame_bytes, frame_of, layers, link, link_of, longest, padding_of, profinet, real_time, type_of, with_behind}
 use Rattle.frame_laws.specs.Sendable.{CanBeSent, IsMac, IsRealTime, IsRealTimeOrNone, IsTag, carrying}
-use Rattle.frame_laws.proofs.Fits.{frame_fits, layers_fit, link_fits}
+use Rattle.frame_laws.proofs.Fits.{DatagramsFit, frame_fits, layers_fit, link_fits}
 
-pub back : (meaning : Meaning) → CanBeSent meaning → IsReadBack meaning
-back meaning is = read_back meaning (frame_fits meaning is.content) (layers_fit meaning is)
+-- what fits its formats is read: a clause of the formats
+abbrev pub FittingIsRead : Type 0
+FittingIsRead = (meaning : Meaning) → FitsFrame meaning → layers.Fits meaning → IsReadBack meaning
+
+pub back : FittingIsRead → DatagramsFit → (meaning : Meaning) → CanBeSent meaning → IsReadBack meaning
+back reads fit meaning is = reads meaning (frame_fits meaning is.content) (layers_fit fit meaning is)
 
 -- with nothing more behind it
-pub alone_back : (meaning : Meaning) → CanBeSent meaning → frame_of (frame_bytes meaning) ≡ Ok (with_behind meaning (padding_of meaning))
-alone_back meaning is =
-    let b = back meaning is in
+pub alone_back : FittingIsRead → DatagramsFit → (meaning : Meaning) → CanBeSent meaning → frame_of (frame_bytes meaning) ≡ Ok (with_behind meaning (padding_of meaning))
+alone_back reads fit meaning is =
+    let b = back reads fit meaning is in
     let short : length (frame_bytes meaning) + length {A = ℕ} [] ≤ longest meaning.tag = omega (arith, b.most) in
     ap frame_of (sym (append-nil (frame_bytes meaning))) ∙ b.again [] short ∙ ap (λ (more : List ℕ). Ok (with_behind meaning more)) (append-nil (padding_of meaning))
 
@@ -55,32 +57,32 @@ under bytes rest destination source tag frame_id body e =
     (link_of (carrying destination source tag (RealTime frame_id body))) (λ x. record { destination = x.0.destination; source = x.0.source; tag = x.0.tag; content = x.1 }) (λ x. tt)))
 
 -- what is written begins with its link header
-parts : (meaning : Meaning) → frame_bytes meaning ≡ link.write (link_of meaning) ((content_under (type_of meaning.content)).write meaning.content ++ padding_of meaning)
+parts : IsSound link → (meaning : Meaning) → frame_bytes meaning ≡ link.write (link_of meaning) ((content_under (type_of meaning.content)).write meaning.content ++ padding_of meaning)
 unfolding frame_bytes layers
-parts meaning =
+parts sound meaning =
     let header = link_of meaning in
     let body = (content_under (type_of meaning.content)).write meaning.content in
-    ap (λ (xs : List ℕ). xs ++ padding_of meaning) (link_sound.local header body) ∙ append_assoc (link.write header []) body (padding_of meaning)
-    ∙ sym (link_sound.local header (body ++ padding_of meaning))
+    ap (λ (xs : List ℕ). xs ++ padding_of meaning) (sound.local header body) ∙ append_assoc (link.write header []) body (padding_of meaning)
+    ∙ sym (sound.local header (body ++ padding_of meaning))
 
 -- the link header in front of a frame is read
-link_read : (meaning : Meaning) → IsMac meaning.destination → IsMac meaning.source → IsTag meaning.tag
+link_read : IsSound link → (meaning : Meaning) → IsMac meaning.destination → IsMac meaning.source → IsTag meaning.tag
     → link.read (frame_bytes meaning) ≡ Ok (link_of meaning, (content_under (type_of meaning.content)).write meaning.content ++ padding_of meaning)
-link_read meaning one other tagged =
+link_read sound meaning one other tagged =
     let rest = (content_under (type_of meaning.content)).write meaning.content ++ padding_of meaning in
-    ap (λ (xs : List ℕ). link.read xs) (parts meaning) ∙ link_sound.again _ (link_of meaning) rest (link_sound.written (link_of meaning) rest (link_fits meaning one other tagged))
+    ap (λ (xs : List ℕ). link.read xs) (parts sound meaning) ∙ sound.again _ (link_of meaning) rest (sound.written (link_of meaning) rest (link_fits meaning one other tagged))
 
-pub alone : (destination source : Mac) (tag : Option ℕ) (frame_id : ℕ) (body : List ℕ) → IsMac destination → IsMac source → IsTag tag
+pub alone : IsSound link → (destination source : Mac) (tag : Option ℕ) (frame_id : ℕ) (body : List ℕ) → IsMac destination → IsMac source → IsTag tag
     → IsRealTimeOrNone (frame_of (frame_bytes (carrying destination source tag (RealTime frame_id body))))
-alone destination source tag frame_id body one other tagged =
+alone sound destination source tag frame_id body one other tagged =
     let meaning = carrying destination source tag (RealTime frame_id body) in
-    under (frame_bytes meaning) _ destination source tag frame_id body (link_read meaning one other tagged)
+    under (frame_bytes meaning) _ destination source tag frame_id body (link_read sound meaning one other tagged)
 
 -- ---- what does not fit
 
-too_long : (meaning : Meaning) → IsMac meaning.destination → IsMac meaning.source → IsTag meaning.tag → longest meaning.tag < length (frame_bytes meaning) → IsErr (frame_of (frame_bytes meaning))
+too_long : IsSound link → (meaning : Meaning) → IsMac meaning.destination → IsMac meaning.source → IsTag meaning.tag → longest meaning.tag < length (frame_bytes meaning) → IsErr (frame_of (frame_bytes meaning))
 unfolding frame_of
-too_long meaning one other tagged many = rw (link_read meaning one other tagged, lt-ltb (longest meaning.tag) (length (frame_bytes meaning)) many) refl
+too_long sound meaning one other tagged many = rw (link_read sound meaning one other tagged, lt-ltb (longest meaning.tag) (length (frame_bytes meaning)) many) refl
 
 datagram_size : (from to : Endpoint) (body : List ℕ) → length from.address ≡ 4 → length to.address ≡ 4 → datagram.size (UdpDatagram from to body) ≡ 28 + length body
 unfolding datagram packet internet_header internet_size internet_way size_behind udp udp_header
@@ -100,9 +102,9 @@ longer : (meaning : Meaning) (most : ℕ) → most < length (layers.write meanin
 unfolding frame_bytes
 longer meaning most many = omega (arith, length-append (layers.write meaning) (padding_of meaning), many)
 
-pub long : (destination source : Mac) (tag : Option ℕ) (from to : Endpoint) (body : List ℕ) → IsMac destination → IsMac source → IsTag tag
+pub long : IsSound link → IsSoundWhole layers → (destination source : Mac) (tag : Option ℕ) (from to : Endpoint) (body : List ℕ) → IsMac destination → IsMac source → IsTag tag
     → length from.address ≡ 4 → length to.address ≡ 4 → 1472 < length body
     → IsErr (frame_of (frame_bytes (carrying destination source tag (UdpDatagram from to body))))
-long destination source tag from to body one other tagged first second many =
+long sound whole destination source tag from to body one other tagged first second many =
     let meaning = carrying destination source tag (UdpDatagram from to body) in
-    too_long meaning one other tagged (longer meaning (longest tag) (omega (arith, layers_sound.sized meaning, frame_size destination source tag from to body one other, datagram_size from to body first second, tag_size tag, many)))
+    too_long sound meaning one other tagged (longer meaning (longest tag) (omega (arith, whole.sized meaning, frame_size destination source tag from to body one other, datagram_size from to body first second, tag_size tag, many)))

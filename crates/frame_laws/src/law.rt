@@ -7,6 +7,8 @@ ghost use Rattle.frame_codec.specs.Meaning.{ArpPacket, Meaning, RealTime, UdpDat
 ghost use Rattle.frame_codec.specs.Frame.{IsReadBack, frame_bytes, frame_of, padding_of};
 ghost use Rattle.frame_laws.specs.Sendable.{CanBeSent, IsMac, IsRealTimeOrNone, IsTag, carrying};
 
+use frame_codec::{fitting_frames_are_read, formats_are_sound};
+
 /// What is written for a frame is read as that frame: laws of the definitions, and no code.
 pub fn frames_are_read()
     // Whatever it carries, it has 60 octets at least and no more than a frame may have, and is read as what was given with its padding
@@ -31,4 +33,7 @@ pub fn frames_are_read()
     ensures long { (destination source : Mac) (tag : Option ℕ) (from to : Endpoint) (body : List ℕ) → IsMac destination → IsMac source → IsTag tag
         → length from.address ≡ 4 → length to.address ≡ 4 → 1472 < length body
         → IsErr (frame_of (frame_bytes (carrying destination source tag (UdpDatagram from to body)))) }
-{}
+{
+    fitting_frames_are_read();
+    formats_are_sound();
+}

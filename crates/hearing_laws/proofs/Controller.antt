@@ -28,7 +28,7 @@ use Rattle.pn_alarms.specs.Message.{ToController, alarm_of}
 use Rattle.plans.specs.declared.parts.Controller.{Controller}
 use Rattle.controller_frames.specs.Heard.{Alarms, Answers, Calls, Cyclic, Heard, Nothing, Responds, heard_alarm, heard_answer, heard_body, heard_call, heard_content, heard_first, heard_of, heard_read, heard_real_time, heard_response, is_to}
 use Rattle.frame_laws.specs.Sendable.{CanBeSent, IsMac, IsRealTime, IsRealTimeOrNone, IsTag, carrying}
-use Rattle.call_laws.specs.Sendable.{CanBeAnswered, CanBeCalled}
+use Rattle.rpc_core.specs.Sendable.{CanBeAnswered, CanBeCalled}
 use Rattle.hearing_laws.specs.Hearing.{IsUncalled, mine_hears, mine_told, padded}
 use Rattle.hearing_laws.proofs.Given.{CallsAreNoResponses, CallsAreRead, DataIsAlone, DataIsRead, DatagramsAreRead, DeviceIsMeant, PacketsAreRead, ResponsesAreNoCalls, ResponsesAreRead}
 use Rattle.hearing_laws.proofs.Choices.{same_chosen}

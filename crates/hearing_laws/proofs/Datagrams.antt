@@ -21,7 +21,7 @@ use Rattle.controller_frames.specs.declared.setup.Setup.{Setup}
 use Rattle.controller_frames.specs.Heard.{Calls as Called, Nothing, Responds as Responded, heard_of as controller_hears, heard_read}
 use Rattle.controller_frames.specs.Sent.{answer_frame, call_frame, calls_at}
 use Rattle.frame_laws.specs.Sendable.{CanBeSent, IsEndpoint, IsMac, carrying}
-use Rattle.call_laws.specs.Sendable.{CanBeAnswered, CanBeCalled, IsHeader}
+use Rattle.rpc_core.specs.Sendable.{CanBeAnswered, CanBeCalled, IsHeader}
 use Rattle.hearing_laws.specs.Hearing.{comes, mine_told, own_told}
 use Rattle.hearing_laws.specs.Stations.{IsAddress, IsCaller, IsDevice, IsSetup, ready_call}
 use Rattle.hearing_laws.proofs.Given.{CallsAreNoResponses, CallsAreRead, CallsAreShort, ControllerIsMeant, DatagramsAreRead, DeviceIsMeant, LongDatagramsAreLost, ResponsesAreLong, ResponsesAreNoCalls, ResponsesAreRead, ResponsesAreShort}

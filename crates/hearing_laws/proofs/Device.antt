@@ -26,7 +26,7 @@ use Rattle.pn_alarms.specs.Format.{frame_id_of}
 use Rattle.pn_alarms.specs.Message.{ToDevice, message_of}
 use Rattle.device_frames.specs.Heard.{Alarms, Asks, Calls, Cyclic, Elsewhere, Garbled, Heard, Resolves, Responds, Said, heard_alarm, heard_content, heard_frame, heard_of, heard_request, identify_multicast, is_own, is_taken, said_by, said_else, said_first}
 use Rattle.frame_laws.specs.Sendable.{CanBeSent, IsMac, IsRealTime, IsRealTimeOrNone, IsTag, carrying}
-use Rattle.call_laws.specs.Sendable.{CanBeAnswered, CanBeCalled}
+use Rattle.rpc_core.specs.Sendable.{CanBeAnswered, CanBeCalled}
 use Rattle.hearing_laws.specs.Hearing.{IsUntold, all_hears, comes, own_hears, own_told, padded}
 use Rattle.hearing_laws.proofs.Given.{CallsAreNoResponses, CallsAreRead, ControllerIsMeant, DataIsAlone, DataIsRead, DatagramsAreRead, PacketsAreRead, ResponsesAreNoCalls, ResponsesAreRead}
 use Rattle.hearing_laws.proofs.Choices.{alarm_chosen, alarm_is, alarm_no_get_set, alarm_no_identify, cyclic_chosen, no_alarm, no_get_set, no_identify}

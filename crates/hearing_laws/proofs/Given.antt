@@ -14,7 +14,7 @@ use Rattle.block_codec.specs.declared.block.Block.{Block}
 use Rattle.block_codec.specs.Block.{block_bytes, block_size}
 use Rattle.pn_alarms.specs.Format.{Said, pdu_bytes}
 use Rattle.frame_laws.specs.Sendable.{CanBeSent, IsMac, IsRealTimeOrNone, IsTag, carrying}
-use Rattle.call_laws.specs.Sendable.{CanBeAnswered, CanBeCalled, IsHeader}
+use Rattle.rpc_core.specs.Sendable.{CanBeAnswered, CanBeCalled, IsHeader}
 
 -- ---- of frames
 

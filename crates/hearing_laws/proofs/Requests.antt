@@ -26,7 +26,7 @@ use Rattle.controller_frames.specs.declared.setup.Setup.{Setup}
 use Rattle.controller_frames.specs.Requests.{address_asked, identify_asked}
 use Rattle.controller_frames.specs.Sent.{Requests, bytes_of as controller_bytes, identify_multicast}
 use Rattle.frame_laws.specs.Sendable.{CanBeSent, IsMac, carrying}
-use Rattle.discovery_laws.specs.Sendable.{CanBeAsked}
+use Rattle.dcp_core.specs.Sendable.{CanBeAsked}
 use Rattle.hearing_laws.specs.Hearing.{comes, own_hears, padded}
 use Rattle.hearing_laws.specs.Stations.{IsSetup}
 use Rattle.hearing_laws.proofs.Given.{DataIsRead}

@@ -26,7 +26,7 @@ use Rattle.controller_frames.specs.Requests.{blocks_of as blocks_for, call_for, 
 use Rattle.relations.specs.declared.ready.Ready.{Ready}
 use Rattle.rpc_core.specs.Call.{Asked as Call}
 use Rattle.controller_frames.specs.Sent.{ready_answer, ready_done}
-use Rattle.call_laws.specs.Sendable.{CanBeAnswered, CanBeCalled, IsHeader, IsUuid}
+use Rattle.rpc_core.specs.Sendable.{CanBeAnswered, CanBeCalled, IsHeader, IsUuid}
 use Rattle.hearing_laws.specs.Stations.{IsCalled, IsNumbered, IsSetup, ready_call}
 use Rattle.hearing_laws.proofs.Given.{BlocksAreLong}
 

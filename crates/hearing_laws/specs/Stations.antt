@@ -16,7 +16,7 @@ use Rattle.controller_frames.specs.declared.request.Request.{Request}
 use Rattle.controller_frames.specs.declared.request.Request.TheVariants as asks
 use Rattle.controller_frames.specs.declared.setup.Setup.{Setup}
 use Rattle.frame_laws.specs.Sendable.{IsEndpoint, IsMac}
-use Rattle.call_laws.specs.Sendable.{IsUuid}
+use Rattle.rpc_core.specs.Sendable.{IsUuid}
 
 -- an address of IPv4
 abbrev pub IsAddress : List ℕ → Type 0

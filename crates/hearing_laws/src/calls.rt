@@ -20,12 +20,12 @@ ghost use Rattle.controller_frames.specs.Heard.{Calls as Called, Nothing, Respon
 ghost use Rattle.controller_frames.specs.Requests.{call_for};
 ghost use Rattle.controller_frames.specs.Sent.{answer_frame, call_frame, calls_at, ready_answer};
 ghost use Rattle.frame_laws.specs.Sendable.{IsMac, IsTag, carrying};
-ghost use Rattle.call_laws.specs.Sendable.{CanBeAnswered, CanBeCalled, IsHeader, IsUuid};
+ghost use Rattle.rpc_core.specs.Sendable.{CanBeAnswered, CanBeCalled, IsHeader, IsUuid};
 ghost use Rattle.hearing_laws.specs.Hearing.{IsUncalled, IsUntold, comes, mine_told, own_told};
 ghost use Rattle.hearing_laws.specs.Stations.{IsAddress, IsCalled, IsCaller, IsDevice, IsNumbered, IsSetup, ready_call};
 
 use block_laws::blocks_are_read;
-use call_laws::{
+use rpc_core::{
     calls_and_responses_differ, calls_are_read, calls_name_their_interface, responses_are_read,
 };
 use frame_laws::frames_are_read;

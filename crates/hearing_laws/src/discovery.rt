@@ -23,7 +23,7 @@ ghost use Rattle.frame_laws.specs.Sendable.{IsHolder, IsMac};
 ghost use Rattle.hearing_laws.specs.Hearing.{all_hears, comes, mine_hears, own_hears};
 ghost use Rattle.hearing_laws.specs.Stations.{IsAddress, IsDevice, IsSetup};
 
-use discovery_laws::{answers_are_read, requests_are_read};
+use dcp_core::{answers_are_read, requests_are_read};
 use frame_laws::frames_are_read;
 
 /// What a device hears of the controller's requests of DCP: laws of the definitions.

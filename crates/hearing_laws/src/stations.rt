@@ -1,6 +1,6 @@
 //! The stations that there are.
 ghost use Rattle.frame_laws.specs.Sendable.{IsMac};
-ghost use Rattle.call_laws.specs.Sendable.{IsUuid};
+ghost use Rattle.rpc_core.specs.Sendable.{IsUuid};
 ghost use Rattle.hearing_laws.specs.Stations.{IsAddress, IsDevice, IsSetup};
 
 use controller_frames::Setup;

@@ -51,6 +51,10 @@ pub modules_few : (value : Listed DiffModule DiffSubmodule) → diff_modules.siz
 unfolding diff_modules diff_module diff_submodule
 modules_few value = few (λ _. diff_module) own_of (λ _. diff_submodule) 10 8 (λ _ _. omega arith) (λ _ _. omega arith) value
 
+pub diff_short : (block : ModuleDiffBlock) → module_diff.size block ≤ 8 + length block.modules.modules * 10 + length block.modules.submodules * 8
+unfolding module_diff
+diff_short block = let most = modules_few block.modules in omega arith
+
 -- modules that count the submodules that there are, and whose fields fit, can be written
 pub modules_fit : (value : Listed DiffModule DiffSubmodule) → length value.modules ≤ 256 → length value.submodules ≤ 256 → IsCounted value
     → FitsNested diff_module.Fits own_of diff_submodule.Fits value.modules value.submodules → diff_modules.Fits value

@@ -4,6 +4,7 @@
 #![tactic(auto)]
 
 mod expected;
+mod law;
 mod module_diff;
 mod submodule_data;
 
@@ -11,6 +12,7 @@ pub use expected::{
     ExpectedModule, ExpectedModules, ExpectedSubmodule, ExpectedSubmoduleBlockReq, expected_at,
     expected_in, expected_len, put_expected,
 };
+pub use law::diffs_are_short;
 pub use module_diff::{
     DiffModule, DiffModules, DiffSubmodule, ModuleDiffBlock, module_diff_at, module_diff_len,
     put_module_diff,

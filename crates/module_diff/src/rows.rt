@@ -6,7 +6,7 @@ ghost use Rattle.module_diff.specs.Rows.{AreRows};
 
 use crate::differing::split_own;
 use arrayvec::ArrayVec;
-use module_blocks::{DiffModule, DiffModules, DiffSubmodule, ModuleDiffBlock};
+use module_blocks::{DiffModule, DiffModules, DiffSubmodule, ModuleDiffBlock, diffs_are_short};
 use std::marker::Model;
 
 /// The modules that differ, in the order asked for, each with the submodules that are listed of it: at most 64 modules, and at
@@ -77,6 +77,7 @@ impl DiffRows {
         ensures few_submodules { length result.modules.submodules ≤ 64 }
         ensures small { module_diff.size result ≤ 1160 }
     {
+        diffs_are_short();
         ModuleDiffBlock {
             api: 0,
             modules: DiffModules::lent(&self.modules, &self.submodules),

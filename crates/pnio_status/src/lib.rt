@@ -3,8 +3,10 @@
 #![tactic(auto)]
 
 mod call_fault;
+mod law;
 mod operation;
 
 pub use call_fault::{CallFault, done};
+pub use law::refusals_are_not_done;
 pub use operation::Operation;
 pub use rpc_core::Status;

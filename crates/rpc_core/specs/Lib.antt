@@ -9,3 +9,4 @@ pub mod Response
 pub mod Cache
 pub mod Slots
 pub mod Told
+pub mod Sendable

@@ -8,6 +8,7 @@ mod fault;
 mod fields;
 mod header;
 mod interface;
+mod law;
 mod pdu;
 mod response;
 mod writing;
@@ -17,6 +18,9 @@ pub use call::{Call, read_call};
 pub use fault::RpcFault;
 pub use header::Header;
 pub use interface::Interface;
+pub use law::{
+    calls_and_responses_differ, calls_are_read, calls_name_their_interface, responses_are_read,
+};
 pub use response::{Response, Status, read_response};
 pub use uuid::Uuid;
 pub use writing::{Datagram, write_request, write_response};

@@ -18,7 +18,7 @@ use Rattle.cyclic_data.specs.Tail.{cyclic_frame, cyclic_tail}
 use Rattle.pn_alarms.specs.Numbers.{next_number}
 use Rattle.cyclic_exchange.specs.Frames.{cyclic_body}
 use Rattle.controller_frames.specs.Sent.{ready_answer, ready_done}
-use Rattle.call_laws.specs.Sendable.{CanBeAnswered, IsHeader}
+use Rattle.rpc_core.specs.Sendable.{CanBeAnswered, IsHeader}
 use Rattle.sending_laws.specs.Sized.{IsShort}
 
 abbrev pub BlocksAreLong : Type 0

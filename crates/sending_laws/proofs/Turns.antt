@@ -57,7 +57,7 @@ use Rattle.controller_core.specs.Machine.{Turn, acks_in, addressed, alarmed, ans
 use Rattle.controller_core.specs.State.{Live}
 use Rattle.alarm_laws.specs.Sendable.{IsHeader}
 use Rattle.block_laws.specs.Writable.{IsAck}
-use Rattle.call_laws.specs.Sendable.{IsHeader as IsCallHeader}
+use Rattle.rpc_core.specs.Sendable.{IsHeader as IsCallHeader}
 use Rattle.hearing_laws.specs.Stations.{IsCaller, IsNumbered, IsSetup}
 use Rattle.sending_laws.specs.Messages.{CanBeSent, IsWay}
 use Rattle.sending_laws.specs.Sized.{AreFew, Found, IsAckOrNone, IsFew, IsLive, IsNoted, IsNotice, IsShort, IsSized, IsSizedEvent}

@@ -12,7 +12,7 @@ use Rattle.exchanges.specs.Frames.{Frame, Inputs, Notifies, Replies}
 use Rattle.relations.specs.Farewells.{said_by}
 use Rattle.device_frames.specs.Sent.{Sent, IdentifyAnswer, GetAnswer, SetAnswer, ArpReply, CallAnswer, Again, ReadyCall, Ends, Exchanges}
 use Rattle.frame_laws.specs.Sendable.{IsHolder, IsMac}
-use Rattle.call_laws.specs.Sendable.{CanBeAnswered, CanBeCalled}
+use Rattle.rpc_core.specs.Sendable.{CanBeAnswered, CanBeCalled}
 use Rattle.block_laws.specs.Writable.{IsAlarm}
 use Rattle.alarm_laws.specs.Sendable.{IsHeader}
 use Rattle.hearing_laws.specs.Stations.{IsAddress, IsCaller, IsRoute, ready_call}

@@ -6,7 +6,7 @@ use Rattle.cyclic_exchange.specs.Frames.{cyclic_body}
 use Rattle.controller_frames.specs.declared.setup.Setup.{Setup}
 use Rattle.controller_frames.specs.Sent.{Sent, Requests, Agrees, Cycles, Confirms, Replies, Ends}
 use Rattle.frame_laws.specs.Sendable.{IsMac}
-use Rattle.call_laws.specs.Sendable.{CanBeAnswered}
+use Rattle.rpc_core.specs.Sendable.{CanBeAnswered}
 use Rattle.block_laws.specs.Writable.{IsAck}
 use Rattle.alarm_laws.specs.Sendable.{IsHeader}
 use Rattle.hearing_laws.specs.Stations.{IsCaller, IsNumbered}

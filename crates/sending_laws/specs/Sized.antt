@@ -13,7 +13,7 @@ use Rattle.controller_core.specs.declared.event.Event.TheVariants.{Frame, Tick, 
 use Rattle.controller_core.specs.Connect.{found_in, nothing}
 use Rattle.controller_core.specs.State.{Live}
 use Rattle.frame_laws.specs.Sendable.{IsMac}
-use Rattle.call_laws.specs.Sendable.{IsHeader}
+use Rattle.rpc_core.specs.Sendable.{IsHeader}
 use Rattle.block_laws.specs.Writable.{IsAck}
 use Rattle.hearing_laws.specs.Stations.{IsCaller}
 use Rattle.sending_laws.specs.Messages.{IsWay}

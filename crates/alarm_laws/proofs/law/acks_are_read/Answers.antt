@@ -1,10 +1,10 @@
--- By the proofs of the formats.
+-- By the laws of the formats.
 use Rattle.alarm_laws.proofs.Blocks.{ack_long}
 use Rattle.alarm_laws.proofs.Pdus.{ack_said}
 use Rattle.alarm_laws.proofs.law.acks_are_read.Goals as goal
 
 pub returns-clause-read : goal.returns-clause-read
-returns-clause-read c = ack_said c.blocks_are_read.ensures.alone c.blocks_are_read.ensures.long
+returns-clause-read c = ack_said c.fitting_pdus_are_read.ensures.read c.blocks_are_read.ensures.alone c.blocks_are_read.ensures.long
 
 pub returns-clause-long : goal.returns-clause-long
 returns-clause-long c = ack_long c.blocks_are_read.ensures.long

@@ -1,10 +1,10 @@
--- By the proofs of the formats.
+-- By the laws of the formats.
 use Rattle.alarm_laws.proofs.Blocks.{alarm_long}
 use Rattle.alarm_laws.proofs.Pdus.{alarm_said}
 use Rattle.alarm_laws.proofs.law.alarms_are_read.Goals as goal
 
 pub returns-clause-read : goal.returns-clause-read
-returns-clause-read c = alarm_said c.blocks_are_read.ensures.alone c.blocks_are_read.ensures.long
+returns-clause-read c = alarm_said c.fitting_pdus_are_read.ensures.read c.blocks_are_read.ensures.alone c.blocks_are_read.ensures.long
 
 pub returns-clause-long : goal.returns-clause-long
 returns-clause-long c = alarm_long c.blocks_are_read.ensures.long

@@ -1,10 +1,10 @@
--- By the proofs of the formats.
+-- By the laws of the formats.
 use Rattle.pn_alarms.specs.Carried.{ack_of, notification_of}
 use Rattle.alarm_laws.proofs.Pdus.{end_said}
 use Rattle.alarm_laws.proofs.law.ends_are_read.Goals as goal
 
 pub returns-clause-device : goal.returns-clause-device
-returns-clause-device c = end_said ack_of
+returns-clause-device c = end_said c.fitting_pdus_are_read.ensures.read ack_of
 
 pub returns-clause-controller : goal.returns-clause-controller
-returns-clause-controller c = end_said notification_of
+returns-clause-controller c = end_said c.fitting_pdus_are_read.ensures.read notification_of

@@ -1,9 +1,6 @@
--- By the proofs of the formats.
-use Rattle.alarm_laws.proofs.Pdus.{pdu_long, pdu_read}
+-- By the law of the format.
+use Rattle.alarm_laws.proofs.Pdus.{pdu_read}
 use Rattle.alarm_laws.proofs.law.pdus_are_read.Goals as goal
 
 pub returns-clause-read : goal.returns-clause-read
-returns-clause-read c = pdu_read
-
-pub returns-clause-long : goal.returns-clause-long
-returns-clause-long c = pdu_long
+returns-clause-read c = pdu_read c.fitting_pdus_are_read.ensures.read

@@ -1,0 +1,9 @@
+-- By the proofs of the formats.
+use Rattle.block_codec.proofs.Law.{long, read}
+use Rattle.block_codec.proofs.law.fitting_blocks_are_read.Goals as goal
+
+pub returns-clause-read : goal.returns-clause-read
+returns-clause-read c = read
+
+pub returns-clause-long : goal.returns-clause-long
+returns-clause-long c = long
