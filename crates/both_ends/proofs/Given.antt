@@ -1,9 +1,11 @@
 -- The law of outputs.
-use Rattle.std.proofs.Common.{◌≡◌, ◌⊎◌, inl, inr, ℕ, zero, suc, Bool, true, false, List, [], ◌∷◌, ◌++◌, Option, Some, None, refl, sym, ap, subst, ◌∙◌, append_assoc, append-nil}
+use Rattle.std.proofs.Common.{◌≡◌, ◌⊎◌, inl, inr, ℕ, suc, Bool, true, false, List, [], ◌∷◌, ◌++◌, Option, Some, None, refl, sym, ap, subst, ◌∙◌}
 use Rattle.std.specs.List.{AllByRecursion}
 use Rattle.std.specs.Prelude.{slice_get}
 use Rattle.both_ends.specs.Small.{Move, ComesToDevice, ComesToController, AtDevice, AtController}
 use Rattle.both_ends.specs.Outputs.{Outputs, Shown, BringsNone, Accepts, Shows, ShowsAtDevice, GivesAtController, BringsTo, ShowsBehind, IsShownRun, shown_last, ShowsNone, ComesFromOne, AreAsGiven}
+use Rattle.both_ends.proofs.Each.{each_at, each_behind, each_so}
+use Rattle.both_ends.proofs.Runs.{holds_behind_run, later_on}
 
 some_is : {A : Type 0} (x y : A) → Some x ≡ Some y → x ≡ y
 some_is x y e = cc
@@ -30,22 +32,18 @@ module _ {O V : Type 0} (rules : Outputs O V) where
     all : AllByRecursion (IsBrought Sent) w.sent
     shown : IsShown Sent w.accepted w.outputs
 
+  -- frames that bring no outputs bring none that was not sent
+  none_brought : (Sent : List ℕ → Type 0) (frames : List (List ℕ)) → AllByRecursion (BringsNone rules) frames → AllByRecursion (IsBrought Sent) frames
+  none_brought Sent frames all =
+      each_so (BringsNone rules) (IsBrought Sent) (λ frame none octets is. absurd (none_is octets (rules.brought_by frame) none is)) frames all
+
   module _ (Sent SentNow : List ℕ → Type 0) (sent_on : (octets : List ℕ) → Sent octets → SentNow octets) where
     all_on : (frames : List (List ℕ)) → AllByRecursion (IsBrought Sent) frames → AllByRecursion (IsBrought SentNow) frames
-    all_on [] all = tt
-    all_on (frame ∷ frames) all = (λ octets is. sent_on octets (all.0 octets is), all_on frames all.1)
+    all_on frames all = each_so (IsBrought Sent) (IsBrought SentNow) (λ frame brought octets is. sent_on octets (brought octets is)) frames all
 
     shown_on : (accepted : Bool) (outputs : O) → IsShown Sent accepted outputs → IsShown SentNow accepted outputs
     shown_on false outputs shown = shown
     shown_on true outputs shown = record { octets = shown.octets; sent = sent_on shown.octets shown.sent; shown = shown.shown }
-
-    all_none : (frames : List (List ℕ)) → AllByRecursion (BringsNone rules) frames → AllByRecursion (IsBrought SentNow) frames
-    all_none [] all = tt
-    all_none (frame ∷ frames) all = (λ octets is. absurd (none_is octets (rules.brought_by frame) all.0 is), all_none frames all.1)
-
-    all_behind : (frames more : List (List ℕ)) → AllByRecursion (IsBrought SentNow) frames → AllByRecursion (IsBrought SentNow) more → AllByRecursion (IsBrought SentNow) (frames ++ more)
-    all_behind [] more all others = others
-    all_behind (frame ∷ frames) more all others = (all.0, all_behind frames more all.1 others)
 
     given_brought : (frame octets now : List ℕ) → (rules.brought_by frame ≡ Some now → SentNow now) → BringsNone rules frame ⊎ (rules.brought_by frame ≡ Some now)
         → rules.brought_by frame ≡ Some octets → SentNow octets
@@ -77,7 +75,7 @@ module _ {O V : Type 0} (rules : Outputs O V) where
       at_device : (brought : Option (List ℕ)) → ((octets : List ℕ) → brought ≡ Some octets → Sent octets) → ShowsAtDevice rules brought w v → IsKept SentNow v
       at_device brought there steps = record {
         all = subst (λ (fs : List (List ℕ)). AllByRecursion (IsBrought SentNow) fs) (sym steps.behind)
-            (all_behind w.sent steps.frames (all_on w.sent kept.all) (all_none steps.frames steps.none));
+            (each_behind (IsBrought SentNow) w.sent steps.frames (all_on w.sent kept.all) (none_brought SentNow steps.frames steps.none));
         shown = shows_by brought there steps.shows;
       }
 
@@ -85,15 +83,10 @@ module _ {O V : Type 0} (rules : Outputs O V) where
           → rules.brought_by frame ≡ Some (rules.octets_of v.given) → SentNow (rules.octets_of v.given)) → GivesAtController rules w v → IsKept SentNow v
       at_controller sent steps = record {
         all = subst (λ (fs : List (List ℕ)). AllByRecursion (IsBrought SentNow) fs) (sym steps.behind)
-            (all_behind w.sent steps.frames (all_on w.sent kept.all) (all_given (rules.octets_of v.given) steps.frames (sent steps.frames steps.behind) steps.brings));
+            (each_behind (IsBrought SentNow) w.sent steps.frames (all_on w.sent kept.all) (all_given (rules.octets_of v.given) steps.frames (sent steps.frames steps.behind) steps.brings));
         shown = subst (λ (b : Bool). IsShown SentNow b v.outputs) (sym steps.accepted)
             (subst (λ (o : O). IsShown SentNow w.accepted o) (sym steps.outputs) (shown_on w.accepted w.outputs kept.shown));
       }
-
-  brought_at : (Sent : List ℕ → Type 0) (frames : List (List ℕ)) (number : ℕ) (frame : List ℕ) → AllByRecursion (IsBrought Sent) frames → slice_get frames number ≡ Some frame → IsBrought Sent frame
-  brought_at Sent [] number frame all there = absurd cc
-  brought_at Sent (first ∷ frames) zero frame all there = subst (λ (f : List ℕ). IsBrought Sent f) (some_is first frame there) all.0
-  brought_at Sent (first ∷ frames) (suc number) frame all there = brought_at Sent frames number frame all.1 there
 
   module _ (Sent SentNow : List ℕ → Type 0) (sent_on : (octets : List ℕ) → Sent octets → SentNow octets) (w v : Shown O V) (kept : IsKept Sent w)
       (sent : (frames : List (List ℕ)) → v.sent ≡ w.sent ++ frames → (number : ℕ) (frame : List ℕ) → slice_get frames number ≡ Some frame
@@ -101,7 +94,7 @@ module _ {O V : Type 0} (rules : Outputs O V) where
     comes : (number : ℕ) → (v ≡ w) ⊎ BringsTo rules number w v → IsKept SentNow v
     comes number (inl same) = rests Sent SentNow sent_on w v kept same
     comes number (inr brings) =
-        at_device Sent SentNow sent_on w v kept (rules.brought_by brings.frame) (brought_at Sent w.sent number brings.frame kept.all brings.there) brings.steps
+        at_device Sent SentNow sent_on w v kept (rules.brought_by brings.frame) (each_at (IsBrought Sent) w.sent number brings.frame kept.all brings.there) brings.steps
 
     alone : (v ≡ w) ⊎ ShowsAtDevice rules None w v → IsKept SentNow v
     alone (inl same) = rests Sent SentNow sent_on w v kept same
@@ -135,17 +128,13 @@ module _ {O V : Type 0} (rules : Outputs O V) where
       brings : rules.brought_by frame ≡ Some (rules.octets_of point.given)
       is : octets ≡ rules.octets_of point.given
 
-    last_more : (start : Shown O V) (run : List (Move × Shown O V)) (one : Move × Shown O V) → shown_last start (run ++ one ∷ []) ≡ one.1
-    last_more start [] one = refl
-    last_more start (other ∷ run) one = last_more other.1 run one
-
     given_on : (run : List (Move × Shown O V)) (one : Move × Shown O V) (octets : List ℕ) → WasGiven run octets → WasGiven (run ++ one ∷ []) octets
     given_on run one octets was = record {
       before = was.before;
       move = was.move;
       point = was.point;
       later = was.later ++ one ∷ [];
-      all = ap (λ (xs : List (Move × Shown O V)). xs ++ one ∷ []) was.all ∙ append_assoc was.before ((was.move, was.point) ∷ was.later) (one ∷ []);
+      all = later_on run was.before was.later (was.move, was.point) one was.all;
       frame = was.frame;
       frames = was.frames;
       behind = was.behind;
@@ -156,10 +145,9 @@ module _ {O V : Type 0} (rules : Outputs O V) where
     }
 
     kept_more : (run : List (Move × Shown O V)) (one : Move × Shown O V) → IsKept (WasGiven run) (shown_last first run) → ShowsBehind rules (shown_last first run) one.0 one.1
-        → IsKept (WasGiven (run ++ one ∷ [])) (shown_last first (run ++ one ∷ []))
+        → IsKept (WasGiven (run ++ one ∷ [])) one.1
     kept_more run one kept steps =
-        subst (λ (w : Shown O V). IsKept (WasGiven (run ++ one ∷ [])) w) (sym (last_more first run one))
-        (kept_behind (WasGiven run) (WasGiven (run ++ one ∷ [])) (given_on run one) (shown_last first run) one.1 kept
+        kept_behind (WasGiven run) (WasGiven (run ++ one ∷ [])) (given_on run one) (shown_last first run) one.1 kept
         (λ frames behind number frame there brings. record {
           before = run;
           move = one.0;
@@ -173,23 +161,11 @@ module _ {O V : Type 0} (rules : Outputs O V) where
           sent = there;
           brings = brings;
           is = refl;
-        }) one.0 steps)
-
-    kept_on : (run more : List (Move × Shown O V)) → IsKept (WasGiven run) (shown_last first run) → IsShownRun rules (shown_last first run) more
-        → IsKept (WasGiven (run ++ more)) (shown_last first (run ++ more))
-    kept_on run [] kept steps = subst (λ (xs : List (Move × Shown O V)). IsKept (WasGiven xs) (shown_last first xs)) (sym (append-nil run)) kept
-    kept_on run (one ∷ more) kept steps =
-        subst (λ (xs : List (Move × Shown O V)). IsKept (WasGiven xs) (shown_last first xs)) (append_assoc run (one ∷ []) more)
-        (kept_on (run ++ one ∷ []) more (kept_more run one kept steps.0)
-        (subst (λ (w : Shown O V). IsShownRun rules w more) (sym (last_more first run one)) steps.1))
-
-    none_given : (Sent : List ℕ → Type 0) (frames : List (List ℕ)) → AllByRecursion (BringsNone rules) frames → AllByRecursion (IsBrought Sent) frames
-    none_given Sent [] all = tt
-    none_given Sent (frame ∷ frames) all = (λ octets is. absurd (none_is octets (rules.brought_by frame) all.0 is), none_given Sent frames all.1)
+        }) one.0 steps
 
     kept_first : ShowsNone rules first → IsKept (WasGiven []) first
     kept_first none = record {
-      all = none_given (WasGiven []) first.sent none.none;
+      all = none_brought (WasGiven []) first.sent none.none;
       shown = subst (λ (b : Bool). IsShown (WasGiven []) b first.outputs) (sym none.unaccepted) none.zeros;
     }
 
@@ -215,4 +191,5 @@ module _ {O V : Type 0} (rules : Outputs O V) where
     pub are_as_given : (run : List (Move × Shown O V)) → ShowsNone rules first → IsShownRun rules first run
         → AreAsGiven rules first run (shown_last first run).accepted (shown_last first run).outputs
     are_as_given run none steps =
-        as_given run (shown_last first run).accepted (shown_last first run).outputs (kept_on [] run (kept_first none) steps).shown
+        as_given run (shown_last first run).accepted (shown_last first run).outputs
+        (holds_behind_run (ShowsBehind rules) first (λ before w. IsKept (WasGiven before) w) kept_more run (kept_first none) steps).shown

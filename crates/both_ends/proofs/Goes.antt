@@ -1,7 +1,7 @@
 -- What is true of a frame goes on to be true of it: what was taken stays taken, and what was true of an earlier point still is.
-use Rattle.std.proofs.Common.{◌≡◌, inl, inr, ℕ, zero, suc, true, false, List, [], ◌∷◌, ◌++◌, Option, Some, None, sym, subst}
-use Rattle.std.specs.Prelude.{slice_get}
+use Rattle.std.proofs.Common.{◌≡◌, inl, inr, ℕ, zero, suc, true, false, List, Option, Some, None, sym, subst}
 use Rattle.both_ends.specs.Small.{Ask, ToDevice, Call, Confirms, Idle, ToController, Answers, Readies, Nothing, Rules, Link, Kept, Controller, Seeking, Asking, Waiting, Exchanges, Ended}
+use Rattle.both_ends.proofs.Each.{each_so}
 use Rattle.both_ends.proofs.Holds.{Took, Behind, IsCall, TellsDevice, TellsController, IsFine, AreFine, KeepsFine, AsksBehind}
 
 module _ {T Q : Type 0} where
@@ -44,8 +44,7 @@ module _ {T Q : Type 0} where
       }
 
       pub are_fine_on : (frames : List (List ℕ)) → AreFine rules Was Good kept link frames → AreFine rules WasNow GoodNow kept_now link_now frames
-      are_fine_on [] fine = tt
-      are_fine_on (frame ∷ frames) fine = (fine_on frame fine.0, are_fine_on frames fine.1)
+      are_fine_on frames fine = each_so (IsFine rules Was Good kept link) (IsFine rules WasNow GoodNow kept_now link_now) fine_on frames fine
 
       pub keeps_on : (answer : Option Kept) → KeepsFine rules Was Good kept link answer → KeepsFine rules WasNow GoodNow kept_now link_now answer
       keeps_on None fine = tt
@@ -62,18 +61,3 @@ module _ {T Q : Type 0} where
     device = subst (λ (heard : ToDevice). TellsDevice rules Was kept link heard) (sym e) device;
     controller = subst (λ (heard : ToController). TellsController rules Good kept link frame heard) (sym f) controller;
   }
-
-  pub all_behind : (rules : Rules T Q) (Was : Type 0) (Good : List ℕ → Type 0) (kept : Option Kept) (link : Option (Link T Q)) (frames more : List (List ℕ))
-      → AreFine rules Was Good kept link frames → AreFine rules Was Good kept link more → AreFine rules Was Good kept link (frames ++ more)
-  all_behind rules Was Good kept link [] more all others = others
-  all_behind rules Was Good kept link (frame ∷ frames) more all others = (all.0, all_behind rules Was Good kept link frames more all.1 others)
-
-  pub fine_at : (rules : Rules T Q) (Was : Type 0) (Good : List ℕ → Type 0) (kept : Option Kept) (link : Option (Link T Q)) (frames : List (List ℕ)) (number : ℕ) (frame : List ℕ)
-      → AreFine rules Was Good kept link frames → slice_get frames number ≡ Some frame → IsFine rules Was Good kept link frame
-  fine_at rules Was Good kept link [] number frame all there = absurd cc
-  fine_at rules Was Good kept link (first ∷ frames) zero frame all there =
-      subst (λ (f : List ℕ). IsFine rules Was Good kept link f) (some_is first frame there) all.0
-    where
-      some_is : (x y : List ℕ) → Some x ≡ Some y → x ≡ y
-      some_is x y e = cc
-  fine_at rules Was Good kept link (first ∷ frames) (suc number) frame all there = fine_at rules Was Good kept link frames number frame all.1 there

@@ -1,12 +1,14 @@
 -- The law of a start-up.
-use Rattle.std.proofs.Common.{◌≡◌, ◌⊎◌, inl, inr, ◌+◌, ◌≤◌, ℕ, true, List, [], ◌∷◌, ◌++◌, length, Option, Some, None, refl, sym, ap, subst, ◌∙◌, append_assoc, append-nil, add-one}
+use Rattle.std.proofs.Common.{◌≡◌, ◌⊎◌, inl, inr, ◌+◌, ◌≤◌, ℕ, true, List, [], ◌∷◌, ◌++◌, length, Option, Some, None, refl, sym, ap, subst, ◌∙◌, add-one}
 use Rattle.std.specs.List.{AllByRecursion}
 use Rattle.std.specs.Prelude.{slice_get}
 use Rattle.both_ends.specs.Small.{Ask, ToDevice, Call, Confirms, Idle, ToController, Answers, Readies, Nothing, Rules, Awaiting, Exchanging, Link, Kept, Device, Controller, Seeking, Asking, Waiting, Exchanges, Ended, World, Move, ComesToDevice, ComesToController, AtDevice, AtController}
 use Rattle.both_ends.specs.Steps.{IsDull, CallsWhile, SaysToDevice, IsSaid, IsNext, Moves, StepsAtDevice, StepsAtController, ComesToDeviceAs, ComesToControllerAs, Steps}
 use Rattle.both_ends.specs.StartUp.{IsRun, last_of, Begins, WasSent, WasHanded, WasExchanging}
 use Rattle.both_ends.proofs.Holds.{HoldsAt, Behind, IsCall, TellsDevice, TellsController, IsFine, AreFine, KeepsFine, AsksBehind, ConfirmedIn, Holds}
-use Rattle.both_ends.proofs.Goes.{asks_on, are_fine_on, keeps_on, same_grows, fine_as, all_behind, fine_at}
+use Rattle.both_ends.proofs.Runs.{holds_behind_run, later_on}
+use Rattle.both_ends.proofs.Each.{each_at, each_behind, each_so}
+use Rattle.both_ends.proofs.Goes.{asks_on, are_fine_on, keeps_on, same_grows, fine_as}
 use Rattle.both_ends.proofs.Kept.{device_leaves, ready_is}
 
 module _ {T Q : Type 0} (rules : Rules T Q) where
@@ -87,7 +89,7 @@ module _ {T Q : Type 0} (rules : Rules T Q) where
           held = leaves.held;
           kept = leaves.kept;
           sent = subst (λ (fs : List (List ℕ)). AreFine rules WasNow GoodNow after.kept after.link fs) (sym steps.behind)
-              (all_behind rules WasNow GoodNow after.kept after.link w.sent steps.frames
+              (each_behind (IsFine rules WasNow GoodNow after.kept after.link) w.sent steps.frames
               (are_fine_on before.kept after.kept before.link after.link leaves.grows rules Was WasNow Good GoodNow passes.was_on passes.good_on w.sent holds.sent) leaves.new);
           asked = subst (λ (c : Controller). AsksBehind after.kept after.link c) (sym steps.controller)
               (asks_on before.kept after.kept before.link after.link leaves.grows w.controller holds.asked);
@@ -134,7 +136,7 @@ module _ {T Q : Type 0} (rules : Rules T Q) where
         let asks = still_asks Was Good kept link heard frame w.controller v.controller tells holds.asked steps.steps.moves in
         let sent : AreFine rules WasNow GoodNow kept link v.sent =
         subst (λ (fs : List (List ℕ)). AreFine rules WasNow GoodNow kept link fs) (sym steps.behind)
-        (all_behind rules WasNow GoodNow kept link w.sent steps.frames
+        (each_behind (IsFine rules WasNow GoodNow kept link) w.sent steps.frames
         (are_fine_on kept kept link link grows rules Was WasNow Good GoodNow passes.was_on passes.good_on w.sent holds.sent)
         (all_said_fine WasNow GoodNow kept link v.controller steps.frames passes.was_now asks steps.steps.sent)) in
         let same : v.device ≡ w.device = steps.device in
@@ -166,13 +168,13 @@ module _ {T Q : Type 0} (rules : Rules T Q) where
     comes_to_device : (number : ℕ) → (v ≡ w) ⊎ ComesToDeviceAs rules number w v → Holds rules WasNow GoodNow HandedNow v
     comes_to_device number (inl same) = at_rest same
     comes_to_device number (inr comes) =
-        let fine = fine_at rules Was Good w.device.kept w.device.link w.sent number comes.frame holds.sent comes.there in
+        let fine = each_at (IsFine rules Was Good w.device.kept w.device.link) w.sent number comes.frame holds.sent comes.there in
         at_device (rules.to_device comes.frame) fine.device comes.steps
 
     comes_to_controller : (number : ℕ) → move ≡ ComesToController number → (v ≡ w) ⊎ ComesToControllerAs rules number w v → Holds rules WasNow GoodNow HandedNow v
     comes_to_controller number is (inl same) = at_rest same
     comes_to_controller number is (inr comes) =
-        let fine = fine_at rules Was Good w.device.kept w.device.link w.sent number comes.frame holds.sent comes.there in
+        let fine = each_at (IsFine rules Was Good w.device.kept w.device.link) w.sent number comes.frame holds.sent comes.there in
         at_controller (rules.to_controller comes.frame) comes.frame fine.controller
         (λ heard exchanges. passes.handed_now number is comes.frame comes.there heard
         (subst (λ (h : ToController). TellsController rules Good w.device.kept w.device.link comes.frame h) heard fine.controller) exchanges) comes.steps
@@ -203,12 +205,8 @@ module _ {T Q : Type 0} (rules : Rules T Q) where
 
   -- one more point
   module _ (first : World T Q) where
-    abbrev HoldsBehind : List (Move × World T Q) → Type 0
-    HoldsBehind run = Holds rules (WasExchanging run) (WasSent rules first run) (WasHanded rules first run) (last_of first run)
-
-    last_more : (start : World T Q) (run : List (Move × World T Q)) (one : Move × World T Q) → last_of start (run ++ one ∷ []) ≡ one.1
-    last_more start [] one = refl
-    last_more start (other ∷ run) one = last_more other.1 run one
+    abbrev HoldsBehind : List (Move × World T Q) → World T Q → Type 0
+    HoldsBehind run w = Holds rules (WasExchanging run) (WasSent rules first run) (WasHanded rules first run) w
 
     passes_on : (run : List (Move × World T Q)) (one : Move × World T Q)
         → Passes (WasExchanging run) (WasExchanging (run ++ one ∷ [])) (WasSent rules first run) (WasSent rules first (run ++ one ∷ []))
@@ -219,7 +217,7 @@ module _ {T Q : Type 0} (rules : Rules T Q) where
         move = was.move;
         point = was.point;
         later = was.later ++ one ∷ [];
-        all = ap (λ (xs : List (Move × World T Q)). xs ++ one ∷ []) was.all ∙ append_assoc was.before ((was.move, was.point) ∷ was.later) (one ∷ []);
+        all = later_on run was.before was.later (was.move, was.point) one was.all;
         exchanges = was.exchanges;
       };
       good_on = λ frame good. record {
@@ -227,7 +225,7 @@ module _ {T Q : Type 0} (rules : Rules T Q) where
         move = good.move;
         point = good.point;
         later = good.later ++ one ∷ [];
-        all = ap (λ (xs : List (Move × World T Q)). xs ++ one ∷ []) good.all ∙ append_assoc good.before ((good.move, good.point) ∷ good.later) (one ∷ []);
+        all = later_on run good.before good.later (good.move, good.point) one good.all;
         frames = good.frames;
         behind = good.behind;
         number = good.number;
@@ -244,8 +242,7 @@ module _ {T Q : Type 0} (rules : Rules T Q) where
         number = handed.number;
         point = handed.point;
         later = handed.later ++ one ∷ [];
-        all = ap (λ (xs : List (Move × World T Q)). xs ++ one ∷ []) handed.all
-            ∙ append_assoc handed.before ((ComesToController handed.number, handed.point) ∷ handed.later) (one ∷ []);
+        all = later_on run handed.before handed.later (ComesToController handed.number, handed.point) one handed.all;
         frame = handed.frame;
         there = handed.there;
         heard = handed.heard;
@@ -284,26 +281,16 @@ module _ {T Q : Type 0} (rules : Rules T Q) where
       };
     }
 
-    holds_more : (run : List (Move × World T Q)) (one : Move × World T Q) → HoldsBehind run → Steps rules (last_of first run) one.0 one.1 → HoldsBehind (run ++ one ∷ [])
+    holds_more : (run : List (Move × World T Q)) (one : Move × World T Q) → HoldsBehind run (last_of first run) → Steps rules (last_of first run) one.0 one.1 → HoldsBehind (run ++ one ∷ []) one.1
     holds_more run one holds steps =
-        subst (λ (w : World T Q). Holds rules (WasExchanging (run ++ one ∷ [])) (WasSent rules first (run ++ one ∷ [])) (WasHanded rules first (run ++ one ∷ [])) w)
-        (sym (last_more first run one))
-        (holds_behind (WasExchanging run) (WasExchanging (run ++ one ∷ [])) (WasSent rules first run) (WasSent rules first (run ++ one ∷ []))
-        (WasHanded rules first run) (WasHanded rules first (run ++ one ∷ [])) (last_of first run) one.0 one.1 (passes_on run one) holds steps)
-
-    holds_on : (run more : List (Move × World T Q)) → HoldsBehind run → IsRun rules (last_of first run) more → HoldsBehind (run ++ more)
-    holds_on run [] holds steps = subst (λ (xs : List (Move × World T Q)). HoldsBehind xs) (sym (append-nil run)) holds
-    holds_on run (one ∷ more) holds steps =
-        subst (λ (xs : List (Move × World T Q)). HoldsBehind xs) (append_assoc run (one ∷ []) more)
-        (holds_on (run ++ one ∷ []) more (holds_more run one holds steps.0)
-        (subst (λ (w : World T Q). IsRun rules w more) (sym (last_more first run one)) steps.1))
+        holds_behind (WasExchanging run) (WasExchanging (run ++ one ∷ [])) (WasSent rules first run) (WasSent rules first (run ++ one ∷ []))
+        (WasHanded rules first run) (WasHanded rules first (run ++ one ∷ [])) (last_of first run) one.0 one.1 (passes_on run one) holds steps
 
     dull_fine : (Was : Type 0) (Good : List ℕ → Type 0) (kept : Option Kept) (link : Option (Link T Q)) (frames : List (List ℕ)) → AllByRecursion (IsDull rules) frames → AreFine rules Was Good kept link frames
-    dull_fine Was Good kept link [] all = tt
-    dull_fine Was Good kept link (frame ∷ frames) all =
-        (fine_as rules Was Good kept link frame Idle Nothing all.0.0 all.0.1 tt tt, dull_fine Was Good kept link frames all.1)
+    dull_fine Was Good kept link frames all =
+        each_so (IsDull rules) (IsFine rules Was Good kept link) (λ frame dull. fine_as rules Was Good kept link frame Idle Nothing dull.0 dull.1 tt tt) frames all
 
-    holds_first : Begins rules first → HoldsBehind []
+    holds_first : Begins rules first → HoldsBehind [] first
     holds_first begins = record {
       held = subst (λ (k : Option Kept). HoldsAt rules k first.device.link) (sym begins.uncalled) begins.unrelated;
       kept = subst (λ (k : Option Kept). KeepsFine rules (WasExchanging {T = T} {Q = Q} []) (WasSent rules first []) first.device.kept first.device.link k) (sym begins.uncalled) tt;
@@ -316,8 +303,8 @@ module _ {T Q : Type 0} (rules : Rules T Q) where
         not_seeking : Seeking ≡ Exchanges → ⊥
         not_seeking e = absurd cc
 
-    holds_at : (run : List (Move × World T Q)) → Begins rules first → IsRun rules first run → HoldsBehind run
-    holds_at run begins steps = holds_on [] run (holds_first begins) steps
+    holds_at : (run : List (Move × World T Q)) → Begins rules first → IsRun rules first run → HoldsBehind run (last_of first run)
+    holds_at run begins steps = holds_behind_run (Steps rules) first (λ before w. HoldsBehind before w) holds_more run (holds_first begins) steps
 
     pub was_handed : (run : List (Move × World T Q)) → Begins rules first → IsRun rules first run → (last_of first run).controller ≡ Exchanges → WasHanded rules first run
     was_handed run begins steps exchanges = (holds_at run begins steps).readied exchanges

@@ -1,3 +1,5 @@
+pub mod Each
+pub mod Runs
 pub mod Holds
 pub mod Goes
 pub mod Kept

@@ -1,4 +1,5 @@
 pub mod Small
+pub mod Runs
 pub mod Steps
 pub mod StartUp
 pub mod Outputs

@@ -1,7 +1,8 @@
 -- The outputs of a device, and what its controller sends of them, over any list of moves.
-use Rattle.std.specs.Prelude.{◌≡◌, ◌⊎◌, ℕ, Bool, true, false, List, [], ◌∷◌, ◌++◌, slice_get, Option, Some, None}
+use Rattle.std.specs.Prelude.{◌≡◌, ◌⊎◌, ℕ, Bool, true, false, List, ◌∷◌, ◌++◌, slice_get, Option, Some, None}
 use Rattle.std.specs.List.{AllByRecursion}
 use Rattle.both_ends.specs.Small.{Move, ComesToDevice, ComesToController, AtDevice, AtController}
+use Rattle.both_ends.specs.Runs.{AreSteps, end_of}
 
 -- What outputs are: what is shown where no frame was accepted, and of the octets of one; which octets the controller sends of the values
 -- that were given; and which octets of outputs of this relation a frame brings to the device, if it brings any.
@@ -67,12 +68,10 @@ module _ {O V : Type 0} where
 
   -- a run, of moves and what is shown behind each of them
   abbrev pub IsShownRun : Outputs O V → Shown O V → List (Move × Shown O V) → Type 0
-  IsShownRun rules first [] = Unit {0}
-  IsShownRun rules first (one ∷ run) = ShowsBehind rules first one.0 one.1 × IsShownRun rules one.1 run
+  IsShownRun rules first run = AreSteps (ShowsBehind rules) first run
 
   abbrev pub shown_last : Shown O V → List (Move × Shown O V) → Shown O V
-  shown_last first [] = first
-  shown_last first (one ∷ run) = shown_last one.1 run
+  shown_last first run = end_of first run
 
   -- the beginning: no frame was accepted, and none that was sent brings outputs
   pub record ShowsNone (rules : Outputs O V) (first : Shown O V) : Type 0 where

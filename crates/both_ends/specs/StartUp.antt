@@ -1,19 +1,18 @@
 -- The law of a start-up, over any list of moves.
-use Rattle.std.specs.Prelude.{◌≡◌, ℕ, List, [], ◌∷◌, ◌++◌, slice_get, Some, None}
+use Rattle.std.specs.Prelude.{◌≡◌, ℕ, List, ◌∷◌, ◌++◌, slice_get, Some, None}
 use Rattle.std.specs.List.{AllByRecursion}
 use Rattle.both_ends.specs.Small.{Readies, Rules, Awaiting, Link, Seeking, Exchanges, World, Move, ComesToController}
+use Rattle.both_ends.specs.Runs.{AreSteps, end_of}
 use Rattle.both_ends.specs.Steps.{IsDull, Steps}
 
 module _ {T Q : Type 0} where
   -- a run, of moves and the world behind each of them: each move is a step from the world behind the one before it
   abbrev pub IsRun : Rules T Q → World T Q → List (Move × World T Q) → Type 0
-  IsRun rules first [] = Unit {0}
-  IsRun rules first (one ∷ run) = Steps rules first one.0 one.1 × IsRun rules one.1 run
+  IsRun rules first run = AreSteps (Steps rules) first run
 
   -- the world behind a run
   abbrev pub last_of : World T Q → List (Move × World T Q) → World T Q
-  last_of first [] = first
-  last_of first (one ∷ run) = last_of one.1 run
+  last_of first run = end_of first run
 
   -- The beginning: the device answered no call since its start and has no relation, the controller looks for it, and of the frames so
   -- far a start-up knows nothing.
