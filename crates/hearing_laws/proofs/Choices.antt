@@ -1,6 +1,8 @@
 -- Choices by tests.
-use Rattle.std.proofs.Common.{◌≡◌, ◌==◌, ◌&&◌, ◌||◌, ◌≤◌, ◌⊎◌, inl, inr, ℕ, Bool, true, false, nat_le, if◌then◌else◌, refl, arith}
-use Rattle.std.proofs.lemmas.Bool.{leb-true, ne_eqb}
+use Rattle.std.proofs.Common.{◌≡◌, ◌==◌, ◌&&◌, ◌||◌, ◌≤◌, ◌⊎◌, inl, inr, ℕ, Bool, true, false, nat_le, List, [], ◌++◌, Result, Ok, Err, if◌then◌else◌, refl, sym, ap, ◌∙◌, arith}
+use Rattle.std.specs.Prelude.{IsErr}
+use Rattle.std.proofs.lemmas.Bool.{false≢true, leb-true, ne_eqb}
+use Rattle.std.proofs.lemmas.List.{append-nil}
 use Rattle.frame_codec.specs.FrameId.{is_alarm, is_cyclic}
 use Rattle.pn_alarms.specs.declared.pdu.PduType.{PduType}
 use Rattle.pn_alarms.specs.declared.pdu.PduType.TheVariants.{Data, Nack, Ack, Error}
@@ -32,6 +34,22 @@ own_chosen false cast a b c d = refl
 pub same_chosen : {A : Type 0} (test : Bool) (a : A) → (if test then a else a) ≡ a
 same_chosen true a = refl
 same_chosen false a = refl
+
+-- what holds of both holds of whichever is chosen
+pub holds_if : {A : Type 0} (Holds : A → Type 0) (test : Bool) (one other : A) → Holds one → Holds other → Holds (if test then one else other)
+holds_if Holds true one other first second = first
+holds_if Holds false one other first second = second
+
+-- ---- what is read
+
+-- what comes of each fault comes of what is no value
+pub faulty : {A E B : Type 0} (made : Result A E → B) (value : B) (read : Result A E) → ((fault : E) → made (Err fault) ≡ value) → IsErr read → made read ≡ value
+faulty made value (Ok found) each none = absurd (false≢true none)
+faulty made value (Err fault) each none = each fault
+
+-- octets with nothing behind them
+pub bare : {A : Type 0} (f : List ℕ → A) (octets : List ℕ) (value : A) → f (octets ++ []) ≡ value → f octets ≡ value
+bare f octets value e = ap f (sym (append-nil octets)) ∙ e
 
 -- ---- FrameIDs
 

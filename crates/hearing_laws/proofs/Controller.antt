@@ -1,9 +1,6 @@
 -- What a controller hears.
-use Rattle.std.proofs.Common.{◌≡◌, ◌==◌, ℕ, Bool, true, false, nat_eq, List, [], ◌++◌, Option, Some, None, Result, Ok, Err, if◌then◌else◌, refl, sym, ap, ◌∙◌}
-use Rattle.std.specs.Prelude.{IsErr}
+use Rattle.std.proofs.Common.{◌≡◌, ◌==◌, ℕ, true, nat_eq, List, [], ◌++◌, Option, Some, None, Result, Ok, Err, refl, ap, ◌∙◌}
 use Rattle.std.specs.Cmp.Lexicographic.{pointwise}
-use Rattle.std.proofs.lemmas.Bool.{false≢true}
-use Rattle.std.proofs.lemmas.List.{append-nil}
 use Rattle.pn_values.specs.declared.mac.Mac.{Mac}
 use Rattle.frame_codec.specs.declared.arp.Arp.{Arp}
 use Rattle.frame_codec.specs.declared.fault.FrameFault.{FrameFault}
@@ -31,7 +28,7 @@ use Rattle.frame_laws.specs.Sendable.{CanBeSent, IsMac, IsRealTime, IsRealTimeOr
 use Rattle.rpc_core.specs.Sendable.{CanBeAnswered, CanBeCalled}
 use Rattle.hearing_laws.specs.Hearing.{IsUncalled, mine_hears, mine_told, padded}
 use Rattle.hearing_laws.proofs.Given.{CallsAreNoResponses, CallsAreRead, DataIsAlone, DataIsRead, DatagramsAreRead, DeviceIsMeant, PacketsAreRead, ResponsesAreNoCalls, ResponsesAreRead}
-use Rattle.hearing_laws.proofs.Choices.{same_chosen}
+use Rattle.hearing_laws.proofs.Choices.{bare, faulty, holds_if, same_chosen}
 
 -- ---- real-time data
 
@@ -70,29 +67,21 @@ alarm_heard reads mine destination source tag kind body header told is says =
     (alarm_is source kind (padded source destination tag (frame_id_of kind) body) ∙ ap (λ (r : Result (Header × ToController) AlarmFault). heard_alarm source r) (says (padding_of (carrying destination source tag (RealTime (frame_id_of kind) body)))))
 
 -- answers of DCP: to an Identify, and to a Get or a Set
-identify_is : (source : Mac) (body : List ℕ) → heard_real_time source 65279 body ≡ heard_answer source (answer_of 65279 body)
+pub identify_is : (source : Mac) (body : List ℕ) → heard_real_time source 65279 body ≡ heard_answer source (answer_of 65279 body)
 unfolding heard_real_time
 identify_is source body = refl
 
-get_set_is : (source : Mac) (body : List ℕ) → heard_real_time source 65277 body ≡ heard_answer source (answer_of 65277 body)
+pub get_set_is : (source : Mac) (body : List ℕ) → heard_real_time source 65277 body ≡ heard_answer source (answer_of 65277 body)
 unfolding heard_real_time
 get_set_is source body = refl
 
-pub identify_heard : DataIsRead → (mine : Controller) (destination source : Mac) (tag : Option ℕ) (body : List ℕ) (told : Told)
-    → CanBeSent (carrying destination source tag (RealTime 65279 body)) → ((more : List ℕ) → answer_of 65279 (body ++ more) ≡ Ok told)
-    → heard_of mine (frame_bytes (carrying destination source tag (RealTime 65279 body))) ≡ mine_hears mine destination (Answers source told)
-identify_heard reads mine destination source tag body told is says =
-    data_heard reads mine destination source tag 65279 body is
+pub answer_heard : DataIsRead → (frame_id : ℕ) → ((source : Mac) (body : List ℕ) → heard_real_time source frame_id body ≡ heard_answer source (answer_of frame_id body)) → (mine : Controller) (destination source : Mac) (tag : Option ℕ) (body : List ℕ) (told : Told)
+    → CanBeSent (carrying destination source tag (RealTime frame_id body)) → ((more : List ℕ) → answer_of frame_id (body ++ more) ≡ Ok told)
+    → heard_of mine (frame_bytes (carrying destination source tag (RealTime frame_id body))) ≡ mine_hears mine destination (Answers source told)
+answer_heard reads frame_id answers mine destination source tag body told is says =
+    data_heard reads mine destination source tag frame_id body is
     ∙ ap (λ (h : Heard). mine_hears mine destination h)
-    (identify_is source (padded source destination tag 65279 body) ∙ ap (λ (r : Result Told DcpFault). heard_answer source r) (says (padding_of (carrying destination source tag (RealTime 65279 body)))))
-
-pub get_set_heard : DataIsRead → (mine : Controller) (destination source : Mac) (tag : Option ℕ) (body : List ℕ) (told : Told)
-    → CanBeSent (carrying destination source tag (RealTime 65277 body)) → ((more : List ℕ) → answer_of 65277 (body ++ more) ≡ Ok told)
-    → heard_of mine (frame_bytes (carrying destination source tag (RealTime 65277 body))) ≡ mine_hears mine destination (Answers source told)
-get_set_heard reads mine destination source tag body told is says =
-    data_heard reads mine destination source tag 65277 body is
-    ∙ ap (λ (h : Heard). mine_hears mine destination h)
-    (get_set_is source (padded source destination tag 65277 body) ∙ ap (λ (r : Result Told DcpFault). heard_answer source r) (says (padding_of (carrying destination source tag (RealTime 65277 body)))))
+    (answers source (padded source destination tag frame_id body) ∙ ap (λ (r : Result Told DcpFault). heard_answer source r) (says (padding_of (carrying destination source tag (RealTime frame_id body)))))
 
 -- ---- ARP
 
@@ -117,24 +106,12 @@ pub nothing_told : (mine : Controller) (destination : Mac) (to : Endpoint) → m
 nothing_told mine destination to =
     ap (λ (h : Heard). mine_hears mine destination h) (same_chosen (is_to mine.address to) Nothing) ∙ same_chosen (pointwise nat_eq destination.octets mine.mac.octets) Nothing
 
--- octets with nothing behind them
-bare : {A : Type 0} (f : List ℕ → A) (octets : List ℕ) (value : A) → f (octets ++ []) ≡ value → f octets ≡ value
-bare f octets value e = ap f (sym (append-nil octets)) ∙ e
-
-no_call_first : (caller : Caller) (first : Result Call RpcFault) (second : Result Answered RpcFault) → IsErr first → heard_first caller first second ≡ heard_response second
-no_call_first caller (Ok call) second none = absurd (false≢true none)
-no_call_first caller (Err fault) second none = refl
-
-nothing_else : (second : Result Answered RpcFault) → IsErr second → heard_response second ≡ Nothing
-nothing_else (Ok answer) none = absurd (false≢true none)
-nothing_else (Err fault) none = refl
-
 pub response_is : ResponsesAreRead → ResponsesAreNoCalls → (caller : Caller) (answer : Answered) → CanBeAnswered answer → heard_body caller (response_bytes answer) ≡ Responds answer
 unfolding heard_body
 response_is reads differ caller answer is =
     let octets = response_bytes answer in
     let read = bare (λ xs. response_of xs) octets (Ok answer) (reads answer [] is) in
-    no_call_first caller (call_of controllers octets) (response_of octets) (differ controllers octets answer read) ∙ ap heard_response read
+    faulty (λ (first : Result Call RpcFault). heard_first caller first (response_of octets)) (heard_response (response_of octets)) (call_of controllers octets) (λ fault. refl) (differ controllers octets answer read) ∙ ap heard_response read
 
 whole : (caller : Caller) (call : Call) (blocks : Option (List ℕ)) (octets : List ℕ) → blocks ≡ Some octets → heard_call caller call blocks ≡ Calls caller call
 whole caller call (Some blocks) octets e = refl
@@ -153,13 +130,10 @@ unfolding heard_body
 other_is reads differ meant caller call is =
     let octets = call_bytes devices call in
     let read = bare (λ xs. call_of devices xs) octets (Ok call) (reads devices call [] is) in
-    no_call_first caller (call_of controllers octets) (response_of octets) (meant octets call read) ∙ nothing_else (response_of octets) (differ devices octets call read)
+    faulty (λ (first : Result Call RpcFault). heard_first caller first (response_of octets)) (heard_response (response_of octets)) (call_of controllers octets) (λ fault. refl) (meant octets call read)
+    ∙ faulty (λ (second : Result Answered RpcFault). heard_response second) Nothing (response_of octets) (λ fault. refl) (differ devices octets call read)
 
 -- ---- real-time data is no call
-
-uncalled_if : (test : Bool) (one other : Heard) → IsUncalled one → IsUncalled other → IsUncalled (if test then one else other)
-uncalled_if true one other first second = first
-uncalled_if false one other first second = second
 
 uncalled_answer : (source : Mac) (read : Result Told DcpFault) → IsUncalled (heard_answer source read)
 uncalled_answer source (Ok answer) = tt
@@ -172,8 +146,8 @@ uncalled_alarm source (Err fault) = tt
 uncalled_data : (source : Mac) (frame_id : ℕ) (body : List ℕ) → IsUncalled (heard_real_time source frame_id body)
 unfolding heard_real_time
 uncalled_data source frame_id body =
-    uncalled_if (is_cyclic frame_id) (Cyclic source frame_id body) _ tt (uncalled_if (is_alarm frame_id) _ _ (uncalled_alarm source (alarm_of body))
-    (uncalled_if (frame_id == 0xFEFD) _ _ (uncalled_answer source (answer_of frame_id body)) (uncalled_if (frame_id == 0xFEFF) _ Nothing (uncalled_answer source (answer_of frame_id body)) tt)))
+    holds_if IsUncalled (is_cyclic frame_id) (Cyclic source frame_id body) _ tt (holds_if IsUncalled (is_alarm frame_id) _ _ (uncalled_alarm source (alarm_of body))
+    (holds_if IsUncalled (frame_id == 0xFEFD) _ _ (uncalled_answer source (answer_of frame_id body)) (holds_if IsUncalled (frame_id == 0xFEFF) _ Nothing (uncalled_answer source (answer_of frame_id body)) tt)))
 
 uncalled_content : (address : List ℕ) (source : Mac) (content : Content) → IsRealTime content → IsUncalled (heard_content address source content)
 uncalled_content address source (RealTime frame_id body) is = uncalled_data source frame_id body
@@ -182,7 +156,7 @@ uncalled_content address source (UdpDatagram from to body) is = absurd is
 
 uncalled_read : (mine : Controller) (read : Result Meaning FrameFault) → IsRealTimeOrNone read → IsUncalled (heard_read mine read)
 uncalled_read mine (Ok meaning) is =
-    uncalled_if (pointwise nat_eq meaning.destination.octets mine.mac.octets) _ Nothing (uncalled_content mine.address meaning.source meaning.content is) tt
+    holds_if IsUncalled (pointwise nat_eq meaning.destination.octets mine.mac.octets) _ Nothing (uncalled_content mine.address meaning.source meaning.content is) tt
 uncalled_read mine (Err fault) is = tt
 
 pub uncalled : DataIsAlone → (mine : Controller) (destination source : Mac) (tag : Option ℕ) (frame_id : ℕ) (body : List ℕ) → IsMac destination → IsMac source → IsTag tag

@@ -1,9 +1,6 @@
 -- What a device hears.
-use Rattle.std.proofs.Common.{◌≡◌, ◌==◌, ◌&&◌, ℕ, Bool, true, false, nat_eq, List, [], ◌++◌, Option, None, Result, Ok, Err, if◌then◌else◌, refl, sym, ap, ◌∙◌}
-use Rattle.std.specs.Prelude.{IsErr}
+use Rattle.std.proofs.Common.{◌≡◌, ◌==◌, ◌&&◌, ℕ, true, nat_eq, List, [], ◌++◌, Option, None, Result, Ok, Err, refl, ap, ◌∙◌}
 use Rattle.std.specs.Cmp.Lexicographic.{pointwise}
-use Rattle.std.proofs.lemmas.Bool.{false≢true}
-use Rattle.std.proofs.lemmas.List.{append-nil}
 use Rattle.pn_values.specs.declared.identity.Identity.{Identity}
 use Rattle.pn_values.specs.declared.mac.Mac.{Mac}
 use Rattle.frame_codec.specs.declared.fault.FrameFault.{FrameFault}
@@ -24,12 +21,12 @@ use Rattle.pn_alarms.specs.declared.pdu.Header.{Header}
 use Rattle.pn_alarms.specs.declared.pdu.PduType.{PduType}
 use Rattle.pn_alarms.specs.Format.{frame_id_of}
 use Rattle.pn_alarms.specs.Message.{ToDevice, message_of}
-use Rattle.device_frames.specs.Heard.{Alarms, Asks, Calls, Cyclic, Elsewhere, Garbled, Heard, Resolves, Responds, Said, heard_alarm, heard_content, heard_frame, heard_of, heard_request, identify_multicast, is_own, is_taken, said_by, said_else, said_first}
+use Rattle.device_frames.specs.Heard.{Alarms, Asks, Calls, Cyclic, Elsewhere, Garbled, Resolves, Responds, Said, heard_alarm, heard_content, heard_frame, heard_of, heard_request, identify_multicast, is_own, is_taken, said_by, said_else, said_first}
 use Rattle.frame_laws.specs.Sendable.{CanBeSent, IsMac, IsRealTime, IsRealTimeOrNone, IsTag, carrying}
 use Rattle.rpc_core.specs.Sendable.{CanBeAnswered, CanBeCalled}
 use Rattle.hearing_laws.specs.Hearing.{IsUntold, all_hears, comes, own_hears, own_told, padded}
 use Rattle.hearing_laws.proofs.Given.{CallsAreNoResponses, CallsAreRead, ControllerIsMeant, DataIsAlone, DataIsRead, DatagramsAreRead, PacketsAreRead, ResponsesAreNoCalls, ResponsesAreRead}
-use Rattle.hearing_laws.proofs.Choices.{alarm_chosen, alarm_is, alarm_no_get_set, alarm_no_identify, cyclic_chosen, no_alarm, no_get_set, no_identify}
+use Rattle.hearing_laws.proofs.Choices.{alarm_chosen, alarm_is, alarm_no_get_set, alarm_no_identify, bare, cyclic_chosen, faulty, holds_if, no_alarm, no_get_set, no_identify}
 
 -- ---- real-time data
 
@@ -80,18 +77,6 @@ told_heard reads identity destination source from to body said is says =
     ap (λ (r : Result Meaning FrameFault). heard_frame identity r) (reads destination source None from to body is)
     ∙ ap (λ (s : Said). own_told identity source destination from to s) says
 
--- octets with nothing behind them
-bare : {A : Type 0} (f : List ℕ → A) (octets : List ℕ) (value : A) → f (octets ++ []) ≡ value → f octets ≡ value
-bare f octets value e = ap f (sym (append-nil octets)) ∙ e
-
-no_call_first : (first : Result Call RpcFault) (second : Result Answered RpcFault) → IsErr first → said_first first second ≡ said_else second
-no_call_first (Ok call) second none = absurd (false≢true none)
-no_call_first (Err fault) second none = refl
-
-nothing_else : (second : Result Answered RpcFault) → IsErr second → said_else second ≡ Garbled
-nothing_else (Ok answer) none = absurd (false≢true none)
-nothing_else (Err fault) none = refl
-
 pub call_said : CallsAreRead → (call : Call) → CanBeCalled Device call → said_by (call_bytes Device call) ≡ Calls call
 unfolding said_by
 call_said reads call is =
@@ -103,7 +88,7 @@ unfolding said_by
 response_said reads differ answer is =
     let octets = response_bytes answer in
     let read = bare (λ xs. response_of xs) octets (Ok answer) (reads answer [] is) in
-    no_call_first (call_of Device octets) (response_of octets) (differ Device octets answer read) ∙ ap said_else read
+    faulty (λ (first : Result Call RpcFault). said_first first (response_of octets)) (said_else (response_of octets)) (call_of Device octets) (λ fault. refl) (differ Device octets answer read) ∙ ap said_else read
 
 -- a call to a controller is neither
 pub ready_said : CallsAreRead → CallsAreNoResponses → ControllerIsMeant → (call : Call) → CanBeCalled Controller call → said_by (call_bytes Controller call) ≡ Garbled
@@ -111,13 +96,10 @@ unfolding said_by
 ready_said reads differ meant call is =
     let octets = call_bytes Controller call in
     let read = bare (λ xs. call_of Controller xs) octets (Ok call) (reads Controller call [] is) in
-    no_call_first (call_of Device octets) (response_of octets) (meant octets call read) ∙ nothing_else (response_of octets) (differ Controller octets call read)
+    faulty (λ (first : Result Call RpcFault). said_first first (response_of octets)) (said_else (response_of octets)) (call_of Device octets) (λ fault. refl) (meant octets call read)
+    ∙ faulty (λ (second : Result Answered RpcFault). said_else second) Garbled (response_of octets) (λ fault. refl) (differ Controller octets call read)
 
 -- ---- real-time data is never told
-
-untold_if : (test : Bool) (one other : Heard) → IsUntold one → IsUntold other → IsUntold (if test then one else other)
-untold_if true one other first second = first
-untold_if false one other first second = second
 
 untold_request : (source : Mac) (read : Result Asked DcpFault) → IsUntold (heard_request source read)
 untold_request source (Ok request) = tt
@@ -129,9 +111,9 @@ untold_alarm source (Err fault) = tt
 
 untold_content : (identity : Identity) (destination source : Mac) (content : Content) → IsRealTime content → IsUntold (heard_content identity destination source content)
 untold_content identity destination source (RealTime frame_id body) is =
-    untold_if (is_taken identity destination frame_id) _ _ (untold_request source (request_of frame_id body))
-    (untold_if (is_own identity destination && is_alarm frame_id) _ _ (untold_alarm source (message_of body))
-    (untold_if (is_own identity destination && is_cyclic frame_id) (Cyclic source frame_id body) Elsewhere tt tt))
+    holds_if IsUntold (is_taken identity destination frame_id) _ _ (untold_request source (request_of frame_id body))
+    (holds_if IsUntold (is_own identity destination && is_alarm frame_id) _ _ (untold_alarm source (message_of body))
+    (holds_if IsUntold (is_own identity destination && is_cyclic frame_id) (Cyclic source frame_id body) Elsewhere tt tt))
 untold_content identity destination source (ArpPacket arp) is = absurd is
 untold_content identity destination source (UdpDatagram from to body) is = absurd is
 
