@@ -1,6 +1,7 @@
 -- An end of a controller is a whole one, however it came to it: its relation is over, and no request stands but its Release.
 use Rattle.std.proofs.Common.{◌≡◌, ◌+◌, ◌&&◌, ◌++◌, ℕ, Bool, true, false, List, [], ◌∷◌, Option, Some, None, refl, sym, ap, subst, ◌∙◌}
 use Rattle.std.specs.Prelude.{if◌then◌else◌}
+use Rattle.std.proofs.lemmas.Bool.{false≢true}
 use Rattle.pn_values.specs.declared.mac.Mac.{Mac}
 use Rattle.frame_codec.specs.declared.udp.Caller.{Caller}
 use Rattle.dcp_core.specs.Response.{Answered}
@@ -58,26 +59,18 @@ pub record Kept (turn : Turn) : Type 0 where
 
 -- ---- no other phase is an end
 
-looking : (cause : Cause) → Looking ≡ Ended cause → ⊥
-looking cause e = cc
+abbrev is_over : State → Bool
+is_over (Ended cause) = true
+is_over Looking = false
+is_over Addressing = false
+is_over Connecting = false
+is_over Writing = false
+is_over Ending = false
+is_over Waiting = false
+is_over Exchanging = false
 
-addressing : (cause : Cause) → Addressing ≡ Ended cause → ⊥
-addressing cause e = cc
-
-connecting : (cause : Cause) → Connecting ≡ Ended cause → ⊥
-connecting cause e = cc
-
-writes : (cause : Cause) → Writing ≡ Ended cause → ⊥
-writes cause e = cc
-
-ending : (cause : Cause) → Ending ≡ Ended cause → ⊥
-ending cause e = cc
-
-waiting : (cause : Cause) → Waiting ≡ Ended cause → ⊥
-waiting cause e = cc
-
-exchanging : (cause : Cause) → Exchanging ≡ Ended cause → ⊥
-exchanging cause e = cc
+not_over : (phase : State) (cause : Cause) → is_over phase ≡ false → phase ≡ Ended cause → ⊥
+not_over phase cause stands e = absurd (false≢true (sym stands ∙ ap (λ (p : State). is_over p) e))
 
 same_cause : (mine cause : Cause) → Ended mine ≡ Ended cause → mine ≡ cause
 same_cause mine cause e = cc
@@ -100,8 +93,8 @@ either_live : (is : Bool) (x y : Live) → Kept (stays x) → Kept (stays y) →
 either_live true x y kx ky = kx
 either_live false x y kx ky = ky
 
-goes_on : (live : Live) (sent : List Sent) → ((cause : Cause) → live.phase ≡ Ended cause → ⊥) → Kept (record { live = live; sent = sent })
-goes_on live sent none = record { whole = λ cause e. absurd (none cause e) }
+goes_on : (live : Live) (sent : List Sent) → is_over live.phase ≡ false → Kept (record { live = live; sent = sent })
+goes_on live sent stands = record { whole = λ cause e. absurd (not_over live.phase cause stands e) }
 
 -- nothing is asked any more
 unasked : (live : Live) → Kept (stays live) → Kept (stays (record live { asked = None }))
@@ -121,13 +114,13 @@ found_kept : (setup : Setup) (live : Live) (source : Mac) (answer : Answered) �
 found_kept setup live source answer =
     either (is_right setup.plan answer)
     (either (is_addressed setup.plan answer)
-    (goes_on (asking Connecting asks.Connect (record live { device = source })).live (asking Connecting asks.Connect (record live { device = source })).sent connecting)
-    (goes_on (asking Addressing asks.Address (record live { device = source })).live (asking Addressing asks.Address (record live { device = source })).sent addressing))
+    (goes_on (asking Connecting asks.Connect (record live { device = source })).live (asking Connecting asks.Connect (record live { device = source })).sent refl)
+    (goes_on (asking Addressing asks.Address (record live { device = source })).live (asking Addressing asks.Address (record live { device = source })).sent refl))
     (ends why.WrongDevice live [])
 
 addressed_kept : (live : Live) (answer : Answered) → Kept (addressed live answer)
 addressed_kept live answer =
-    either (is_agreed answer) (goes_on (asking Connecting asks.Connect live).live (asking Connecting asks.Connect live).sent connecting) (ends why.Refused live [])
+    either (is_agreed answer) (goes_on (asking Connecting asks.Connect live).live (asking Connecting asks.Connect live).sent refl) (ends why.Refused live [])
 
 answered_kept : (setup : Setup) (live : Live) (source : Mac) (answer : Answered) (phase : State) → Kept (stays live) → Kept (answered setup live source answer phase)
 answered_kept setup live source answer Looking k = either (is_found setup.plan answer) (found_kept setup live source answer) k
@@ -148,13 +141,13 @@ TypeOf {A = A} value = A
 abbrev Found : Type 0
 Found = TypeOf nothing
 
-goes_by : (request : Request) (cause : Cause) → phase_for request ≡ Ended cause → ⊥
-goes_by asks.Identify cause e = ending cause e
-goes_by asks.Address cause e = ending cause e
-goes_by asks.Connect cause e = ending cause e
-goes_by (asks.Write number) cause e = writes cause e
-goes_by asks.PrmEnd cause e = ending cause e
-goes_by (asks.Release sequence) cause e = ending cause e
+goes_by : (request : Request) → is_over (phase_for request) ≡ false
+goes_by asks.Identify = refl
+goes_by asks.Address = refl
+goes_by asks.Connect = refl
+goes_by (asks.Write number) = refl
+goes_by asks.PrmEnd = refl
+goes_by (asks.Release sequence) = refl
 
 writing_kept : (request : Request) (live : Live) → Kept (writing request live)
 writing_kept request live = goes_on (writing request live).live (writing request live).sent (goes_by request)
@@ -176,7 +169,7 @@ done_kept setup live blocks asks.Identify k = k
 done_kept setup live blocks asks.Address k = k
 done_kept setup live blocks asks.Connect k = connected_kept setup live (found_in 400 blocks nothing) k
 done_kept setup live blocks (asks.Write number) k = writing_kept (writing_from setup.plan (number + 1)) live
-done_kept setup live blocks asks.PrmEnd k = goes_on (record live { phase = Waiting; asked = None }) [] waiting
+done_kept setup live blocks asks.PrmEnd k = goes_on (record live { phase = Waiting; asked = None }) [] refl
 done_kept setup live blocks (asks.Release sequence) k = unasked live k
 
 judged_kept : (setup : Setup) (live : Live) (response : Response) (request : Request) → Kept (stays live) → Kept (judged setup live response request)
@@ -203,8 +196,8 @@ readied_kept live caller call block Looking k = k
 readied_kept live caller call block Addressing k = k
 readied_kept live caller call block Connecting k = k
 readied_kept live caller call block Writing k = k
-readied_kept live caller call block Ending k = goes_on (readied live caller call block Ending).live (readied live caller call block Ending).sent exchanging
-readied_kept live caller call block Waiting k = goes_on (readied live caller call block Waiting).live (readied live caller call block Waiting).sent exchanging
+readied_kept live caller call block Ending k = goes_on (readied live caller call block Ending).live (readied live caller call block Ending).sent refl
+readied_kept live caller call block Waiting k = goes_on (readied live caller call block Waiting).live (readied live caller call block Waiting).sent refl
 readied_kept live caller call block Exchanging k = same live live (readied live caller call block Exchanging).sent refl refl refl k
 readied_kept live caller call block (Ended cause) k = k
 
@@ -278,7 +271,7 @@ all_kept [] controller k = k
 all_kept (event ∷ events) controller k = all_kept events (step_of controller event).controller (step_kept controller event k)
 
 first_kept : (plan : Parts) (ar activity : List ℕ) → Kept (stays (fresh plan ar activity).live)
-first_kept plan ar activity = goes_on (first plan) [] looking
+first_kept plan ar activity = goes_on (first plan) [] refl
 
 reached_kept : (controller : Controlling) → IsReached controller → Kept (stays controller.live)
 reached_kept controller r =
