@@ -149,73 +149,35 @@ module _ (setup : Setup) where
 
   -- ---- responses
 
-  -- by which call it asks while a request stands
-  connect_asks : (phase : State) (asked : Option Request) → IsInStep setup.plan phase asked → asked ≡ Some asks.Connect → state_of setup.plan phase asked ≡ small.Asking 0
-  connect_asks Looking asked in_step is = absurd cc
-  connect_asks Addressing asked in_step is = absurd cc
-  connect_asks Connecting asked in_step is = ap (λ (a : Option Request). asking_of setup.plan a) is
-  connect_asks Writing asked in_step is = absurd (other_write in_step.0 (sym in_step.2 ∙ is))
-    where
-      other_write : (n : ℕ) → Some (asks.Write n) ≡ Some asks.Connect → ⊥
-      other_write n e = absurd cc
-  connect_asks Ending asked in_step is = absurd cc
-  connect_asks Waiting asked in_step is = absurd cc
-  connect_asks Exchanging asked in_step is = absurd cc
-  connect_asks (Ended reason) asked (inl none) is = absurd cc
-  connect_asks (Ended reason) asked (inr there) is = absurd (other_release there.0 (sym there.1 ∙ is))
-    where
-      other_release : (s : ℕ) → Some (asks.Release s) ≡ Some asks.Connect → ⊥
-      other_release s e = absurd cc
+  -- what a request that stands tells of the state: by which call it asks, that there is such a record, or that it is over
+  abbrev Tells : State → Option Request → Request → Type 0
+  Tells phase asked asks.Identify = Unit {0}
+  Tells phase asked asks.Address = Unit {0}
+  Tells phase asked asks.Connect = state_of setup.plan phase asked ≡ small.Asking 0
+  Tells phase asked (asks.Write number) = (number < length setup.plan.records.items) × (state_of setup.plan phase asked ≡ small.Asking (number + 1))
+  Tells phase asked asks.PrmEnd = state_of setup.plan phase asked ≡ small.Asking (length setup.plan.records.items + 1)
+  Tells phase asked (asks.Release sequence) = IsInStep setup.plan phase None × (state_of setup.plan phase None ≡ small.Ended)
 
-  write_asks : (phase : State) (asked : Option Request) (number : ℕ) → IsInStep setup.plan phase asked → asked ≡ Some (asks.Write number)
-      → (number < length setup.plan.records.items) × (state_of setup.plan phase asked ≡ small.Asking (number + 1))
-  write_asks Looking asked number in_step is = absurd cc
-  write_asks Addressing asked number in_step is = absurd cc
-  write_asks Connecting asked number in_step is = absurd cc
-  write_asks Writing asked number in_step is =
-      let same : in_step.0 ≡ number = is_number in_step.0 number (sym in_step.2 ∙ is) in
-      (omega (arith, in_step.1, same), ap (λ (a : Option Request). asking_of setup.plan a) is)
-    where
-      is_number : (m n : ℕ) → Some (asks.Write m) ≡ Some (asks.Write n) → m ≡ n
-      is_number m n e = cc
-  write_asks Ending asked number in_step is = absurd cc
-  write_asks Waiting asked number in_step is = absurd cc
-  write_asks Exchanging asked number in_step is = absurd cc
-  write_asks (Ended reason) asked number (inl none) is = absurd cc
-  write_asks (Ended reason) asked number (inr there) is = absurd (other_release there.0 (sym there.1 ∙ is))
-    where
-      other_release : (s : ℕ) → Some (asks.Release s) ≡ Some (asks.Write number) → ⊥
-      other_release s e = absurd cc
+  tells_so : (phase : State) (asked : Option Request) (one request : Request) → asked ≡ Some one → Tells phase asked one → asked ≡ Some request → Tells phase asked request
+  tells_so phase asked one request is told stands = subst (λ (r : Request). Tells phase asked r) (some_is one request (sym is ∙ stands)) told
 
-  end_asks : (phase : State) (asked : Option Request) → IsInStep setup.plan phase asked → asked ≡ Some asks.PrmEnd → state_of setup.plan phase asked ≡ small.Asking (length setup.plan.records.items + 1)
-  end_asks Looking asked in_step is = absurd cc
-  end_asks Addressing asked in_step is = absurd cc
-  end_asks Connecting asked in_step is = absurd cc
-  end_asks Writing asked in_step is = absurd (other_write in_step.0 (sym in_step.2 ∙ is))
-    where
-      other_write : (n : ℕ) → Some (asks.Write n) ≡ Some asks.PrmEnd → ⊥
-      other_write n e = absurd cc
-  end_asks Ending asked in_step is = ap (λ (a : Option Request). asking_of setup.plan a) is
-  end_asks Waiting asked in_step is = absurd cc
-  end_asks Exchanging asked in_step is = absurd cc
-  end_asks (Ended reason) asked (inl none) is = absurd cc
-  end_asks (Ended reason) asked (inr there) is = absurd (other_release there.0 (sym there.1 ∙ is))
-    where
-      other_release : (s : ℕ) → Some (asks.Release s) ≡ Some asks.PrmEnd → ⊥
-      other_release s e = absurd cc
+  none_stands : (request : Request) → None ≡ Some request → ⊥
+  none_stands request e = absurd cc
 
-  release_ends : (phase : State) (asked : Option Request) (sequence : ℕ) → IsInStep setup.plan phase asked → asked ≡ Some (asks.Release sequence) → IsInStep setup.plan phase None × (state_of setup.plan phase None ≡ small.Ended)
-  release_ends Looking asked sequence in_step is = absurd cc
-  release_ends Addressing asked sequence in_step is = absurd cc
-  release_ends Connecting asked sequence in_step is = absurd cc
-  release_ends Writing asked sequence in_step is = absurd (other_write in_step.0 (sym in_step.2 ∙ is))
-    where
-      other_write : (n : ℕ) → Some (asks.Write n) ≡ Some (asks.Release sequence) → ⊥
-      other_write n e = absurd cc
-  release_ends Ending asked sequence in_step is = absurd cc
-  release_ends Waiting asked sequence in_step is = absurd cc
-  release_ends Exchanging asked sequence in_step is = absurd cc
-  release_ends (Ended reason) asked sequence in_step is = (inl refl, refl)
+  -- in each state the request that belongs to it
+  tells : (phase : State) (asked : Option Request) → IsInStep setup.plan phase asked → (request : Request) → asked ≡ Some request → Tells phase asked request
+  tells Looking asked in_step request stands = tells_so Looking asked asks.Identify request in_step tt stands
+  tells Addressing asked in_step request stands = tells_so Addressing asked asks.Address request in_step tt stands
+  tells Connecting asked in_step request stands =
+      tells_so Connecting asked asks.Connect request in_step (ap (λ (a : Option Request). asking_of setup.plan a) in_step) stands
+  tells Writing asked in_step request stands =
+      tells_so Writing asked (asks.Write in_step.0) request in_step.2 (in_step.1, ap (λ (a : Option Request). asking_of setup.plan a) in_step.2) stands
+  tells Ending asked in_step request stands =
+      tells_so Ending asked asks.PrmEnd request in_step (ap (λ (a : Option Request). asking_of setup.plan a) in_step) stands
+  tells Waiting asked in_step request stands = absurd (none_stands request (sym in_step ∙ stands))
+  tells Exchanging asked in_step request stands = absurd (none_stands request (sym in_step ∙ stands))
+  tells (Ended reason) asked (inl none) request stands = absurd (none_stands request (sym none ∙ stands))
+  tells (Ended reason) asked (inr there) request stands = tells_so (Ended reason) asked (asks.Release there.0) request there.1 (inl refl, refl) stands
 
   -- what is asked next is asked by the next call
   module _ (live after : Live) (number : ℕ) (heard : ToController) (before : small_of setup.plan live ≡ small.Asking number) (answers : heard ≡ small.Answers number true)
@@ -262,22 +224,22 @@ module _ (setup : Setup) where
   done_goes live heard blocks asks.Identify is answers in_step = stays_goes setup.plan heard live in_step
   done_goes live heard blocks asks.Address is answers in_step = stays_goes setup.plan heard live in_step
   done_goes live heard blocks asks.Connect is answers in_step =
-      connected_goes live heard in_step (connect_asks live.phase live.asked in_step is) answers blocks
+      connected_goes live heard in_step (tells live.phase live.asked in_step asks.Connect is) answers blocks
   done_goes live heard blocks (asks.Write number) is answers in_step =
-      let there = write_asks live.phase live.asked number in_step is in
+      let there = tells live.phase live.asked in_step (asks.Write number) is in
       writing_goes live live (number + 1) heard there.1 answers (omega (arith, there.0))
   done_goes live heard blocks asks.PrmEnd is answers in_step = record {
     in_step = refl;
     moves = inr (inr (inr (inl (record {
       sequence = length setup.plan.records.items + 1;
-      asked = end_asks live.phase live.asked in_step is;
+      asked = tells live.phase live.asked in_step asks.PrmEnd is;
       answered = answers;
       becomes = inr refl;
     }))));
     says = tt;
   }
   done_goes live heard blocks (asks.Release sequence) is answers in_step =
-      let ends = release_ends live.phase live.asked sequence in_step is in
+      let ends = tells live.phase live.asked in_step (asks.Release sequence) is in
       record { in_step = ends.0; moves = inr (inl ends.1); says = tt }
 
   judged_as : (live : Live) (heard : ToController) (response : Response) (request : Request) (is_positive : Bool) → live.asked ≡ Some request
@@ -295,7 +257,7 @@ module _ (setup : Setup) where
   decided_goes live heard response (asks.Write number) is answers in_step = judged_as live heard response (asks.Write number) (is_done response.status) is answers in_step
   decided_goes live heard response asks.PrmEnd is answers in_step = judged_as live heard response asks.PrmEnd (is_done response.status) is answers in_step
   decided_goes live heard response (asks.Release sequence) is answers in_step =
-      let ends = release_ends live.phase live.asked sequence in_step is in
+      let ends = tells live.phase live.asked in_step (asks.Release sequence) is in
       record { in_step = ends.0; moves = inr (inl ends.1); says = tt }
 
   -- a response is heard came the answer that it is
