@@ -26,6 +26,7 @@ use Rattle.pnio_status.specs.declared.call_fault.CallFault.TheVariants as fault
 use Rattle.pnio_status.specs.declared.operation.Operation.{Operation}
 use Rattle.pnio_status.specs.declared.operation.Operation.TheVariants as operation
 use Rattle.pnio_status.specs.Operation.{operation_of}
+use Rattle.pnio_status.specs.Status.{status_of}
 use Rattle.call_blocks.specs.Judged.{judged as in_order}
 use Rattle.connect_requests.specs.Request.{Request}
 use Rattle.connect_requests.specs.Judged.{request_of}
@@ -77,7 +78,6 @@ use Rattle.both_ends.specs.Small as small
 use Rattle.both_ends.specs.Small.{Rules, ToDevice, ToController}
 use Rattle.both_ends.specs.Steps.{IsNew, TakesRecord, IsParameterized, Comes, IsReady, IsDull, IsAnswered, IsAgain, Rests, IsConfirmed, GoesBy, DeviceSteps}
 use Rattle.device_ends.specs.Small.{phase_in, link_of, kept_in, small_of, asked_by, names_own, confirms, said_to, heard_as, IsPlannedWrite, IsPlannedAs, IsPlannedCall, IsPlannedIn, IsPlanned, said_by, IsHeardBy, IsHeardAs}
-use Rattle.device_ends.proofs.Done.{not_done}
 
 -- ---- tests
 
@@ -326,9 +326,13 @@ again_is sequence (Some kept) frame e = by_same (sequence == kept.sequence) refl
     by_same true f g = (kept, refl, sym (eqb-true sequence kept.sequence f), same_frame kept.frame frame g)
     by_same false f g = absurd (by_order (nat_lt sequence kept.sequence) g)
 
+-- the law of statuses, of the crate below
+abbrev pub RefusalsAreNotDone : Type 0
+RefusalsAreNotDone = (operation : Operation) (fault : CallFault) → is_done (status_of operation fault) ≡ false
+
 -- ---- steps
 
-module _ (rules : Rules Taken Request) (activity : List ℕ) (station : Station) where
+module _ (refusals_are_not_done : RefusalsAreNotDone) (rules : Rules Taken Request) (activity : List ℕ) (station : Station) where
   abbrev small_in : Rest → small.Device Taken Request
   small_in rest = record { kept = option_map kept_in (kept_of activity rest.calls); link = option_map link_of rest.link }
 
@@ -347,6 +351,23 @@ module _ (rules : Rules Taken Request) (activity : List ℕ) (station : Station)
   rests_steps small.Confirms device = inr (refl, refl)
   rests_steps small.Idle device = record { keeps = refl; link = inl refl; sent = tt }
 
+  one_ready : (later : Rest) (message : Sent) → IsReadyCall later.link message → IsHeardAs rules station.identity message → IsReady rules (small_in later) (bytes_of station.identity message)
+  one_ready later (IdentifyAnswer asker running xid) ready heard = absurd ready
+  one_ready later (GetAnswer asker running request) ready heard = absurd ready
+  one_ready later (SetAnswer asker request answers) ready heard = absurd ready
+  one_ready later (ArpReply asker address target) ready heard = absurd ready
+  one_ready later (CallAnswer caller address answer) ready heard = absurd ready
+  one_ready later (Again frame) ready heard = absurd ready
+  one_ready later (ReadyCall address call) ready heard = record {
+    to_device = heard.0;
+    to_controller = heard.1;
+    link = link_of ready.0;
+    has = ap (λ (l : Option Link). option_map link_of l) ready.1;
+    awaits = ap phase_in ready.2;
+  }
+  one_ready later (Ends farewell) ready heard = absurd ready
+  one_ready later (Exchanges route frame) ready heard = absurd ready
+
   one_other : (later : Rest) (message : Sent) → IsOther later.link message → IsHeardAs rules station.identity message
       → IsDull rules (bytes_of station.identity message) ⊎ IsReady rules (small_in later) (bytes_of station.identity message)
   one_other later (IdentifyAnswer asker running xid) other heard = inl heard
@@ -355,13 +376,7 @@ module _ (rules : Rules Taken Request) (activity : List ℕ) (station : Station)
   one_other later (ArpReply asker address target) other heard = inl heard
   one_other later (CallAnswer caller address answer) other heard = absurd other
   one_other later (Again frame) other heard = absurd other
-  one_other later (ReadyCall address ready) other heard = inr (record {
-    to_device = heard.0;
-    to_controller = heard.1;
-    link = link_of other.0;
-    has = ap (λ (l : Option Link). option_map link_of l) other.1;
-    awaits = ap phase_in other.2;
-  })
+  one_other later (ReadyCall address ready) other heard = inr (one_ready later (ReadyCall address ready) other heard)
   one_other later (Ends farewell) other heard = inl heard
   one_other later (Exchanges route frame) other heard = inl heard
 
@@ -554,23 +569,6 @@ module _ (rules : Rules Taken Request) (activity : List ℕ) (station : Station)
 
     -- ---- calls
 
-    one_ready : (later : Rest) (message : Sent) → IsReadyCall later.link message → IsHeardAs rules station.identity message → IsReady rules (small_in later) (bytes_of station.identity message)
-    one_ready later (IdentifyAnswer asker running xid) ready heard = absurd ready
-    one_ready later (GetAnswer asker running request) ready heard = absurd ready
-    one_ready later (SetAnswer asker request answers) ready heard = absurd ready
-    one_ready later (ArpReply asker address target) ready heard = absurd ready
-    one_ready later (CallAnswer caller address answer) ready heard = absurd ready
-    one_ready later (Again frame) ready heard = absurd ready
-    one_ready later (ReadyCall address call) ready heard = record {
-      to_device = heard.0;
-      to_controller = heard.1;
-      link = link_of ready.0;
-      has = ap (λ (l : Option Link). option_map link_of l) ready.1;
-      awaits = ap phase_in ready.2;
-    }
-    one_ready later (Ends farewell) ready heard = absurd ready
-    one_ready later (Exchanges route frame) ready heard = absurd ready
-
     all_ready : (later : Rest) (sent : List Sent) → AreReady later.link sent → AreHeard sent → AllByRecursion (IsReady rules (small_in later)) (frames_of sent)
     all_ready later [] ready heard = tt
     all_ready later (message ∷ sent) ready heard = (one_ready later message ready.0 heard.0, all_ready later sent ready.1 heard.1)
@@ -578,7 +576,7 @@ module _ (rules : Rules Taken Request) (activity : List ℕ) (station : Station)
     -- an answer says whether the call came out well
     says_done : (which : Operation) (outcome : Result (List ℕ) CallFault) → is_done (outcome_of which outcome).0 ≡ is_well outcome
     says_done which (Ok blocks) = refl
-    says_done which (Err why) = not_done which why
+    says_done which (Err why) = refusals_are_not_done which why
 
     module _ (caller : Caller) (call : Call) (own : call.header.activity ≡ activity) where
       keeps_answer : (answer : Sent) → kept_of activity (kept_more 4 (kept_for station.identity call answer) live.rest.calls) ≡ Some (kept_for station.identity call answer)
@@ -770,9 +768,9 @@ module _ (rules : Rules Taken Request) (activity : List ℕ) (station : Station)
     goes Unreadable plan = refuses small.Idle Filter
     goes Elsewhere plan = refuses small.Idle Filter
 
-pub step_goes : (rules : Rules Taken Request) (activity : List ℕ) (outcomes : List Outcome) (station : Station) (live : Live) (heard : Heard)
+pub step_goes : RefusalsAreNotDone → (rules : Rules Taken Request) (activity : List ℕ) (outcomes : List Outcome) (station : Station) (live : Live) (heard : Heard)
     → IsPlanned rules activity station.real heard → AllByRecursion (IsHeardAs rules station.identity) (heard_step outcomes station live heard).sent
     → DeviceSteps rules (heard_as heard) (small_of activity live) (small_of activity (heard_step outcomes station live heard).live) (heard_step outcomes station live heard).frames
 unfolding heard_step judged_step
-step_goes rules activity outcomes station live heard plan sent =
-    goes rules activity station live heard plan (carried outcomes live.values (items_in (judged station live heard))).answers sent
+step_goes refusals_are_not_done rules activity outcomes station live heard plan sent =
+    goes refusals_are_not_done rules activity station live heard plan (carried outcomes live.values (items_in (judged station live heard))).answers sent

@@ -11,6 +11,8 @@ ghost use Rattle.both_ends.specs.Small.{Rules};
 ghost use Rattle.both_ends.specs.Steps.{DeviceSteps};
 ghost use Rattle.device_ends.specs.Small.{IsHeardAs, IsPlanned, heard_as, small_of};
 
+use call_laws::refusals_are_not_done;
+
 /// The machine by which each step of a device is stated, as far as a start-up goes.
 pub fn device_goes_on()
     // Whatever a device hears, where each call is one of the start-up and each message that is sent is heard as it is meant: it is a step
@@ -19,4 +21,6 @@ pub fn device_goes_on()
         → IsPlanned rules activity station.real heard
         → AllByRecursion (IsHeardAs rules station.identity) (heard_step outcomes station live heard).sent
         → DeviceSteps rules (heard_as heard) (small_of activity live) (small_of activity (heard_step outcomes station live heard).live) (heard_step outcomes station live heard).frames }
-{}
+{
+    refusals_are_not_done();
+}
