@@ -19,6 +19,10 @@ appends_on (Some xs) None new a b f g = absurd f
 appends_on (Some xs) (Some ys) None a b f g = absurd g
 appends_on (Some xs) (Some ys) (Some zs) a b f g = g ∙ ap (λ t. t ++ b) f ∙ append_assoc xs a b
 
+pub same_keeps : (old : Option (List ℕ)) → Keeps old old
+same_keeps None = tt
+same_keeps (Some xs) = refl
+
 keeps_appends : (old new : Option (List ℕ)) → Keeps old new → Appends old new []
 keeps_appends None new k = tt
 keeps_appends (Some xs) None k = absurd k
@@ -54,6 +58,14 @@ so_far_front old mid new rest whole so more = record {
 -- and then nothing
 pub keeps_front : (old new : Option (List ℕ)) (text : List ℕ) → Keeps old new → AppendsFront old new text
 keeps_front old new text k = record { front = []; behind = text; parts = refl; appended = keeps_appends old new k }
+
+-- nothing is a front of any text
+pub none_front : (old : Option (List ℕ)) (text : List ℕ) → AppendsFront old old text
+none_front old text = record { front = []; behind = text; parts = refl; appended = appends_none old }
+
+-- all of a text is a front of it
+pub all_front : (old new : Option (List ℕ)) (text : List ℕ) → Appends old new text → AppendsFront old new text
+all_front old new text all = record { front = text; behind = []; parts = sym (append-nil text); appended = all }
 
 -- a front of a text is a front of a longer one
 pub front_longer : (old new : Option (List ℕ)) (text more : List ℕ) → AppendsFront old new text → AppendsFront old new (text ++ more)

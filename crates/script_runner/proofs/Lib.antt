@@ -1,9 +1,3 @@
-pub mod Ascii
-mod Cut
-mod Places
-pub mod Hex
 pub mod Known
 pub mod Playing
-pub mod Decimals
-pub mod Ticking
-mod Flashes
+pub mod Silent

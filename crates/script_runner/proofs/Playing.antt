@@ -1,44 +1,37 @@
 -- Lines, one after another.
 use Rattle.std.proofs.Common.{◌≡◌, ◌||◌, ◌⊎◌, inl, inr, ℕ, ◌+◌, ◌≤◌, List, [], ◌∷◌, ◌++◌, Option, Some, None, length, refl, sym, ap, subst, arith, ◌∙◌, Result, Ok, Err, Bool, true, false, if◌then◌else◌, append-nil, append_assoc}
+use Rattle.std.proofs.lemmas.Bool.{false≢true}
 use Rattle.std.specs.Io.KnownBytes.{Appends}
 use Rattle.std.specs.Str.Lines.{lines}
-use Rattle.flash_model.specs.declared.memory.MemoryFlash.{MemoryFlash}
-use Rattle.settings_journal.specs.declared.journal.BootFault.{BootFault}
-use Rattle.device_core.specs.State.{State}
+use Rattle.plans.specs.declared.parts.Parts.{Parts}
+use Rattle.configurator.specs.declared.fault.PlanFault.{PlanFault}
+use Rattle.configurator.specs.declared.fault.PlanFault.TheVariants as plan
+use Rattle.configurator.specs.Planned.{IsRefused}
+use Rattle.script_lines.specs.Line.{Line, meaning_of}
+use Rattle.script_session.specs.Ends.{Network}
+use Rattle.script_session.specs.Power.{Held}
+use Rattle.script_session.specs.Said.{Answer, Outcome, Answers, Refuses, HasNoPlan, is_order, outcome_of}
+use Rattle.script_session.specs.Session.{Are, AreRightFor, Comes, IsObeyed, IsWithoutPlan}
 use Rattle.script_runner.specs.declared.fault.RunFault.{RunFault}
-use Rattle.script_runner.specs.declared.fault.RunFault.TheVariants.{Write, OutOfMemory}
-use Rattle.script_runner.specs.declared.session.Power.{Power}
-use Rattle.script_runner.specs.declared.session.Power.TheVariants.{On, Off, Away}
-use Rattle.script_runner.specs.Line.{Line, Unfit, Skipped, Asks, Unknown, meaning_of}
-use Rattle.script_runner.specs.Output.{AppendsFront, Grows, Puts}
-use Rattle.script_runner.specs.Script.{Station, Answer, answer_of, then_told, told, number_or, refused_from, is_order, has_order, before_order, output_of, refused_line}
-use Rattle.script_runner.specs.Session.{IsRunning, IsAnswered, IsDone, IsObeyed, Obeys, is_off, refusal_of, text_of}
+use Rattle.script_runner.specs.declared.fault.RunFault.TheVariants.{Write, OutOfMemory, Config}
+use Rattle.script_runner.specs.Fault.{fault_of}
+use Rattle.script_runner.specs.Output.{AppendsFront, Grows}
+use Rattle.script_runner.specs.Script.{AllRight, ArePlansOf, End, AllDone, Refused, Unplanned, then_told, told, then_ended, ended, has_order, before_order, output_of, end_of}
 use Rattle.script_runner.specs.Told.{Plays, PlaysOn, IsPlayed, IsPlayFault}
-use Rattle.script_runner.proofs.Known.{IsSoFar, so_far_on, so_far_all, so_far_front, front_longer, appends_on}
+use Rattle.script_runner.proofs.Known.{IsSoFar, so_far_on, so_far_all, so_far_front, front_longer, none_front, appends_on}
 
--- a device that runs was not refused its start
-pub unrefused : (station : Station) (power : Power) → IsRunning station power → refusal_of power ≡ None
-unrefused station (On device) runs = refl
-unrefused station (Off fault flash) runs = absurd runs
-unrefused station Away runs = absurd runs
-
--- and it has power
-pub unlost : (station : Station) (power : Power) → IsRunning station power → is_off power ≡ false
-unlost station (On device) runs = runs.reliable.0
-unlost station (Off fault flash) runs = absurd runs
-unlost station Away runs = absurd runs
-
--- Between two lines, none of which was an order to the flash: the device runs, a front of the output was written, and the
--- rest of it, a line to be refused and an order to come are those of the lines that are left.
-pub record IsPlaying (station : Station) (old new : Option (List ℕ)) (power : Power) (number : ℕ) (rest input : List ℕ) : Type 0 where
-  pub runs : IsRunning station power
-  pub so_far : IsSoFar old new (told station (before_order (lines rest))) (output_of input)
-  pub refused : refused_line input ≡ refused_from (number + 1) (before_order (lines rest))
+-- Between two lines, none of which was an order to the flash: both ends are as this says, a front of the output was written, and the
+-- rest of it, how it ends, whether an order comes and what is known of catalogues are those of the lines that are left.
+pub record IsPlaying (plans : List ℕ → Option Parts) (network : Network) (old new : Option (List ℕ)) (held : Held) (number : ℕ) (rest input : List ℕ) : Type 0 where
+  pub right : AllRight plans (before_order (lines rest))
+  pub ends : Are network held
+  pub so_far : IsSoFar old new (told plans network (before_order (lines rest))) (output_of plans input)
+  pub ended : end_of plans input ≡ ended plans (number + 1) network (before_order (lines rest))
   pub ordered : has_order (lines input) ≡ has_order (lines rest)
 
 -- between two lines
-abbrev pub IsBetween : Option (List ℕ) → Option (List ℕ) → Power → ℕ → List ℕ → List ℕ → Type 0
-IsBetween old new power number rest input = ((station : Station) × IsPlaying station old new power number rest input) ⊎ PlaysOn old new input
+abbrev pub IsBetween : (List ℕ → Option Parts) → Option (List ℕ) → Option (List ℕ) → Held → ℕ → List ℕ → List ℕ → Type 0
+IsBetween plans old new held number rest input = ((network : Network) × IsPlaying plans network old new held number rest input) ⊎ PlaysOn plans old new input
 
 before_plain : (line : List ℕ) (later : List (List ℕ)) → is_order (meaning_of line) ≡ false → before_order (line ∷ later) ≡ line ∷ before_order later
 before_plain line later plain = ap (λ ordered. if ordered then [] else line ∷ before_order later) plain
@@ -52,114 +45,173 @@ before_at_order line later ordered = ap (λ ordered. if ordered then [] else lin
 has_at_order : (line : List ℕ) (later : List (List ℕ)) → is_order (meaning_of line) ≡ true → has_order (line ∷ later) ≡ true
 has_at_order line later ordered = ap (λ ordered. ordered || has_order later) ordered
 
-number_answered : (station : Station) (line : Line) (answer : Answer) (n : ℕ) (later : Option ℕ) → answer_of station line ≡ Some answer → number_or line n later ≡ later
-number_answered station Skipped answer n later e = refl
-number_answered station (Asks command) answer n later e = refl
-number_answered station Unfit answer n later e = cc
-number_answered station Unknown answer n later e = cc
-
-number_refused : (station : Station) (line : Line) (n : ℕ) (later : Option ℕ) → answer_of station line ≡ None → number_or line n later ≡ Some n
-number_refused station Skipped n later e = cc
-number_refused station (Asks command) n later e = cc
-number_refused station Unfit n later e = refl
-number_refused station Unknown n later e = refl
-
 -- the lines that are left, where the first of them is no order
 left_plain : (rest line later : List ℕ) → lines rest ≡ line ∷ lines later → is_order (meaning_of line) ≡ false → before_order (lines rest) ≡ line ∷ before_order (lines later)
 left_plain rest line later e plain = ap before_order e ∙ before_plain line (lines later) plain
 
--- after a line that was answered
-pub playing_on : (station : Station) (old mid new : Option (List ℕ)) (before after : Power) (number : ℕ) (rest line later input : List ℕ) → IsPlaying station old mid before number rest input → lines rest ≡ line ∷ lines later → is_order (meaning_of line) ≡ false → (answered : IsAnswered station (meaning_of line) mid new after) → IsPlaying answered.answer.station old new after (number + 1) later input
-playing_on station old mid new before after number rest line later input playing e plain answered =
-    let left = left_plain rest line later e plain in
-    record {
-      runs = answered.runs;
-      so_far = so_far_on old mid new _ _ _ answered.answer.text playing.so_far
-          (ap (told station) left ∙ ap (λ answer. then_told answer (λ next. told next (before_order (lines later)))) answered.is) answered.text;
-      refused = playing.refused ∙ ap (refused_from (number + 1)) left ∙ number_answered station (meaning_of line) answered.answer (number + 1) _ answered.is;
-      ordered = playing.ordered ∙ ap has_order e ∙ has_plain line (lines later) plain;
-    }
+-- what is left of the output and of the end, at a line that comes out so
+told_at : (plans : List ℕ → Option Parts) (network : Network) (rest line later : List ℕ) (outcome : Outcome) → lines rest ≡ line ∷ lines later → is_order (meaning_of line) ≡ false → outcome_of plans network (meaning_of line) ≡ outcome → told plans network (before_order (lines rest)) ≡ then_told outcome (λ next. told plans next (before_order (lines later)))
+told_at plans network rest line later outcome e plain is =
+    ap (told plans network) (left_plain rest line later e plain) ∙ ap (λ came. then_told came (λ next. told plans next (before_order (lines later)))) is
 
--- at a line that was refused
-pub played_refused : (station : Station) (old mid new : Option (List ℕ)) (power : Power) (number : ℕ) (rest line later input : List ℕ) → IsPlaying station old mid power number rest input → lines rest ≡ line ∷ lines later → is_order (meaning_of line) ≡ false → answer_of station (meaning_of line) ≡ None → Appends mid new [] → Appends old new (output_of input) × (refused_line input ≡ Some (number + 1))
-played_refused station old mid new power number rest line later input playing e plain none kept =
-    let left = left_plain rest line later e plain in
-    let silent : told station (before_order (lines rest)) ≡ [] = ap (told station) left ∙ ap (λ answer. then_told answer (λ next. told next (before_order (lines later)))) none in (
-      so_far_all old new (told station (before_order (lines rest))) (output_of input) (so_far_on old mid new _ _ _ [] playing.so_far refl kept) silent,
-      playing.refused ∙ ap (refused_from (number + 1)) left ∙ number_refused station (meaning_of line) (number + 1) _ none,
+ended_at : (plans : List ℕ → Option Parts) (network : Network) (n : ℕ) (rest line later : List ℕ) (outcome : Outcome) → lines rest ≡ line ∷ lines later → is_order (meaning_of line) ≡ false → outcome_of plans network (meaning_of line) ≡ outcome → ended plans n network (before_order (lines rest)) ≡ then_ended outcome n (λ next. ended plans (n + 1) next (before_order (lines later)))
+ended_at plans network n rest line later outcome e plain is =
+    ap (ended plans n network) (left_plain rest line later e plain) ∙ ap (λ came. then_ended came n (λ next. ended plans (n + 1) next (before_order (lines later)))) is
+
+-- what is known of the catalogue of a line, and of those behind it
+pub right_at : (plans : List ℕ → Option Parts) (rest line later : List ℕ) → AllRight plans (before_order (lines rest)) → lines rest ≡ line ∷ lines later → is_order (meaning_of line) ≡ false → AreRightFor plans (meaning_of line) × AllRight plans (before_order (lines later))
+right_at plans rest line later right e plain = subst (AllRight plans) (left_plain rest line later e plain) right
+
+-- ---- one line
+
+-- what comes of a line that a script may have here, whose text was rendered where none was
+came_answered : (outcome : Outcome) (held : Held) (cleared text : List ℕ) (is : Bool) → cleared ≡ [] → is ≡ true → Comes outcome held cleared text is → (answer : Answer) × (outcome ≡ Answers answer) × IsObeyed answer held [] text
+came_answered (Answers answer) held cleared text is none may comes = (answer, refl, subst (λ before. IsObeyed answer held before text) none comes.1)
+came_answered Refuses held cleared text is none may comes = absurd (false≢true (sym comes ∙ may))
+came_answered (HasNoPlan catalogue) held cleared text is none may comes = absurd comes
+
+-- and of one that it may not
+came_refused : (outcome : Outcome) (held : Held) (cleared text : List ℕ) (is : Bool) → is ≡ false → Comes outcome held cleared text is → outcome ≡ Refuses
+came_refused (Answers answer) held cleared text is may_not comes = absurd (false≢true (sym may_not ∙ comes.0))
+came_refused Refuses held cleared text is may_not comes = refl
+came_refused (HasNoPlan catalogue) held cleared text is may_not comes = absurd comes
+
+-- of one whose catalogue has no plan
+without_plan : (outcome : Outcome) (fault : PlanFault) → IsWithoutPlan outcome fault → (catalogue : List ℕ) × (outcome ≡ HasNoPlan catalogue) × IsRefused catalogue fault
+without_plan (HasNoPlan catalogue) fault without = (catalogue, refl, without)
+without_plan (Answers answer) fault without = absurd without
+without_plan Refuses fault without = absurd without
+
+-- after a line that was answered, whose text was written
+pub playing_on : (plans : List ℕ → Option Parts) (network : Network) (old mid new : Option (List ℕ)) (before after : Held) (number : ℕ) (rest line later input cleared text shown : List ℕ) (is : Bool) → IsPlaying plans network old mid before number rest input → lines rest ≡ line ∷ lines later → is_order (meaning_of line) ≡ false → cleared ≡ [] → is ≡ true → Comes (outcome_of plans network (meaning_of line)) after cleared text is → shown ≡ text → Appends mid new shown → IsBetween plans old new after (number + 1) later input
+playing_on plans network old mid new before after number rest line later input cleared text shown is playing e plain none may comes same written =
+    let came = came_answered (outcome_of plans network (meaning_of line)) after cleared text is none may comes in
+    let answer = came.0 in
+    inl (
+      answer.network,
+      record {
+        right = (right_at plans rest line later playing.right e plain).1;
+        ends = (came.2.runs, came.2.waits);
+        so_far = so_far_on old mid new _ _ _ answer.text playing.so_far (told_at plans network rest line later (Answers answer) e plain came.1) (subst (Appends mid new) (same ∙ came.2.text) written);
+        ended = playing.ended ∙ ended_at plans network (number + 1) rest line later (Answers answer) e plain came.1;
+        ordered = playing.ordered ∙ ap has_order e ∙ has_plain line (lines later) plain;
+      },
+    )
+
+-- at a line whose text was written in part: a front of the output was
+pub playing_broken : (plans : List ℕ → Option Parts) (network : Network) (old mid new : Option (List ℕ)) (before after : Held) (number : ℕ) (rest line later input cleared text shown : List ℕ) (is : Bool) → IsPlaying plans network old mid before number rest input → lines rest ≡ line ∷ lines later → is_order (meaning_of line) ≡ false → cleared ≡ [] → is ≡ true → Comes (outcome_of plans network (meaning_of line)) after cleared text is → shown ≡ text → AppendsFront mid new shown → AppendsFront old new (output_of plans input)
+playing_broken plans network old mid new before after number rest line later input cleared text shown is playing e plain none may comes same written =
+    let came = came_answered (outcome_of plans network (meaning_of line)) after cleared text is none may comes in
+    so_far_front old mid new (told plans network (before_order (lines rest))) (output_of plans input) playing.so_far
+    (subst (AppendsFront mid new) (sym (told_at plans network rest line later (Answers came.0) e plain came.1))
+    (front_longer mid new came.0.text (told plans came.0.network (before_order (lines later))) (subst (AppendsFront mid new) (same ∙ came.2.text) written)))
+
+-- at a line that is refused: all that the lines before it print was written
+pub played_refused : (plans : List ℕ → Option Parts) (network : Network) (old new : Option (List ℕ)) (before after : Held) (number : ℕ) (rest line later input cleared text : List ℕ) (is : Bool) → IsPlaying plans network old new before number rest input → lines rest ≡ line ∷ lines later → is_order (meaning_of line) ≡ false → is ≡ false → Comes (outcome_of plans network (meaning_of line)) after cleared text is → Appends old new (output_of plans input) × (end_of plans input ≡ Refused (number + 1))
+played_refused plans network old new before after number rest line later input cleared text is playing e plain may_not comes =
+    let none = came_refused (outcome_of plans network (meaning_of line)) after cleared text is may_not comes in (
+      so_far_all old new (told plans network (before_order (lines rest))) (output_of plans input) playing.so_far (told_at plans network rest line later Refuses e plain none),
+      playing.ended ∙ ended_at plans network (number + 1) rest line later Refuses e plain none,
     )
 
 -- at a line that orders a failure of the flash
-playing_order : (station : Station) (old new : Option (List ℕ)) (power : Power) (number : ℕ) (rest line later input : List ℕ) → IsPlaying station old new power number rest input → lines rest ≡ line ∷ lines later → is_order (meaning_of line) ≡ true → PlaysOn old new input
-playing_order station old new power number rest line later input playing e ordered =
+playing_order : (plans : List ℕ → Option Parts) (network : Network) (old new : Option (List ℕ)) (held : Held) (number : ℕ) (rest line later input : List ℕ) → IsPlaying plans network old new held number rest input → lines rest ≡ line ∷ lines later → is_order (meaning_of line) ≡ true → PlaysOn plans old new input
+playing_order plans network old new held number rest line later input playing e ordered =
     let left : before_order (lines rest) ≡ [] = ap before_order e ∙ before_at_order line (lines later) ordered in
     record {
       ordered = playing.ordered ∙ ap has_order e ∙ has_at_order line (lines later) ordered;
-      unrefused = playing.refused ∙ ap (refused_from (number + 1)) left;
+      unended = playing.ended ∙ ap (ended plans (number + 1) network) left;
       more = [];
-      appended = subst (Appends old new) (sym (append-nil (output_of input))) (so_far_all old new _ _ playing.so_far (ap (told station) left));
+      appended = subst (Appends old new) (sym (append-nil (output_of plans input))) (so_far_all old new _ _ playing.so_far (ap (told plans network) left));
     }
 
--- At a line: the device runs and the line is no order, or an order was met.
-pub at_line : (old new : Option (List ℕ)) (power : Power) (number : ℕ) (rest line later input : List ℕ) → IsBetween old new power number rest input → lines rest ≡ line ∷ lines later → ((station : Station) × IsPlaying station old new power number rest input × (is_order (meaning_of line) ≡ false)) ⊎ PlaysOn old new input
-at_line old new power number rest line later input (inl playing) e =
-    (elim (is_order (meaning_of line)) as (λ b. is_order (meaning_of line) ≡ b → ((station : Station) × IsPlaying station old new power number rest input × (is_order (meaning_of line) ≡ false)) ⊎ PlaysOn old new input) [
-      | true ↦ λ ordered. inr (playing_order playing.0 old new power number rest line later input playing.1 e ordered)
+-- At a line: both ends are as said and the line is no order, or an order was met.
+pub at_line : (plans : List ℕ → Option Parts) (old new : Option (List ℕ)) (held : Held) (number : ℕ) (rest line later input : List ℕ) → IsBetween plans old new held number rest input → lines rest ≡ line ∷ lines later → ((network : Network) × IsPlaying plans network old new held number rest input × (is_order (meaning_of line) ≡ false)) ⊎ PlaysOn plans old new input
+at_line plans old new held number rest line later input (inl playing) e =
+    (elim (is_order (meaning_of line)) as (λ b. is_order (meaning_of line) ≡ b → ((network : Network) × IsPlaying plans network old new held number rest input × (is_order (meaning_of line) ≡ false)) ⊎ PlaysOn plans old new input) [
+      | true ↦ λ ordered. inr (playing_order plans playing.0 old new held number rest line later input playing.1 e ordered)
       | false ↦ λ plain. inl (playing.0, playing.1, plain)
     ]) refl
-at_line old new power number rest line later input (inr more) e = inr more
+at_line plans old new held number rest line later input (inr more) e = inr more
 
 -- whatever was written behind an order
-pub plays_on : (old mid new : Option (List ℕ)) (input : List ℕ) → PlaysOn old mid input → Grows mid new → PlaysOn old new input
-plays_on old mid new input plays grows = record {
+pub plays_on : (plans : List ℕ → Option Parts) (old mid new : Option (List ℕ)) (input : List ℕ) → PlaysOn plans old mid input → Grows mid new → PlaysOn plans old new input
+plays_on plans old mid new input plays grows = record {
   ordered = plays.ordered;
-  unrefused = plays.unrefused;
+  unended = plays.unended;
   more = plays.more ++ grows.0;
-  appended = subst (Appends old new) (append_assoc (output_of input) plays.more grows.0) (appends_on old mid new _ _ plays.appended grows.1);
+  appended = subst (Appends old new) (append_assoc (output_of plans input) plays.more grows.0) (appends_on old mid new _ _ plays.appended grows.1);
 }
 
-text_longer : (old new : Option (List ℕ)) (answer : Option Answer) (later : Station → List ℕ) → AppendsFront old new (text_of answer) → AppendsFront old new (then_told answer later)
-text_longer old new None later front = front
-text_longer old new (Some answer) later front = front_longer old new answer.text (later answer.station) front
-
--- at a line whose output broke off
-pub playing_broken : (station : Station) (old mid new : Option (List ℕ)) (power : Power) (number : ℕ) (rest line later input : List ℕ) → IsPlaying station old mid power number rest input → lines rest ≡ line ∷ lines later → is_order (meaning_of line) ≡ false → AppendsFront mid new (text_of (answer_of station (meaning_of line))) → AppendsFront old new (output_of input)
-playing_broken station old mid new power number rest line later input playing e plain front =
-    so_far_front old mid new _ _ playing.so_far (rw (ap (told station) (left_plain rest line later e plain)) (text_longer mid new (answer_of station (meaning_of line)) (λ next. told next (before_order (lines later))) front))
-
--- what the device did is what was asked for
-pub done_obeyed : (answer : Answer) (device : State (MemoryFlash 4096)) (before now : List ℕ) → IsDone answer device before now → IsObeyed answer (On device) before now
-done_obeyed answer device before now done = record { runs = done.runs; text = done.text }
-
--- what was rendered was written
-pub obeyed_puts : (answer : Answer) (power : Power) (text : List ℕ) (old new : Option (List ℕ)) (result : Result (Unit {0}) RunFault) → IsObeyed answer power [] text → Puts old new text result → Obeys answer old new power result
-obeyed_puts answer power text old new (Ok done) obeyed puts = (subst (Appends old new) obeyed.text puts, obeyed.runs)
-obeyed_puts answer power text old new (Err fault) obeyed puts = (inl puts.0, subst (AppendsFront old new) obeyed.text puts.1)
-
--- a run that broke off
-pub played_broken : (old new : Option (List ℕ)) (input : List ℕ) (fault : RunFault) → (fault ≡ Write) ⊎ (fault ≡ OutOfMemory) → AppendsFront old new (output_of input) → IsPlayed old new input (Err fault)
-played_broken old new input fault stop front = elim stop [
-  | inl write ↦ rw write (inl front)
-  | inr memory ↦ rw memory (inl front)
-]
+-- a front of a text makes a writer's bytes more
+pub front_grows : (old new : Option (List ℕ)) (text : List ℕ) → AppendsFront old new text → Grows old new
+front_grows old new text front = (front.front, front.appended)
 
 -- after the last line
-pub played_all : (old new : Option (List ℕ)) (power : Power) (number : ℕ) (rest input : List ℕ) → IsBetween old new power number rest input → rest ≡ [] → IsPlayed old new input (Ok tt)
-played_all old new power number rest input (inl playing) e =
+pub played_all : (plans : List ℕ → Option Parts) (old new : Option (List ℕ)) (held : Held) (number : ℕ) (rest input : List ℕ) → IsBetween plans old new held number rest input → rest ≡ [] → IsPlayed plans old new input (Ok tt)
+played_all plans old new held number rest input (inl playing) e =
     let none : lines rest ≡ [] = ap lines e in
     inl (
-      so_far_all old new _ _ playing.1.so_far (ap (λ left. told playing.0 (before_order left)) none),
-      playing.1.refused ∙ ap (λ left. refused_from (number + 1) (before_order left)) none,
+      so_far_all old new _ _ playing.1.so_far (ap (λ left. told plans playing.0 (before_order left)) none),
+      playing.1.ended ∙ ap (λ left. ended plans (number + 1) playing.0 (before_order left)) none,
       playing.1.ordered ∙ ap has_order none,
     )
-played_all old new power number rest input (inr more) e = inr more
+played_all plans old new held number rest input (inr more) e = inr more
+
+-- a write that failed
+pub write_plays : (fault : RunFault) → fault ≡ Write → IsPlayFault fault
+write_plays fault write = rw write tt
+
+pub played_write : (plans : List ℕ → Option Parts) (old new : Option (List ℕ)) (input : List ℕ) (fault : RunFault) → fault ≡ Write → AppendsFront old new (output_of plans input) → IsPlayed plans old new input (Err fault)
+played_write plans old new input fault write front = rw write (inl front)
 
 pub no_bytes : (bytes : List ℕ) → length bytes ≡ 0 → bytes ≡ []
 no_bytes [] e = refl
 no_bytes (byte ∷ bytes) e = absurd (omega arith)
 
-pub play_fault : (fault : RunFault) → (fault ≡ Write) ⊎ (fault ≡ OutOfMemory) → IsPlayFault fault
-play_fault fault stop = elim stop [
-  | inl write ↦ rw write tt
-  | inr memory ↦ rw memory tt
+-- ---- a line that fails
+
+-- how a fault of a catalogue ends a run: memory was refused, or a number says why
+fault_cases : (fault : PlanFault) → (fault_of fault ≡ OutOfMemory) ⊎ ((n : ℕ) × (fault_of fault ≡ Config n))
+fault_cases plan.OutOfMemory = inl refl
+fault_cases plan.Json = inr (1, refl)
+fault_cases plan.MissingKey = inr (2, refl)
+fault_cases plan.WrongKind = inr (3, refl)
+fault_cases plan.Number = inr (4, refl)
+fault_cases plan.NotAllowedInSlot = inr (5, refl)
+fault_cases plan.TooManySlots = inr (6, refl)
+fault_cases plan.FrameTooLong = inr (7, refl)
+fault_cases plan.ConnectTooLong = inr (8, refl)
+fault_cases plan.Name = inr (9, refl)
+fault_cases plan.Address = inr (10, refl)
+
+pub fault_plays : (fault : PlanFault) → IsPlayFault (fault_of fault)
+fault_plays fault = elim (fault_cases fault) [
+  | inl memory ↦ subst IsPlayFault (sym memory) tt
+  | inr config ↦ subst IsPlayFault (sym config.1) tt
 ]
+
+-- where memory was refused, a front of the output was written
+pub played_without : (plans : List ℕ → Option Parts) (network : Network) (old new : Option (List ℕ)) (held : Held) (number : ℕ) (rest input : List ℕ) (fault : RunFault) → IsPlaying plans network old new held number rest input → fault ≡ OutOfMemory → IsPlayed plans old new input (Err fault)
+played_without plans network old new held number rest input fault playing memory =
+    subst (λ fault. IsPlayed plans old new input (Err fault)) (sym memory)
+    (inl (so_far_front old new new (told plans network (before_order (lines rest))) (output_of plans input) playing.so_far (none_front new (told plans network (before_order (lines rest))))))
+
+-- where a catalogue has no plan, all that the lines before it print was
+played_config : (plans : List ℕ → Option Parts) (old new : Option (List ℕ)) (input catalogue : List ℕ) (n : ℕ) (fault : PlanFault) → Appends old new (output_of plans input) → end_of plans input ≡ Unplanned catalogue → IsRefused catalogue fault → fault_of fault ≡ Config n → IsPlayed plans old new input (Err (fault_of fault))
+played_config plans old new input catalogue n fault written end refused config =
+    subst (λ fault. IsPlayed plans old new input (Err fault)) (sym config)
+    (inl (written, record { catalogue = catalogue; ended = end; unplanned = (fault, refused, sym config) }))
+
+-- at a line that fails
+pub played_failed : (plans : List ℕ → Option Parts) (network : Network) (old new : Option (List ℕ)) (before : Held) (number : ℕ) (rest line later input : List ℕ) (fault : PlanFault) → IsPlaying plans network old new before number rest input → lines rest ≡ line ∷ lines later → is_order (meaning_of line) ≡ false → (fault ≡ plan.OutOfMemory) ⊎ IsWithoutPlan (outcome_of plans network (meaning_of line)) fault → IsPlayed plans old new input (Err (fault_of fault))
+played_failed plans network old new before number rest line later input fault playing e plain (inl memory) =
+    played_without plans network old new before number rest input (fault_of fault) playing (ap fault_of memory)
+played_failed plans network old new before number rest line later input fault playing e plain (inr without) =
+    let none = without_plan (outcome_of plans network (meaning_of line)) fault without in
+    let written = so_far_all old new (told plans network (before_order (lines rest))) (output_of plans input) playing.so_far (told_at plans network rest line later (HasNoPlan none.0) e plain none.1) in
+    let end = playing.ended ∙ ended_at plans network (number + 1) rest line later (HasNoPlan none.0) e plain none.1 in
+    elim (fault_cases fault) [
+      | inl memory ↦ played_without plans network old new before number rest input (fault_of fault) playing memory
+      | inr config ↦ played_config plans old new input none.0 config.0 fault written end none.2 config.1
+    ]

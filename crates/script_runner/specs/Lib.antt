@@ -1,12 +1,5 @@
 pub mod Fault
 pub mod Output
-pub mod Numbers
-pub mod Line
-pub mod Read
-pub mod Demo
-pub mod Text
-pub mod Show
 pub mod Script
 pub mod Told
-pub mod Session
 pub mod Planned

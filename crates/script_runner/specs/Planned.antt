@@ -15,7 +15,7 @@ use Rattle.script_runner.specs.declared.fault.RunFault.{RunFault}
 use Rattle.script_runner.specs.declared.fault.RunFault.TheVariants.{Read, Write, Line, OutOfMemory, Config, EndlessInput}
 use Rattle.script_runner.specs.Fault.{fault_of}
 use Rattle.script_runner.specs.Output.{AppendsFront}
-use Rattle.script_runner.specs.Text.{printed}
+use Rattle.script_lines.specs.Text.{printed}
 
 -- ---- the lines
 

@@ -5,30 +5,44 @@ use Rattle.std.specs.Str.Lines.{lines}
 use Rattle.script_runner.specs.declared.fault.RunFault.{RunFault}
 use Rattle.script_runner.specs.declared.fault.RunFault.TheVariants.{Read, Write, Line, OutOfMemory, Config, EndlessInput}
 use Rattle.script_runner.specs.Output.{AppendsFront}
-use Rattle.script_runner.specs.Script.{output_of, refused_line, has_order}
+use Rattle.configurator.specs.declared.fault.PlanFault.{PlanFault}
+use Rattle.plans.specs.declared.parts.Parts.{Parts}
+use Rattle.configurator.specs.Planned.{IsRefused}
+use Rattle.script_runner.specs.Fault.{fault_of}
+use Rattle.script_runner.specs.Script.{AllDone, ArePlansOf, Refused, Unplanned, output_of, end_of, has_order}
+
+-- a catalogue has no plan for the fault that this is the number of
+abbrev pub IsUnplanned : List ℕ → RunFault → Type 0
+IsUnplanned catalogue fault = (plan : PlanFault) × IsRefused catalogue plan × (fault ≡ fault_of plan)
+
+-- a run ends at a catalogue that has no plan, for the fault with this number
+pub record EndsWithoutPlan (plans : List ℕ → Option Parts) (input : List ℕ) (n : ℕ) : Type 0 where
+  pub catalogue : List ℕ
+  pub ended : end_of plans input ≡ Unplanned catalogue
+  pub unplanned : IsUnplanned catalogue (Config n)
 
 -- What comes of a script up to its first line that orders a failure of the flash: at the end, where there is no such line, all of
--- its output was written, at a line that is refused the output of the lines before it, and where a write failed or memory was
--- refused a front of the output.
-abbrev pub Plays : Option (List ℕ) → Option (List ℕ) → List ℕ → Result (Unit {0}) RunFault → Type 0
-Plays old new input (Ok done) = Appends old new (output_of input) × (refused_line input ≡ None) × (has_order (lines input) ≡ false)
-Plays old new input (Err (Line n)) = Appends old new (output_of input) × (refused_line input ≡ Some n)
-Plays old new input (Err Write) = AppendsFront old new (output_of input)
-Plays old new input (Err OutOfMemory) = AppendsFront old new (output_of input)
-Plays old new input (Err Read) = ⊥
-Plays old new input (Err (Config n)) = ⊥
-Plays old new input (Err EndlessInput) = ⊥
+-- its output was written, at a line that is refused or a catalogue that has no plan the output of the lines before it, and where a
+-- write failed or memory was refused a front of the output.
+abbrev pub Plays : (List ℕ → Option Parts) → Option (List ℕ) → Option (List ℕ) → List ℕ → Result (Unit {0}) RunFault → Type 0
+Plays plans old new input (Ok done) = Appends old new (output_of plans input) × (end_of plans input ≡ AllDone) × (has_order (lines input) ≡ false)
+Plays plans old new input (Err (Line n)) = Appends old new (output_of plans input) × (end_of plans input ≡ Refused n)
+Plays plans old new input (Err (Config n)) = Appends old new (output_of plans input) × EndsWithoutPlan plans input n
+Plays plans old new input (Err Write) = AppendsFront old new (output_of plans input)
+Plays plans old new input (Err OutOfMemory) = AppendsFront old new (output_of plans input)
+Plays plans old new input (Err Read) = ⊥
+Plays plans old new input (Err EndlessInput) = ⊥
 
 -- A line orders a failure of the flash and none before it is refused: all that these print was written, and then more.
-pub record PlaysOn (old new : Option (List ℕ)) (input : List ℕ) : Type 0 where
+pub record PlaysOn (plans : List ℕ → Option Parts) (old new : Option (List ℕ)) (input : List ℕ) : Type 0 where
   pub ordered : has_order (lines input) ≡ true
-  pub unrefused : refused_line input ≡ None
+  pub unended : end_of plans input ≡ AllDone
   pub more : List ℕ
-  pub appended : Appends old new (output_of input ++ more)
+  pub appended : Appends old new (output_of plans input ++ more)
 
 -- of a script that was read whole
-abbrev pub IsPlayed : Option (List ℕ) → Option (List ℕ) → List ℕ → Result (Unit {0}) RunFault → Type 0
-IsPlayed old new input result = Plays old new input result ⊎ PlaysOn old new input
+abbrev pub IsPlayed : (List ℕ → Option Parts) → Option (List ℕ) → Option (List ℕ) → List ℕ → Result (Unit {0}) RunFault → Type 0
+IsPlayed plans old new input result = Plays plans old new input result ⊎ PlaysOn plans old new input
 
 -- the longest script
 abbrev pub limit : ℕ
@@ -46,20 +60,34 @@ IsWhole old new input (Err (Config n)) = length input ≤ limit
 IsWhole old new input (Err Write) = length input ≤ limit
 
 -- Of the same: what was written of its output.
-abbrev pub IsTold : Option (List ℕ) → Option (List ℕ) → List ℕ → Result (Unit {0}) RunFault → Type 0
-IsTold old new input (Err Read) = Keeps old new
-IsTold old new input (Err EndlessInput) = Keeps old new
-IsTold old new input (Err OutOfMemory) = IsPlayed old new input (Err OutOfMemory)
-IsTold old new input (Ok done) = IsPlayed old new input (Ok done)
-IsTold old new input (Err (Line n)) = IsPlayed old new input (Err (Line n))
-IsTold old new input (Err (Config n)) = IsPlayed old new input (Err (Config n))
-IsTold old new input (Err Write) = IsPlayed old new input (Err Write)
+abbrev pub IsTold : (List ℕ → Option Parts) → Option (List ℕ) → Option (List ℕ) → List ℕ → Result (Unit {0}) RunFault → Type 0
+IsTold plans old new input (Err Read) = Keeps old new
+IsTold plans old new input (Err EndlessInput) = Keeps old new
+IsTold plans old new input (Err OutOfMemory) = IsPlayed plans old new input (Err OutOfMemory)
+IsTold plans old new input (Ok done) = IsPlayed plans old new input (Ok done)
+IsTold plans old new input (Err (Line n)) = IsPlayed plans old new input (Err (Line n))
+IsTold plans old new input (Err (Config n)) = IsPlayed plans old new input (Err (Config n))
+IsTold plans old new input (Err Write) = IsPlayed plans old new input (Err Write)
+
+-- Whatever a reader gives: after Read and EndlessInput nothing was written.
+abbrev pub IsSilent : Option (List ℕ) → Option (List ℕ) → Result (Unit {0}) RunFault → Type 0
+IsSilent old new (Err Read) = Keeps old new
+IsSilent old new (Err EndlessInput) = Keeps old new
+IsSilent old new (Err OutOfMemory) = Unit {0}
+IsSilent old new (Ok done) = Unit {0}
+IsSilent old new (Err (Line n)) = Unit {0}
+IsSilent old new (Err (Config n)) = Unit {0}
+IsSilent old new (Err Write) = Unit {0}
+
+-- What was written of its output, whatever plans its catalogues have: each has the one that the configurator says, and none where it is refused.
+abbrev pub IsToldByPlans : Option (List ℕ) → Option (List ℕ) → List ℕ → Result (Unit {0}) RunFault → Type 0
+IsToldByPlans old new input result = (plans : List ℕ → Option Parts) → ArePlansOf plans input → IsTold plans old new input result
 
 -- a fault of a script that was read
 abbrev pub IsPlayFault : RunFault → Type 0
 IsPlayFault Read = ⊥
 IsPlayFault Write = Unit {0}
 IsPlayFault (Line n) = Unit {0}
+IsPlayFault (Config n) = Unit {0}
 IsPlayFault OutOfMemory = Unit {0}
-IsPlayFault (Config n) = ⊥
 IsPlayFault EndlessInput = ⊥

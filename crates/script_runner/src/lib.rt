@@ -1,19 +1,12 @@
-//! Scripts: lines of frames and orders for a demo device, and the text that it answers.
+//! Scripts and catalogues, from a reader to a writer: what the lines of a script print that is played on a demo device and its
+//! controller, and the layouts of a catalogue's plan.
 #![tactic(auto)]
 
-mod bytes;
-mod command;
-mod demo;
-mod digits;
 mod fault;
 mod input;
-mod numbers;
 mod output;
 mod plan;
 mod play;
-mod render;
-mod session;
-mod show;
 mod whole;
 
 pub use fault::RunFault;

@@ -1,16 +1,16 @@
 // The plan of a catalogue, as text.
 ghost use Rattle.std.specs.Prelude.{◌≡◌, ◌++◌, OnOk, IfOk, IfErr, IfSome, flat_map};
 ghost use Rattle.cyclic_data.specs.Layout.{Table};
-ghost use Rattle.script_runner.specs.Told.{IsWhole};
+ghost use Rattle.script_runner.specs.Told.{IsSilent, IsWhole};
 ghost use Rattle.script_runner.specs.Planned.{HasText, HasNoText, IsPlanned, kind_word, layout_lines, place_line, plan_lines, size_shown};
 
 use crate::RunFault;
 use crate::input::read_all;
 use crate::output::put;
-use crate::show::number;
 use configurator::plan_from_json;
 use cyclic_data::{Layout, Place, PlaceKind};
 use plans::Plan;
+use script_lines::show::number;
 use std::alloc::{AllocError, Global};
 use std::io::{Read, Write};
 
@@ -25,6 +25,8 @@ pub fn plan_text<R: Read, W: Write>(
     ensures whole { IfSome (R.remaining reader.old) (λ input. IsWhole (W.contents writer.old) (W.contents writer.new) input result) }
     // What is written are the lines of the plan, or a front of them where a write failed, and nothing where there is no plan.
     ensures planned { IfSome (R.remaining reader.old) (λ input. IsPlanned (W.contents writer.old) (W.contents writer.new) input result) }
+    // Whatever the reader gives, also one that never ends: behind a read that failed and an endless input nothing was written.
+    ensures silent { IsSilent (W.contents writer.old) (W.contents writer.new) result }
 {
     let input = read_all(alloc, reader)?;
     let text = text_of(alloc, input.as_slice())?;

@@ -8,6 +8,8 @@ use Rattle.script_runner.specs.declared.fault.RunFault.TheVariants.{Read, Write,
 use Rattle.script_runner.specs.Fault.{fault_of}
 use Rattle.script_runner.specs.Output.{Puts}
 use Rattle.script_runner.specs.Planned.{HasText, HasNoText, IsPlanned}
+use Rattle.script_runner.proofs.Known.{same_keeps}
+use Rattle.script_runner.proofs.Silent.{silent_same, silent_put}
 use Rattle.script_runner.proofs.plan.plan_text.Goals as goal
 
 -- The lines of the plan were written, or a front of them. The lists are what was read, the text that was planned, its lines, and
@@ -61,10 +63,6 @@ planned_by_none old new input OutOfMemory none keeps = keeps
 planned_by_none old new input (Config n) none keeps = (none, keeps)
 planned_by_none old new input EndlessInput none keeps = keeps
 
-same_keeps : (old : Option (List ℕ)) → Keeps old old
-same_keeps None = tt
-same_keeps (Some bytes) = refl
-
 planned_by_fault : (remaining old : Option (List ℕ)) (read input : List ℕ) (fault : RunFault)
     → IfSome remaining (λ bytes. read ≡ bytes) → input ≡ read → HasNoText input fault
     → IfSome remaining (λ bytes. IsPlanned old old bytes (Err fault))
@@ -80,3 +78,16 @@ pub returns-in_err-text-clause-planned : goal.returns-in_err-text-clause-planned
 returns-in_err-text-clause-planned g c =
     let p = err_from_is_err_and c.from_residual-in_err-text.result c.from_residual-in_err-text.ensures.1 in
     rw (p.1, p.2) (planned_by_fault _ _ c.in_ok-input.input.items _ _ c.in_ok-input.ensures.all c.as_slice.ensures.value c.in_err-text.ensures.fault)
+
+pub returns-clause-silent : goal.returns-clause-silent
+returns-clause-silent g c = silent_put _ _ _ _ c.put.ensures
+
+pub returns-in_err-input-clause-silent : goal.returns-in_err-input-clause-silent
+returns-in_err-input-clause-silent g c =
+    let p = err_from_is_err_and c.from_residual.result c.from_residual.ensures.1 in
+    rw (p.1, p.2) (silent_same _ _)
+
+pub returns-in_err-text-clause-silent : goal.returns-in_err-text-clause-silent
+returns-in_err-text-clause-silent g c =
+    let p = err_from_is_err_and c.from_residual-in_err-text.result c.from_residual-in_err-text.ensures.1 in
+    rw (p.1, p.2) (silent_same _ _)

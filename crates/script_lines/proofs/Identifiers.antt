@@ -1,0 +1,9 @@
+-- A word that spells no UUID.
+use Rattle.std.proofs.Common.{◌≡◌, Bool, true, false, List, ℕ, Option, Some, None, refl}
+
+none : (found : Option (List ℕ)) → false ≡ true → None ≡ found
+none found contrary = cc
+
+pub unparsed : (found : Option (List ℕ)) → ((identifier : List ℕ) → found ≡ Some identifier → false ≡ true) → None ≡ found
+unparsed None fails = refl
+unparsed (Some identifier) fails = none (Some identifier) (fails identifier refl)

@@ -1,0 +1,6 @@
+pub mod Ascii
+mod Cut
+mod Identifiers
+mod Places
+pub mod Hex
+pub mod Decimals

@@ -1,0 +1,103 @@
+-- The lines that show the settings and the lamp.
+use Rattle.std.specs.Prelude.{ℕ, List, [], ◌∷◌, ◌++◌, length, ◌==◌, slice_index, codes, decimal, flat_map, if◌then◌else◌, Option, Some, None}
+use Rattle.hex.specs.Hex.{encode_lower}
+use Rattle.pn_values.specs.IpSuite.{Suite}
+use Rattle.pn_values.specs.declared.settings.Settings.{Settings}
+use Rattle.pn_values.specs.declared.real.Real.{Real}
+use Rattle.pn_values.specs.declared.real.RealModule.{RealModule}
+use Rattle.pn_values.specs.declared.real.RealSubmodule.{RealSubmodule}
+use Rattle.relations.specs.Outputs.{output_of}
+use Rattle.relations.specs.Exchanged.{output_in}
+use Rattle.relations.specs.Link.{Link}
+use Rattle.relations.specs.declared.phase.Phase.{Phase}
+use Rattle.relations.specs.declared.phase.Phase.TheVariants.{Started, Awaiting, Exchanging}
+use Rattle.controller_core.specs.declared.state.State.{State}
+use Rattle.controller_core.specs.declared.state.State.TheVariants.{Looking, Addressing, Connecting, Writing, Ending, Waiting, Ended}
+use Rattle.controller_core.specs.declared.state.State.TheVariants as controller
+use Rattle.controller_core.specs.State.{Controlling}
+use Rattle.controller_core.specs.Cause.{number_of}
+use Rattle.script_lines.specs.Text.{printed}
+
+-- a name, or '-' where there is none
+unfoldable pub name_line : List ℕ → List ℕ → List ℕ
+name_line label name = printed (label ++ (if length name == 0 then codes "-" else name))
+
+-- four octets as decimal numbers that dots part
+unfoldable pub dotted : List ℕ → List ℕ
+dotted octets =
+    decimal (slice_index octets 0) ++ codes "." ++ decimal (slice_index octets 1) ++ codes "." ++ decimal (slice_index octets 2) ++ codes "." ++ decimal (slice_index octets 3)
+
+-- address, subnet mask and gateway
+unfoldable pub suite_line : List ℕ → Suite → List ℕ
+suite_line label suite = printed (label ++ dotted suite.address ++ codes " " ++ dotted suite.mask ++ codes " " ++ dotted suite.gateway)
+
+-- an I&M text, in hex
+unfoldable pub text_line : List ℕ → List ℕ → List ℕ
+text_line label bytes = printed (label ++ encode_lower bytes)
+
+-- what the application relation waits for, if there is one
+abbrev pub phase_word : Option Phase → List ℕ
+phase_word None = codes "none"
+phase_word (Some Started) = codes "started"
+phase_word (Some Awaiting) = codes "awaiting"
+phase_word (Some Exchanging) = codes "exchanging"
+
+unfoldable pub phase_line : Option Phase → List ℕ
+phase_line phase = printed (codes "phase " ++ phase_word phase)
+
+-- for how many units of time the lamp still flashes
+unfoldable pub lamp_line : ℕ → List ℕ
+lamp_line units = printed (codes "lamp " ++ decimal units)
+
+-- the output of a submodule, in hex
+abbrev pub shown_or : Option (List ℕ) → List ℕ
+shown_or (Some value) = value
+shown_or None = []
+
+unfoldable pub output_line : ℕ → ℕ → List ℕ → List ℕ
+output_line slot subslot value = printed (codes "output " ++ decimal slot ++ codes " " ++ decimal subslot ++ codes " " ++ encode_lower value)
+
+-- of a submodule that has one
+abbrev pub part_shown : Real → Option Link → ℕ → RealSubmodule → List ℕ
+part_shown real link slot part =
+    if part.output == 0 then [] else output_line slot part.subslot (shown_or (output_of real slot part.subslot (output_in slot part.subslot link)))
+
+abbrev pub module_shown : Real → Option Link → RealModule → List ℕ
+module_shown real link entry = flat_map (part_shown real link entry.slot) entry.submodules.items
+
+-- of all that are plugged, in their order
+abbrev pub outputs_shown : Real → Option Link → List ℕ
+outputs_shown real link = flat_map (module_shown real link) real.modules.items
+
+-- what runs, beside the name and the suite that are stored, the relation and the lamp
+abbrev pub shown : Settings → Settings → Option Phase → ℕ → List ℕ
+shown running stored phase lamp =
+    name_line (codes "name ") running.name
+    ++ suite_line (codes "ip ") running.suite
+    ++ name_line (codes "stored-name ") stored.name
+    ++ suite_line (codes "stored-ip ") stored.suite
+    ++ text_line (codes "im1 ") running.im1
+    ++ text_line (codes "im2 ") running.im2
+    ++ text_line (codes "im3 ") running.im3
+    ++ text_line (codes "im4 ") running.im4
+    ++ phase_line phase
+    ++ lamp_line lamp
+
+-- what the controller is at
+abbrev pub state_word : State → List ℕ
+state_word Looking = codes "looking"
+state_word Addressing = codes "addressing"
+state_word Connecting = codes "connecting"
+state_word Writing = codes "writing"
+state_word Ending = codes "ending"
+state_word Waiting = codes "waiting"
+state_word controller.Exchanging = codes "exchanging"
+state_word (Ended cause) = codes "ended " ++ decimal (number_of cause)
+
+unfoldable pub state_line : State → List ℕ
+state_line state = printed (codes "state " ++ state_word state)
+
+-- if there is one
+abbrev pub controller_shown : Option Controlling → List ℕ
+controller_shown None = []
+controller_shown (Some controller) = state_line controller.live.phase

@@ -1,0 +1,402 @@
+// The lines of a script, and what they ask for.
+ghost use Rattle.std.specs.Prelude.{◌≡◌, ◌≢◌, ◌∷◌, ◌==◌, ◌<◌, ◌/◌, [], ℕ, List, nat_lt, true, false, length, IsErr, IfOk, IfSome};
+ghost use Rattle.std.specs.List.{slice_split, list_any, position};
+ghost use Rattle.std.specs.Option.{option_map, option_copied};
+ghost use Rattle.std.specs.Str.Lines.{lines, strip_carriage_return};
+ghost use Rattle.hex.specs.Hex.{decode_of};
+ghost use Rattle.uuid.specs.Text.{parsed};
+ghost use Rattle.script_lines.specs.Line.{behind, AreWords, bytes_of, catalogue_in, command_in, command_of, meaning_of, words_of, bare, bare_of_both, with_one, with_two, with_three, ordered, start_of, ticks_of, mask_of, strike_of};
+ghost use Rattle.script_lines.specs.Numbers.{number_of};
+ghost use Rattle.script_lines.specs.Read.{command_read, line_read};
+
+use crate::{digits, numbers};
+use flash_model::Order;
+use memchr::memchr;
+use std::alloc::AllocError;
+use uuid::Uuid;
+
+/// How many bytes a line may have, what ends it not counted.
+const LONGEST_LINE: usize = 65_536;
+
+/// For how many units a line may let time go by.
+const MOST_TICKS: u32 = 1_000_000;
+
+/// What a script asks for.
+#[derive(Clone, Copy)]
+pub enum Command<'a> {
+    /// Hand these bytes to the device, as from the network.
+    Frame(&'a [u8]),
+    /// Take the device's power away, and give it back.
+    Restart,
+    /// Let so many units of time go by.
+    Tick(u32),
+    /// Show the settings, the relation and the lamp.
+    Show,
+    /// Tell the flash what to do to a later call.
+    Arm(Order),
+    /// Give the submodule in this slot and subslot its input.
+    Input(u16, u16, &'a [u8]),
+    /// Raise an alarm of the submodule in this slot and subslot, with these octets.
+    Alarm(u16, u16, &'a [u8]),
+    /// Make the plan of this catalogue, for the next controller.
+    Config(&'a [u8]),
+    /// Put a controller with this ARUUID and this activity at the other end.
+    Start(Uuid, Uuid),
+    /// Give the controller's output to the submodule in this slot and subslot.
+    Give(u16, u16, &'a [u8]),
+    /// Have the controller end the relation.
+    Stop,
+    /// Hand over the frames that wait: those for the device, then those for the controller.
+    Deliver,
+}
+
+/// What a line is.
+#[derive(Clone, Copy)]
+pub enum Line<'a> {
+    /// Too long, or not ASCII.
+    Unfit,
+    /// Empty, or a comment.
+    Skipped,
+    /// It asks for this.
+    Asks(Command<'a>),
+    /// None of these.
+    Unknown,
+}
+
+/// The words of a line.
+enum Words<'a> {
+    One(&'a [u8]),
+    Two(&'a [u8], &'a [u8]),
+    Three(&'a [u8], &'a [u8], &'a [u8]),
+    Four(&'a [u8], &'a [u8], &'a [u8], &'a [u8]),
+    More,
+}
+
+/// What some bytes are up to a separator, and what they are behind it.
+fn cut_at(bytes: &[u8], separator: u8) -> (&[u8], Option<&[u8]>)
+    ensures shorter { IfSome result.1 (λ rest. length rest.now < length bytes.now) }
+    ensures parts { slice_split (λ b. b == separator) bytes.now ≡ result.0.now ∷ behind separator (option_copied result.1) }
+{
+    match place_of(bytes, separator) {
+        None => (bytes, None),
+        Some(place) => (&bytes[..place], Some(&bytes[place + 1..])),
+    }
+}
+
+/// Where a byte stands first.
+fn place_of(bytes: &[u8], wanted: u8) -> Option<usize>
+    ensures place { result ≡ position (λ b. b == wanted) bytes.now }
+    ensures within { IfSome result (λ place. place < length bytes.now) }
+{
+    memchr(wanted, bytes)
+}
+
+/// The first line of some bytes, without what ends it, and what follows it.
+pub fn first_line(bytes: &[u8]) -> (&[u8], &[u8])
+    requires { bytes.now ≢ [] }
+    ensures lines { lines bytes.now ≡ result.0.now ∷ lines result.1.now }
+    ensures shorter { length result.1.now < length bytes.now }
+{
+    if let [b'\n', rest @ ..] = bytes {
+        return (&[], rest);
+    }
+    let (line, rest) = cut_at(bytes, b'\n');
+    match rest {
+        None => (line, &[]),
+        Some(rest) => (without_return(line), rest),
+    }
+}
+
+/// A line without the carriage return at its end, if it has one.
+fn without_return(line: &[u8]) -> &[u8]
+    ensures { result.now ≡ strip_carriage_return line.now }
+{
+    match line {
+        [front @ .., b'\r'] => front,
+        _ => line,
+    }
+}
+
+/// The words of a line, which single spaces part.
+fn words_in(line: &[u8]) -> Words<'_>
+    ensures { AreWords line.now result }
+{
+    let (first, rest) = cut_at(line, b' ');
+    let Some(rest) = rest else {
+        return Words::One(first);
+    };
+    let (second, rest) = cut_at(rest, b' ');
+    let Some(rest) = rest else {
+        return Words::Two(first, second);
+    };
+    let (third, rest) = cut_at(rest, b' ');
+    let Some(rest) = rest else {
+        return Words::Three(first, second, third);
+    };
+    let (fourth, rest) = cut_at(rest, b' ');
+    match rest {
+        None => Words::Four(first, second, third, fourth),
+        Some(_) => Words::More,
+    }
+}
+
+/// What a line means. `buffer` is for the bytes that it spells.
+#[tactic(auto, unfolding(crate::specs::Line::meaning_of))]
+pub fn meaning<'a>(line: &[u8], buffer: &'a mut Vec<u8>) -> Result<Line<'a>, AllocError>
+    ensures { IfOk result (λ meaning. line_read meaning ≡ meaning_of line.now) }
+{
+    if line.is_empty() {
+        return Ok(Line::Skipped);
+    }
+    if line.len() > LONGEST_LINE || has_more_than_ascii(line) {
+        return Ok(Line::Unfit);
+    }
+    if line[0] == b'#' {
+        return Ok(Line::Skipped);
+    }
+    match asked(line, buffer) {
+        Ok(Some(command)) => Ok(Line::Asks(command)),
+        Ok(None) => Ok(Line::Unknown),
+        Err(error) => Err(error),
+    }
+}
+
+/// What a line asks for: a plan, or what its words say.
+fn asked<'a>(line: &[u8], buffer: &'a mut Vec<u8>) -> Result<Option<Command<'a>>, AllocError>
+    ensures { IfOk result (λ command. option_map command_read command ≡ command_in (catalogue_in line.now) (words_of line.now)) }
+{
+    match catalogue_in(line) {
+        Some(catalogue) => Ok(Some(Command::Config(kept(catalogue, buffer)?))),
+        None => asked_by(words_in(line), buffer),
+    }
+}
+
+/// Keeps bytes of a line.
+fn kept<'a>(bytes: &[u8], buffer: &'a mut Vec<u8>) -> Result<&'a [u8], AllocError>
+    ensures { IfOk result (λ kept. kept.now ≡ bytes.now) }
+{
+    buffer.clear();
+    buffer.extend_from_slice(bytes)?;
+    Ok(buffer.as_slice())
+}
+
+/// The catalogue of a line `config`, which is the rest of the line and not empty.
+fn catalogue_in(line: &[u8]) -> Option<&[u8]>
+    ensures { option_copied result ≡ catalogue_in line.now }
+{
+    match line.strip_prefix(b"config ".as_slice()) {
+        Some(catalogue) if !catalogue.is_empty() => Some(catalogue),
+        _ => None,
+    }
+}
+
+/// Whether some byte is not ASCII.
+fn has_more_than_ascii(line: &[u8]) -> bool
+    ensures { result ≡ list_any (λ b. nat_lt 127 b) line.now }
+{
+    !line.is_ascii()
+}
+
+/// What some words ask for.
+fn asked_by<'a>(
+    words: Words<'_>,
+    buffer: &'a mut Vec<u8>,
+) -> Result<Option<Command<'a>>, AllocError>
+    ensures { IfOk result (λ command. (line : List ℕ) → AreWords line words.entry → option_map command_read command ≡ command_of (words_of line)) }
+{
+    match words {
+        Words::One(word) => Ok(bare(word)),
+        Words::Two(word, first) => with_one(word, first, buffer),
+        Words::Three(word, first, second) => with_two(word, first, second, buffer),
+        Words::Four(word, first, second, third) => with_three(word, first, second, third, buffer),
+        Words::More => Ok(None),
+    }
+}
+
+fn bare(word: &[u8]) -> Option<Command<'static>>
+    ensures { option_map command_read result ≡ bare word.now }
+{
+    if word == b"restart".as_slice() {
+        Some(Command::Restart)
+    } else if word == b"show".as_slice() {
+        Some(Command::Show)
+    } else {
+        bare_of_both(word)
+    }
+}
+
+/// The same of the words that a controller is needed for.
+fn bare_of_both(word: &[u8]) -> Option<Command<'static>>
+    ensures { option_map command_read result ≡ bare_of_both word.now }
+{
+    if word == b"deliver".as_slice() {
+        Some(Command::Deliver)
+    } else if word == b"stop".as_slice() {
+        Some(Command::Stop)
+    } else {
+        None
+    }
+}
+
+fn with_one<'a>(
+    word: &[u8],
+    first: &[u8],
+    buffer: &'a mut Vec<u8>,
+) -> Result<Option<Command<'a>>, AllocError>
+    ensures { IfOk result (λ command. option_map command_read command ≡ with_one word.now first.now) }
+{
+    if word == b"frame".as_slice() {
+        Ok(decoded(first, buffer)?.map(Command::Frame))
+    } else if word == b"tick".as_slice() {
+        Ok(ticks(first))
+    } else {
+        Ok(None)
+    }
+}
+
+fn ticks(digits: &[u8]) -> Option<Command<'static>>
+    ensures { option_map command_read result ≡ ticks_of (number_of 1000000 digits.now) }
+{
+    match numbers::decimal(digits, MOST_TICKS) {
+        None | Some(0) => None,
+        Some(units) => Some(Command::Tick(units)),
+    }
+}
+
+fn with_two(
+    word: &[u8],
+    first: &[u8],
+    second: &[u8],
+    buffer: &mut Vec<u8>,
+) -> Result<Option<Command<'static>>, AllocError>
+    ensures { IfOk result (λ command. option_map command_read command ≡ with_two word.now first.now second.now) }
+{
+    if word == b"start".as_slice() {
+        return Ok(start(first, second));
+    }
+    ordered(word, first, second, buffer)
+}
+
+/// A controller with this ARUUID and this activity.
+fn start(ar: &[u8], activity: &[u8]) -> Option<Command<'static>>
+    ensures { option_map command_read result ≡ start_of (parsed ar.now) (parsed activity.now) }
+{
+    let ar = identifier(ar)?;
+    let activity = identifier(activity)?;
+    Some(Command::Start(ar, activity))
+}
+
+/// The UUID that a word spells, in one of its four forms.
+fn identifier(word: &[u8]) -> Option<Uuid>
+    ensures { result ≡ parsed word.now }
+{
+    match Uuid::try_parse_ascii(word) {
+        Ok(identifier) => Some(identifier),
+        Err(_) => None,
+    }
+}
+
+/// An order to the flash.
+fn ordered(
+    word: &[u8],
+    first: &[u8],
+    second: &[u8],
+    buffer: &mut Vec<u8>,
+) -> Result<Option<Command<'static>>, AllocError>
+    ensures { IfOk result (λ command. option_map command_read command ≡ ordered word.now (strike_of (number_of 4294967295 first.now) (mask_of (decode_of second.now)))) }
+{
+    let Some(strike) = strike(first, second, buffer)? else {
+        return Ok(None);
+    };
+    let (after, mask) = strike;
+    if word == b"cut".as_slice() {
+        Ok(Some(Command::Arm(Order::Cut { after, mask })))
+    } else if word == b"fault".as_slice() {
+        Ok(Some(Command::Arm(Order::Fault { after, mask })))
+    } else {
+        Ok(None)
+    }
+}
+
+fn with_three<'a>(
+    word: &[u8],
+    first: &[u8],
+    second: &[u8],
+    third: &[u8],
+    buffer: &'a mut Vec<u8>,
+) -> Result<Option<Command<'a>>, AllocError>
+    ensures { IfOk result (λ command. option_map command_read command ≡ with_three word.now first.now second.now third.now) }
+{
+    let Some(slot) = place_number(first) else {
+        return Ok(None);
+    };
+    let Some(subslot) = place_number(second) else {
+        return Ok(None);
+    };
+    let Some(bytes) = decoded(third, buffer)? else {
+        return Ok(None);
+    };
+    if word == b"input".as_slice() {
+        Ok(Some(Command::Input(slot, subslot, bytes)))
+    } else if word == b"alarm".as_slice() {
+        Ok(Some(Command::Alarm(slot, subslot, bytes)))
+    } else if word == b"give".as_slice() {
+        Ok(Some(Command::Give(slot, subslot, bytes)))
+    } else {
+        Ok(None)
+    }
+}
+
+/// The number of a slot or a subslot.
+fn place_number(digits: &[u8]) -> Option<u16>
+    ensures { result ≡ number_of 65535 digits.now }
+{
+    match numbers::decimal(digits, 65_535) {
+        Some(number) => Some(number as u16),
+        None => None,
+    }
+}
+
+/// After how many calls an order to the flash strikes, and its mask.
+fn strike(
+    first: &[u8],
+    second: &[u8],
+    buffer: &mut Vec<u8>,
+) -> Result<Option<(u32, [u8; 8])>, AllocError>
+    ensures { IfOk result (λ strike. strike ≡ strike_of (number_of 4294967295 first.now) (mask_of (decode_of second.now))) }
+{
+    let Some(after) = numbers::decimal(first, u32::MAX) else {
+        return Ok(None);
+    };
+    match mask(second, buffer)? {
+        Some(mask) => Ok(Some((after, mask))),
+        None => Ok(None),
+    }
+}
+
+/// The mask that some hex digits spell.
+fn mask(digits: &[u8], buffer: &mut Vec<u8>) -> Result<Option<[u8; 8]>, AllocError>
+    ensures { IfOk result (λ mask. mask ≡ mask_of (decode_of digits.now)) }
+{
+    buffer.resize(digits.len() / 2, 0)?;
+    let bytes = buffer.as_mut_slice();
+    if !digits::read(digits, bytes) {
+        return Ok(None);
+    }
+    Ok(numbers::mask_of(bytes))
+}
+
+/// The bytes that some hex digits spell, at least one.
+fn decoded<'a>(digits: &[u8], buffer: &'a mut Vec<u8>) -> Result<Option<&'a [u8]>, AllocError>
+    ensures { IfOk result (λ bytes. option_copied bytes ≡ bytes_of digits.now) }
+{
+    if digits.is_empty() {
+        return Ok(None);
+    }
+    buffer.resize(digits.len() / 2, 0)?;
+    let bytes = buffer.as_mut_slice();
+    if !digits::read(digits, bytes) {
+        return Ok(None);
+    }
+    Ok(Some(bytes))
+}

@@ -1,5 +1,0 @@
-use Rattle.script_runner.proofs.Places.{first_place}
-use Rattle.script_runner.proofs.command.place_of.Goals as goal
-
-pub returns-clause-place : goal.returns-clause-place
-returns-clause-place c = first_place c.args.wanted c.args.bytes.now c.memchr.result c.memchr.ensures

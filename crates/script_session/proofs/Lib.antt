@@ -1,0 +1,5 @@
+pub mod Coming
+mod OnePlan
+pub mod Flashes
+pub mod Obeying
+pub mod Ticking

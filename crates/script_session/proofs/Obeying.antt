@@ -1,0 +1,55 @@
+-- What a line does to both ends.
+use Rattle.std.proofs.Common.{◌≡◌, ◌⊎◌, inl, ℕ, List, ◌++◌, Bool, true, false, Option, Some, None, Result, Ok, Err, OnOk, IfOk, IsErr, MatchResult, is_ok, if◌then◌else◌, refl, sym, subst, append-nil}
+use Rattle.flash_model.specs.declared.memory.MemoryFlash.{MemoryFlash}
+use Rattle.plans.specs.declared.parts.Parts.{Parts}
+use Rattle.configurator.specs.declared.fault.PlanFault.{PlanFault}
+use Rattle.configurator.specs.declared.fault.PlanFault.TheVariants.{OutOfMemory}
+use Rattle.device_core.specs.State.{State}
+use Rattle.script_lines.specs.Line.{Line}
+use Rattle.script_session.specs.declared.power.Power.{Power}
+use Rattle.script_session.specs.declared.power.Power.TheVariants.{On, Off, Away}
+use Rattle.script_session.specs.Ends.{Network, Station, Other}
+use Rattle.script_session.specs.Power.{Held, IsRunning, is_off, refusal_of}
+use Rattle.script_session.specs.Said.{Answer, Answers, Outcome, outcome_of, unchanged}
+use Rattle.script_session.specs.Session.{Are, Comes, IsDone, IsObeyed, Obeys}
+
+-- a device that runs was not refused its start
+pub unrefused : (station : Station) (power : Power) → IsRunning station power → refusal_of power ≡ None
+unrefused station (On device) runs = refl
+unrefused station (Off fault flash) runs = absurd runs
+unrefused station Away runs = absurd runs
+
+-- and it has power
+pub unlost : (station : Station) (power : Power) → IsRunning station power → is_off power ≡ false
+unlost station (On device) runs = runs.reliable.0
+unlost station (Off fault flash) runs = absurd runs
+unlost station Away runs = absurd runs
+
+-- what the device did is what was asked for
+pub done_obeyed : (answer : Answer) (device : State (MemoryFlash 4096)) (other : Other) (before now : List ℕ) → IsDone answer device other before now → IsObeyed answer (record { power = On device; other = other }) before now
+done_obeyed answer device other before now done = record { runs = done.runs; waits = done.waits; text = done.text }
+
+-- a line that is read so is this one
+pub line_obeys : (plans : List ℕ → Option Parts) (network : Network) (line read : Line) (held : Held) (before now : List ℕ) (result : Result Bool PlanFault) → read ≡ line → Obeys (outcome_of plans network read) held before now result → Obeys (outcome_of plans network line) held before now result
+line_obeys plans network line read held before now result same = subst (λ l. Obeys (outcome_of plans network l) held before now result) same
+
+-- one that is skipped changes nothing
+pub skipped_obeys : (network : Network) (held : Held) (before : List ℕ) → Are network held → Obeys (Answers (unchanged network)) held before before (Ok true)
+skipped_obeys network held before are = (refl, record { runs = are.0; waits = are.1; text = sym (append-nil before) })
+
+-- a text that was appended, if there was memory
+pub appended : {E : Type 0} (done : Result (Unit {0}) E) (now before more : List ℕ) → now ≡ (if is_ok done then before ++ more else before) → OnOk done (now ≡ before ++ more)
+appended (Ok done) now before more e = e
+appended (Err fault) now before more e = tt
+
+-- what a script may have at any time
+pub always_obeys : {E : Type 0} (answer : Answer) (held : Held) (before now : List ℕ) (done : Result (Unit {0}) E) (result : Result Bool PlanFault) → OnOk done (IsObeyed answer held before now)
+    → MatchResult result (λ is. (is ≡ true) × (done ≡ Ok tt)) (λ fault. (fault ≡ OutOfMemory) × IsErr done) → Obeys (Answers answer) held before now result
+always_obeys answer held before now done (Ok is) obeyed given = (given.0, subst (λ d. OnOk d (IsObeyed answer held before now)) given.1 obeyed)
+always_obeys answer held before now done (Err fault) obeyed given = inl given.0
+
+-- what a script may have where something is there
+pub if_there_obeys : {E : Type 0} (outcome : Outcome) (held : Held) (before now : List ℕ) (is : Result Bool E) (result : Result Bool PlanFault) → IfOk is (Comes outcome held before now)
+    → MatchResult result (λ there. is ≡ Ok there) (λ fault. (fault ≡ OutOfMemory) × IsErr is) → Obeys outcome held before now result
+if_there_obeys outcome held before now is (Ok there) comes given = subst (λ i. IfOk i (Comes outcome held before now)) given comes
+if_there_obeys outcome held before now is (Err fault) comes given = inl given.0

@@ -1,0 +1,40 @@
+-- What a line does while there is no power.
+use Rattle.std.specs.Prelude.{◌≡◌, ℕ, Bool, true, false, List, [], ◌++◌, Option, Some, None, Result, Ok, Err}
+use Rattle.configurator.specs.declared.fault.PlanFault.{PlanFault}
+use Rattle.configurator.specs.declared.fault.PlanFault.TheVariants.{OutOfMemory}
+use Rattle.script_lines.specs.Line.{Restart, Line, Unfit, Skipped, Asks, Unknown}
+use Rattle.script_lines.specs.Text.{boot_line, off_line}
+use Rattle.script_session.specs.Ends.{cleared}
+use Rattle.script_session.specs.Power.{Held, IsBack, refusal_of}
+
+-- What a line prints while there is no power, where it is no restart. None where it is refused: only for its length, or for a
+-- byte that is not ASCII.
+abbrev pub off_text : Line → Option (List ℕ)
+off_text Unfit = None
+off_text Skipped = Some []
+off_text (Asks command) = Some off_line
+off_text Unknown = Some off_line
+
+-- a line was heard while there is no power: it printed this, or it was refused, or memory was refused
+abbrev pub PrintsOff : Option (List ℕ) → List ℕ → List ℕ → Result Bool PlanFault → Type 0
+PrintsOff text before now (Ok true) = (line : List ℕ) × (text ≡ Some line) × (now ≡ before ++ line)
+PrintsOff text before now (Ok false) = text ≡ None
+PrintsOff text before now (Err fault) = fault ≡ OutOfMemory
+
+-- power was given back, no frame waits, and the start is told, or memory was refused
+abbrev pub GivesBack : Held → Held → List ℕ → List ℕ → Result Bool PlanFault → Type 0
+GivesBack old new before now (Ok true) = IsBack old.power new.power × (new.other ≡ cleared old.other) × (now ≡ before ++ boot_line (refusal_of new.power))
+GivesBack old new before now (Ok false) = ⊥
+GivesBack old new before now (Err fault) = fault ≡ OutOfMemory
+
+-- what taking a line does while there is no power: a restart gives it back, and no other line changes anything at either end
+abbrev pub TakesOff : Line → Held → Held → List ℕ → List ℕ → Result Bool PlanFault → Type 0
+TakesOff (Asks Restart) old new before now result = GivesBack old new before now result
+TakesOff line old new before now result = (new ≡ old) × PrintsOff (off_text line) before now result
+
+-- a line that is more than 'off' while there is no power: it is refused, is skipped, or gives the power back
+abbrev pub is_heard_off : Line → Bool
+is_heard_off Unfit = true
+is_heard_off Skipped = true
+is_heard_off (Asks Restart) = true
+is_heard_off line = false

@@ -1,0 +1,363 @@
+// Both ends by their public calls, frame by frame. The octets that are wanted come from the rules of IEC 61158-6-10.
+use super::{OTHER_MODULES, PUMP};
+use configurator::plan_from_json;
+use controller_core::{Cause, Controller, Event as ControllerEvent, State};
+use device_core::{Device, Event, Note};
+use flash_model::{MemoryFlash, Order};
+use frame_codec::{Bytes, Frame, Outbox};
+use relations::Phase;
+use std::alloc::Global;
+use std::test::Fail;
+use test_stations::{
+    DONE, SET, Station, WRITE, call, frame, identity, is_filled, is_padded, octets, plugged,
+    set_pump,
+};
+use uuid::Uuid;
+
+// A Write of I&M2 in the relation whose ARUUID is 1111..11.
+const WRITE_DATE: [u8; 86] =
+    *b"\x00\x08\x00\x3c\x01\x00\x00\x00\x11\x11\x11\x11\x11\x11\x11\x11\x11\x11\x11\x11\x11\x11\x11\x11\
+    \x00\x00\x00\x00\x00\x00\x00\x01\x00\x00\xaf\xf2\x00\x00\x00\x16\
+    \x00\x00\x00\x00\x00\x00\x00\x00\x00\x00\x00\x00\x00\x00\x00\x00\x00\x00\x00\x00\x00\x00\x00\x00\
+    \x00\x22\x00\x12\x01\x002024-05-06 07:08";
+
+// The ERR of a device that ends its relation for another reason.
+const ABORT: [u8; 36] =
+    *b"\x02\x00\x00\x00\x00\x02\x02\x00\x00\x00\x00\x01\x81\x00\xa0\x00\x88\x92\xfe\x01\
+    \x00\x01\x00\x01\x14\x01\xff\xff\xff\xfe\x00\x04\xcf\x81\xfd\x0d";
+
+// The answer to a ResetToFactory, up to its BlockError.
+const RESET: [u8; 32] =
+    *b"\x02\x00\x00\x00\x00\x02\x02\x00\x00\x00\x00\x01\x88\x92\xfe\xfd\x04\x01\x00\x00\x00\x02\x00\x00\x00\x08\
+    \x05\x04\x00\x03\x05\x06";
+
+// The modules of the plan that the demo station has not: another one in slot 2, and none in slot 3.
+const DIFFERENCES: [u8; 50] = *b"\x81\x04\x00\x2e\x01\x00\x00\x01\x00\x00\x00\x00\x00\x02\
+    \x00\x02\x00\x00\x00\x20\x00\x01\x00\x01\x00\x01\x00\x00\x00\x20\x90\x00\
+    \x00\x03\x00\x00\x00\x00\x00\x00\x00\x01\x00\x01\x00\x00\x00\x00\x98\x00";
+
+/// Both ends, the last frame that the controller sent, and what the device answered to the one before.
+#[derive(Drop)]
+struct Ends {
+    device: Station,
+    controller: Controller,
+    sent: Bytes,
+    answers: Outbox,
+}
+
+/// A controller of a plan. Each octet of its ARUUID is this one; the activity of its calls is another than that of other controllers.
+fn controller(alloc: Global, catalogue: &str, octet: u8) -> Result<Controller, Fail> {
+    let plan = plan_from_json(alloc, catalogue.as_bytes())
+        .ok()
+        .ok_or("there is a plan")?;
+    Ok(Controller::new(
+        plan,
+        Uuid::from_bytes([octet; 16]),
+        Uuid::from_bytes([octet.wrapping_add(0x40); 16]),
+    ))
+}
+
+/// The controller hears frames. The last one that it sends then stays.
+fn hear(controller: &mut Controller, frames: &[Frame], sent: &mut Bytes) {
+    let mut outbox = Outbox::new();
+    for frame in frames {
+        let event = ControllerEvent::Frame(octets(frame.as_slice()));
+        controller.step(&event, &mut outbox);
+        if let [.., last] = outbox.as_slice() {
+            *sent = octets(last.as_slice());
+        }
+    }
+}
+
+impl Ends {
+    /// The demo station with the name of the plan, and a controller of the plan, which looks for it.
+    fn new(alloc: Global, catalogue: &str) -> Result<Ends, Fail> {
+        let mut device = Device::boot(identity(), plugged(), MemoryFlash::blank())
+            .ok()
+            .ok_or("it starts")?;
+        let mut answers = Outbox::new();
+        let _ = device.step(&frame(&SET), &mut answers);
+        let controller = controller(alloc, catalogue, 0x11)?;
+        let sent = octets(controller.opening().as_slice());
+        Ok(Ends {
+            device,
+            controller,
+            sent,
+            answers,
+        })
+    }
+
+    /// The device hears what the controller sent last, and the controller what the device answers.
+    fn turn(&mut self) {
+        let event = frame(self.sent.as_slice());
+        let _ = self.device.step(&event, &mut self.answers);
+        hear(
+            &mut self.controller,
+            self.answers.as_slice(),
+            &mut self.sent,
+        );
+    }
+
+    /// The same, so many times.
+    fn turns(&mut self, count: u32) {
+        for _ in 0..count {
+            self.turn();
+        }
+    }
+
+    /// What the controller is at.
+    fn state(&self) -> State {
+        self.controller.state()
+    }
+
+    /// Both ends exchange data.
+    fn started(alloc: Global) -> Result<Ends, Fail> {
+        let mut ends = Ends::new(alloc, PUMP)?;
+        ends.turns(5);
+        Ok(ends)
+    }
+}
+
+/// Whether these octets, cut at any place, are no frame to the device.
+fn is_none_where_cut(device: &mut Station, octets: &[u8]) -> bool {
+    let mut outbox = Outbox::new();
+    let mut is_none = true;
+    for length in 0..octets.len() {
+        let note = device.step(&frame(&octets[..length]), &mut outbox);
+        is_none = is_none && note == Note::Fault && outbox.len() == 0;
+    }
+    is_none
+}
+
+/// The status in a response.
+fn status_of(outbox: &Outbox) -> Option<&[u8]> {
+    match outbox.as_slice() {
+        [answer] => answer.as_slice().get(122..126),
+        _ => None,
+    }
+}
+
+#[test]
+fn a_start_up(rt: HostRuntime) -> Result<(), Fail> {
+    let mut ends = Ends::new(rt.alloc(), PUMP)?;
+    let states = [
+        State::Addressing,
+        State::Connecting,
+        State::Ending,
+        State::Exchanging,
+        State::Exchanging,
+    ];
+    for state in states {
+        ends.turn();
+        assert_eq!(rt; ends.state(), state);
+    }
+    assert_eq!(rt; ends.device.phase(), Some(Phase::Exchanging));
+    Ok(())
+}
+
+// The Connect of the plan is a frame of 533 octets, and cut anywhere it is none; its answer is one of 212.
+#[test]
+fn a_connect_that_is_cut_is_none(rt: HostRuntime) -> Result<(), Fail> {
+    let mut ends = Ends::new(rt.alloc(), PUMP)?;
+    ends.turns(2);
+    assert_eq!(rt; ends.sent.len(), 533);
+    assert!(rt; is_none_where_cut(&mut ends.device, ends.sent.as_slice()));
+    ends.turn();
+    match ends.answers.as_slice() {
+        [answer] => assert_eq!(rt; answer.len(), 212),
+        _ => panic!(&rt; "an answer"),
+    }
+    assert_eq!(rt; ends.state(), State::Ending);
+    Ok(())
+}
+
+#[test]
+fn other_modules_are_told(rt: HostRuntime) -> Result<(), Fail> {
+    let mut ends = Ends::new(rt.alloc(), OTHER_MODULES)?;
+    ends.turns(3);
+    match ends.answers.as_slice() {
+        [answer] => {
+            assert_eq!(rt; answer.len(), 142 + 120);
+            assert_eq!(rt; answer.as_slice().get(212..), Some(DIFFERENCES.as_slice()));
+        }
+        _ => panic!(&rt; "an answer"),
+    }
+    assert_eq!(rt; ends.state(), State::Ended(Cause::ModuleDiff));
+    assert_eq!(rt; ends.device.phase(), Some(Phase::Started));
+    ends.turn();
+    assert_eq!(rt; ends.device.phase(), None);
+    Ok(())
+}
+
+#[test]
+fn a_reset_is_an_err_and_an_answer(rt: HostRuntime) -> Result<(), Fail> {
+    let mut ends = Ends::started(rt.alloc())?;
+    // mode 7 is none
+    let request =
+        *b"\x02\x00\x00\x00\x00\x01\x02\x00\x00\x00\x00\x02\x88\x92\xfe\xfd\x04\x00\x00\x00\x00\x02\x00\x00\x00\x06\
+        \x05\x06\x00\x02\x00\x0e";
+    ends.sent = octets(&request);
+    ends.turn();
+    let mut refused = [0; 33];
+    refused[..32].copy_from_slice(&RESET);
+    refused[32] = 2;
+    assert!(rt; is_padded(&ends.answers, &refused));
+    assert_eq!(rt; ends.state(), State::Exchanging);
+    // mode 2 ends the relation
+    let mut request = request;
+    request[31] = 4;
+    ends.sent = octets(&request);
+    ends.turn();
+    match ends.answers.as_slice() {
+        [first, second] => {
+            assert!(rt; is_filled(first, &ABORT));
+            assert!(rt; is_filled(second, &RESET));
+        }
+        _ => panic!(&rt; "an ERR, and an answer"),
+    }
+    assert_eq!(rt; ends.state(), State::Ended(Cause::Aborted));
+    assert_eq!(rt; ends.device.running().name.as_bytes(), b"".as_slice());
+    Ok(())
+}
+
+#[test]
+fn no_name_is_set_before_the_release(rt: HostRuntime) -> Result<(), Fail> {
+    let mut ends = Ends::started(rt.alloc())?;
+    let mut refused = DONE;
+    refused[32] = 6;
+    assert_eq!(rt;
+        ends.device.step(&set_pump(b'9'), &mut ends.answers),
+        Note::Done
+    );
+    assert!(rt; is_padded(&ends.answers, &refused));
+    let mut outbox = Outbox::new();
+    ends.controller.step(&ControllerEvent::Stop, &mut outbox);
+    match outbox.as_slice() {
+        [release] => ends.sent = octets(release.as_slice()),
+        _ => panic!(&rt; "a Release"),
+    }
+    ends.turn();
+    assert_eq!(rt; ends.device.phase(), None);
+    assert_eq!(rt;
+        ends.device.step(&set_pump(b'9'), &mut ends.answers),
+        Note::Done
+    );
+    assert!(rt; is_padded(&ends.answers, &DONE));
+    Ok(())
+}
+
+// The controller takes the alarm of the device, and the next one can be raised behind its AlarmAck.
+#[test]
+fn an_alarm_is_taken(rt: HostRuntime) -> Result<(), Fail> {
+    let mut ends = Ends::started(rt.alloc())?;
+    let raised = Event::Alarm(1, 1, octets(&[0xAA, 0xBB]));
+    assert_eq!(rt; ends.device.step(&raised, &mut ends.answers), Note::Done);
+    let mut acks = Outbox::new();
+    match ends.answers.as_slice() {
+        [alarm] => {
+            let event = ControllerEvent::Frame(octets(alarm.as_slice()));
+            ends.controller.step(&event, &mut acks);
+        }
+        _ => panic!(&rt; "an alarm"),
+    }
+    match ends.controller.alarm() {
+        Some(alarm) => {
+            assert_eq!(rt; alarm.alarm_type, 2);
+            assert_eq!(rt; (alarm.slot_number, alarm.subslot_number), (1, 1));
+            assert_eq!(rt; alarm.alarm_specifier, 0);
+            assert_eq!(rt; alarm.alarm_data.octets(), [0xAA, 0xBB].as_slice());
+        }
+        None => panic!(&rt; "an alarm"),
+    }
+    let again = Event::Alarm(1, 1, octets(&[0xCC]));
+    assert_eq!(rt; ends.device.step(&again, &mut ends.answers), Note::Refused);
+    match acks.as_slice() {
+        [ack, alarm_ack] => {
+            let ack = frame(ack.as_slice());
+            let alarm_ack = frame(alarm_ack.as_slice());
+            assert_eq!(rt; ends.device.step(&ack, &mut ends.answers), Note::Done);
+            assert_eq!(rt; ends.device.step(&alarm_ack, &mut ends.answers), Note::Done);
+        }
+        _ => panic!(&rt; "an ACK and an AlarmAck"),
+    }
+    assert_eq!(rt; ends.device.step(&again, &mut ends.answers), Note::Done);
+    Ok(())
+}
+
+// A Write that is repeated has the same answer and is one command; one of a smaller number is none.
+#[test]
+fn a_write_that_is_repeated_is_one_command(rt: HostRuntime) -> Result<(), Fail> {
+    let mut ends = Ends::started(rt.alloc())?;
+    let first = call(WRITE, 9, 5, &WRITE_DATE);
+    assert_eq!(rt;
+        ends.device
+            .step(&frame(first.as_slice()), &mut ends.answers),
+        Note::Done
+    );
+    assert_eq!(rt; status_of(&ends.answers), Some([0; 4].as_slice()));
+    let mut again = Outbox::new();
+    assert_eq!(rt;
+        ends.device.step(&frame(first.as_slice()), &mut again),
+        Note::Done
+    );
+    match (ends.answers.as_slice(), again.as_slice()) {
+        ([one], [other]) => assert_eq!(rt; one.as_slice(), other.as_slice()),
+        _ => panic!(&rt; "an answer each"),
+    }
+    let older = call(WRITE, 9, 4, &WRITE_DATE);
+    assert_eq!(rt;
+        ends.device.step(&frame(older.as_slice()), &mut again),
+        Note::OldCall
+    );
+    assert_eq!(rt; again.len(), 0);
+    assert_eq!(rt;
+        ends.device.running().im2.as_bytes(),
+        b"2024-05-06 07:08".as_slice()
+    );
+    Ok(())
+}
+
+// The flash fails in a Write, and the exchange goes on.
+#[test]
+fn a_fault_of_the_flash_is_a_status(rt: HostRuntime) -> Result<(), Fail> {
+    let mut ends = Ends::started(rt.alloc())?;
+    ends.device.arm(Order::Fault {
+        after: 0,
+        mask: [0xFF; 8],
+    });
+    let write = call(WRITE, 9, 0, &WRITE_DATE);
+    assert_eq!(rt;
+        ends.device
+            .step(&frame(write.as_slice()), &mut ends.answers),
+        Note::Done
+    );
+    assert_eq!(rt;
+        status_of(&ends.answers),
+        Some([0xDF, 0x80, 0xB5, 5].as_slice())
+    );
+    assert_eq!(rt; ends.device.phase(), Some(Phase::Exchanging));
+    Ok(())
+}
+
+// Another controller finds the station with its address, and its Connect is refused.
+#[test]
+fn a_second_controller_is_refused(rt: HostRuntime) -> Result<(), Fail> {
+    let mut ends = Ends::started(rt.alloc())?;
+    let other = controller(rt.alloc(), PUMP, 0x22)?;
+    ends.sent = octets(other.opening().as_slice());
+    ends.controller = other;
+    ends.turn();
+    assert_eq!(rt; ends.state(), State::Connecting);
+    ends.turn();
+    assert_eq!(rt;
+        status_of(&ends.answers),
+        Some([0xDB, 0x81, 0x40, 4].as_slice())
+    );
+    match ends.answers.as_slice() {
+        [answer] => assert_eq!(rt; answer.len(), 142),
+        _ => panic!(&rt; "an answer"),
+    }
+    assert_eq!(rt; ends.state(), State::Ended(Cause::Refused));
+    assert_eq!(rt; ends.device.phase(), Some(Phase::Exchanging));
+    Ok(())
+}
