@@ -11,7 +11,7 @@ ghost use Rattle.both_ends.specs.Small.{Rules};
 ghost use Rattle.both_ends.specs.Steps.{DeviceSteps};
 ghost use Rattle.device_ends.specs.Small.{IsHeardAs, IsPlanned, heard_as, small_of};
 
-use call_laws::refusals_are_not_done;
+use pnio_status::refusals_are_not_done;
 
 /// The machine by which each step of a device is stated, as far as a start-up goes.
 pub fn device_goes_on()
