@@ -1,3 +1,3 @@
 pub mod Sound
 pub mod Accepted
-pub mod Law
+pub mod Fitting

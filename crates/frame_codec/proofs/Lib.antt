@@ -3,4 +3,4 @@ pub mod Layers
 pub mod Datagrams
 pub mod Frames
 pub mod Others
-pub mod Law
+pub mod Fitting

@@ -1,5 +1,5 @@
 -- By the proofs of the formats.
-use Rattle.block_codec.proofs.Law.{long, read}
+use Rattle.block_codec.proofs.Fitting.{long, read}
 use Rattle.block_codec.proofs.law.fitting_blocks_are_read.Goals as goal
 
 pub returns-clause-read : goal.returns-clause-read

@@ -1,6 +1,6 @@
 -- By the proofs of the formats.
 use Rattle.frame_codec.proofs.Frames.{read_back}
-use Rattle.frame_codec.proofs.Law.{datagram_is}
+use Rattle.frame_codec.proofs.Fitting.{datagram_is}
 use Rattle.frame_codec.proofs.law.fitting_frames_are_read.Goals as goal
 
 pub returns-clause-back : goal.returns-clause-back
