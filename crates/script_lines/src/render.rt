@@ -4,7 +4,7 @@ ghost use Rattle.hex.specs.Hex.{encode_lower};
 ghost use Rattle.script_lines.specs.Text.{boot_line, out_line, moved_line, out_lines, note_line, note_word};
 
 use crate::digits;
-use device_core::Note;
+use device_frames::Note;
 use frame_codec::Frame;
 use itoa::Buffer;
 use settings_journal::BootFault;
