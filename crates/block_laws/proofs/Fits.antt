@@ -1,5 +1,5 @@
 -- What can be written fits its format.
-use Rattle.std.proofs.Common.{◌≡◌, ◌==◌, ◌≤◌, ◌<◌, ◌^◌, ◌+◌, ℕ, length, Option, Some, None, true, refl, arith}
+use Rattle.std.proofs.Common.{◌≡◌, ◌<◌, ℕ, Option, Some, None, true, refl, arith}
 use Rattle.std.proofs.lemmas.Bool.{eq-eqb}
 use Rattle.block_fields.specs.Fields.{body, open_body, version}
 use Rattle.connect_blocks.specs.ArBlock.{ar_block_res}
