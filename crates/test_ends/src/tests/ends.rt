@@ -26,10 +26,19 @@ const ABORT: [u8; 36] =
     *b"\x02\x00\x00\x00\x00\x02\x02\x00\x00\x00\x00\x01\x81\x00\xa0\x00\x88\x92\xfe\x01\
     \x00\x01\x00\x01\x14\x01\xff\xff\xff\xfe\x00\x04\xcf\x81\xfd\x0d";
 
-// The answer to a ResetToFactory, up to its BlockError.
-const RESET: [u8; 32] =
+// A ResetToFactory of mode 1.
+const ASKED: [u8; 32] =
+    *b"\x02\x00\x00\x00\x00\x01\x02\x00\x00\x00\x00\x02\x88\x92\xfe\xfd\x04\x00\x00\x00\x00\x02\x00\x00\x00\x06\
+    \x05\x06\x00\x02\x00\x02";
+
+// The answer to one that is done, and to one of a mode that there is not.
+const RESET: [u8; 33] =
     *b"\x02\x00\x00\x00\x00\x02\x02\x00\x00\x00\x00\x01\x88\x92\xfe\xfd\x04\x01\x00\x00\x00\x02\x00\x00\x00\x08\
-    \x05\x04\x00\x03\x05\x06";
+    \x05\x04\x00\x03\x05\x06\x00";
+
+const REFUSED: [u8; 33] =
+    *b"\x02\x00\x00\x00\x00\x02\x02\x00\x00\x00\x00\x01\x88\x92\xfe\xfd\x04\x01\x00\x00\x00\x02\x00\x00\x00\x08\
+    \x05\x04\x00\x03\x05\x06\x02";
 
 // The modules of the plan that the demo station has not: another one in slot 2, and none in slot 3.
 const DIFFERENCES: [u8; 50] = *b"\x81\x04\x00\x2e\x01\x00\x00\x01\x00\x00\x00\x00\x00\x02\
@@ -63,7 +72,7 @@ fn hear(controller: &mut Controller, frames: &[Frame], sent: &mut Bytes) {
     for frame in frames {
         let event = ControllerEvent::Frame(octets(frame.as_slice()));
         controller.step(&event, &mut outbox);
-        if let [.., last] = outbox.as_slice() {
+        if let Some(last) = outbox.as_slice().last() {
             *sent = octets(last.as_slice());
         }
     }
@@ -118,6 +127,13 @@ impl Ends {
     }
 }
 
+/// A ResetToFactory of this mode, at most 127: its BlockQualifier is twice the mode.
+fn reset(mode: u8) -> Bytes {
+    let mut request = ASKED;
+    request[31] = mode.wrapping_mul(2);
+    octets(&request)
+}
+
 /// Whether these octets, cut at any place, are no frame to the device.
 fn is_none_where_cut(device: &mut Station, octets: &[u8]) -> bool {
     let mut outbox = Outbox::new();
@@ -129,11 +145,57 @@ fn is_none_where_cut(device: &mut Station, octets: &[u8]) -> bool {
     is_none
 }
 
+/// The one frame in a box.
+fn one(outbox: &Outbox) -> Option<Bytes> {
+    match outbox.as_slice() {
+        [sent] => Some(octets(sent.as_slice())),
+        _ => None,
+    }
+}
+
+/// The two frames in a box, as they come to a device.
+fn two(outbox: &Outbox) -> Option<(Event, Event)> {
+    match outbox.as_slice() {
+        [first, second] => Some((frame(first.as_slice()), frame(second.as_slice()))),
+        _ => None,
+    }
+}
+
+/// The two frames in a box are these octets, each filled up.
+fn are_filled(outbox: &Outbox, first: &[u8], second: &[u8]) -> bool {
+    match outbox.as_slice() {
+        [one, other] => is_filled(one, first) && is_filled(other, second),
+        _ => false,
+    }
+}
+
+/// The one frame in a box ends with these octets, which begin at this place.
+fn ends_with(outbox: &Outbox, place: usize, octets: &[u8]) -> bool {
+    match outbox.as_slice() {
+        [sent] => sent.as_slice().get(place..) == Some(octets),
+        _ => false,
+    }
+}
+
 /// The status in a response.
 fn status_of(outbox: &Outbox) -> Option<&[u8]> {
     match outbox.as_slice() {
         [answer] => answer.as_slice().get(122..126),
         _ => None,
+    }
+}
+
+/// The alarm that a controller shows is the process alarm of the module in slot 1, with AlarmSpecifier 0 and the octets aa bb.
+fn is_alarm_shown(controller: &Controller) -> bool {
+    match controller.alarm() {
+        Some(alarm) => {
+            alarm.alarm_type == 2
+                && alarm.slot_number == 1
+                && alarm.subslot_number == 1
+                && alarm.alarm_specifier == 0
+                && alarm.alarm_data.octets() == [0xAA, 0xBB].as_slice()
+        }
+        None => false,
     }
 }
 
@@ -163,10 +225,8 @@ fn a_connect_that_is_cut_is_none(rt: HostRuntime) -> Result<(), Fail> {
     assert_eq!(rt; ends.sent.len(), 533);
     assert!(rt; is_none_where_cut(&mut ends.device, ends.sent.as_slice()));
     ends.turn();
-    match ends.answers.as_slice() {
-        [answer] => assert_eq!(rt; answer.len(), 212),
-        _ => panic!(&rt; "an answer"),
-    }
+    let answer = one(&ends.answers).ok_or("an answer")?;
+    assert_eq!(rt; answer.len(), 212);
     assert_eq!(rt; ends.state(), State::Ending);
     Ok(())
 }
@@ -175,13 +235,9 @@ fn a_connect_that_is_cut_is_none(rt: HostRuntime) -> Result<(), Fail> {
 fn other_modules_are_told(rt: HostRuntime) -> Result<(), Fail> {
     let mut ends = Ends::new(rt.alloc(), OTHER_MODULES)?;
     ends.turns(3);
-    match ends.answers.as_slice() {
-        [answer] => {
-            assert_eq!(rt; answer.len(), 142 + 120);
-            assert_eq!(rt; answer.as_slice().get(212..), Some(DIFFERENCES.as_slice()));
-        }
-        _ => panic!(&rt; "an answer"),
-    }
+    let answer = one(&ends.answers).ok_or("an answer")?;
+    assert_eq!(rt; answer.len(), 262);
+    assert!(rt; ends_with(&ends.answers, 212, &DIFFERENCES));
     assert_eq!(rt; ends.state(), State::Ended(Cause::ModuleDiff));
     assert_eq!(rt; ends.device.phase(), Some(Phase::Started));
     ends.turn();
@@ -189,32 +245,24 @@ fn other_modules_are_told(rt: HostRuntime) -> Result<(), Fail> {
     Ok(())
 }
 
+// Mode 7 is none.
+#[test]
+fn a_reset_that_is_refused_is_an_answer(rt: HostRuntime) -> Result<(), Fail> {
+    let mut ends = Ends::started(rt.alloc())?;
+    ends.sent = reset(7);
+    ends.turn();
+    assert!(rt; is_padded(&ends.answers, &REFUSED));
+    assert_eq!(rt; ends.state(), State::Exchanging);
+    Ok(())
+}
+
+// Mode 2 ends the relation.
 #[test]
 fn a_reset_is_an_err_and_an_answer(rt: HostRuntime) -> Result<(), Fail> {
     let mut ends = Ends::started(rt.alloc())?;
-    // mode 7 is none
-    let request =
-        *b"\x02\x00\x00\x00\x00\x01\x02\x00\x00\x00\x00\x02\x88\x92\xfe\xfd\x04\x00\x00\x00\x00\x02\x00\x00\x00\x06\
-        \x05\x06\x00\x02\x00\x0e";
-    ends.sent = octets(&request);
+    ends.sent = reset(2);
     ends.turn();
-    let mut refused = [0; 33];
-    refused[..32].copy_from_slice(&RESET);
-    refused[32] = 2;
-    assert!(rt; is_padded(&ends.answers, &refused));
-    assert_eq!(rt; ends.state(), State::Exchanging);
-    // mode 2 ends the relation
-    let mut request = request;
-    request[31] = 4;
-    ends.sent = octets(&request);
-    ends.turn();
-    match ends.answers.as_slice() {
-        [first, second] => {
-            assert!(rt; is_filled(first, &ABORT));
-            assert!(rt; is_filled(second, &RESET));
-        }
-        _ => panic!(&rt; "an ERR, and an answer"),
-    }
+    assert!(rt; are_filled(&ends.answers, &ABORT, &RESET));
     assert_eq!(rt; ends.state(), State::Ended(Cause::Aborted));
     assert_eq!(rt; ends.device.running().name.as_bytes(), b"".as_slice());
     Ok(())
@@ -232,10 +280,7 @@ fn no_name_is_set_before_the_release(rt: HostRuntime) -> Result<(), Fail> {
     assert!(rt; is_padded(&ends.answers, &refused));
     let mut outbox = Outbox::new();
     ends.controller.step(&ControllerEvent::Stop, &mut outbox);
-    match outbox.as_slice() {
-        [release] => ends.sent = octets(release.as_slice()),
-        _ => panic!(&rt; "a Release"),
-    }
+    ends.sent = one(&outbox).ok_or("a Release")?;
     ends.turn();
     assert_eq!(rt; ends.device.phase(), None);
     assert_eq!(rt;
@@ -252,34 +297,16 @@ fn an_alarm_is_taken(rt: HostRuntime) -> Result<(), Fail> {
     let mut ends = Ends::started(rt.alloc())?;
     let raised = Event::Alarm(1, 1, octets(&[0xAA, 0xBB]));
     assert_eq!(rt; ends.device.step(&raised, &mut ends.answers), Note::Done);
+    let alarm = one(&ends.answers).ok_or("an alarm")?;
     let mut acks = Outbox::new();
-    match ends.answers.as_slice() {
-        [alarm] => {
-            let event = ControllerEvent::Frame(octets(alarm.as_slice()));
-            ends.controller.step(&event, &mut acks);
-        }
-        _ => panic!(&rt; "an alarm"),
-    }
-    match ends.controller.alarm() {
-        Some(alarm) => {
-            assert_eq!(rt; alarm.alarm_type, 2);
-            assert_eq!(rt; (alarm.slot_number, alarm.subslot_number), (1, 1));
-            assert_eq!(rt; alarm.alarm_specifier, 0);
-            assert_eq!(rt; alarm.alarm_data.octets(), [0xAA, 0xBB].as_slice());
-        }
-        None => panic!(&rt; "an alarm"),
-    }
+    ends.controller
+        .step(&ControllerEvent::Frame(alarm), &mut acks);
+    assert!(rt; is_alarm_shown(&ends.controller));
     let again = Event::Alarm(1, 1, octets(&[0xCC]));
     assert_eq!(rt; ends.device.step(&again, &mut ends.answers), Note::Refused);
-    match acks.as_slice() {
-        [ack, alarm_ack] => {
-            let ack = frame(ack.as_slice());
-            let alarm_ack = frame(alarm_ack.as_slice());
-            assert_eq!(rt; ends.device.step(&ack, &mut ends.answers), Note::Done);
-            assert_eq!(rt; ends.device.step(&alarm_ack, &mut ends.answers), Note::Done);
-        }
-        _ => panic!(&rt; "an ACK and an AlarmAck"),
-    }
+    let (ack, alarm_ack) = two(&acks).ok_or("an ACK and an AlarmAck")?;
+    assert_eq!(rt; ends.device.step(&ack, &mut ends.answers), Note::Done);
+    assert_eq!(rt; ends.device.step(&alarm_ack, &mut ends.answers), Note::Done);
     assert_eq!(rt; ends.device.step(&again, &mut ends.answers), Note::Done);
     Ok(())
 }
@@ -300,10 +327,9 @@ fn a_write_that_is_repeated_is_one_command(rt: HostRuntime) -> Result<(), Fail> 
         ends.device.step(&frame(first.as_slice()), &mut again),
         Note::Done
     );
-    match (ends.answers.as_slice(), again.as_slice()) {
-        ([one], [other]) => assert_eq!(rt; one.as_slice(), other.as_slice()),
-        _ => panic!(&rt; "an answer each"),
-    }
+    let answer = one(&ends.answers).ok_or("an answer")?;
+    let same = one(&again).ok_or("the answer again")?;
+    assert_eq!(rt; same.as_slice(), answer.as_slice());
     let older = call(WRITE, 9, 4, &WRITE_DATE);
     assert_eq!(rt;
         ends.device.step(&frame(older.as_slice()), &mut again),
@@ -353,10 +379,8 @@ fn a_second_controller_is_refused(rt: HostRuntime) -> Result<(), Fail> {
         status_of(&ends.answers),
         Some([0xDB, 0x81, 0x40, 4].as_slice())
     );
-    match ends.answers.as_slice() {
-        [answer] => assert_eq!(rt; answer.len(), 142),
-        _ => panic!(&rt; "an answer"),
-    }
+    let answer = one(&ends.answers).ok_or("an answer")?;
+    assert_eq!(rt; answer.len(), 142);
     assert_eq!(rt; ends.state(), State::Ended(Cause::Refused));
     assert_eq!(rt; ends.device.phase(), Some(Phase::Exchanging));
     Ok(())
