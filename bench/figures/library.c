@@ -1,5 +1,6 @@
-/* Figures of the library through its header: how deep each call goes into a stack that was painted, and so many ticks or cyclic
- * frames to be counted by callgrind (figures WHAT COUNT). */
+/* Figures of the library through its header, for bench/figures/library.py: how deep each call goes into a stack that was painted
+ * (`stack`), and so many units of time in one call (`quiet`), units one by one (`tick`) or cyclic frames (`cyclic`) to be counted by
+ * callgrind, behind a script on standard input. */
 #define _GNU_SOURCE
 #include "nandutable.h"
 #include <pthread.h>
@@ -91,6 +92,28 @@ static void plain(struct line *line)
     call(line);
 }
 
+/* The last cyclic frame of the script. */
+static struct line cyclic;
+
+static int is_cyclic(const struct line *line)
+{
+    const uint8_t *type = line->octets + (line->octets[12] == 0x81 ? 16 : 12);
+    return line->kind == 2 && line->length >= 60 && type[0] == 0x88 && type[1] == 0x92 && type[2] >= 0x80 && type[2] < 0xF8;
+}
+
+/* It comes again a millisecond later, and is taken. */
+static void next_cyclic(void)
+{
+    uint8_t *counter = cyclic.octets + cyclic.length - 4;
+    unsigned number = counter[0] * 256u + counter[1] + 32u;
+    counter[0] = (uint8_t)(number >> 8);
+    counter[1] = (uint8_t)number;
+    call(&cyclic);
+    if (op.note != PN_DONE)
+        exit(2);
+    take_all(plain);
+}
+
 static void start(void (*does)(struct line *))
 {
     struct line line = {.kind = 0};
@@ -115,6 +138,8 @@ static void play(void (*does)(struct line *))
         } else {
             continue;
         }
+        if (is_cyclic(&line))
+            cyclic = line;
         does(&line);
         while (line.kind == 3 && op.units != 0) {
             line.units = op.units;
@@ -151,6 +176,9 @@ int main(int count, char **words)
             take_all(plain);
         }
     }
+    if (count > 1 && strcmp(words[1], "cyclic") == 0)
+        for (unsigned long i = 0; i < n; i++)
+            next_cyclic();
     if (count > 1 && strcmp(words[1], "quiet") == 0)
         for (unsigned long i = 0; i < n; i += 1000) {
             struct line line = {.kind = 3, .units = 1000};
