@@ -1,5 +1,5 @@
 -- A word that spells no UUID.
-use Rattle.std.proofs.Common.{◌≡◌, Bool, true, false, List, ℕ, Option, Some, None, refl}
+use Rattle.std.proofs.Common.{◌≡◌, true, false, List, ℕ, Option, Some, None, refl}
 
 none : (found : Option (List ℕ)) → false ≡ true → None ≡ found
 none found contrary = cc

@@ -1,5 +1,5 @@
 -- The lines that show the settings and the lamp.
-use Rattle.std.specs.Prelude.{ℕ, List, [], ◌∷◌, ◌++◌, length, ◌==◌, slice_index, codes, decimal, flat_map, if◌then◌else◌, Option, Some, None}
+use Rattle.std.specs.Prelude.{ℕ, List, [], ◌++◌, length, ◌==◌, slice_index, codes, decimal, flat_map, if◌then◌else◌, Option, Some, None}
 use Rattle.hex.specs.Hex.{encode_lower}
 use Rattle.pn_values.specs.IpSuite.{Suite}
 use Rattle.pn_values.specs.declared.settings.Settings.{Settings}
