@@ -1,5 +1,5 @@
 -- What a writer has got, and what a reader has given, where those are known.
-use Rattle.std.proofs.Common.{◌≡◌, ℕ, ◌+◌, ◌<◌, ◌≤◌, List, [], ◌∷◌, ◌++◌, Option, Some, None, IfSome, length, append_assoc, append-nil, arith, refl, ap, sym, ◌∙◌, length-append}
+use Rattle.std.proofs.Common.{◌≡◌, ℕ, ◌+◌, ◌<◌, List, [], ◌++◌, Option, Some, None, IfSome, length, append_assoc, append-nil, arith, refl, ap, sym, ◌∙◌, length-append}
 use Rattle.std.specs.Io.KnownBytes.{Appends, Keeps, Consumes, IsAtEnd}
 use Rattle.script_runner.specs.Output.{AppendsFront}
 

@@ -1,5 +1,5 @@
 -- Lines, one after another.
-use Rattle.std.proofs.Common.{◌≡◌, ◌||◌, ◌⊎◌, inl, inr, ℕ, ◌+◌, ◌≤◌, List, [], ◌∷◌, ◌++◌, Option, Some, None, length, refl, sym, ap, subst, arith, ◌∙◌, Result, Ok, Err, Bool, true, false, if◌then◌else◌, append-nil, append_assoc}
+use Rattle.std.proofs.Common.{◌≡◌, ◌||◌, ◌⊎◌, inl, inr, ℕ, ◌+◌, List, [], ◌∷◌, ◌++◌, Option, length, refl, sym, ap, subst, arith, ◌∙◌, Ok, Err, Bool, true, false, if◌then◌else◌, append-nil, append_assoc}
 use Rattle.std.proofs.lemmas.Bool.{false≢true}
 use Rattle.std.specs.Io.KnownBytes.{Appends}
 use Rattle.std.specs.Str.Lines.{lines}
@@ -7,7 +7,7 @@ use Rattle.plans.specs.declared.parts.Parts.{Parts}
 use Rattle.configurator.specs.declared.fault.PlanFault.{PlanFault}
 use Rattle.configurator.specs.declared.fault.PlanFault.TheVariants as plan
 use Rattle.configurator.specs.Planned.{IsRefused}
-use Rattle.script_lines.specs.Line.{Line, meaning_of}
+use Rattle.script_lines.specs.Line.{meaning_of}
 use Rattle.script_session.specs.Ends.{Network}
 use Rattle.script_session.specs.Power.{Held}
 use Rattle.script_session.specs.Said.{Answer, Outcome, Answers, Refuses, HasNoPlan, is_order, outcome_of}
@@ -16,8 +16,8 @@ use Rattle.script_runner.specs.declared.fault.RunFault.{RunFault}
 use Rattle.script_runner.specs.declared.fault.RunFault.TheVariants.{Write, OutOfMemory, Config}
 use Rattle.script_runner.specs.Fault.{fault_of}
 use Rattle.script_runner.specs.Output.{AppendsFront, Grows}
-use Rattle.script_runner.specs.Script.{AllRight, ArePlansOf, End, AllDone, Refused, Unplanned, then_told, told, then_ended, ended, has_order, before_order, output_of, end_of}
-use Rattle.script_runner.specs.Told.{Plays, PlaysOn, IsPlayed, IsPlayFault}
+use Rattle.script_runner.specs.Script.{AllRight, Refused, Unplanned, then_told, told, then_ended, ended, has_order, before_order, output_of, end_of}
+use Rattle.script_runner.specs.Told.{PlaysOn, IsPlayed, IsPlayFault}
 use Rattle.script_runner.proofs.Known.{IsSoFar, so_far_on, so_far_all, so_far_front, front_longer, none_front, appends_on}
 
 -- Between two lines, none of which was an order to the flash: both ends are as this says, a front of the output was written, and the

@@ -1,4 +1,4 @@
-use Rattle.std.proofs.Common.{◌≡◌, lit<, lit≤, inl, inr, length, refl, arith}
+use Rattle.std.proofs.Common.{◌≡◌, inl, inr, length, refl, arith}
 use Rattle.std.proofs.lemmas.Bool.Decides.{nat_tests}
 use Rattle.std.proofs.lemmas.Result.{err_from_is_err_and}
 use Rattle.script_session.specs.Said.{alone}
