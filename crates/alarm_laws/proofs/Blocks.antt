@@ -1,5 +1,5 @@
 -- The blocks that data carries are read as they were written.
-use Rattle.std.proofs.Common.{◌≡◌, ◌+◌, ℕ, List, [], length, Ok, refl, ◌∙◌, arith}
+use Rattle.std.proofs.Common.{◌≡◌, ◌+◌, [], length, Ok, refl, ◌∙◌, arith}
 use Rattle.block_fields.specs.Fields.{body, open_body, version}
 use Rattle.record_blocks.specs.declared.alarm_ack.AlarmAck.{AlarmAck}
 use Rattle.record_blocks.specs.declared.alarm_notification.AlarmNotification.{AlarmNotification}
