@@ -1,0 +1,82 @@
+-- A PrmEnd that is accepted is answered, and ApplicationReady follows; one that is refused is answered alone.
+use Rattle.std.proofs.Common.{◌≡◌, ℕ, true, false, List, [], ◌∷◌, map, Option, Result, Ok, Err, IfOk, IfErr, is_ok, refl, sym, ap, subst, ◌∙◌}
+use Rattle.connect_blocks.specs.declared.control.ControlBlock.{ControlBlock}
+use Rattle.pnio_status.specs.declared.call_fault.CallFault.{CallFault}
+use Rattle.pnio_status.specs.declared.operation.Operation.TheVariants as operation
+use Rattle.rpc_core.specs.Call.{asked}
+use Rattle.relations.specs.Calls.{prm_end_answer, prm_end_of}
+use Rattle.relations.specs.Link.{Link}
+use Rattle.relations.specs.Phases.{Parameterized, answered, moved}
+use Rattle.device_frames.specs.Relation.{ready_calls}
+use Rattle.device_frames.specs.Sendable.{AreSendable}
+use Rattle.device_frames.specs.Sent.{Sent, bytes_of}
+use Rattle.device_core.specs.Behind.{CanSend, called, frames_of, octets_in}
+use Rattle.device_core.specs.Judged.{answer_from, came_with, ready_behind}
+use Rattle.device_core.proofs.device.Device.control.Goals as goal
+use Rattle.device_core.proofs.device.Device.control.Goals.{then-is_ok, else-is_ok}
+
+-- the answer is the one that is judged
+answer_as : (came : Result (Unit {0}) CallFault) (answer : Result (List ℕ) CallFault) (blocks : List ℕ)
+    → IfOk came (λ _. answer ≡ Ok blocks) → IfErr came (λ fault. (answer ≡ Err fault) × (blocks ≡ [])) → came_with came blocks ≡ answer
+answer_as (Ok it) answer blocks done refused = sym done
+answer_as (Err fault) answer blocks done refused = sym refused.0
+
+-- one that is done stands on a block, and one that is refused does not
+follows : (address : List ℕ) (now link : Option Link) (octets : List ℕ) (came : Result (Unit {0}) CallFault) (ended : Result ControlBlock CallFault) (blocks : List ℕ)
+    → prm_end_of link octets ≡ ended → IfOk came (λ _. prm_end_answer link octets ≡ Ok blocks) → is_ok came ≡ true → ready_behind address now ended ≡ ready_calls address now
+follows address now link octets (Ok it) (Ok block) blocks is done so = refl
+follows address now link octets (Ok it) (Err fault) blocks is done so = let e : ◌≡◌ {A = Result (List ℕ) CallFault} (Err fault) (Ok blocks) = rw is at done in cc
+follows address now link octets (Err fault) ended blocks is done so = cc
+
+alone : (address : List ℕ) (now link : Option Link) (octets : List ℕ) (came : Result (Unit {0}) CallFault) (ended : Result ControlBlock CallFault) (blocks : List ℕ)
+    → prm_end_of link octets ≡ ended → IfErr came (λ fault. (prm_end_answer link octets ≡ Err fault) × (blocks ≡ [])) → is_ok came ≡ false → ready_behind address now ended ≡ []
+alone address now link octets (Ok it) ended blocks is refused so = cc
+alone address now link octets (Err fault) (Err other) blocks is refused so = refl
+alone address now link octets (Err fault) (Ok block) blocks is refused so = let e = rw is at refused.0 in cc
+
+-- an answer, and what follows it
+behind_answer : (f : Sent → List ℕ) (frames : List (List ℕ)) (answer : Sent) (ready behind : List Sent)
+    → frames ≡ f answer ∷ map f ready → behind ≡ ready → frames ≡ map f (answer ∷ behind)
+behind_answer f frames answer ready behind is same = is ∙ ap (λ sent. f answer ∷ map f sent) (sym same)
+
+pub returns-clause-frames : goal.returns-clause-frames
+returns-clause-frames g c =
+    let link = c.self.inside.relation in
+    let address = c.self.inside.store.values.running.suite.address in
+    let blocks = c.args.serving.now.blocks.now in
+    let ended = prm_end_of link blocks in
+    let now = moved (answered Parameterized ended) link in
+    let f = bytes_of c.self.inside.identity in
+    let answer = answer_from address c.args.serving.now.caller.now (asked c.args.serving.now.call.now) operation.Control (prm_end_answer link blocks) in
+    let out = answer_as c.control-came.result (prm_end_answer link blocks) c.control-came.new.answer.items c.control-came.ensures.done c.control-came.ensures.refused in
+    let first = rw (c.address-address.ensures.value, c.running.ensures, c.requires.operation, out) at c.give.ensures.frames in
+    subst (λ old. octets_in c.if-is_ok.outbox ≡ frames_of old (called old c.args.serving.now operation.Control)) c.self.view_is
+    (elim c.if-is_ok.branch [
+      | then-is_ok w ↦
+          let all = rw (first, c.address-address.ensures.value, c.running.ensures, c.control-came.ensures.state) at w.send_ready.ensures.frames in
+          let same = follows address now link blocks c.control-came.result ended c.control-came.new.answer.items refl c.control-came.ensures.done (sym c.is_ok.ensures.value ∙ w.if-is_ok.true) in
+          behind_answer f (octets_in c.if-is_ok.outbox) answer (ready_calls address now) (ready_behind address now ended) (ap octets_in w.outbox-is ∙ all) same
+      | else-is_ok w ↦
+          let same = alone address now link blocks c.control-came.result ended c.control-came.new.answer.items refl c.control-came.ensures.refused (sym c.is_ok.ensures.value ∙ w.if-is_ok.false) in
+          behind_answer f (octets_in c.if-is_ok.outbox) answer [] (ready_behind address now ended) (ap octets_in w.outbox-is ∙ first) same
+    ])
+
+pub returns-clause-sendable : goal.returns-clause-sendable
+returns-clause-sendable g c =
+    let link = c.self.inside.relation in
+    let address = c.self.inside.store.values.running.suite.address in
+    let blocks = c.args.serving.now.blocks.now in
+    let ended = prm_end_of link blocks in
+    let now = moved (answered Parameterized ended) link in
+    let out = answer_as c.control-came.result (prm_end_answer link blocks) c.control-came.new.answer.items c.control-came.ensures.done c.control-came.ensures.refused in
+    let first = rw (c.address-address.ensures.value, c.running.ensures, c.requires.operation, out) at c.give.ensures.sendable in
+    subst (λ old. CanSend old (called old c.args.serving.now operation.Control)) c.self.view_is
+    (elim c.if-is_ok.branch [
+      | then-is_ok w ↦
+          let ready = rw (c.address-address.ensures.value, c.running.ensures, c.control-came.ensures.state) at w.send_ready.ensures.sendable in
+          let same = follows address now link blocks c.control-came.result ended c.control-came.new.answer.items refl c.control-came.ensures.done (sym c.is_ok.ensures.value ∙ w.if-is_ok.true) in
+          (first, subst (λ (sent : List Sent). AreSendable c.self.inside.identity sent) (sym same) ready)
+      | else-is_ok w ↦
+          let same = alone address now link blocks c.control-came.result ended c.control-came.new.answer.items refl c.control-came.ensures.refused (sym c.is_ok.ensures.value ∙ w.if-is_ok.false) in
+          (first, subst (λ (sent : List Sent). AreSendable c.self.inside.identity sent) (sym same) tt)
+    ])
