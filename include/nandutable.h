@@ -69,7 +69,9 @@ enum {
     PN_UNKNOWN = 10,     /* no such operation */
     PN_FOREIGN = 11,     /* pn_boot: the flash holds what no device of this layout left there */
     PN_FLASH_FAULT = 12, /* pn_carry_out: a call of the flash failed; pn_make and pn_boot come next */
-    PN_NOT_SENT = 13     /* pn_carry_out: a frame could not be sent; the other frames of the step were tried */
+    PN_NOT_SENT = 13,    /* pn_carry_out: a frame could not be sent; the other frames of the step were tried */
+    PN_LOST = 14,        /* a call of the flash failed since pn_boot: pn_make and pn_boot come next */
+    PN_NO_RECORD = 15    /* no parameter record that was taken has this number */
 };
 
 /* What became of an event (pn_op.note). All of them are answers, and none is a fault of the host. */
@@ -107,7 +109,9 @@ enum {
     PN_OP_OUTPUT = 8,
     PN_OP_STATE = 9,
     PN_OP_RUNNING = 10,
-    PN_OP_STORED = 11
+    PN_OP_STORED = 11,
+    PN_OP_LOSE = 12,
+    PN_OP_RECORD = 13
 };
 
 /* A parameter record that a submodule takes: its index, 0 to 32,767, and its exact length, 1 to 64 octets. */
@@ -164,7 +168,7 @@ typedef struct pn_op {
     uint32_t phase;   /* PN_NONE .. */
     uint32_t work;    /* PN_NOTHING .. */
     uint32_t sector;  /* 0 or 1 */
-    uint32_t place;   /* the first octet of a program call in its sector */
+    uint32_t place;   /* the first octet of a program call in its sector; pn_taken: a number, and then the record's index */
     uint32_t length;  /* how many of `octets` count */
     uint8_t octets[PN_OP_SIZE];
 } pn_op;
@@ -198,25 +202,41 @@ typedef struct pn_settings {
     uint32_t name_length; /* 0: no name */
 } pn_settings;
 
-/* --- The two calls of the library. Use the functions below them. ---
+/* --- The three calls of the library. Use the functions below them. ---
  *
- * pn_device_make puts a device that is not booted into the room: `size` octets, on a multiple of 16. What lay there is gone.
- * pn_step carries one operation out on a room that pn_device_make answered PN_OK for and that only these two calls changed
- * since. `given` are the octets of a frame, an input, an alarm or a sector; a null pointer answers PN_NULL (with a length of 0 any
- * other one will do), and the operation, what is given and the room lie apart. */
-uint32_t pn_device_make(void *room, size_t size, uint32_t abi, size_t op_size, const pn_station *station);
+ * pn_judge answers why no device can be made of a station in a room of `size` octets, and PN_OK where one can.
+ * pn_put puts a device that is not booted into the room: what lay there is gone. It is only called with a station that pn_judge
+ * answered PN_OK for, and a room of PN_DEVICE_SIZE octets on a multiple of 16.
+ * pn_step carries one operation out on a room into which pn_put put a device and that only these calls changed since. `given` are the
+ * octets of a frame, an input, an alarm or a sector.
+ * No pointer is null, with a length of 0 neither; the operation, what is given, the station and the room lie apart. */
+uint32_t pn_judge(size_t size, uint32_t abi, size_t op_size, const pn_station *station);
+void pn_put(void *room, const pn_station *station);
 uint32_t pn_step(void *room, pn_op *op, const uint8_t *given, size_t length);
 
 /* --- A start --- */
+
+/* Makes a device of this station in a room of `size` octets, by a header of the version `abi` whose operation has `op_size` octets.
+ * PN_NULL, PN_BAD_ABI, PN_SMALL_ROOM, PN_BAD_STATION. */
+static inline uint32_t pn_device_make(void *room, size_t size, uint32_t abi, size_t op_size, const pn_station *station)
+{
+    uint32_t answer;
+    if (room == NULL || station == NULL)
+        return PN_NULL;
+    if ((uintptr_t)room % 16 != 0)
+        return PN_SMALL_ROOM;
+    answer = pn_judge(size, abi, op_size, station);
+    if (answer == PN_OK)
+        pn_put(room, station);
+    return answer;
+}
 
 /* Makes a device of this station, and copies the station. Before anything else; a device that is made anew forgets all.
  * PN_NULL, PN_BAD_ABI, PN_SMALL_ROOM, PN_BAD_STATION. */
 static inline uint32_t pn_make(pn_device *device, const pn_station *station)
 {
-    if (device == NULL || station == NULL)
+    if (device == NULL)
         return PN_NULL;
-    if ((uintptr_t)device->room % 16 != 0)
-        return PN_SMALL_ROOM;
     return pn_device_make(device->room, sizeof device->room, PN_ABI, sizeof(pn_op), station);
 }
 
@@ -251,7 +271,7 @@ static inline uint32_t pn_boot(pn_device *device, pn_op *op, const uint8_t first
 }
 
 /* --- Events. Each wants a booted device whose work is all taken, and sets `note`. Behind each comes pn_carry_out or pn_next. ---
- * PN_NULL, PN_NOT_BOOTED, PN_HAS_WORK, and what each names. */
+ * PN_NULL, PN_NOT_BOOTED, PN_LOST, PN_HAS_WORK, and what each names. */
 
 /* A frame came in: its octets from the destination address on, without the check sequence. The interface is to take the
  * device's address, the broadcast address and the group address 01-0E-CF-00-00-00. */
@@ -295,7 +315,7 @@ static inline uint32_t pn_alarm(pn_device *device, pn_op *op, uint16_t slot, uin
 /* --- Work --- */
 
 /* Hands out the next piece of work of the last event, each once: the calls of the flash in their order, then the frames. Sets
- * `work`, and what belongs to it: `sector`, `place`, `length`, `octets`. PN_NULL, PN_NOT_BOOTED. */
+ * `work`, and what belongs to it: `sector`, `place`, `length`, `octets`. PN_NULL, PN_NOT_BOOTED, PN_LOST. */
 static inline uint32_t pn_next(pn_device *device, pn_op *op)
 {
     return pn_ask(device, op, PN_OP_NEXT, NULL, 0);
@@ -310,7 +330,21 @@ typedef struct pn_host {
     int (*send)(void *context, const uint8_t *octets, uint32_t length);
 } pn_host;
 
-/* Takes all work and does it. PN_NULL, PN_NOT_BOOTED, PN_FLASH_FAULT (nothing more was done; make and boot the device again),
+/* A call of the flash failed on the host's side, which counts as power that is lost: the work that is left is dropped, and every
+ * call but pn_make answers PN_LOST from now on. pn_carry_out makes this call by itself. PN_NULL, PN_NOT_BOOTED, PN_LOST. */
+static inline uint32_t pn_lose(pn_device *device, pn_op *op)
+{
+    return pn_ask(device, op, PN_OP_LOSE, NULL, 0);
+}
+
+/* The same behind a call that failed. */
+static inline uint32_t pn_failed(pn_device *device, pn_op *op)
+{
+    uint32_t answer = pn_lose(device, op);
+    return answer == PN_OK ? (uint32_t)PN_FLASH_FAULT : answer;
+}
+
+/* Takes all work and does it. PN_NULL, PN_NOT_BOOTED, PN_FLASH_FAULT (nothing more is done; make and boot the device again), PN_LOST,
  * PN_NOT_SENT (a frame was lost, as it could be on the wire: nothing else follows from it). */
 static inline uint32_t pn_carry_out(pn_device *device, pn_op *op, const pn_host *host)
 {
@@ -324,11 +358,11 @@ static inline uint32_t pn_carry_out(pn_device *device, pn_op *op, const pn_host 
         switch (op->work) {
         case PN_PROGRAM:
             if (host->program(host->context, op->sector, op->place, op->octets, op->length) != 0)
-                return PN_FLASH_FAULT;
+                return pn_failed(device, op);
             break;
         case PN_ERASE:
             if (host->erase(host->context, op->sector) != 0)
-                return PN_FLASH_FAULT;
+                return pn_failed(device, op);
             break;
         case PN_SEND:
             if (host->send(host->context, op->octets, op->length) != 0)
@@ -340,7 +374,7 @@ static inline uint32_t pn_carry_out(pn_device *device, pn_op *op, const pn_host 
     }
 }
 
-/* --- What a device tells. Each wants a booted device; with or without work. PN_NULL, PN_NOT_BOOTED, and what each names. --- */
+/* --- What a device tells. Each wants a booted device; with or without work. PN_NULL, PN_NOT_BOOTED, PN_LOST, and what each names. --- */
 
 /* The output of a submodule, in `octets`: what the last cyclic frame that was taken holds for it; zeros where none was, where the
  * controller calls it bad, and without a relation. PN_NO_SLOT. */
@@ -357,6 +391,16 @@ static inline uint32_t pn_output(pn_device *device, pn_op *op, uint16_t slot, ui
 static inline uint32_t pn_state(pn_device *device, pn_op *op)
 {
     return pn_ask(device, op, PN_OP_STATE, NULL, 0);
+}
+
+/* A parameter record that the relation took, by its number from 0 on, in the order in which they came: `slot`, `subslot`, its index in
+ * `place`, and its octets. PN_NO_RECORD. */
+static inline uint32_t pn_taken(pn_device *device, pn_op *op, uint32_t number)
+{
+    if (op == NULL)
+        return PN_NULL;
+    op->place = number;
+    return pn_ask(device, op, PN_OP_RECORD, NULL, 0);
 }
 
 /* The settings in the octets of an operation. */

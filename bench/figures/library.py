@@ -16,7 +16,7 @@ sys.path.insert(0, os.path.join(os.path.dirname(os.path.realpath(__file__)), "..
 from program import TOP, answer_help, need, refuse
 
 ARCHIVE = os.path.join(TOP, "out", "plain-rust", "target", "release", "libnandutable.a")
-CALLS = ("pn_device_make", "pn_step")
+CALLS = ("pn_judge", "pn_put", "pn_step")
 DEEPEST = 24_576
 TURNS = 2_000
 
@@ -52,7 +52,7 @@ def main(words):
         sys.exit(f"library: {archive} is not built: bench/release/library-check builds it")
     with tempfile.TemporaryDirectory() as folder:
         whole, program = os.path.join(folder, "whole.o"), os.path.join(folder, "figures")
-        run(["ld", "-r", "--gc-sections", *(word for call in CALLS for word in ("-u", call)), "-e", CALLS[1], "-o", whole, archive])
+        run(["ld", "-r", "--gc-sections", *(word for call in CALLS for word in ("-u", call)), "-e", CALLS[2], "-o", whole, archive])
         text, data, bss = run(["size", whole]).splitlines()[1].split()[:3]
         print(f"octets: code and tables {text}, data {data}, bss {bss}")
         wanted = sorted(line.split()[-1] for line in run(["nm", "-u", whole]).splitlines() if line.split()[0] == "U")

@@ -32,6 +32,33 @@ static void keep(uint32_t answer)
 static const uint8_t set[] = {0x02, 0, 0, 0, 0, 1, 0x02, 0, 0, 0, 0, 2, 0x88, 0x92, 0xFE, 0xFD, 4, 0, 0, 0, 0, 1, 0, 0, 0, 12,
                               2, 2, 0, 8, 0, 1, 'p', 'u', 'm', 'p', '-', '1'};
 
+/* The same with another name. */
+static const uint8_t reset[] = {0x02, 0, 0, 0, 0, 1, 0x02, 0, 0, 0, 0, 2, 0x88, 0x92, 0xFE, 0xFD, 4, 0, 0, 0, 0, 1, 0, 0, 0, 12,
+                                2, 2, 0, 8, 0, 1, 'p', 'u', 'm', 'p', '-', '2'};
+
+static unsigned sent;
+
+static int fails_program(void *context, uint32_t sector, uint32_t place, const uint8_t *given, uint32_t length)
+{
+    (void)context, (void)sector, (void)place, (void)given, (void)length;
+    return 1;
+}
+
+static int fails_erase(void *context, uint32_t sector)
+{
+    (void)context, (void)sector;
+    return 1;
+}
+
+static int sends(void *context, const uint8_t *given, uint32_t length)
+{
+    (void)context, (void)given, (void)length;
+    sent++;
+    return 0;
+}
+
+static const pn_host failing = {NULL, fails_program, fails_erase, sends};
+
 int main(void)
 {
     memset(erased, 0xFF, sizeof erased);
@@ -64,6 +91,8 @@ int main(void)
     wants("a state before the start", pn_state(&device, &op), PN_NOT_BOOTED);
     wants("settings before the start", pn_running(&device, &op, &settings), PN_NOT_BOOTED);
     wants("what is stored before the start", pn_stored(&device, &op, &settings), PN_NOT_BOOTED);
+    wants("a record before the start", pn_taken(&device, &op, 0), PN_NOT_BOOTED);
+    wants("a loss before the start", pn_lose(&device, &op), PN_NOT_BOOTED);
     wants("no sector", pn_boot(&device, &op, NULL, erased), PN_NULL);
     op.sector = 0;
     wants("a short sector", pn_ask(&device, &op, PN_OP_SECTOR, erased, PN_SECTOR_SIZE - 1), PN_BAD_LENGTH);
@@ -75,12 +104,13 @@ int main(void)
 
     wants("a second start", pn_boot(&device, &op, erased, erased), PN_IS_BOOTED);
     wants("no operation", pn_ask(&device, &op, 0, NULL, 0), PN_UNKNOWN);
-    wants("another operation", pn_ask(&device, &op, 12, NULL, 0), PN_UNKNOWN);
+    wants("another operation", pn_ask(&device, &op, 14, NULL, 0), PN_UNKNOWN);
     wants("no operation's room", pn_frame(&device, NULL, set, sizeof set), PN_NULL);
     wants("no octets", pn_frame(&device, &op, NULL, 1), PN_NULL);
     wants("no device for a frame", pn_frame(NULL, &op, set, sizeof set), PN_NULL);
     wants("an output that is not plugged", pn_output(&device, &op, 9, 9), PN_NO_SLOT);
     wants("no place for settings", pn_running(&device, &op, NULL), PN_NULL);
+    wants("a record that was not taken", pn_taken(&device, &op, 0), PN_NO_RECORD);
     keep(pn_frame(&device, &op, octets, sizeof octets));
     keep(pn_frame(&device, &op, octets, 0));
     keep(pn_input(&device, &op, 0, 1, octets, sizeof octets));
@@ -93,6 +123,27 @@ int main(void)
     for (op.work = PN_ERASE; op.work != PN_NOTHING;)
         keep(pn_next(&device, &op));
     keep(pn_tick(&device, &op, 1000));
+
+    /* A step whose first call of the flash fails: nothing of it is handed out any more. */
+    keep(pn_frame(&device, &op, reset, sizeof reset));
+    if (pn_carry_out(&device, &op, &failing) != PN_FLASH_FAULT || sent != 0)
+        return 1;
+    memcpy(&before, &device, sizeof device);
+    wants("work after a loss", pn_next(&device, &op), PN_LOST);
+    wants("work after a loss, carried out", pn_carry_out(&device, &op, &failing), PN_LOST);
+    wants("a frame after a loss", pn_frame(&device, &op, set, sizeof set), PN_LOST);
+    wants("time after a loss", pn_tick(&device, &op, 1), PN_LOST);
+    wants("an input after a loss", pn_input(&device, &op, 0, 1, octets, 1), PN_LOST);
+    wants("an alarm after a loss", pn_alarm(&device, &op, 0, 1, octets, 1), PN_LOST);
+    wants("an output after a loss", pn_output(&device, &op, 0, 1), PN_LOST);
+    wants("a state after a loss", pn_state(&device, &op), PN_LOST);
+    wants("settings after a loss", pn_running(&device, &op, &settings), PN_LOST);
+    wants("what is stored after a loss", pn_stored(&device, &op, &settings), PN_LOST);
+    wants("a record after a loss", pn_taken(&device, &op, 0), PN_LOST);
+    wants("a start after a loss", pn_boot(&device, &op, erased, erased), PN_LOST);
+    wants("a second loss", pn_lose(&device, &op), PN_LOST);
+    keep(pn_make(&device, &station));
+    keep(pn_boot(&device, &op, erased, erased));
     printf("%u misuses\n", count);
     return 0;
 }

@@ -1,87 +1,61 @@
-//! The library that firmware links: a PROFINET IO device behind two calls. `include/nandutable.h` says how they are used.
+//! The library that firmware links: a PROFINET IO device behind three calls. `include/nandutable.h` says how they are used.
 //!
-//! The device, its flash that records calls, and its one step are the proved sources in plain Rust. What stands here is the edge
-//! to C: it hands operations in and work out, and is not proved.
+//! The device, its flash that records calls, and the port that keeps the order of work are the proved sources in plain Rust. What
+//! stands here is the edge to C: it reads operations and stations as they lie in the memory of the host, and is not proved.
 #![no_std]
 
 mod op;
-mod port;
-mod serve;
+mod operation;
+mod serving;
 mod station;
 
-use op::{Op, SECTOR_SIZE};
-use port::Port;
-use serve::serve;
-use station::Station;
+use device_port::Port;
+use op::Op;
+use serving::serve;
+use station::{Station, judge, port_of};
 
-/// The version of the header.
-const ABI: u32 = 1;
+/// Why no device can be made of this station in a room of so many octets, or 0.
+#[unsafe(no_mangle)]
+pub extern "C" fn pn_judge(size: usize, abi: u32, op_size: usize, station: &Station) -> u32 {
+    judge(size, abi, op_size, station)
+}
 
-/// Bytes of a room, and what it stands on a multiple of.
-const ROOM: usize = 81_920;
-const ALIGNMENT: usize = 16;
-
-const _: () = assert!(size_of::<Port>() <= ROOM && align_of::<Port>() <= ALIGNMENT);
-const _: () = assert!(size_of::<Op>() == 1560 && size_of::<Station>() == 1500);
-
-/// Makes a device that did not start in the room.
+/// Makes a device that did not start in the room, of a station that `pn_judge` answered 0 for.
 ///
 /// # Safety
 ///
-/// A room that is not null has `size` bytes for this call alone, and a station that is not null is one.
+/// The room has 81,920 octets on a multiple of 16, for this call alone.
 #[unsafe(no_mangle)]
-pub unsafe extern "C" fn pn_device_make(
-    room: *mut u8,
-    size: usize,
-    abi: u32,
-    op_size: usize,
-    station: *const Station,
-) -> u32 {
-    if room.is_null() || station.is_null() {
-        return 1;
-    }
-    if abi != ABI || op_size != size_of::<Op>() {
-        return 2;
-    }
-    if size < ROOM || room.addr() % ALIGNMENT != 0 {
-        return 3;
-    }
-    // SAFETY: neither is null, and the caller says that both are there.
-    let station = unsafe { &*station };
-    let (Some(identity), Some(real)) = (station.identity(), station.real()) else {
-        return 4;
-    };
+pub unsafe extern "C" fn pn_put(room: *mut u8, station: &Station) {
     // SAFETY: the room is large enough, stands as a port has to, and is the caller's to give.
-    unsafe { room.cast::<Port>().write(Port::unstarted(identity, real)) };
-    0
+    unsafe { core::ptr::write(room as *mut Port, port_of(station)) };
 }
 
 /// Carries one operation out on the device in the room.
 ///
 /// # Safety
 ///
-/// `pn_device_make` answered 0 for a room that is not null, and nothing but these two calls changed it since; an operation that
-/// is not null is one; what is given has `length` bytes. All of them lie apart, and are for this call alone.
+/// `pn_put` was called for the room, and nothing but these calls changed it since; `given_length` octets lie at `given`, which is not
+/// null; all of them lie apart, and are for this call alone.
 #[unsafe(no_mangle)]
 pub unsafe extern "C" fn pn_step(
     room: *mut u8,
-    op: *mut Op,
+    op: &mut Op,
     given: *const u8,
-    length: usize,
+    given_length: usize,
 ) -> u32 {
-    if room.is_null() || op.is_null() || given.is_null() {
-        return 1;
-    }
-    // SAFETY: none of them is null, and the caller says what lies there.
-    let (port, op, given) = unsafe {
-        (
-            &mut *room.cast::<Port>(),
-            &mut *op,
-            core::slice::from_raw_parts(given, length),
-        )
-    };
-    serve(port, op, given) as u32
+    // SAFETY: the caller says that so many lie there.
+    let given = unsafe { core::slice::from_raw_parts(given, given_length) };
+    // SAFETY: a port lies there, and nobody else looks at it.
+    serve(unsafe { &mut *(room as *mut Port) }, op, given)
 }
+
+/// Octets of a room, and what it stands on a multiple of.
+const ROOM: usize = 81_920;
+const ALIGNMENT: usize = 16;
+
+const _: () = assert!(size_of::<Port>() <= ROOM && align_of::<Port>() <= ALIGNMENT);
+const _: () = assert!(size_of::<Op>() == 1560 && size_of::<Station>() == 1500);
 
 /// There is no heap: nothing here takes memory. `uuid` names an allocator without using it.
 struct NoHeap;

@@ -1,7 +1,4 @@
-// One operation, as it lies in the memory of the host.
-
-/// Bytes of each of both sectors.
-pub const SECTOR_SIZE: usize = 4096;
+//! One operation, as it lies in the memory of the host.
 
 /// One operation: what is asked, and what is answered.
 #[repr(C)]
@@ -20,9 +17,9 @@ pub struct Op {
     pub work: u32,
     /// 0 or 1.
     pub sector: u32,
-    /// The first byte of a program call in its sector.
+    /// The first octet of a program call in its sector.
     pub place: u32,
-    /// How many of the bytes count.
+    /// How many of the octets count.
     pub length: u32,
     pub octets: [u8; 1520],
 }

@@ -1,7 +1,17 @@
-// What a device is, as it lies in the memory of the host.
+//! What a device is, as it lies in the memory of the host.
 
 use arrayvec::ArrayVec;
+use device_port::Port;
 use pn_values::{Identity, Mac, ParameterRecord, Real, RealModule, RealSubmodule};
+
+/// The version of the header.
+const ABI: u32 = 1;
+
+/// Octets of a room.
+const ROOM: usize = 81920;
+
+/// Octets of an operation.
+const OP_SIZE: usize = 1560;
 
 /// A parameter record that a submodule takes.
 #[repr(C)]
@@ -49,76 +59,129 @@ pub struct Station {
     pub modules: [Module; 16],
 }
 
-impl Station {
-    /// The identity of a device, unless its station type is too long.
-    pub fn identity(&self) -> Option<Identity> {
-        if self.station_type_length > 25 {
-            return None;
-        }
-        let mut station_type = ArrayVec::new();
-        let _ = station_type
-            .try_extend_from_slice(&self.station_type[..self.station_type_length as usize]);
-        Some(Identity {
-            mac: Mac { octets: self.mac },
-            station_type,
-            vendor_id: self.vendor_id,
-            device_id: self.device_id,
-            instance: self.instance,
-            order_id: self.order_id,
-            serial_number: self.serial_number,
-            hardware_revision: self.hardware_revision,
-            software_revision: self.software_revision,
-            profile_id: self.profile_id,
-            profile_specific_type: self.profile_specific_type,
-        })
+/// Why no device is made of this station, or 0: another version or size of an operation than the library's, a room that is too
+/// small, or a list of the station that is too long.
+pub fn judge(size: usize, abi: u32, op_size: usize, station: &Station) -> u32 {
+    if abi != ABI || op_size != OP_SIZE {
+        return 2;
     }
+    if size < ROOM {
+        return 3;
+    }
+    if !is_station(station) {
+        return 4;
+    }
+    0
+}
 
-    /// What is plugged in, unless a list is longer than it may be.
-    pub fn real(&self) -> Option<Real> {
-        if self.module_count > 16 {
-            return None;
+/// A port of this station that did not start.
+#[inline(always)]
+pub fn port_of(station: &Station) -> Port {
+    Port::new(identity_in(station), real_in(station))
+}
+
+// Whether no count of a station is more than its list holds.
+fn is_station(station: &Station) -> bool {
+    station.station_type_length <= 25
+        && station.module_count <= 16
+        && are_modules(&station.modules[..station.module_count as usize])
+}
+
+// Whether no count of these modules is.
+fn are_modules(modules: &[Module]) -> bool {
+    for entry in modules {
+        if !is_small(entry) {
+            return false;
         }
-        let mut modules = ArrayVec::new();
-        for module in &self.modules[..self.module_count as usize] {
-            modules.push(plugged_module(module)?);
+    }
+    true
+}
+
+fn is_small(entry: &Module) -> bool {
+    entry.submodule_count <= 4
+        && are_submodules(&entry.submodules[..entry.submodule_count as usize])
+}
+
+fn are_submodules(submodules: &[Submodule]) -> bool {
+    for submodule in submodules {
+        if submodule.parameter_count > 2 {
+            return false;
         }
-        Some(Real { modules })
+    }
+    true
+}
+
+// The identity of a device.
+fn identity_in(station: &Station) -> Identity {
+    let mut station_type = ArrayVec::new();
+    let _ = station_type
+        .try_extend_from_slice(&station.station_type[..station.station_type_length as usize]);
+    Identity {
+        mac: Mac {
+            octets: station.mac,
+        },
+        station_type,
+        vendor_id: station.vendor_id,
+        device_id: station.device_id,
+        instance: station.instance,
+        order_id: station.order_id,
+        serial_number: station.serial_number,
+        hardware_revision: station.hardware_revision,
+        software_revision: station.software_revision,
+        profile_id: station.profile_id,
+        profile_specific_type: station.profile_specific_type,
     }
 }
 
-// A module, unless one of its lists is too long.
-fn plugged_module(module: &Module) -> Option<RealModule> {
-    if module.submodule_count > 4 {
-        return None;
+// What is plugged in.
+#[inline(never)]
+fn real_in(station: &Station) -> Real {
+    Real {
+        modules: modules(&station.modules[..station.module_count as usize]),
     }
+}
+
+fn modules(written: &[Module]) -> ArrayVec<RealModule, 16> {
+    let mut modules = ArrayVec::new();
+    for entry in written {
+        modules.push(plugged(entry));
+    }
+    modules
+}
+
+fn plugged(entry: &Module) -> RealModule {
+    RealModule {
+        slot: entry.slot,
+        ident: entry.ident,
+        submodules: submodules(&entry.submodules[..entry.submodule_count as usize]),
+    }
+}
+
+fn submodules(written: &[Submodule]) -> ArrayVec<RealSubmodule, 4> {
     let mut submodules = ArrayVec::new();
-    for submodule in &module.submodules[..module.submodule_count as usize] {
-        submodules.push(plugged_submodule(submodule)?);
+    for submodule in written {
+        submodules.push(plugged_in(submodule));
     }
-    Some(RealModule {
-        slot: module.slot,
-        ident: module.ident,
-        submodules,
-    })
+    submodules
 }
 
-// A submodule, unless its list is too long.
-fn plugged_submodule(submodule: &Submodule) -> Option<RealSubmodule> {
-    if submodule.parameter_count > 2 {
-        return None;
+fn plugged_in(submodule: &Submodule) -> RealSubmodule {
+    RealSubmodule {
+        subslot: submodule.subslot,
+        ident: submodule.ident,
+        input: submodule.input,
+        output: submodule.output,
+        parameters: parameters(&submodule.parameters[..submodule.parameter_count as usize]),
     }
+}
+
+fn parameters(written: &[Parameter]) -> ArrayVec<ParameterRecord, 2> {
     let mut parameters = ArrayVec::new();
-    for parameter in &submodule.parameters[..submodule.parameter_count as usize] {
+    for parameter in written {
         parameters.push(ParameterRecord {
             index: parameter.index,
             length: parameter.length,
         });
     }
-    Some(RealSubmodule {
-        subslot: submodule.subslot,
-        ident: submodule.ident,
-        input: submodule.input,
-        output: submodule.output,
-        parameters,
-    })
+    parameters
 }

@@ -1,0 +1,325 @@
+//! One operation of the host.
+
+use crate::op::Op;
+use crate::operation::{Operation, operation_of};
+use device_core::Note;
+use device_port::{Port, Refusal, Work};
+use flash_model::Sector;
+use pn_values::Settings;
+use record_writes::Taken;
+use recorded_flash::Recorded;
+use relations::Phase;
+
+/// What an operation is answered with that is none.
+const UNKNOWN: u32 = 10;
+
+/// What is answered where nothing can be plugged.
+const NO_SLOT: u32 = 9;
+
+/// What is answered of a sector that there is not.
+const NO_SECTOR: u32 = 8;
+
+/// What is answered where no record has this number.
+const NO_RECORD: u32 = 15;
+
+/// Carries one operation out, with the octets that are given. The answer is 0, or why nothing changed.
+pub fn serve(port: &mut Port, op: &mut Op, given: &[u8]) -> u32 {
+    match operation_of(op.what) {
+        Some(operation) => perform(operation, port, op, given),
+        None => UNKNOWN,
+    }
+}
+
+// Carries out what is an operation.
+fn perform(operation: Operation, port: &mut Port, op: &mut Op, given: &[u8]) -> u32 {
+    match operation {
+        Operation::Sector => fill(port, op, given),
+        Operation::Boot => boot(port),
+        Operation::Frame => frame(port, op, given),
+        Operation::Tick => tick(port, op),
+        Operation::Input => input(port, op, given),
+        Operation::Alarm => alarm(port, op, given),
+        Operation::Next => next(port, op),
+        Operation::Output => output(port, op),
+        Operation::State => state(port, op),
+        Operation::Running => running(port, op),
+        Operation::Stored => stored(port, op),
+        Operation::Lose => lose(port),
+        Operation::Record => tell_taken(port, op),
+    }
+}
+
+// ---- a start
+
+// The octets of a sector of the chip, in front of a start.
+fn fill(port: &mut Port, op: &Op, given: &[u8]) -> u32 {
+    match sector_at(op.sector) {
+        Some(sector) => done(port.fill(sector, given)),
+        None => NO_SECTOR,
+    }
+}
+
+// The sector of a number.
+fn sector_at(number: u32) -> Option<Sector> {
+    match number {
+        0 => Some(Sector::First),
+        1 => Some(Sector::Second),
+        _ => None,
+    }
+}
+
+// A start.
+#[inline(never)]
+fn boot(port: &mut Port) -> u32 {
+    done(port.boot())
+}
+
+// The answer to what was done, or refused.
+fn done(outcome: Result<(), Refusal>) -> u32 {
+    match outcome {
+        Ok(()) => 0,
+        Err(refusal) => refusal.number(),
+    }
+}
+
+// ---- events
+
+fn frame(port: &mut Port, op: &mut Op, given: &[u8]) -> u32 {
+    noted(port.frame(given), op)
+}
+
+fn input(port: &mut Port, op: &mut Op, given: &[u8]) -> u32 {
+    match place_of(op) {
+        Some(place) => noted(port.input(place.0, place.1, given), op),
+        None => NO_SLOT,
+    }
+}
+
+fn alarm(port: &mut Port, op: &mut Op, given: &[u8]) -> u32 {
+    match place_of(op) {
+        Some(place) => noted(port.alarm(place.0, place.1, given), op),
+        None => NO_SLOT,
+    }
+}
+
+// The slot and subslot that are asked for, where they are numbers of 16 bits.
+fn place_of(op: &Op) -> Option<(u16, u16)> {
+    if op.slot < 65536 && op.subslot < 65536 {
+        Some((op.slot as u16, op.subslot as u16))
+    } else {
+        None
+    }
+}
+
+// What became of an event, or why it was refused.
+fn noted(outcome: Result<Note, Refusal>, op: &mut Op) -> u32 {
+    match outcome {
+        Ok(note) => {
+            op.note = u32::from(note.number());
+            0
+        }
+        Err(refusal) => refusal.number(),
+    }
+}
+
+fn tick(port: &mut Port, op: &mut Op) -> u32 {
+    let units = op.units;
+    passed(port.tick(units), op)
+}
+
+// How many units are left, or why none went by.
+fn passed(outcome: Result<u32, Refusal>, op: &mut Op) -> u32 {
+    match outcome {
+        Ok(left) => {
+            op.units = left;
+            op.note = 0;
+            0
+        }
+        Err(refusal) => refusal.number(),
+    }
+}
+
+// Power is lost on the host's side.
+fn lose(port: &mut Port) -> u32 {
+    done(port.lose())
+}
+
+// ---- work
+
+// The next piece of work, which is taken with that.
+fn next(port: &mut Port, op: &mut Op) -> u32 {
+    match port.work() {
+        Ok(work) => {
+            tell(work, op);
+            port.advance();
+            0
+        }
+        Err(refusal) => refusal.number(),
+    }
+}
+
+// What a piece of work is.
+fn tell(work: Work<'_>, op: &mut Op) {
+    match work {
+        Work::Carry(call) => tell_call(call, op),
+        Work::Send(frame) => {
+            op.work = 3;
+            put(op, frame.as_slice());
+        }
+        Work::Nothing => {
+            op.work = 0;
+            op.length = 0;
+        }
+    }
+}
+
+// A call of the flash.
+fn tell_call(call: &Recorded, op: &mut Op) {
+    match call {
+        Recorded::Program {
+            sector,
+            place,
+            bytes,
+        } => {
+            op.work = 1;
+            op.sector = sector_number(*sector);
+            op.place = *place;
+            put(op, bytes.as_slice());
+        }
+        Recorded::Erase { sector } => {
+            op.work = 2;
+            op.sector = sector_number(*sector);
+            op.length = 0;
+        }
+    }
+}
+
+fn sector_number(sector: Sector) -> u32 {
+    match sector {
+        Sector::First => 0,
+        Sector::Second => 1,
+    }
+}
+
+// ---- what is told
+
+// Octets that an operation is answered with.
+fn put(op: &mut Op, octets: &[u8]) {
+    op.length = 0;
+    put_more(op, octets);
+}
+
+// Octets behind those that an operation is answered with already.
+fn put_more(op: &mut Op, octets: &[u8]) {
+    let start = op.length as usize;
+    let end = start + octets.len();
+    write_at(&mut op.octets, start, octets);
+    op.length = end as u32;
+}
+
+// Writes octets from a place on, and leaves those before it.
+fn write_at(room: &mut [u8], start: usize, octets: &[u8]) {
+    room[..start + octets.len()][start..].copy_from_slice(octets);
+}
+
+fn output(port: &Port, op: &mut Op) -> u32 {
+    match place_of(op) {
+        Some(place) => tell_output(port, place.0, place.1, op),
+        None => NO_SLOT,
+    }
+}
+
+// The output of a submodule, or why there is none.
+fn tell_output(port: &Port, slot: u16, subslot: u16, op: &mut Op) -> u32 {
+    match port.output(slot, subslot) {
+        Ok(value) => {
+            put(op, value);
+            0
+        }
+        Err(refusal) => refusal.number(),
+    }
+}
+
+fn state(port: &Port, op: &mut Op) -> u32 {
+    match port.phase() {
+        Ok(phase) => {
+            op.phase = number_of_phase(phase);
+            tell_lamp(port, op)
+        }
+        Err(refusal) => refusal.number(),
+    }
+}
+
+// For how many units the lamp still flashes.
+fn tell_lamp(port: &Port, op: &mut Op) -> u32 {
+    match port.lamp() {
+        Ok(lamp) => {
+            op.units = lamp;
+            0
+        }
+        Err(refusal) => refusal.number(),
+    }
+}
+
+fn number_of_phase(phase: Option<Phase>) -> u32 {
+    match phase {
+        None => 0,
+        Some(Phase::Started) => 1,
+        Some(Phase::Awaiting) => 2,
+        Some(Phase::Exchanging) => 3,
+    }
+}
+
+fn running(port: &Port, op: &mut Op) -> u32 {
+    match port.running() {
+        Ok(settings) => {
+            put_settings(settings, op);
+            0
+        }
+        Err(refusal) => refusal.number(),
+    }
+}
+
+fn stored(port: &Port, op: &mut Op) -> u32 {
+    match port.stored() {
+        Ok(settings) => {
+            put_settings(settings, op);
+            0
+        }
+        Err(refusal) => refusal.number(),
+    }
+}
+
+// Settings: address, mask and gateway, the I&M texts, and the name.
+fn put_settings(settings: &Settings, op: &mut Op) {
+    put(op, &settings.suite.address());
+    put_more(op, &settings.suite.mask());
+    put_more(op, &settings.suite.gateway());
+    put_more(op, settings.im1.as_bytes());
+    put_more(op, settings.im2.as_bytes());
+    put_more(op, settings.im3.as_bytes());
+    put_more(op, settings.im4.as_bytes());
+    put_more(op, settings.name.as_bytes());
+}
+
+// A parameter record that the relation took, by its number.
+fn tell_taken(port: &Port, op: &mut Op) -> u32 {
+    match port.taken() {
+        Ok(records) => tell_record(records, op),
+        Err(refusal) => refusal.number(),
+    }
+}
+
+// One of these records.
+fn tell_record(records: &[Taken], op: &mut Op) -> u32 {
+    match records.get(op.place as usize) {
+        Some(entry) => {
+            op.slot = u32::from(entry.slot);
+            op.subslot = u32::from(entry.subslot);
+            op.place = u32::from(entry.index);
+            put(op, entry.value.as_slice());
+            0
+        }
+        None => NO_RECORD,
+    }
+}
