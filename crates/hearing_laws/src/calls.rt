@@ -25,10 +25,10 @@ ghost use Rattle.hearing_laws.specs.Hearing.{IsUncalled, IsUntold, comes, mine_t
 ghost use Rattle.hearing_laws.specs.Stations.{IsAddress, IsCalled, IsCaller, IsDevice, IsNumbered, IsSetup, ready_call};
 
 use block_laws::blocks_are_read;
+use frame_laws::frames_are_read;
 use rpc_core::{
     calls_and_responses_differ, calls_are_read, calls_name_their_interface, responses_are_read,
 };
-use frame_laws::frames_are_read;
 
 /// Calls and the answer to ApplicationReady can be sent: laws of the definitions.
 pub fn calls_can_be_sent()
