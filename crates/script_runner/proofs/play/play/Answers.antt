@@ -16,9 +16,9 @@ returns-in_err-put g c =
       played = λ plans are. played_write plans _ _ c.args.input.now _ c.in_err-put.ensures.0 (front_longer _ _ _ _ c.in_err-put.ensures.1);
     })
 
-pub loop-session-init : goal.loop-session-init
+pub loop-rest-init : goal.loop-rest-init
 unfolding output_of end_of
-loop-session-init g c = (
+loop-rest-init g c = (
   omega arith,
   λ plans are. inl (
     alone,
@@ -37,9 +37,9 @@ returns-in_err-take g c =
     let p = err_from_is_err_and c.from_residual-in_err-take.result c.from_residual-in_err-take.ensures.1 in
     rw (p.1, p.2) (record {
       faults = fault_plays c.in_err-take.field-0.0;
-      played = λ plans are. elim (at_line plans _ _ _ _ _ _ c.first_line.result.1.now _ (c.loop-session.invariant.1 plans are) c.first_line.ensures.lines) [
+      played = λ plans are. elim (at_line plans _ _ _ _ _ _ c.first_line.result.1.now _ (c.loop-rest.invariant.1 plans are) c.first_line.ensures.lines) [
         | inl playing ↦
-            let right = right_at plans c.loop-session.rest.now c.first_line.result.0.now c.first_line.result.1.now playing.1.right c.first_line.ensures.lines playing.2 in
+            let right = right_at plans c.loop-rest.rest.now c.first_line.result.0.now c.first_line.result.1.now playing.1.right c.first_line.ensures.lines playing.2 in
             played_failed plans playing.0 _ _ _ _ _ _ c.first_line.result.1.now c.args.input.now _ playing.1 c.first_line.ensures.lines playing.2
             (c.in_err-take.ensures.takes plans playing.0 right.0 playing.1.ends playing.2)
         | inr more ↦ inr more
@@ -47,9 +47,9 @@ returns-in_err-take g c =
     })
 
 pub returns-then-not-branch-clause-played : goal.returns-then-not-branch-clause-played
-returns-then-not-branch-clause-played g c plans are = elim (at_line plans _ _ _ _ _ _ c.first_line.result.1.now _ (c.loop-session.invariant.1 plans are) c.first_line.ensures.lines) [
+returns-then-not-branch-clause-played g c plans are = elim (at_line plans _ _ _ _ _ _ c.first_line.result.1.now _ (c.loop-rest.invariant.1 plans are) c.first_line.ensures.lines) [
   | inl playing ↦
-      let right = right_at plans c.loop-session.rest.now c.first_line.result.0.now c.first_line.result.1.now playing.1.right c.first_line.ensures.lines playing.2 in
+      let right = right_at plans c.loop-rest.rest.now c.first_line.result.0.now c.first_line.result.1.now playing.1.right c.first_line.ensures.lines playing.2 in
       inl (played_refused plans playing.0 _ _ _ c.take.new.self _ _ _ c.first_line.result.1.now c.args.input.now c.clear.new.self.items c.take.new.text.items _ playing.1 c.first_line.ensures.lines playing.2 c.if-not-branch.true
       (c.in_ok-take.ensures.takes plans playing.0 right.0 playing.1.ends playing.2))
   | inr more ↦ inr more
@@ -60,9 +60,9 @@ returns-in_err-put-2 g c =
     let p = err_from_is_err_and c.from_residual-in_err-put-2.result c.from_residual-in_err-put-2.ensures.1 in
     rw (p.1, p.2) (record {
       faults = write_plays _ c.in_err-put-2.ensures.0;
-      played = λ plans are. elim (at_line plans _ _ _ _ _ _ c.first_line.result.1.now _ (c.loop-session.invariant.1 plans are) c.first_line.ensures.lines) [
+      played = λ plans are. elim (at_line plans _ _ _ _ _ _ c.first_line.result.1.now _ (c.loop-rest.invariant.1 plans are) c.first_line.ensures.lines) [
         | inl playing ↦
-            let right = right_at plans c.loop-session.rest.now c.first_line.result.0.now c.first_line.result.1.now playing.1.right c.first_line.ensures.lines playing.2 in
+            let right = right_at plans c.loop-rest.rest.now c.first_line.result.0.now c.first_line.result.1.now playing.1.right c.first_line.ensures.lines playing.2 in
             played_write plans _ _ c.args.input.now _ c.in_err-put-2.ensures.0
             (playing_broken plans playing.0 _ _ _ _ c.take.new.self _ _ _ c.first_line.result.1.now c.args.input.now c.clear.new.self.items c.take.new.text.items c.as_slice.result.now _ playing.1 c.first_line.ensures.lines playing.2 c.clear.ensures.items c.if-not-branch.false
             (c.in_ok-take.ensures.takes plans playing.0 right.0 playing.1.ends playing.2) c.as_slice.ensures.value c.in_err-put-2.ensures.1)
@@ -70,12 +70,12 @@ returns-in_err-put-2 g c =
       ];
     })
 
-pub loop-session-preserved : goal.loop-session-preserved
-loop-session-preserved g c = (
-  omega (arith, c.loop-session.invariant.0, c.first_line.ensures.shorter),
-  λ plans are. elim (at_line plans _ _ _ _ _ _ c.first_line.result.1.now _ (c.loop-session.invariant.1 plans are) c.first_line.ensures.lines) [
+pub loop-rest-preserved : goal.loop-rest-preserved
+loop-rest-preserved g c = (
+  omega (arith, c.loop-rest.invariant.0, c.first_line.ensures.shorter),
+  λ plans are. elim (at_line plans _ _ _ _ _ _ c.first_line.result.1.now _ (c.loop-rest.invariant.1 plans are) c.first_line.ensures.lines) [
     | inl playing ↦
-        let right = right_at plans c.loop-session.rest.now c.first_line.result.0.now c.first_line.result.1.now playing.1.right c.first_line.ensures.lines playing.2 in
+        let right = right_at plans c.loop-rest.rest.now c.first_line.result.0.now c.first_line.result.1.now playing.1.right c.first_line.ensures.lines playing.2 in
         playing_on plans playing.0 _ _ _ _ c.take.new.self _ _ _ c.first_line.result.1.now c.args.input.now c.clear.new.self.items c.take.new.text.items c.as_slice.result.now _ playing.1 c.first_line.ensures.lines playing.2 c.clear.ensures.items c.if-not-branch.false
         (c.in_ok-take.ensures.takes plans playing.0 right.0 playing.1.ends playing.2) c.as_slice.ensures.value c.in_ok-put-2.ensures
     | inr more ↦ inr (plays_on plans _ _ _ c.args.input.now more (c.as_slice.result.now, c.in_ok-put-2.ensures))
@@ -84,5 +84,5 @@ loop-session-preserved g c = (
 
 pub returns-clause-played : goal.returns-clause-played
 returns-clause-played g c plans are =
-    let none : length c.loop-session.rest.now ≡ 0 = grind (arith, nat_tests) in
-    played_all plans _ _ _ _ c.loop-session.rest.now c.args.input.now (c.loop-session.invariant.1 plans are) (no_bytes c.loop-session.rest.now none)
+    let none : length c.loop-rest.rest.now ≡ 0 = grind (arith, nat_tests) in
+    played_all plans _ _ _ _ c.loop-rest.rest.now c.args.input.now (c.loop-rest.invariant.1 plans are) (no_bytes c.loop-rest.rest.now none)
