@@ -22,7 +22,7 @@ use Rattle.rpc_core.specs.Call.{Asked as Call}
 use Rattle.rpc_core.specs.Sendable.{IsStatus}
 use Rattle.block_fields.specs.declared.fault.BlockFault.{BlockFault}
 use Rattle.connect_blocks.specs.declared.control.ControlBlock.{ControlBlock}
-use Rattle.block_codec.specs.declared.block.Block.TheVariants as is
+use Rattle.block_codec.specs.declared.block.Block.TheVariants as variant
 use Rattle.block_codec.specs.declared.block_type.BlockType.{BlockType}
 use Rattle.block_codec.specs.declared.block_type.BlockType.TheVariants as kind
 use Rattle.block_codec.specs.Kinds.{number_of}
@@ -481,11 +481,11 @@ module _ (rules : Rules Taken Request) (activity : List ℕ) (station : Station)
     writes_owe (Err why) plain = serves_owe operation.Write (Err why) live.rest.link [] plain tt
 
     controls_owe : (ended : Result ControlBlock CallFault) → IsPlainIn ended
-        → Owes (served station live caller call operation.Control (ended >>= λ block. Ok (block_bytes (is.PrmEndRes (done_of block)))) (moved (answered Parameterized ended) live.rest.link)
+        → Owes (served station live caller call operation.Control (ended >>= λ block. Ok (block_bytes (variant.PrmEndRes (done_of block)))) (moved (answered Parameterized ended) live.rest.link)
         (ready_behind live.values.running.suite.address (moved (answered Parameterized ended) live.rest.link) ended))
     controls_owe (Ok block) plain =
         let from = live.values.running.suite.address in
-        serves_owe operation.Control (Ok (block_bytes (is.PrmEndRes (done_of block)))) (option_map awaiting_from live.rest.link) (ready_calls from (option_map awaiting_from live.rest.link))
+        serves_owe operation.Control (Ok (block_bytes (variant.PrmEndRes (done_of block)))) (option_map awaiting_from live.rest.link) (ready_calls from (option_map awaiting_from live.rest.link))
         tt (readies_owed from live.rest.link refl)
     controls_owe (Err why) plain = serves_owe operation.Control (Err why) live.rest.link [] plain tt
 
@@ -497,7 +497,7 @@ module _ (rules : Rules Taken Request) (activity : List ℕ) (station : Station)
     new_owe blocks operation.Release plan =
         let ended = release_of live.rest.link blocks in
         serves_owe operation.Release (release_answer live.rest.link blocks) (moved (answered Ended ended) live.rest.link) []
-        (bind_plain ended (λ block. Ok (block_bytes (is.ReleaseRes (done_of block)))) (release_plain live.rest.link blocks) (λ block. tt)) tt
+        (bind_plain ended (λ block. Ok (block_bytes (variant.ReleaseRes (done_of block)))) (release_plain live.rest.link blocks) (λ block. tt)) tt
     new_owe blocks operation.Read plan = absurd plan
     new_owe blocks operation.Write plan = writes_owe (write_of (uuid_of live.rest.link) station.real blocks) (write_plain (uuid_of live.rest.link) station.real blocks)
     new_owe blocks operation.Control plan = controls_owe (prm_end_of live.rest.link blocks) (prm_plain live.rest.link blocks)

@@ -102,9 +102,9 @@ pub record GoesSo : Type 0 where
   pub aimed : (mac : Mac) (setup : Setup) (live : ControllerLive) (event : Event) → IsSetup setup → IsAimed live → IsEventFrom mac setup event
       → IsAimed (turn_of setup live event).live × AllByRecursion (IsAimedAt mac) (turn_of setup live event).sent
   pub begins : (plan : Parts) → IsInStep plan (first plan).phase (first plan).asked × (small_controller plan (first plan) ≡ small.Seeking)
-  pub controller : (setup : Setup) (live : ControllerLive) (event : Event) → IsInStep setup.plan live.phase live.asked
+  pub controller_on : (setup : Setup) (live : ControllerLive) (event : Event) → IsInStep setup.plan live.phase live.asked
       → GoesOn setup.plan (said_in setup (controller_hears setup.plan.controller) event) live (turn_of setup live event)
-  pub device : (rules : Rules Taken Request) (activity : List ℕ) (outcomes : List Outcome) (station : Station) (live : Live) (heard : Heard)
+  pub device_on : (rules : Rules Taken Request) (activity : List ℕ) (outcomes : List Outcome) (station : Station) (live : Live) (heard : Heard)
       → IsPlanned rules activity station.real heard
       → AllByRecursion (IsHeardAs rules station.identity) (heard_step outcomes station live heard).sent
       → DeviceSteps rules (heard_as heard) (small_of activity live) (small_of activity (heard_step outcomes station live heard).live) (heard_step outcomes station live heard).frames

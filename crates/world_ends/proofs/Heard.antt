@@ -516,7 +516,7 @@ module _ (so : HeardSo) (setup : Setup) (station : Station) (good : IsSetup setu
   asked_is asks.Identify called = absurd called
   asked_is asks.Address called = absurd called
   asked_is asks.Connect called = refl
-  asked_is (asks.Write number) called = ap (λ (n : ℕ). small.Call (number + 1) (small.Writes n)) (omega arith)
+  asked_is (asks.Write number) called = let same : (number + 1) - 1 ≡ number = omega arith in ap (λ (n : ℕ). small.Call (number + 1) (small.Writes n)) same
   asked_is asks.PrmEnd called = refl
   asked_is (asks.Release sequence) called = refl
 

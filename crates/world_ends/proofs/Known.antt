@@ -65,7 +65,7 @@ each_at P (first ∷ xs) (suc number) x all there = each_at P xs number x all.1 
 pub record CanStart (setup : Setup) (station : Station) : Type 0 where
   pub setup_is : IsSetup setup
   pub good : IsGood setup
-  pub device : IsDevice station.identity
+  pub device_is : IsDevice station.identity
   pub apart : station.identity.mac ≡ setup.plan.controller.mac → ⊥
 
 -- the answer that is kept is a frame that is known
@@ -113,15 +113,15 @@ module _ (so : HeardSo) (goes : GoesSo) where
 
     -- ---- the device
 
-    module _ (plans : IsPlans so setup station can.setup_is can.device can.apart before.device.live.rest.link) (heard : Heard) (known : IsKnownHeard setup heard) where
+    module _ (plans : IsPlans so setup station can.setup_is can.device_is can.apart before.device.live.rest.link) (heard : Heard) (known : IsKnownHeard setup heard) where
       all_owed : (outcomes : List Outcome) → AllByRecursion (IsOwed heard before.device.live) (heard_step outcomes station before.device.live heard).sent
       all_owed outcomes = goes.owed rules setup.activity outcomes station before.device.live heard (heard_planned so.block_read setup station can.good heard known)
 
       pub meant_at_device : IsMeantAtDevice before heard
       meant_at_device = record {
         planned = heard_planned so.block_read setup station can.good heard known;
-        sent = λ outcomes sendable. all_heard so setup station can.setup_is can.device can.apart (heard_step outcomes station before.device.live heard).sent
-            (all_met so setup station can.setup_is can.device can.apart heard before.device.live (heard_step outcomes station before.device.live heard).sent known plans (all_owed outcomes) sendable);
+        sent = λ outcomes sendable. all_heard so setup station can.setup_is can.device_is can.apart (heard_step outcomes station before.device.live heard).sent
+            (all_met so setup station can.setup_is can.device_is can.apart heard before.device.live (heard_step outcomes station before.device.live heard).sent known plans (all_owed outcomes) sendable);
       }
 
       -- the frame of an answer that is sent again was known
@@ -133,7 +133,7 @@ module _ (so : HeardSo) (goes : GoesSo) where
           ap (λ (a : List ℕ). kept_of a before.device.live.rest.calls) (sym activity) ∙ owed.there in
           subst (λ (f : List ℕ). IsKnown setup station.identity f) owed.same (holds.again (kept_in owed.kept) (ap (λ (k : Option Answer). option_map kept_in k) kept))
 
-      message_known : (message : Sent) → IsOwed heard before.device.live message → IsMetAs so setup station can.setup_is can.device can.apart message
+      message_known : (message : Sent) → IsOwed heard before.device.live message → IsMetAs so setup station can.setup_is can.device_is can.apart message
           → IsKnown setup station.identity (bytes_of station.identity message)
       message_known (Again frame) owed met = again_known frame owed
       message_known (IdentifyAnswer asker running xid) owed met = met.known
@@ -145,12 +145,12 @@ module _ (so : HeardSo) (goes : GoesSo) where
       message_known (Ends farewell) owed met = met.known
       message_known (Exchanges route frame) owed met = met.known
 
-      messages_known : (messages : List Sent) → AllByRecursion (IsOwed heard before.device.live) messages → AllByRecursion (IsMetAs so setup station can.setup_is can.device can.apart) messages
+      messages_known : (messages : List Sent) → AllByRecursion (IsOwed heard before.device.live) messages → AllByRecursion (IsMetAs so setup station can.setup_is can.device_is can.apart) messages
           → AllByRecursion (IsKnown setup station.identity) (map (bytes_of station.identity) messages)
       messages_known [] owed met = tt
       messages_known (message ∷ messages) owed met = (message_known message owed.0 met.0, messages_known messages owed.1 met.1)
 
-      step_frames : (outcomes : List Outcome) → AllByRecursion (IsMetAs so setup station can.setup_is can.device can.apart) (heard_step outcomes station before.device.live heard).sent
+      step_frames : (outcomes : List Outcome) → AllByRecursion (IsMetAs so setup station can.setup_is can.device_is can.apart) (heard_step outcomes station before.device.live heard).sent
           → AllByRecursion (IsKnown setup station.identity) (heard_step outcomes station before.device.live heard).frames
       unfolding heard_step judged_step
       step_frames outcomes met = messages_known (heard_step outcomes station before.device.live heard).sent (all_owed outcomes) met
@@ -160,9 +160,9 @@ module _ (so : HeardSo) (goes : GoesSo) where
           let hears = made.hears in
           let live = before.device.live in
           let step = heard_step hears.steps.outcomes station live heard in
-          let met = all_met so setup station can.setup_is can.device can.apart heard live step.sent known plans (all_owed hears.steps.outcomes) hears.steps.sendable in
+          let met = all_met so setup station can.setup_is can.device_is can.apart heard live step.sent known plans (all_owed hears.steps.outcomes) hears.steps.sendable in
           let frames : AllByRecursion (IsKnown setup station.identity) step.frames = step_frames hears.steps.outcomes met in
-          let steps = goes.device rules setup.activity hears.steps.outcomes station live heard meant_at_device.planned (meant_at_device.sent hears.steps.outcomes hears.steps.sendable) in
+          let steps = goes.device_on rules setup.activity hears.steps.outcomes station live heard meant_at_device.planned (meant_at_device.sent hears.steps.outcomes hears.steps.sendable) in
           let kept = kept_known rules (IsKnown setup station.identity) (heard_as heard) (device.small_of setup.activity live) (device.small_of setup.activity step.live) step.frames steps holds.again frames in
           let all : Holds setup station before.controller.live (device.small_of setup.activity step.live).kept (before.sent ++ step.frames) = record {
             known = each_behind (IsKnown setup station.identity) before.sent step.frames holds.known frames;
@@ -178,19 +178,19 @@ module _ (so : HeardSo) (goes : GoesSo) where
     -- ---- the controller
 
     module _ (event : Event) (from : IsEventFrom station.identity.mac setup event) where
-      told : AllByRecursion (λ message. IsTold so setup station can.setup_is can.device can.apart (said.bytes_of setup message) (said_by setup.plan message))
+      told : AllByRecursion (λ message. IsTold so setup station can.setup_is can.device_is can.apart (said.bytes_of setup message) (said_by setup.plan message))
           (turn_of setup before.controller.live event).sent
       told =
           let turn = turn_of setup before.controller.live event in
-          all_told so setup station can.setup_is can.device can.apart (small_of setup.plan turn.live) turn.sent
+          all_told so setup station can.setup_is can.device_is can.apart (small_of setup.plan turn.live) turn.sent
           (goes.aimed station.identity.mac setup before.controller.live event can.setup_is holds.aimed from).1
-          (goes.controller setup before.controller.live event in_step).says
+          (goes.controller_on setup before.controller.live event in_step).says
 
       pub meant_at_controller : IsMeantAtController before event
-      meant_at_controller = all_said so setup station can.setup_is can.device can.apart (turn_of setup before.controller.live event).sent told
+      meant_at_controller = all_said so setup station can.setup_is can.device_is can.apart (turn_of setup before.controller.live event).sent told
 
       told_known : (messages : List said.Sent)
-          → AllByRecursion (λ message. IsTold so setup station can.setup_is can.device can.apart (said.bytes_of setup message) (said_by setup.plan message)) messages
+          → AllByRecursion (λ message. IsTold so setup station can.setup_is can.device_is can.apart (said.bytes_of setup message) (said_by setup.plan message)) messages
           → AllByRecursion (IsKnown setup station.identity) (map (said.bytes_of setup) messages)
       told_known [] all = tt
       told_known (message ∷ messages) all = (all.0.known, told_known messages all.1)
@@ -211,7 +211,7 @@ module _ (so : HeardSo) (goes : GoesSo) where
 
     -- ---- any move
 
-    module _ (plans : IsPlans so setup station can.setup_is can.device can.apart before.device.live.rest.link) where
+    module _ (plans : IsPlans so setup station can.setup_is can.device_is can.apart before.device.live.rest.link) where
       known_at : (number : ℕ) (octets : List ℕ) → slice_get before.sent number ≡ Some octets → IsKnown setup station.identity octets
       known_at number octets there = each_at (IsKnown setup station.identity) before.sent number octets holds.known there
 
@@ -288,7 +288,7 @@ module _ (so : HeardSo) (goes : GoesSo) where
     on run now last same steps can holds in_step (one ∷ others) made =
         let plans = plans_at run now last same steps in
         let meant = all_meant now can holds in_step plans one.0 in
-        let step = happens_steps image failures asked goes.device goes.controller now one.1 in_step one.0 meant made.0 in
+        let step = happens_steps image failures asked goes.device_on goes.controller_on now one.1 in_step one.0 meant made.0 in
         let still : rules_at one.1 ≡ rules_at now =
         ap (λ (s : Setup). rules_of s one.1.device.station) step.setup ∙ ap (λ (s : Station). rules_of now.controller.setup s) step.station in
         let from : Steps rules (last_of (view_of first) (viewed run)) (move_of one.0) (view_of one.1) =
@@ -310,9 +310,9 @@ module _ (so : HeardSo) (goes : GoesSo) where
     unfolding opening_of
     opening_is controlling = refl
 
-    opens : IsTold so first.controller.setup first.device.station can.setup_is can.device can.apart (opening_of first.controller) small.Idle
-    opens = subst (λ (frame : List ℕ). IsTold so first.controller.setup first.device.station can.setup_is can.device can.apart frame small.Idle) (sym (opening_is first.controller))
-        (opening_told so first.controller.setup first.device.station can.setup_is can.device can.apart first.controller.live.device)
+    opens : IsTold so first.controller.setup first.device.station can.setup_is can.device_is can.apart (opening_of first.controller) small.Idle
+    opens = subst (λ (frame : List ℕ). IsTold so first.controller.setup first.device.station can.setup_is can.device_is can.apart frame small.Idle) (sym (opening_is first.controller))
+        (opening_told so first.controller.setup first.device.station can.setup_is can.device_is can.apart first.controller.live.device)
 
     is_idle : (heard : ToDevice) → (heard ≡ small.Idle) ⊎ (heard ≡ small.Idle) → heard ≡ small.Idle
     is_idle heard (inl idle) = idle
@@ -352,7 +352,7 @@ module _ (so : HeardSo) (goes : GoesSo) where
     can_start = subst (λ (s : Setup). CanStart s first.device.station) (sym begins.of_setup) (record {
       setup_is = good;
       good = record { connect = connect; few = good.plan.few_records; short = good.plan.short_records; records = can.records; named = good.ar };
-      device = subst (λ (i : Identity). IsDevice i) (sym begins.of_device) real;
+      device_is = subst (λ (i : Identity). IsDevice i) (sym begins.of_device) real;
       apart = subst (λ (i : Identity). i.mac ≡ setup.plan.controller.mac → ⊥) (sym begins.of_device) can.apart;
     })
 

@@ -12,7 +12,7 @@ use Rattle.frame_codec.specs.declared.udp.Caller.{Caller}
 use Rattle.rpc_core.specs.Call.{Asked as Call}
 use Rattle.block_fields.specs.declared.fault.BlockFault.{BlockFault}
 use Rattle.block_codec.specs.declared.block.Block.{Block}
-use Rattle.block_codec.specs.declared.block.Block.TheVariants as is
+use Rattle.block_codec.specs.declared.block.Block.TheVariants as variant
 use Rattle.block_codec.specs.declared.block_type.BlockType.{BlockType}
 use Rattle.block_codec.specs.declared.block_type.BlockType.TheVariants as kind
 use Rattle.block_codec.specs.Kinds.{number_of}
@@ -138,14 +138,14 @@ module _ (setup : Setup) (real : Real) (number : ℕ) (entry : PlanRecord) (fits
       ap (λ (w : Write). w.effect) (sym (ok_is (record { request = asked; effect = two.0 }) write two.2)) ∙ written_is two.0 two.1
 
   -- what is read of the blocks that the controller writes
-  write_is : ((rest : List ℕ) → block_of (block_bytes (is.IodWriteReq asked) ++ rest) ≡ front (is.IodWriteReq asked) rest)
-      → (standing : Option (List ℕ)) (write : Write) → write_of standing real (block_bytes (is.IodWriteReq asked) ++ entry.data.items) ≡ Ok write → write.effect ≡ Keeps (taken_for entry)
+  write_is : ((rest : List ℕ) → block_of (block_bytes (variant.IodWriteReq asked) ++ rest) ≡ front (variant.IodWriteReq asked) rest)
+      → (standing : Option (List ℕ)) (write : Write) → write_of standing real (block_bytes (variant.IodWriteReq asked) ++ entry.data.items) ≡ Ok write → write.effect ≡ Keeps (taken_for entry)
   unfolding write_of
   write_is read standing write e =
-      let blocks = block_bytes (is.IodWriteReq asked) ++ entry.data.items in
+      let blocks = block_bytes (variant.IodWriteReq asked) ++ entry.data.items in
       let one = bind_ok (single_of kind.IodWriteReq blocks) (λ x. or_fault fault.BlockForm (in_iod_write_req x.0) >>= λ request. judged_request standing real request x.1) write e in
-      let same : one.0 ≡ (is.IodWriteReq asked, entry.data.items) =
-      ok_is one.0 (is.IodWriteReq asked, entry.data.items) (sym (single_is kind.IodWriteReq blocks one.0 one.1) ∙ read entry.data.items) in
+      let same : one.0 ≡ (variant.IodWriteReq asked, entry.data.items) =
+      ok_is one.0 (variant.IodWriteReq asked, entry.data.items) (sym (single_is kind.IodWriteReq blocks one.0 one.1) ∙ read entry.data.items) in
       request_is standing write
       (subst (λ (x : Block × List ℕ). (or_fault fault.BlockForm (in_iod_write_req x.0) >>= λ request. judged_request standing real request x.1) ≡ Ok write) same one.2)
 
@@ -185,7 +185,7 @@ module _ (read : (block : Block) (rest : List ℕ) → CanBeWritten block → bl
         is = refl;
         there = slice_get-map taken_for setup.plan.records.items number ∙ ap (λ (o : Option PlanRecord). option_map taken_for o) there.1;
         keeps = λ standing write e. write_is setup station.real number entry fits
-            (λ rest. read (is.IodWriteReq (write_asked setup number entry)) rest (record {
+            (λ rest. read (variant.IodWriteReq (write_asked setup number entry)) rest (record {
               seq_number = omega (arith, below, good.few);
               ar_uuid = good.named;
               api = omega arith;

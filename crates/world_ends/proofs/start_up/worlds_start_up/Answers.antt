@@ -38,8 +38,8 @@ goes_so g c = record {
   aimed_first = c.messages_are_addressed.ensures.first;
   aimed = c.messages_are_addressed.ensures.next;
   begins = c.controller_goes_on.ensures.begins;
-  controller = c.controller_goes_on.ensures.goes_on;
-  device = c.device_goes_on.ensures;
+  controller_on = c.controller_goes_on.ensures.goes_on;
+  device_on = c.device_goes_on.ensures;
   owed = c.device_sends_what_it_owes.ensures;
   relation = c.start_up_is_kept.ensures.relation;
 }
