@@ -1,6 +1,7 @@
 -- IOCRBlockReq and IOCRBlockRes (IEC 61158-6-10, 5.2.4.3 and 5.2.4.4).
-use Rattle.std.specs.Prelude.{◌≡◌, ◌%◌, ◌==◌, ◌≤◌, ◌&&◌, ◌||◌, ℕ, Bool, true, nat_le, Option, Some, None, if◌then◌else◌}
+use Rattle.std.specs.Prelude.{◌≡◌, ◌%◌, ◌==◌, ◌≤◌, ◌||◌, ℕ, Bool, true, Option, Some, None, if◌then◌else◌}
 use Rattle.wire.specs.Codec.{Codec}
+use Rattle.frame_codec.specs.FrameId.{is_cyclic}
 use Rattle.wire.specs.Formats.{◌⨾◌, then_by, seen}
 use Rattle.wire.specs.Checks.{checked, named}
 use Rattle.block_fields.specs.declared.fault.BlockFault.{BlockFault}
@@ -43,8 +44,8 @@ rt_class = named rt_class_of number_of_class (Field 7) four
 
 -- whether a FrameID is one of cyclic frames, or of an output that leaves the choice to the device
 abbrev pub is_frame_id : IocrType → ℕ → Bool
-is_frame_id Input id = (nat_le 0x8000 id && nat_le id 0xBBFF) || (nat_le 0xC000 id && nat_le id 0xF7FF)
-is_frame_id Output id = (nat_le 0x8000 id && nat_le id 0xBBFF) || (nat_le 0xC000 id && nat_le id 0xF7FF) || id == 0xFFFF
+is_frame_id Input id = is_cyclic id
+is_frame_id Output id = is_cyclic id || id == 0xFFFF
 
 -- a FrameID, which is field 9
 unfoldable pub frame_id : IocrType → Codec BlockFault ℕ

@@ -3,7 +3,7 @@ ghost use Rattle.std.specs.Prelude.{◌≡◌, ◌+◌, ◌≤◌, ◌++◌, Lis
 ghost use Rattle.arrayvec.specs.ArrayVec.{array_vec_len};
 ghost use Rattle.wire.specs.Codec.{Gives};
 ghost use Rattle.block_fields.specs.Fields.{body};
-ghost use Rattle.connect_blocks.specs.Iocr.{iocr_type, rt_class, frame_id, iocr_head, iocr_times, iocr_places, iocr_block_req, iocr_block_res, IsIocrBlockReq};
+ghost use Rattle.connect_blocks.specs.Iocr.{iocr_type, rt_class, is_frame_id, frame_id, iocr_head, iocr_times, iocr_places, iocr_block_req, iocr_block_res, IsIocrBlockReq};
 
 use crate::io_objects::{IoObjects, io_objects_at, io_objects_len, put_io_objects};
 use arrayvec::ArrayVec;
@@ -11,6 +11,7 @@ use block_fields::{
     BlockFault, append_u16, append_u32, ended, len_fields, put_fields, read_body, read_fields,
     u16_at, u32_at, version_at,
 };
+use frame_codec::is_cyclic;
 use pn_values::Mac;
 
 /// IOCRType.
@@ -221,9 +222,19 @@ fn frame_id_at(bytes: &[u8], kind: IocrType) -> Result<(u16, &[u8]), BlockFault>
     ensures { Gives (λ x. (x.0, x.1.now)) result ((frame_id kind).read bytes.now) }
 {
     let (number, rest) = u16_at(bytes)?;
-    match (number, kind) {
-        (0x8000..=0xBBFF | 0xC000..=0xF7FF, _) | (0xFFFF, IocrType::Output) => Ok((number, rest)),
-        _ => Err(BlockFault::Field(9)),
+    if !is_frame_id(kind, number) {
+        return Err(BlockFault::Field(9));
+    }
+    Ok((number, rest))
+}
+
+/// Whether it is a FrameID of cyclic frames, or 0xFFFF of an output.
+fn is_frame_id(kind: IocrType, number: u16) -> bool
+    ensures { result ≡ is_frame_id kind number }
+{
+    match kind {
+        IocrType::Input => is_cyclic(number),
+        IocrType::Output => is_cyclic(number) || number == 0xFFFF,
     }
 }
 

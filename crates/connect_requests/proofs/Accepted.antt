@@ -12,6 +12,7 @@ use Rattle.connect_blocks.specs.declared.iocr.RtClass.TheVariants.{Class1, Class
 use Rattle.connect_blocks.specs.declared.iocr.IocrBlockReq.{IocrBlockReq}
 use Rattle.connect_blocks.specs.ArBlock.{IsArBlockReq}
 use Rattle.connect_blocks.specs.AlarmCr.{IsAlarmCrBlockReq}
+use Rattle.frame_codec.specs.FrameId.{is_cyclic}
 use Rattle.connect_blocks.specs.Iocr.{is_frame_id, IsIocrBlockReq}
 use Rattle.cyclic_data.specs.Layout.{Table}
 use Rattle.connect_requests.specs.Request.{ar_of, alarm_of, chosen_id, given_id, iocr_of, IsAr, IsAlarmCr, IsIocr}
@@ -22,11 +23,10 @@ ar_in_range block is = record { timeout_least = is.least; timeout_greatest = is.
 pub alarm_in_range : (block : AlarmCrBlockReq) → IsAlarmCrBlockReq block → IsAlarmCr (alarm_of block)
 alarm_in_range block is = record { timeout = is.timeout; retries_least = is.retries_least; retries_greatest = is.retries_greatest }
 
--- one of three that is not the last is one of the other two
-one_of_two : (a b c : Bool) → (a || b || c) ≡ true → c ≡ false → (a || b) ≡ true
-one_of_two true b c some none = refl
-one_of_two false true c some none = refl
-one_of_two false false c some none = absurd (true≢false (sym some ∙ none))
+-- one of two that is not the last is the first
+first_of_two : (a b : Bool) → (a || b) ≡ true → b ≡ false → a ≡ true
+first_of_two true b some none = refl
+first_of_two false b some none = absurd (true≢false (sym some ∙ none))
 
 chosen_cyclic : (class : RtClass) → is_frame_id Input (chosen_id class) ≡ true
 chosen_cyclic Class1 = refl
@@ -38,7 +38,7 @@ given_cyclic Input class id is = is
 given_cyclic Output class id is =
     elim (cases_Bool (id == 0xFFFF)) [
       | inl t ↦ rw t (chosen_cyclic class)
-      | inr f ↦ rw f (one_of_two (nat_le 0x8000 id && nat_le id 0xBBFF) (nat_le 0xC000 id && nat_le id 0xF7FF) (id == 0xFFFF) is f)
+      | inr f ↦ rw f (first_of_two (is_cyclic id) (id == 0xFFFF) is f)
     ]
 
 pub iocr_in_range : (block : IocrBlockReq) (layout : Table) → IsIocrBlockReq block → IsIocr (iocr_of block layout)
