@@ -6,11 +6,9 @@ ghost use Rattle.cyclic_data.specs.Image.{zero_cell, cell_at, with_frame, output
 use crate::layout::Layout;
 use crate::octets::{blank, status_at, value_at, write_at};
 use crate::place::{Place, PlaceKind};
+use crate::status::GOOD;
 use arrayvec::ArrayVec;
 use std::marker::Model;
-
-/// The status of good data (IEC 61158-6-10, 4.7.2.1.1).
-const GOOD: u8 = 0x80;
 
 /// As many zeros as the longest data has, and more.
 static ZEROS: [u8; 1440] = [0; 1440];

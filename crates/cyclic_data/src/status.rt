@@ -1,7 +1,10 @@
-//! DataStatus.
+//! The statuses of data: IOPS and IOCS, and DataStatus.
 ghost use Rattle.std.specs.Prelude.{⊤, ◌≡◌, [], ◌∷◌, codes};
 
 use bitflags::{Flag, Flags, bitflag_items};
+
+/// IOPS and IOCS of good data (IEC 61158-6-10, 4.7.2.1.1).
+pub const GOOD: u8 = 0x80;
 
 /// DataStatus of a cyclic frame (IEC 61158-6-10, 4.7.2.1.3).
 #[derive(Clone, Copy, PartialEq, Eq, Debug)]

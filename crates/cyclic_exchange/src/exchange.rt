@@ -8,11 +8,8 @@ ghost use Rattle.cyclic_exchange.specs.Process.{given_at, provided_at, value_at}
 use crate::opening::fill;
 use crate::{Route, Statuses};
 use arrayvec::ArrayVec;
-use cyclic_data::{Consumer, CyclicTail, Image, Layout, PlaceKind, Provider, ReceivedImage};
+use cyclic_data::{Consumer, CyclicTail, GOOD, Image, Layout, PlaceKind, Provider, ReceivedImage};
 use std::marker::Model;
-
-/// The status of good data (IEC 61158-6-10, 4.7.2.1.1).
-const GOOD: u8 = 0x80;
 
 /// As many zeros as the longest frame has octets of data.
 static ZEROS: [u8; 1440] = [0; 1440];

@@ -12,7 +12,7 @@ use pn_alarms::{Alarm, Header, Heard, Message, Pdu, PduType, Taken, alarm_front,
 use pn_values::Real;
 
 /// The endpoint of the device: the LocalAlarmReference that it answers in AlarmCRBlockRes.
-const OWN_REFERENCE: u16 = 1;
+pub const OWN_REFERENCE: u16 = 1;
 
 impl DataExchange {
     /// Raises a process alarm of a submodule, which then is to be sent. Answers whether it may be: once data is exchanged, with at

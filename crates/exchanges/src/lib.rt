@@ -11,6 +11,7 @@ mod exchange;
 mod laws;
 mod opening;
 
+pub use alarms::OWN_REFERENCE;
 pub use cyclic_exchange::{Received, Route, Tick};
 pub use exchange::DataExchange;
 pub use laws::exchange_is_kept;

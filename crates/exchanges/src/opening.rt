@@ -3,12 +3,9 @@ ghost use Rattle.std.specs.Prelude.{◌≡◌};
 ghost use Rattle.exchanges.specs.Opening.{route_of, status_of};
 
 use connect_requests::ConnectRequest;
-use cyclic_data::PlaceKind;
+use cyclic_data::{GOOD, PlaceKind};
 use cyclic_exchange::{Route, Statuses};
 use module_diff::DiffRows;
-
-/// The status of good data (IEC 61158-6-10, 4.7.2.1.1).
-const GOOD: u8 = 0x80;
 
 /// IOPS and IOCS of a submodule: bad where these rows list it, and else good.
 fn status_of(rows: &DiffRows, slot: u16, subslot: u16) -> u8

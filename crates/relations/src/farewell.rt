@@ -4,11 +4,9 @@ ghost use Rattle.pn_alarms.specs.Format.{is_long, said};
 ghost use Rattle.relations.specs.Farewells.{farewell_by, said_by};
 
 use connect_requests::ConnectRequest;
+use exchanges::OWN_REFERENCE;
 use pn_alarms::{Abort, Header, Pdu};
 use pn_values::Mac;
-
-/// The endpoint of the device: the LocalAlarmReference that it answers in AlarmCRBlockRes.
-pub(crate) const OWN_REFERENCE: u16 = 1;
 
 /// The ERR by which a device ends a relation: a frame of low priority.
 #[derive(Clone, Copy, Debug, PartialEq, Eq)]
