@@ -6,7 +6,7 @@ ghost use Rattle.alarm_exchange.specs.Shown.{world_of};
 
 use arrayvec::ArrayVec;
 use block_codec::{AlarmAck, AlarmData, AlarmNotification};
-use pn_alarms::{Alarm, ControllerAlarms, DeviceAlarms, Due, Heard, Message, PduType, Taken};
+use pn_alarms::{Alarm, ControllerAlarms, DeviceAlarms, Due, Message, PduFate, PduType, Taken};
 use std::alloc::{AllocError, Global};
 use std::marker::Model;
 
@@ -308,16 +308,16 @@ impl Exchange {
         ensures { OnOk result (world_of self.new ≡ after_confirms (world_of self.old) (Some (number, ack.now))) }
     {
         match self.device.hear(&Message::Data(number, *ack)) {
-            Heard::Data(Taken::New) => {
+            PduFate::Data(Taken::New) => {
                 self.heard.push(*ack)?;
                 self.acks_to_controller.push(number)?;
                 Ok(())
             }
-            Heard::Data(Taken::Again) => {
+            PduFate::Data(Taken::Again) => {
                 self.acks_to_controller.push(number)?;
                 Ok(())
             }
-            Heard::Data(Taken::Refused) => {
+            PduFate::Data(Taken::Refused) => {
                 self.nacks_to_controller.push(number)?;
                 Ok(())
             }

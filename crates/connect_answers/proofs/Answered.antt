@@ -7,7 +7,7 @@ use Rattle.connect_blocks.specs.declared.ar_block.ArBlockRes.{ArBlockRes}
 use Rattle.connect_blocks.specs.declared.iocr.IocrBlockRes.{IocrBlockRes}
 use Rattle.block_codec.specs.declared.block.Block.TheVariants as is
 use Rattle.block_codec.specs.Block.{block_bytes}
-use Rattle.rpc_core.specs.declared.header.Header.{Header}
+use Rattle.rpc_core.specs.declared.header.CallHeader.{CallHeader}
 use Rattle.plans.specs.declared.parts.Controller.{Controller}
 use Rattle.module_lists.specs.Lists.{Listed}
 use Rattle.module_blocks.specs.declared.module_diff.DiffModule.{DiffModule}
@@ -106,18 +106,18 @@ blocks_written setup identity =
 -- ---- at the controller
 
 -- a response that is done, with this header and these blocks
-abbrev pub done_with : Header → List ℕ → Answered
+abbrev pub done_with : CallHeader → List ℕ → Answered
 done_with header blocks = record { header = header; status = done; maximum_count = 1372; blocks = blocks }
 
 -- the frame is heard as what it was made of
-pub heard_as_made : (setup : Setup) (identity : Identity) (address blocks : List ℕ) (controller : Controller) (header : Header)
+pub heard_as_made : (setup : Setup) (identity : Identity) (address blocks : List ℕ) (controller : Controller) (header : CallHeader)
     → request_of None (blocks_of setup asks.Connect) ≡ Ok (request_for setup.plan setup.ar)
     → diff_of (request_for setup.plan setup.ar).expected setup.plan.real.modules.items ≡ no_rows
     → controller ≡ setup.plan.controller → header ≡ header_of setup asks.Connect → blocks ≡ answer_blocks setup identity
     → heard_of controller (response_frame identity (caller_of controller) address (done_with header blocks)) ≡ Responds (done_with header blocks)
     → heard_of setup.plan.controller (answer_frame setup identity address) ≡ Responds (answer_to (call_for setup asks.Connect) done (answer_blocks setup identity))
 heard_as_made setup identity address blocks controller header read same at of these heard =
-    let answer = ap (λ (h : Header). done_with h blocks) of ∙ ap (λ (b : List ℕ). done_with (header_of setup asks.Connect) b) these in
+    let answer = ap (λ (h : CallHeader). done_with h blocks) of ∙ ap (λ (b : List ℕ). done_with (header_of setup asks.Connect) b) these in
     let one = subst (λ (c : Controller). heard_of c (response_frame identity (caller_of c) address (done_with header blocks)) ≡ Responds (done_with header blocks)) at heard in
     ap (heard_of setup.plan.controller) (frame_by setup identity address read same)
     ∙ subst (λ (a : Answered). heard_of setup.plan.controller (response_frame identity (caller_of setup.plan.controller) address a) ≡ Responds a) answer one

@@ -8,7 +8,7 @@ use Rattle.dcp_core.specs.declared.request.Service.TheVariants.{Get, Set, Identi
 use Rattle.dcp_core.specs.Response.{Answered}
 use Rattle.dcp_core.specs.Answered.{value_among}
 use Rattle.dcp_core.specs.Identify.{suite_bytes}
-use Rattle.rpc_core.specs.declared.header.Header.{Header}
+use Rattle.rpc_core.specs.declared.header.CallHeader.{CallHeader}
 use Rattle.connect_blocks.specs.declared.control.ControlBlock.{ControlBlock}
 use Rattle.plans.specs.declared.parts.Parts.{Parts}
 use Rattle.plans.specs.declared.parts.Station.{Station}
@@ -66,7 +66,7 @@ is_call asks.PrmEnd = true
 is_call (asks.Release sequence) = true
 
 -- a response to the call that asks this: of the activity of the controller, and of its number
-abbrev pub is_answer : Setup → Request → Header → Bool
+abbrev pub is_answer : Setup → Request → CallHeader → Bool
 is_answer setup request header =
     is_call request && (pointwise nat_eq header.activity setup.activity && header.sequence == sequence_of setup.plan request)
 

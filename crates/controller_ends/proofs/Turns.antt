@@ -8,7 +8,7 @@ use Rattle.pn_values.specs.declared.mac.Mac.{Mac}
 use Rattle.frame_codec.specs.declared.udp.Caller.{Caller}
 use Rattle.dcp_core.specs.Response.{Answered}
 use Rattle.dcp_core.specs.Answered.{is_agreed}
-use Rattle.rpc_core.specs.declared.header.Header.{Header as CallHeader}
+use Rattle.rpc_core.specs.declared.header.CallHeader.{CallHeader}
 use Rattle.rpc_core.specs.Call.{Asked as Call}
 use Rattle.rpc_core.specs.Response.{Answered as Response, is_done}
 use Rattle.connect_blocks.specs.declared.control.ControlBlock.{ControlBlock}

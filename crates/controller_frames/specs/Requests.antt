@@ -6,7 +6,7 @@ use Rattle.dcp_core.specs.declared.kind.Kind.TheVariants.{IpSuite, NameOfStation
 use Rattle.dcp_core.specs.declared.request.Service.TheVariants.{Set, Identify as Identifies}
 use Rattle.dcp_core.specs.Request.{Asked}
 use Rattle.dcp_core.specs.Identify.{suite_bytes}
-use Rattle.rpc_core.specs.declared.header.Header.{Header}
+use Rattle.rpc_core.specs.declared.header.CallHeader.{CallHeader}
 use Rattle.rpc_core.specs.declared.interface.Interface.TheVariants.{Device}
 use Rattle.rpc_core.specs.Interface.{interface_uuid}
 use Rattle.rpc_core.specs.Call.{Asked as Call}
@@ -65,7 +65,7 @@ object_of station =
     ++ to_be_bytes w16 station.device_id ++ to_be_bytes w16 station.vendor_id
 
 -- the header of a call: all of a start-up are of one activity
-abbrev pub header_of : Setup → Request → Header
+abbrev pub header_of : Setup → Request → CallHeader
 header_of setup request = record {
   object = object_of setup.plan.station;
   interface = interface_uuid Device;

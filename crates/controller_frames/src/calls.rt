@@ -14,7 +14,7 @@ use frame_codec::{Endpoint, Layered, Outbox, Payload, RPC_PORT, Udp};
 use plans::{PlanRecord, Station};
 use pn_values::Mac;
 use record_blocks::iod_write_req_len;
-use rpc_core::{Call, Datagram, Header, Interface, Uuid, write_request};
+use rpc_core::{Call, CallHeader, Datagram, Interface, Uuid, write_request};
 use wire::append;
 
 /// How many octets of blocks the response to a call may have.
@@ -40,10 +40,10 @@ fn object_of(station: &Station) -> Uuid
 }
 
 /// The header of the call that asks for this: of the object, the activity and the number of the start-up.
-pub fn header_of(setup: &Setup, request: Request) -> Header
+pub fn header_of(setup: &Setup, request: Request) -> CallHeader
     ensures { result ≡ header_of setup.now request }
 {
-    Header {
+    CallHeader {
         object: object_of(setup.plan.station()),
         interface: Interface::Device.uuid(),
         activity: setup.activity,

@@ -21,14 +21,14 @@ use Rattle.record_writes.specs.declared.write.Effect.{Effect}
 use Rattle.record_writes.specs.declared.write.Effect.TheVariants.{Stores, Keeps}
 use Rattle.record_writes.specs.declared.write.Write.{Write as Asking}
 use Rattle.record_writes.specs.Judged.{write_of}
-use Rattle.pn_alarms.specs.declared.device.Heard.{Heard as Fate}
-use Rattle.pn_alarms.specs.declared.device.Heard.TheVariants as fate
+use Rattle.pn_alarms.specs.declared.device.PduFate.{PduFate}
+use Rattle.pn_alarms.specs.declared.device.PduFate.TheVariants as fate
 use Rattle.cyclic_exchange.specs.declared.received.Received.{Received}
 use Rattle.cyclic_exchange.specs.declared.received.Received.TheVariants as received
 use Rattle.exchanges.specs.Flow.{Flow}
 use Rattle.relations.specs.Exchanged.{given_to, heard_by, hearing, raised_to, received_by, receiving}
-use Rattle.relations.specs.declared.hearing.Heard.{Heard as Answer}
-use Rattle.relations.specs.declared.hearing.Heard.TheVariants as to_ready
+use Rattle.relations.specs.declared.hearing.ReadyAnswer.{ReadyAnswer}
+use Rattle.relations.specs.declared.hearing.ReadyAnswer.TheVariants as to_ready
 use Rattle.relations.specs.Link.{Link, uuid_of, differing_in, is_alarm_of}
 use Rattle.relations.specs.Phases.{keeping, moved}
 use Rattle.relations.specs.Calls.{prm_end_answer, release_answer}
@@ -112,7 +112,7 @@ call_called : (station : Station) (live : Live) (answers : List BlockError) (cal
 call_called station live answers caller call None = ([], refl)
 call_called station live answers caller call (Some operation) = blocks_called station live answers caller call operation call.blocks
 
-answer_called : (station : Station) (live : Live) (answers : List BlockError) (answer : Answer) → IsKept station live answers (judged_answer live answer)
+answer_called : (station : Station) (live : Live) (answers : List BlockError) (answer : ReadyAnswer) → IsKept station live answers (judged_answer live answer)
 answer_called station live answers to_ready.NotWanted = ([], refl)
 answer_called station live answers to_ready.Garbled = ([], refl)
 answer_called station live answers to_ready.Confirmed = ([], refl)
@@ -123,7 +123,7 @@ said_called station live answers caller (Calls call) = call_called station live 
 said_called station live answers caller (Responds response) = answer_called station live answers (ready_answer response live.rest.link)
 said_called station live answers caller Garbled = ([], refl)
 
-pdu_called : (station : Station) (live : Live) (answers : List BlockError) (came : Fate) (link : Option Link) → IsKept station live answers (judged_pdu live came link)
+pdu_called : (station : Station) (live : Live) (answers : List BlockError) (came : PduFate) (link : Option Link) → IsKept station live answers (judged_pdu live came link)
 pdu_called station live answers (fate.Data taken) link = ([], refl)
 pdu_called station live answers fate.Done link = ([], refl)
 pdu_called station live answers fate.Ignored link = ([], refl)

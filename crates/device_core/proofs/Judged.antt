@@ -5,16 +5,16 @@ use Rattle.pn_values.specs.declared.mac.Mac.{Mac}
 use Rattle.frame_codec.specs.declared.arp.Arp.{Arp}
 use Rattle.pn_alarms.specs.declared.pdu.Header.{Header}
 use Rattle.pn_alarms.specs.Message.{ToDevice}
-use Rattle.pn_alarms.specs.declared.device.Heard.{Heard as Fate}
-use Rattle.pn_alarms.specs.declared.device.Heard.TheVariants as fate
+use Rattle.pn_alarms.specs.declared.device.PduFate.{PduFate}
+use Rattle.pn_alarms.specs.declared.device.PduFate.TheVariants as fate
 use Rattle.cyclic_exchange.specs.declared.received.Received.{Received}
 use Rattle.cyclic_exchange.specs.declared.received.Received.TheVariants as received
 use Rattle.exchanges.specs.Flow.{Flow}
 use Rattle.relations.specs.Link.{Link, is_alarm_of}
 use Rattle.relations.specs.Phases.{moved}
 use Rattle.relations.specs.Exchanged.{heard_by, hearing, received_by, receiving}
-use Rattle.relations.specs.declared.hearing.Heard.{Heard as Answer}
-use Rattle.relations.specs.declared.hearing.Heard.TheVariants as to_ready
+use Rattle.relations.specs.declared.hearing.ReadyAnswer.{ReadyAnswer}
+use Rattle.relations.specs.declared.hearing.ReadyAnswer.TheVariants as to_ready
 use Rattle.device_core.specs.State.{Station, Live}
 use Rattle.device_core.specs.Judged.{is_running, is_request, judged_arp, judged_answer, judged_alarm, judged_pdu, judged_received, judged_cyclic, judged_input, judged_notice}
 use Rattle.device_core.specs.Machine.{end_of}
@@ -30,7 +30,7 @@ arp_leaves station live asker packet =
     cond_both (is_request packet.operation && is_running live.values.running packet.target.address) _ _ (λ what. (end_of station live what).rest ≡ live.rest) (λ _. refl) (λ _. refl)
 
 -- a PDU of the partner, by what becomes of it
-pdu_asks_nothing : (live : Live) (heard : Fate) (link : Option Link) → is_asking (judged_pdu live heard link) ≡ false
+pdu_asks_nothing : (live : Live) (heard : PduFate) (link : Option Link) → is_asking (judged_pdu live heard link) ≡ false
 pdu_asks_nothing live (fate.Data taken) link = refl
 pdu_asks_nothing live fate.Done link = refl
 pdu_asks_nothing live fate.Ignored link = refl
@@ -76,7 +76,7 @@ notice_asks_nothing live (Some flow) = refl
 notice_asks_nothing live None = refl
 
 -- the answer to ApplicationReady
-pub answer_asks_nothing : (live : Live) (answer : Answer) → is_asking (judged_answer live answer) ≡ false
+pub answer_asks_nothing : (live : Live) (answer : ReadyAnswer) → is_asking (judged_answer live answer) ≡ false
 answer_asks_nothing live to_ready.NotWanted = refl
 answer_asks_nothing live to_ready.Garbled = refl
 answer_asks_nothing live to_ready.Confirmed = refl

@@ -5,7 +5,7 @@ use Rattle.flash_model.specs.Image.{Image}
 use Rattle.pn_values.specs.declared.identity.Identity.{Identity}
 use Rattle.pn_values.specs.declared.mac.Mac.{Mac}
 use Rattle.frame_codec.specs.Meaning.{RealTime}
-use Rattle.device_frames.specs.declared.hearing.Kind.{Kind}
+use Rattle.device_frames.specs.declared.hearing.RealTimeKind.{RealTimeKind}
 use Rattle.device_frames.specs.Heard.{heard_content}
 use Rattle.device_frames.specs.Hearing.{heard_as}
 use Rattle.device_frames.specs.declared.note.Note.{Note}
@@ -14,7 +14,7 @@ use Rattle.device_core.specs.Steps.{Steps}
 
 -- what a frame of a kind makes of a device is what the frame makes of it
 pub kind_steps : {F : Type 0} (image : F → Image) (failures : F → ℕ) (asked : F → List Call → F → Type 0) (old new : State F) (inside : Identity) (destination source : Mac) (frame_id : ℕ) (body : List ℕ)
-    (kind is : Kind) (frames : List (List ℕ)) (said : Note) → inside ≡ old.station.identity
+    (kind is : RealTimeKind) (frames : List (List ℕ)) (said : Note) → inside ≡ old.station.identity
     → heard_content inside destination source (RealTime frame_id body) ≡ heard_as kind source frame_id body → kind ≡ is
     → Steps image failures asked old (heard_as is source frame_id body) frames said new
     → Steps image failures asked old (heard_content old.station.identity destination source (RealTime frame_id body)) frames said new

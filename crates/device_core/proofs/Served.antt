@@ -6,7 +6,7 @@ use Rattle.settings_store.specs.Carries.{Holds}
 use Rattle.pnio_status.specs.declared.operation.Operation.{Operation}
 use Rattle.pnio_status.specs.declared.call_fault.CallFault.{CallFault}
 use Rattle.record_blocks.specs.declared.write_record.IodWriteReq.{IodWriteReq}
-use Rattle.record_writes.specs.declared.taken.Taken.{Taken}
+use Rattle.record_writes.specs.declared.taken.TakenRecord.{TakenRecord}
 use Rattle.record_writes.specs.Answer.{answer_of}
 use Rattle.record_writes.specs.declared.write.Effect.{Effect}
 use Rattle.record_writes.specs.declared.write.Write.{Write}
@@ -25,14 +25,14 @@ use Rattle.device_core.proofs.Machine.{is_asking}
 use Rattle.device_core.proofs.Steps.{quiet_steps}
 
 -- a parameter record that is kept, or not: how it is answered, and what it does to the relation
-pub kept_as : (came : Result (Unit {0}) CallFault) (kept : Result (List Taken) CallFault) (header : IodWriteReq)
+pub kept_as : (came : Result (Unit {0}) CallFault) (kept : Result (List TakenRecord) CallFault) (header : IodWriteReq)
     → OnOk came (IsOk kept) → IfErr came (λ fault. kept ≡ Err fault) → came_with came (answer_of header) ≡ kept_answer header kept
 kept_as (Ok it) (Ok taken) header is refused = refl
 kept_as (Ok it) (Err fault) header is refused = cc
 kept_as (Err fault) (Ok taken) header is refused = cc
 kept_as (Err fault) (Err other) header is refused = cc
 
-pub kept_moving : (moving : Moving) (came : Result (Unit {0}) CallFault) (kept : Result (List Taken) CallFault)
+pub kept_moving : (moving : Moving) (came : Result (Unit {0}) CallFault) (kept : Result (List TakenRecord) CallFault)
     → OnOk came (IsOk kept) → IfErr came (λ fault. kept ≡ Err fault) → answered moving came ≡ answered moving kept
 kept_moving moving (Ok it) (Ok taken) is refused = refl
 kept_moving moving (Ok it) (Err fault) is refused = cc

@@ -27,22 +27,22 @@ use Rattle.connect_blocks.specs.declared.control.ControlBlock.{ControlBlock}
 use Rattle.record_blocks.specs.declared.write_record.IodWriteReq.{IodWriteReq}
 use Rattle.record_reads.specs.Implicit.{implicit_read}
 use Rattle.record_reads.specs.Within.{relation_read, names_relation}
-use Rattle.record_writes.specs.declared.taken.Taken.{Taken}
+use Rattle.record_writes.specs.declared.taken.TakenRecord.{TakenRecord}
 use Rattle.record_writes.specs.declared.write.Effect.{Effect}
 use Rattle.record_writes.specs.declared.write.Effect.TheVariants.{Stores, Keeps}
 use Rattle.record_writes.specs.declared.write.Write.{Write as Asking}
 use Rattle.record_writes.specs.Answer.{answer_of}
 use Rattle.record_writes.specs.Judged.{write_of}
 use Rattle.pn_alarms.specs.Message.{ToDevice}
-use Rattle.pn_alarms.specs.declared.device.Heard.{Heard as Fate}
-use Rattle.pn_alarms.specs.declared.device.Heard.TheVariants as fate
+use Rattle.pn_alarms.specs.declared.device.PduFate.{PduFate}
+use Rattle.pn_alarms.specs.declared.device.PduFate.TheVariants as fate
 use Rattle.pn_alarms.specs.declared.pdu.Header.{Header}
 use Rattle.cyclic_exchange.specs.declared.received.Received.{Received}
 use Rattle.cyclic_exchange.specs.declared.received.Received.TheVariants as received
 use Rattle.exchanges.specs.Flow.{Flow}
 use Rattle.relations.specs.Exchanged.{given_to, heard_by, hearing, raised_to, received_by, receiving}
-use Rattle.relations.specs.declared.hearing.Heard.{Heard as Answer}
-use Rattle.relations.specs.declared.hearing.Heard.TheVariants as to_ready
+use Rattle.relations.specs.declared.hearing.ReadyAnswer.{ReadyAnswer}
+use Rattle.relations.specs.declared.hearing.ReadyAnswer.TheVariants as to_ready
 use Rattle.relations.specs.declared.phase.Partner.{Partner}
 use Rattle.relations.specs.Link.{Link, uuid_of, differing_in, flow_of, is_alarm_of}
 use Rattle.relations.specs.Calls.{prm_end_of, release_of, prm_end_answer, release_answer}
@@ -145,7 +145,7 @@ abbrev pub implicitly : Option Link → List ℕ → Moving
 implicitly link blocks = if names_relation (uuid_of link) blocks then Named else Unmoved
 
 -- a Write of a parameter record: it is kept, where there is room, and shows that the controller is there
-abbrev pub kept_answer : IodWriteReq → Result (List Taken) CallFault → Result (List ℕ) CallFault
+abbrev pub kept_answer : IodWriteReq → Result (List TakenRecord) CallFault → Result (List ℕ) CallFault
 kept_answer header (Ok taken) = Ok (answer_of header)
 kept_answer header (Err fault) = Err fault
 
@@ -198,7 +198,7 @@ judged_call station live caller call None = Refuses note.Fault
 judged_call station live caller call (Some operation) = judged_blocks station live caller call operation call.blocks
 
 -- the answer to ApplicationReady, by what it is to the relation
-abbrev pub judged_answer : Live → Answer → Judged
+abbrev pub judged_answer : Live → ReadyAnswer → Judged
 judged_answer live to_ready.NotWanted = Refuses note.NoRelation
 judged_answer live to_ready.Garbled = Refuses note.Fault
 judged_answer live to_ready.Confirmed = Moves (record live.rest { link = moved (judged_by to_ready.Confirmed) live.rest.link }) []
@@ -251,7 +251,7 @@ abbrev pub judged_raised : Station → Live → ℕ → ℕ → List ℕ → Jud
 judged_raised station live slot subslot octets = judged_notice live (raised_to station.real.modules.items slot subslot octets live.rest.link)
 
 -- a PDU of the partner, by what becomes of it: data is answered, an ACK counts or does not, and an ERR ends the relation
-abbrev pub judged_pdu : Live → Fate → Option Link → Judged
+abbrev pub judged_pdu : Live → PduFate → Option Link → Judged
 judged_pdu live (fate.Data taken) link = goes_on_with live link (replies_of taken (flow_of link))
 judged_pdu live fate.Done link = goes_on_with live link []
 judged_pdu live fate.Ignored link = Refuses note.Filter

@@ -29,8 +29,8 @@ use frame_codec::Outbox;
 use pn_values::{BlockError, Command, Identity, ImValue, SetItem};
 use pnio_status::{CallFault, Operation, done};
 use record_reads::{Blocks, names_relation, read_implicit, read_within};
-use record_writes::{Effect, Taken, Write, judge_write, put_write_answer};
-use relations::{Heard, Partner};
+use record_writes::{Effect, TakenRecord, Write, judge_write, put_write_answer};
+use relations::{Partner, ReadyAnswer};
 use rpc_core::{Call, CallCache, Interface, Looked, Response, Status, read_call, read_response};
 
 impl<F: Flash<S>, const S: usize> Device<F, S> {
@@ -73,10 +73,10 @@ impl<F: Flash<S>, const S: usize> Device<F, S> {
         ensures note { result ≡ (end_of self.old.station self.old.live (judged_answer self.old.live (ready_answer (answered response.now) self.old.live.rest.link))).note }
     {
         match self.relation.hear_ready(response) {
-            Heard::NotWanted => Note::NoRelation,
-            Heard::Garbled => Note::Fault,
-            Heard::Confirmed => Note::Done,
-            Heard::Refused(farewell) => {
+            ReadyAnswer::NotWanted => Note::NoRelation,
+            ReadyAnswer::Garbled => Note::Fault,
+            ReadyAnswer::Confirmed => Note::Done,
+            ReadyAnswer::Refused(farewell) => {
                 send_farewell(&self.identity, &farewell, outbox);
                 Note::Done
             }
@@ -347,7 +347,7 @@ impl<F: Flash<S>, const S: usize> Device<F, S> {
         &mut self,
         serving: &Serving<'_>,
         header: &IodWriteReq,
-        parameter: Taken,
+        parameter: TakenRecord,
         outbox: &mut Outbox,
     ) -> Note
         requires operation { serving.now.operation ≡ operation.Write }

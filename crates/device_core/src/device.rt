@@ -15,7 +15,7 @@ use crate::calls::Answering;
 use arrayvec::ArrayVec;
 use flash_model::{Flash, Order};
 use pn_values::{Identity, Real, SetItem, Settings};
-use record_writes::Taken;
+use record_writes::TakenRecord;
 use relations::{Phase, Relation};
 use rpc_core::Uuid;
 use settings_journal::BootFault;
@@ -127,7 +127,7 @@ impl<F: Flash<S>, const S: usize> Device<F, S> {
     }
 
     /// The parameter records that the relation took, in their order.
-    pub fn taken(&self) -> &[Taken]
+    pub fn taken(&self) -> &[TakenRecord]
         ensures { result.now ≡ taken_of self.now.live.rest.link }
     {
         self.relation.taken()

@@ -23,12 +23,12 @@ ghost use Rattle.device_core.specs.Steps.{Steps, Identifies, IsServed, IsAgain, 
 use crate::{Device, Event, Note};
 use dcp_core::Service;
 use device_frames::{
-    Caller, Kind, is_asked, is_called, kind_of, read_layers, real_time_in, send_alarm,
+    Caller, RealTimeKind, is_asked, is_called, kind_of, read_layers, real_time_in, send_alarm,
     send_alarm_again, send_alarm_reply, send_farewell, send_inputs, send_ready_again,
 };
 use flash_model::Flash;
 use frame_codec::{Arp, Bytes, Layered, Outbox, Payload, Udp};
-use pn_alarms::{Abort, Header, Heard as Fate, Message, read_message};
+use pn_alarms::{Abort, Header, Message, PduFate, read_message};
 use pn_values::Mac;
 use relations::Received;
 
@@ -147,10 +147,10 @@ impl<F: Flash<S>, const S: usize> Device<F, S> {
         ensures reliable { F.is_reliable self.old.flash → F.is_reliable self.new.flash × (self.new.live.values.has_failed ≡ self.old.live.values.has_failed) }
     {
         match kind_of(&self.identity, destination, frame_id) {
-            Kind::Cyclic => self.hear_cyclic(source, frame_id, body),
-            Kind::Alarm => self.read_alarm(source, body, outbox),
-            Kind::Request => self.read_and_serve(source, frame_id, body, outbox),
-            Kind::Elsewhere => Note::NotMine,
+            RealTimeKind::Cyclic => self.hear_cyclic(source, frame_id, body),
+            RealTimeKind::Alarm => self.read_alarm(source, body, outbox),
+            RealTimeKind::Request => self.read_and_serve(source, frame_id, body, outbox),
+            RealTimeKind::Elsewhere => Note::NotMine,
         }
     }
 
@@ -373,13 +373,13 @@ impl<F: Flash<S>, const S: usize> Device<F, S> {
         ensures note { result ≡ (end_of self.old.station self.old.live (judged_message self.old.live message.now)).note }
     {
         match self.relation.hear(message) {
-            Fate::Data(taken) => {
+            PduFate::Data(taken) => {
                 send_alarm_reply(&self.identity, taken, &self.relation, outbox);
                 Note::Done
             }
-            Fate::Done | Fate::Aborted => Note::Done,
+            PduFate::Done | PduFate::Aborted => Note::Done,
             // A NACK or an ACK of another number is nothing wrong, and changes nothing.
-            Fate::Ignored => Note::Filter,
+            PduFate::Ignored => Note::Filter,
         }
     }
 }

@@ -31,7 +31,7 @@ use Rattle.call_blocks.specs.Judged.{judged as in_order}
 use Rattle.connect_requests.specs.Request.{Request}
 use Rattle.connect_requests.specs.Judged.{request_of}
 use Rattle.record_blocks.specs.declared.write_record.IodWriteReq.{IodWriteReq}
-use Rattle.record_writes.specs.declared.taken.Taken.{Taken}
+use Rattle.record_writes.specs.declared.taken.TakenRecord.{TakenRecord}
 use Rattle.record_writes.specs.declared.write.Effect.{Effect}
 use Rattle.record_writes.specs.declared.write.Effect.TheVariants.{Stores, Keeps}
 use Rattle.record_writes.specs.declared.write.Write.{Write}
@@ -39,10 +39,10 @@ use Rattle.record_writes.specs.Judged.{write_of}
 use Rattle.record_writes.specs.Taken.{keep_of}
 use Rattle.pn_alarms.specs.declared.abort.Abort.{Abort}
 use Rattle.pn_alarms.specs.declared.abort.Abort.TheVariants.{Other}
-use Rattle.pn_alarms.specs.declared.device.Heard.{Heard as Fate}
-use Rattle.pn_alarms.specs.declared.device.Heard.TheVariants as fate
+use Rattle.pn_alarms.specs.declared.device.PduFate.{PduFate}
+use Rattle.pn_alarms.specs.declared.device.PduFate.TheVariants as fate
 use Rattle.pn_alarms.specs.declared.pdu.Header.{Header}
-use Rattle.pn_alarms.specs.declared.receiver.Taken.{Taken as TakenAs}
+use Rattle.pn_alarms.specs.declared.receiver.Taken.{Taken}
 use Rattle.pn_alarms.specs.Message.{ToDevice as Message}
 use Rattle.pn_alarms.specs.Device.{heard_as as pdu_heard}
 use Rattle.cyclic_exchange.specs.declared.received.Received.{Received}
@@ -54,8 +54,8 @@ use Rattle.exchanges.specs.Received.{received_as, behind_frame}
 use Rattle.exchanges.specs.Notices.{behind_message}
 use Rattle.relations.specs.declared.farewell.Farewell.{Farewell}
 use Rattle.relations.specs.Farewells.{farewell_of}
-use Rattle.relations.specs.declared.hearing.Heard.{Heard as Hearing}
-use Rattle.relations.specs.declared.hearing.Heard.TheVariants as to_ready
+use Rattle.relations.specs.declared.hearing.ReadyAnswer.{ReadyAnswer}
+use Rattle.relations.specs.declared.hearing.ReadyAnswer.TheVariants as to_ready
 use Rattle.relations.specs.declared.phase.Phase.{Phase}
 use Rattle.relations.specs.declared.phase.Phase.TheVariants.{Started, Awaiting, Exchanging}
 use Rattle.relations.specs.Link.{Link, phase_of, uuid_of, flow_of, is_started, is_awaiting, is_alarm_of}
@@ -159,7 +159,7 @@ received_mildly : (source : Mac) (frame_id : ℕ) (body : List ℕ) (link : Opti
 received_mildly source frame_id body None = tt
 received_mildly source frame_id body (Some link) = receives_mildly (received_as link.flow source frame_id body) (behind_frame link.flow source frame_id body)
 
-hears_mildly : (came : Fate) (flow : Flow) → IsMild (hearing_as came flow)
+hears_mildly : (came : PduFate) (flow : Flow) → IsMild (hearing_as came flow)
 hears_mildly (fate.Data taken) flow = tt
 hears_mildly fate.Done flow = tt
 hears_mildly fate.Ignored flow = tt
@@ -201,7 +201,7 @@ prm_started link blocks block e =
     started_is link (started_by link third.0 third.1)
 
 -- a record that is kept is one more
-kept_is : (value : Taken) (records taken : List Taken) → keep_of value records ≡ Ok taken → taken ≡ records ++ value ∷ []
+kept_is : (value : TakenRecord) (records taken : List TakenRecord) → keep_of value records ≡ Ok taken → taken ≡ records ++ value ∷ []
 unfolding keep_of
 kept_is value records taken e = by_room (nat_lt (length records) 64) e
   where
@@ -245,7 +245,7 @@ inputs_other : (link : Option Link) (units : ℕ) (flow : Option Flow) → AreOt
 inputs_other link units None = tt
 inputs_other link units (Some flow) = (tt, tt)
 
-replies_other : (link : Option Link) (taken : TakenAs) (flow : Option Flow) → AreOther link (replies_of taken flow)
+replies_other : (link : Option Link) (taken : Taken) (flow : Option Flow) → AreOther link (replies_of taken flow)
 replies_other link taken None = tt
 replies_other link taken (Some flow) = (tt, tt)
 
@@ -332,8 +332,8 @@ RefusalsAreNotDone = (operation : Operation) (fault : CallFault) → is_done (st
 
 -- ---- steps
 
-module _ (refusals_are_not_done : RefusalsAreNotDone) (rules : Rules Taken Request) (activity : List ℕ) (station : Station) where
-  abbrev small_in : Rest → small.Device Taken Request
+module _ (refusals_are_not_done : RefusalsAreNotDone) (rules : Rules TakenRecord Request) (activity : List ℕ) (station : Station) where
+  abbrev small_in : Rest → small.Device TakenRecord Request
   small_in rest = record { kept = option_map kept_in (kept_of activity rest.calls); link = option_map link_of rest.link }
 
   abbrev AreHeard : List Sent → Type 0
@@ -346,7 +346,7 @@ module _ (refusals_are_not_done : RefusalsAreNotDone) (rules : Rules Taken Reque
   abbrev Goes : ToDevice → Rest → Rest → List Sent → Type 0
   Goes heard rest later sent = AreHeard sent → DeviceSteps rules heard (small_in rest) (small_in later) (frames_of sent)
 
-  rests_steps : (heard : ToDevice) (device : small.Device Taken Request) → DeviceSteps rules heard device device []
+  rests_steps : (heard : ToDevice) (device : small.Device TakenRecord Request) → DeviceSteps rules heard device device []
   rests_steps (small.Call sequence ask) device = inr (inr (refl, refl))
   rests_steps small.Confirms device = inr (refl, refl)
   rests_steps small.Idle device = record { keeps = refl; link = inl refl; sent = tt }
@@ -457,7 +457,7 @@ module _ (refusals_are_not_done : RefusalsAreNotDone) (rules : Rules Taken Reque
         exchanges_on link (alarms_of (flow_of link)) (mild_stays (Exchanged flow) live.rest.link tt) (alarms_other link (flow_of link))
     raises None = refuses small.Idle Filter
 
-    notices : (came : Fate) (judged : Moving) → IsMild judged → Comes_to small.Idle (judged_pdu live came (moved judged live.rest.link))
+    notices : (came : PduFate) (judged : Moving) → IsMild judged → Comes_to small.Idle (judged_pdu live came (moved judged live.rest.link))
     notices (fate.Data taken) judged mild =
         let link = moved judged live.rest.link in
         exchanges_on link (replies_of taken (flow_of link)) (mild_stays judged live.rest.link mild) (replies_other link taken (flow_of link))
@@ -551,7 +551,7 @@ module _ (refusals_are_not_done : RefusalsAreNotDone) (rules : Rules Taken Reque
     none_confirms true b c e = rw e refl
     none_confirms false b c e = refl
 
-    answers_as : (response : Response) (heard : Hearing) → answer_of response live.rest.link ≡ heard → Comes_to (cond (confirms response) small.Confirms small.Idle) (judged_answer live heard)
+    answers_as : (response : Response) (heard : ReadyAnswer) → answer_of response live.rest.link ≡ heard → Comes_to (cond (confirms response) small.Confirms small.Idle) (judged_answer live heard)
     answers_as response to_ready.NotWanted e = refuses (cond (confirms response) small.Confirms small.Idle) Filter
     answers_as response to_ready.Garbled e = refuses (cond (confirms response) small.Confirms small.Idle) Filter
     answers_as response to_ready.Confirmed e =
@@ -627,7 +627,7 @@ module _ (refusals_are_not_done : RefusalsAreNotDone) (rules : Rules Taken Reque
 
         -- ---- Write
 
-        takes_record : (number : ℕ) (value : Taken) (link : Option Link) (kept : Result (List Taken) CallFault) → keeping value link ≡ kept → slice_get rules.records number ≡ Some value
+        takes_record : (number : ℕ) (value : TakenRecord) (link : Option Link) (kept : Result (List TakenRecord) CallFault) → keeping value link ≡ kept → slice_get rules.records number ≡ Some value
             → Comes rules (is_well kept) (small.Writes number) (option_map link_of link) (option_map link_of (moved (answered Named kept) (moved (taking kept) link)))
         takes_record number value None (Ok taken) e there = absurd cc
         takes_record number value None (Err why) e there = refl
@@ -637,26 +637,26 @@ module _ (refusals_are_not_done : RefusalsAreNotDone) (rules : Rules Taken Reque
           value = value;
           was = refl;
           is = there;
-          becomes = ap (λ (records : List Taken). Some (record { phase = phase_in link.phase; request = link.request; taken = records })) (kept_is value link.taken taken e);
+          becomes = ap (λ (records : List TakenRecord). Some (record { phase = phase_in link.phase; request = link.request; taken = records })) (kept_is value link.taken taken e);
         }
 
-        writes_kept : (header : IodWriteReq) (number : ℕ) (value : Taken) (kept : Result (List Taken) CallFault) → keeping value live.rest.link ≡ kept → slice_get rules.records number ≡ Some value
+        writes_kept : (header : IodWriteReq) (number : ℕ) (value : TakenRecord) (kept : Result (List TakenRecord) CallFault) → keeping value live.rest.link ≡ kept → slice_get rules.records number ≡ Some value
             → Comes_to (small.Call call.header.sequence (small.Writes number))
             (served station live caller call operation.Write (kept_answer header kept) (moved (answered Named kept) (moved (taking kept) live.rest.link)) [])
         writes_kept header number value (Ok taken) e there =
             serves (small.Writes number) operation.Write (kept_answer header (Ok taken)) (moved (answered Named (Ok taken)) (moved (taking (Ok taken)) live.rest.link)) []
             (takes_record number value live.rest.link (Ok taken) e there) tt
         writes_kept header number value (Err why) e there =
-            serves (small.Writes number) operation.Write (kept_answer header (Err why)) (moved (answered {A = List Taken} Named (Err why)) (moved (taking (Err why)) live.rest.link)) []
+            serves (small.Writes number) operation.Write (kept_answer header (Err why)) (moved (answered {A = List TakenRecord} Named (Err why)) (moved (taking (Err why)) live.rest.link)) []
             (takes_record number value live.rest.link (Err why) e there) tt
 
-        writes_effect : (header : IodWriteReq) (effect : Effect) (number : ℕ) (value : Taken) → effect ≡ Keeps value → slice_get rules.records number ≡ Some value
+        writes_effect : (header : IodWriteReq) (effect : Effect) (number : ℕ) (value : TakenRecord) → effect ≡ Keeps value → slice_get rules.records number ≡ Some value
             → Comes_to (small.Call call.header.sequence (small.Writes number)) (judged_effect station live caller call header effect)
         writes_effect header (Stores text) number value is there = absurd cc
         writes_effect header (Keeps parameter) number value is there =
-            writes_kept header number parameter (keeping parameter live.rest.link) refl (there ∙ ap (λ (v : Taken). Some v) (sym (same_kept parameter value is)))
+            writes_kept header number parameter (keeping parameter live.rest.link) refl (there ∙ ap (λ (v : TakenRecord). Some v) (sym (same_kept parameter value is)))
           where
-            same_kept : (x y : Taken) → Keeps x ≡ Keeps y → x ≡ y
+            same_kept : (x y : TakenRecord) → Keeps x ≡ Keeps y → x ≡ y
             same_kept x y e = cc
 
         writes_as : (blocks : List ℕ) (write : Result Write CallFault) → write_of (uuid_of live.rest.link) station.real blocks ≡ write
@@ -768,7 +768,7 @@ module _ (refusals_are_not_done : RefusalsAreNotDone) (rules : Rules Taken Reque
     goes Unreadable plan = refuses small.Idle Filter
     goes Elsewhere plan = refuses small.Idle Filter
 
-pub step_goes : RefusalsAreNotDone → (rules : Rules Taken Request) (activity : List ℕ) (outcomes : List Outcome) (station : Station) (live : Live) (heard : Heard)
+pub step_goes : RefusalsAreNotDone → (rules : Rules TakenRecord Request) (activity : List ℕ) (outcomes : List Outcome) (station : Station) (live : Live) (heard : Heard)
     → IsPlanned rules activity station.real heard → AllByRecursion (IsHeardAs rules station.identity) (heard_step outcomes station live heard).sent
     → DeviceSteps rules (heard_as heard) (small_of activity live) (small_of activity (heard_step outcomes station live heard).live) (heard_step outcomes station live heard).frames
 unfolding heard_step judged_step

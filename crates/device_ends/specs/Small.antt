@@ -16,7 +16,7 @@ use Rattle.pnio_status.specs.declared.operation.Operation.TheVariants as operati
 use Rattle.pnio_status.specs.Operation.{operation_of}
 use Rattle.connect_requests.specs.Request.{Request}
 use Rattle.connect_requests.specs.Judged.{request_of}
-use Rattle.record_writes.specs.declared.taken.Taken.{Taken}
+use Rattle.record_writes.specs.declared.taken.TakenRecord.{TakenRecord}
 use Rattle.record_writes.specs.declared.write.Effect.TheVariants.{Keeps}
 use Rattle.record_writes.specs.declared.write.Write.{Write}
 use Rattle.record_writes.specs.Judged.{write_of}
@@ -37,14 +37,14 @@ phase_in Started = small.Started
 phase_in Awaiting = small.Awaiting
 phase_in Exchanging = small.Exchanging
 
-abbrev pub link_of : Link → small.Link Taken Request
+abbrev pub link_of : Link → small.Link TakenRecord Request
 link_of link = record { phase = phase_in link.phase; request = link.request; taken = link.taken }
 
 abbrev pub kept_in : Answer → small.Kept
 kept_in answer = record { sequence = answer.sequence; frame = answer.frame }
 
 -- of the answers that are kept that of the activity of the start-up counts
-abbrev pub small_of : List ℕ → Live → small.Device Taken Request
+abbrev pub small_of : List ℕ → Live → small.Device TakenRecord Request
 small_of activity live = record { kept = option_map kept_in (kept_of activity live.rest.calls); link = option_map link_of live.rest.link }
 
 -- ---- what it hears
@@ -91,14 +91,14 @@ heard_as (Raised slot subslot octets) = small.Idle
 
 -- a call with these blocks is one of the start-up: its Connect is read as what it asks for; its Writes, where they are judged well, keep
 -- the records; what a PrmEnd or a Release says is looked at when it comes
-pub record IsPlannedWrite (rules : Rules Taken Request) (real : Real) (sequence : ℕ) (blocks : List ℕ) : Type 0 where
+pub record IsPlannedWrite (rules : Rules TakenRecord Request) (real : Real) (sequence : ℕ) (blocks : List ℕ) : Type 0 where
   pub number : ℕ
-  pub value : Taken
+  pub value : TakenRecord
   pub is : sequence ≡ number + 1
   pub there : slice_get rules.records number ≡ Some value
   pub keeps : (standing : Option (List ℕ)) (write : Write) → write_of standing real blocks ≡ Ok write → write.effect ≡ Keeps value
 
-abbrev pub IsPlannedAs : Rules Taken Request → Real → ℕ → List ℕ → Option Operation → Type 0
+abbrev pub IsPlannedAs : Rules TakenRecord Request → Real → ℕ → List ℕ → Option Operation → Type 0
 IsPlannedAs rules real sequence blocks (Some operation.Connect) = request_of None blocks ≡ Ok rules.request
 IsPlannedAs rules real sequence blocks (Some operation.Write) = IsPlannedWrite rules real sequence blocks
 IsPlannedAs rules real sequence blocks (Some operation.Control) = Unit {0}
@@ -108,19 +108,19 @@ IsPlannedAs rules real sequence blocks (Some operation.ReadImplicit) = ⊥
 IsPlannedAs rules real sequence blocks None = ⊥
 
 -- of the activity of the start-up, its blocks counted well
-pub record IsPlannedCall (rules : Rules Taken Request) (activity : List ℕ) (real : Real) (call : Call) : Type 0 where
+pub record IsPlannedCall (rules : Rules TakenRecord Request) (activity : List ℕ) (real : Real) (call : Call) : Type 0 where
   pub own : call.header.activity ≡ activity
   pub blocks : List ℕ
   pub counted : call.blocks ≡ Some blocks
   pub asks : IsPlannedAs rules real call.header.sequence blocks (operation_of call.header.operation)
 
 -- each call that is heard is one of the start-up
-abbrev pub IsPlannedIn : Rules Taken Request → List ℕ → Real → Said → Type 0
+abbrev pub IsPlannedIn : Rules TakenRecord Request → List ℕ → Real → Said → Type 0
 IsPlannedIn rules activity real (Calls call) = IsPlannedCall rules activity real call
 IsPlannedIn rules activity real (Responds response) = Unit {0}
 IsPlannedIn rules activity real Garbled = Unit {0}
 
-abbrev pub IsPlanned : Rules Taken Request → List ℕ → Real → Heard → Type 0
+abbrev pub IsPlanned : Rules TakenRecord Request → List ℕ → Real → Heard → Type 0
 IsPlanned rules activity real (Told caller address said) = IsPlannedIn rules activity real said
 IsPlanned rules activity real Ticks = Unit {0}
 IsPlanned rules activity real Unreadable = Unit {0}
@@ -148,10 +148,10 @@ said_by (Ends farewell) = small.Nothing
 said_by (Exchanges route frame) = small.Nothing
 
 -- both ends hear that of its octets: the device nothing, and the controller what it says
-abbrev pub IsHeardBy : Rules Taken Request → List ℕ → ToController → Type 0
+abbrev pub IsHeardBy : Rules TakenRecord Request → List ℕ → ToController → Type 0
 IsHeardBy rules frame says = (rules.to_device frame ≡ small.Idle) × (rules.to_controller frame ≡ says)
 
-abbrev pub IsHeardAs : Rules Taken Request → Identity → Sent → Type 0
+abbrev pub IsHeardAs : Rules TakenRecord Request → Identity → Sent → Type 0
 IsHeardAs rules identity (Again frame) = Unit {0}
 IsHeardAs rules identity (CallAnswer caller address answer) = IsHeardBy rules (bytes_of identity (CallAnswer caller address answer)) (said_by (CallAnswer caller address answer))
 IsHeardAs rules identity (ReadyCall address ready) = IsHeardBy rules (bytes_of identity (ReadyCall address ready)) small.Readies

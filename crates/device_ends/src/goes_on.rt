@@ -3,7 +3,7 @@ ghost use Rattle.std.specs.Prelude.{List, ℕ};
 ghost use Rattle.std.specs.List.{AllByRecursion};
 ghost use Rattle.settings_store.specs.Machine.{Outcome};
 ghost use Rattle.connect_requests.specs.Request.{Request};
-ghost use Rattle.record_writes.specs.declared.taken.Taken.{Taken};
+ghost use Rattle.record_writes.specs.declared.taken.TakenRecord.{TakenRecord};
 ghost use Rattle.device_frames.specs.Heard.{Heard};
 ghost use Rattle.device_core.specs.State.{Station, Live};
 ghost use Rattle.device_core.specs.Machine.{heard_step};
@@ -17,7 +17,7 @@ use pnio_status::refusals_are_not_done;
 pub fn device_goes_on()
     // Whatever a device hears, where each call is one of the start-up and each message that is sent is heard as it is meant: it is a step
     // of the small machine, whatever the flash did.
-    ensures { (rules : Rules Taken Request) (activity : List ℕ) (outcomes : List Outcome) (station : Station) (live : Live) (heard : Heard)
+    ensures { (rules : Rules TakenRecord Request) (activity : List ℕ) (outcomes : List Outcome) (station : Station) (live : Live) (heard : Heard)
         → IsPlanned rules activity station.real heard
         → AllByRecursion (IsHeardAs rules station.identity) (heard_step outcomes station live heard).sent
         → DeviceSteps rules (heard_as heard) (small_of activity live) (small_of activity (heard_step outcomes station live heard).live) (heard_step outcomes station live heard).frames }

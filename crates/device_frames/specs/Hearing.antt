@@ -5,12 +5,12 @@ use Rattle.frame_codec.specs.Meaning.{Meaning}
 use Rattle.pn_values.specs.declared.mac.Mac.{Mac}
 use Rattle.dcp_core.specs.Reading.{request_of}
 use Rattle.pn_alarms.specs.Message.{message_of}
-use Rattle.device_frames.specs.declared.hearing.Kind.{Kind}
-use Rattle.device_frames.specs.declared.hearing.Kind.TheVariants as kind
+use Rattle.device_frames.specs.declared.hearing.RealTimeKind.{RealTimeKind}
+use Rattle.device_frames.specs.declared.hearing.RealTimeKind.TheVariants as kind
 use Rattle.device_frames.specs.Heard.{Heard, Unreadable, Elsewhere, Cyclic, heard_alarm, heard_content, heard_request}
 
 -- a request of DCP, an alarm frame and a cyclic frame are read as such
-abbrev pub heard_as : Kind → Mac → ℕ → List ℕ → Heard
+abbrev pub heard_as : RealTimeKind → Mac → ℕ → List ℕ → Heard
 heard_as kind.Request source frame_id body = heard_request source (request_of frame_id body)
 heard_as kind.Alarm source frame_id body = heard_alarm source (message_of body)
 heard_as kind.Cyclic source frame_id body = Cyclic source frame_id body

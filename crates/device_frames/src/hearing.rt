@@ -42,7 +42,7 @@ pub fn read_layers(bytes: &Bytes) -> Option<Layered<'_>>
 
 /// What a frame of EtherType 0x8892 is to a device.
 #[derive(Clone, Copy)]
-pub enum Kind {
+pub enum RealTimeKind {
     /// A request of DCP that the device takes.
     Request,
     /// An alarm frame to this station.
@@ -55,23 +55,23 @@ pub enum Kind {
 
 /// What a frame with this destination and FrameID is.
 #[inline(always)]
-pub fn kind_of(identity: &Identity, destination: Mac, frame_id: u16) -> Kind
+pub fn kind_of(identity: &Identity, destination: Mac, frame_id: u16) -> RealTimeKind
     ensures { (source : Mac) (body : List ℕ) → heard_content identity.now destination source (RealTime frame_id body) ≡ heard_as result source frame_id body }
 {
     if is_taken(identity, destination, frame_id) {
-        return Kind::Request;
+        return RealTimeKind::Request;
     }
     // Cyclic data and alarms go to one station: multicast of them is not part of this device.
     if !is_own(identity, destination) {
-        return Kind::Elsewhere;
+        return RealTimeKind::Elsewhere;
     }
     if is_alarm(frame_id) {
-        return Kind::Alarm;
+        return RealTimeKind::Alarm;
     }
     if is_cyclic(frame_id) {
-        return Kind::Cyclic;
+        return RealTimeKind::Cyclic;
     }
-    Kind::Elsewhere
+    RealTimeKind::Elsewhere
 }
 
 /// Whether a packet of ARP with this destination is for the device: to it, or to all stations.

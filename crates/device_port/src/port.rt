@@ -14,7 +14,7 @@ use device_core::{Device, Event, Note};
 use flash_model::Sector;
 use frame_codec::{Bytes, Frame, Outbox};
 use pn_values::{Identity, Real, Settings};
-use record_writes::Taken;
+use record_writes::TakenRecord;
 use recorded_device::step;
 use recorded_flash::{Recorded, RecordedFlash};
 use relations::Phase;
@@ -291,7 +291,7 @@ impl Port {
     }
 
     /// The parameter records that the relation took, in their order.
-    pub fn taken(&self) -> Result<&[Taken], Refusal>
+    pub fn taken(&self) -> Result<&[TakenRecord], Refusal>
         ensures { MatchResult result (λ taken. (closed self.now.stage ≡ None) × (taken.now ≡ taken_of self.now.device.live.rest.link)) (λ refusal. closed self.now.stage ≡ Some refusal) }
     {
         match why_closed(self.stage) {

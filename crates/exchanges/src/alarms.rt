@@ -8,7 +8,7 @@ ghost use Rattle.exchanges.specs.Notices.{behind_message, header_of, raised_at};
 use crate::DataExchange;
 use arrayvec::ArrayVec;
 use module_diff::{module_ident, submodule_ident};
-use pn_alarms::{Alarm, Header, Heard, Message, Pdu, PduType, Taken, alarm_front, write_pdu};
+use pn_alarms::{Alarm, Header, Message, Pdu, PduFate, PduType, Taken, alarm_front, write_pdu};
 use pn_values::Real;
 
 /// The endpoint of the device: the LocalAlarmReference that it answers in AlarmCRBlockRes.
@@ -41,11 +41,11 @@ impl DataExchange {
     }
 
     /// A PDU of the partner comes. Answers what becomes of it: data is answered by ACK or NACK, an ERR ends the relation.
-    pub fn hear(&mut self, message: &Message) -> Heard
+    pub fn hear(&mut self, message: &Message) -> PduFate
         ensures heard { result ≡ heard_as self.old.alarms message.now }
         ensures state { self.new ≡ behind_message self.old message.now }
         // One that is ignored changes nothing.
-        ensures ignored { result ≡ Heard.Ignored → self.new ≡ self.old }
+        ensures ignored { result ≡ PduFate.Ignored → self.new ≡ self.old }
     {
         self.alarms.hear(message)
     }

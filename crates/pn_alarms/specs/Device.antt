@@ -2,8 +2,8 @@
 use Rattle.std.specs.Prelude.{ℕ, None, if◌then◌else◌}
 use Rattle.record_blocks.specs.declared.alarm_ack.AlarmAck.{AlarmAck}
 use Rattle.record_blocks.specs.declared.alarm_notification.AlarmNotification.{AlarmNotification}
-use Rattle.pn_alarms.specs.declared.device.Heard.{Heard}
-use Rattle.pn_alarms.specs.declared.device.Heard.TheVariants.{Data, Done, Ignored, Aborted}
+use Rattle.pn_alarms.specs.declared.device.PduFate.{PduFate}
+use Rattle.pn_alarms.specs.declared.device.PduFate.TheVariants.{Data, Done, Ignored, Aborted}
 use Rattle.pn_alarms.specs.Message.{ToDevice}
 use Rattle.pn_alarms.specs.declared.message.Notice.TheVariants as message
 use Rattle.pn_alarms.specs.declared.pdu.Header.{Header}
@@ -24,7 +24,7 @@ idle factor retries = record { sender = quiet factor retries; seen = None }
 
 -- what becomes of a PDU: data is taken, or not; an ACK counts if it is of the last alarm that was sent; a NACK does not; an ERR ends the
 -- relation
-abbrev pub heard_as : DeviceEnd → ToDevice → Heard
+abbrev pub heard_as : DeviceEnd → ToDevice → PduFate
 heard_as e (message.Data number ack) = Data (taken_as e.seen number)
 heard_as e (message.Ack number) = if is_last e.sender.sending.last number then Done else Ignored
 heard_as e message.Nack = Ignored

@@ -1,7 +1,7 @@
 //! A device's end of a relation's alarms.
 ghost use Rattle.std.specs.Prelude.{◌≡◌, ◌<◌, ◌≤◌, length, is_ok, is_none, IfSome, OnOk, OnErr};
 ghost use Rattle.std.specs.Prelude.{if◌then◌else◌};
-ghost use Rattle.pn_alarms.specs.declared.device.Heard.TheVariants.{Done, Ignored};
+ghost use Rattle.pn_alarms.specs.declared.device.PduFate.TheVariants.{Done, Ignored};
 ghost use Rattle.pn_alarms.specs.declared.sender.Reply.TheVariants.{Ack};
 ghost use Rattle.pn_alarms.specs.Numbers.{is_last};
 ghost use Rattle.pn_alarms.specs.Receiver.{taken_as, last_behind};
@@ -15,7 +15,7 @@ use std::marker::Model;
 
 /// What becomes of a PDU.
 #[derive(Clone, Copy, Debug, PartialEq, Eq)]
-pub enum Heard {
+pub enum PduFate {
     /// It was data, which was taken or not, and is answered.
     Data(Taken),
     /// It was an ACK of the last alarm.
@@ -97,16 +97,16 @@ impl DeviceAlarms {
     }
 
     /// A PDU of the relation comes. Answers what becomes of it.
-    pub fn hear(&mut self, message: &Message) -> Heard
+    pub fn hear(&mut self, message: &Message) -> PduFate
         ensures heard { result ≡ heard_as self.old message.now }
         ensures state { self.new ≡ end_behind self.old message.now }
     {
         match message {
-            Message::Data(number, ack) => Heard::Data(self.take(*number, ack)),
+            Message::Data(number, ack) => PduFate::Data(self.take(*number, ack)),
             Message::Ack(number) => self.hear_ack(*number),
             // The alarm is sent again at its time anyway: a NACK says that a number was not expected, which a repeat mends.
-            Message::Nack => Heard::Ignored,
-            Message::Abort => Heard::Aborted,
+            Message::Nack => PduFate::Ignored,
+            Message::Abort => PduFate::Aborted,
         }
     }
 
@@ -127,14 +127,14 @@ impl DeviceAlarms {
     }
 
     /// An ACK comes.
-    fn hear_ack(&mut self, number: u16) -> Heard
+    fn hear_ack(&mut self, number: u16) -> PduFate
         ensures heard { result ≡ (if is_last self.old.sender.sending.last number then Done else Ignored) }
         ensures state { self.new ≡ record { sender = answered self.old.sender (Ack number); seen = self.old.seen } }
     {
         if self.sender.hear(&Reply::Ack(number)) {
-            Heard::Done
+            PduFate::Done
         } else {
-            Heard::Ignored
+            PduFate::Ignored
         }
     }
 }

@@ -18,7 +18,7 @@ mod writing;
 
 pub use abort::Abort;
 pub use controller::ControllerAlarms;
-pub use device::{DeviceAlarms, Heard};
+pub use device::{DeviceAlarms, PduFate};
 pub use fault::AlarmFault;
 pub use law::fitting_pdus_are_read;
 pub use message::{Message, Notice, read_alarm, read_message};

@@ -3,7 +3,7 @@ ghost use Rattle.std.specs.Prelude.{◌≡◌};
 ghost use Rattle.std.specs.Option.{option_map};
 ghost use Rattle.record_writes.specs.Judged.{effect_of, is_known, is_read_only, judged_request, kept, stored, targeted, write_of, written};
 
-use crate::{Effect, Taken, Write};
+use crate::{Effect, TakenRecord, Write};
 use arrayvec::ArrayVec;
 use block_codec::{Block, BlockType, IodWriteReq};
 use block_fields::Uuid;
@@ -137,7 +137,7 @@ fn kept(real: &Real, request: &IodWriteReq, octets: &[u8]) -> Option<Effect>
     }
     let mut value = ArrayVec::new();
     match value.try_extend_from_slice(octets) {
-        Ok(()) => Some(Effect::Keeps(Taken {
+        Ok(()) => Some(Effect::Keeps(TakenRecord {
             slot,
             subslot,
             index,

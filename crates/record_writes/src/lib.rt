@@ -9,5 +9,5 @@ mod write;
 
 pub use answering::put_write_answer;
 pub use judging::judge_write;
-pub use taken::{Taken, TakenRecords};
+pub use taken::{TakenRecord, TakenRecords};
 pub use write::{Effect, Write};

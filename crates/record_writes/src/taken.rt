@@ -8,7 +8,7 @@ use std::marker::Model;
 
 /// A parameter record that was written.
 #[derive(Default, Drop)]
-pub struct Taken {
+pub struct TakenRecord {
     /// SlotNumber of the submodule.
     pub slot: u16,
     /// SubslotNumber of the submodule.
@@ -22,14 +22,14 @@ pub struct Taken {
 /// The parameter records that a relation has taken, in their order: at most 64. A record that is written again is there again.
 #[derive(Drop)]
 pub struct TakenRecords {
-    records: ArrayVec<Taken, 64>,
+    records: ArrayVec<TakenRecord, 64>,
 }
 
 impl Model for TakenRecords {
     ghost use Rattle.std.specs.Prelude.{List};
-    ghost use Rattle.record_writes.specs.declared.taken.Taken.{Taken};
+    ghost use Rattle.record_writes.specs.declared.taken.TakenRecord.{TakenRecord};
 
-    ghost Value = { List Taken };
+    ghost Value = { List TakenRecord };
 
     ghost view = { λ all. all.records.items };
 }
@@ -53,7 +53,7 @@ impl TakenRecords {
 
     /// Keeps one more: TooManyRecords where 64 are kept already.
     #[tactic(auto, unfolding(crate::specs::Taken::keep_of))]
-    pub fn keep(&mut self, taken: Taken) -> Result<(), CallFault>
+    pub fn keep(&mut self, taken: TakenRecord) -> Result<(), CallFault>
         // It comes behind the others,
         ensures kept { IfOk result (λ _. keep_of taken self.old ≡ Ok self.new) }
         // or it is refused, and they stay.
@@ -68,7 +68,7 @@ impl TakenRecords {
     }
 
     /// Them, in the order in which they were taken.
-    pub fn as_slice(&self) -> &[Taken]
+    pub fn as_slice(&self) -> &[TakenRecord]
         ensures { result.now ≡ self.now }
     {
         self.records.as_slice()

@@ -1,4 +1,4 @@
-use crate::Taken;
+use crate::TakenRecord;
 use block_codec::IodWriteReq;
 use pn_values::ImValue;
 
@@ -17,5 +17,5 @@ pub enum Effect {
     /// An I&M text is stored.
     Stores(ImValue),
     /// A parameter record is kept until the relation ends.
-    Keeps(Taken),
+    Keeps(TakenRecord),
 }

@@ -29,16 +29,16 @@ use Rattle.record_writes.specs.declared.write.Effect.{Effect}
 use Rattle.record_writes.specs.declared.write.Effect.TheVariants.{Stores, Keeps}
 use Rattle.record_writes.specs.declared.write.Write.{Write as Asking}
 use Rattle.pn_alarms.specs.Message.{ToDevice, message_of}
-use Rattle.pn_alarms.specs.declared.device.Heard.{Heard as Fate}
-use Rattle.pn_alarms.specs.declared.device.Heard.TheVariants as fate
+use Rattle.pn_alarms.specs.declared.device.PduFate.{PduFate}
+use Rattle.pn_alarms.specs.declared.device.PduFate.TheVariants as fate
 use Rattle.pn_alarms.specs.declared.fault.AlarmFault.{AlarmFault}
 use Rattle.pn_alarms.specs.declared.pdu.Header.{Header}
 use Rattle.cyclic_exchange.specs.declared.received.Received.{Received}
 use Rattle.cyclic_exchange.specs.declared.received.Received.TheVariants as received
 use Rattle.exchanges.specs.Flow.{Flow}
 use Rattle.relations.specs.Link.{Link}
-use Rattle.relations.specs.declared.hearing.Heard.{Heard as Answer}
-use Rattle.relations.specs.declared.hearing.Heard.TheVariants as to_ready
+use Rattle.relations.specs.declared.hearing.ReadyAnswer.{ReadyAnswer}
+use Rattle.relations.specs.declared.hearing.ReadyAnswer.TheVariants as to_ready
 use Rattle.device_frames.specs.declared.event.Event.{Event}
 use Rattle.device_frames.specs.declared.event.Event.TheVariants.{Frame, Tick, Input, Alarm}
 use Rattle.device_frames.specs.Heard.{is_own, is_taken, said_by, Heard, Ticks, Unreadable, Elsewhere, Asks, Resolves, Told, Cyclic, Alarms, Given, Raised, Said, Calls, Responds, Garbled, heard_alarm, heard_request, heard_content, heard_frame, heard_of}
@@ -178,7 +178,7 @@ module _ (station : Station) (live : Live) where
   few_call caller call None = omega arith
   few_call caller call (Some operation) = few_counted caller call operation call.blocks
 
-  few_answer : (answer : Answer) → IsFew (judged_answer live answer)
+  few_answer : (answer : ReadyAnswer) → IsFew (judged_answer live answer)
   few_answer to_ready.NotWanted = omega arith
   few_answer to_ready.Garbled = omega arith
   few_answer to_ready.Confirmed = omega arith
@@ -203,7 +203,7 @@ module _ (station : Station) (live : Live) where
   few_notice (Some flow) = omega arith
   few_notice None = omega arith
 
-  few_pdu : (fate : Fate) (link : Option Link) → IsFew (judged_pdu live fate link)
+  few_pdu : (fate : PduFate) (link : Option Link) → IsFew (judged_pdu live fate link)
   few_pdu (fate.Data taken) link = omega arith
   few_pdu fate.Done link = omega arith
   few_pdu fate.Ignored link = omega arith

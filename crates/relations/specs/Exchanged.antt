@@ -2,8 +2,8 @@
 use Rattle.std.specs.Prelude.{ℕ, List, Option, Some, None}
 use Rattle.pn_values.specs.declared.mac.Mac.{Mac}
 use Rattle.pn_values.specs.declared.real.RealModule.{RealModule}
-use Rattle.pn_alarms.specs.declared.device.Heard.{Heard}
-use Rattle.pn_alarms.specs.declared.device.Heard.TheVariants.{Data, Done, Ignored, Aborted}
+use Rattle.pn_alarms.specs.declared.device.PduFate.{PduFate}
+use Rattle.pn_alarms.specs.declared.device.PduFate.TheVariants.{Data, Done, Ignored, Aborted}
 use Rattle.pn_alarms.specs.Message.{ToDevice}
 use Rattle.pn_alarms.specs.Device.{heard_as}
 use Rattle.cyclic_exchange.specs.declared.received.Received.{Received}
@@ -51,11 +51,11 @@ output_in slot subslot None = None
 output_in slot subslot (Some link) = output_at link.flow slot subslot
 
 -- a PDU of the partner: what becomes of it, and of the relation, which ERR ends
-abbrev pub heard_by : ToDevice → Option Link → Heard
+abbrev pub heard_by : ToDevice → Option Link → PduFate
 heard_by message None = Ignored
 heard_by message (Some link) = heard_as link.flow.alarms message
 
-abbrev pub hearing_as : Heard → Flow → Judged
+abbrev pub hearing_as : PduFate → Flow → Judged
 hearing_as (Data taken) flow = Exchanged flow
 hearing_as Done flow = Exchanged flow
 hearing_as Ignored flow = Unmoved

@@ -4,7 +4,7 @@ use Rattle.std.specs.Cmp.Lexicographic.{pointwise}
 use Rattle.pn_values.specs.declared.mac.Mac.{Mac}
 use Rattle.call_blocks.specs.Naming.{is_relation}
 use Rattle.connect_requests.specs.Request.{Request}
-use Rattle.record_writes.specs.declared.taken.Taken.{Taken}
+use Rattle.record_writes.specs.declared.taken.TakenRecord.{TakenRecord}
 use Rattle.exchanges.specs.Flow.{Flow}
 use Rattle.relations.specs.declared.phase.Phase.{Phase}
 use Rattle.relations.specs.declared.phase.Phase.TheVariants.{Started, Awaiting, Exchanging}
@@ -19,7 +19,7 @@ pub record Link : Type 0 where
   pub partner : Partner
   pub quiet : ℕ
   pub waited : ℕ
-  pub taken : List Taken
+  pub taken : List TakenRecord
   pub differing : List ℕ
   pub flow : Flow
 
@@ -35,7 +35,7 @@ abbrev pub uuid_of : Option Link → Option (List ℕ)
 uuid_of link = option_map (λ l. l.request.ar.uuid) link
 
 -- the records that it took, and its ModuleDiffBlock
-abbrev pub taken_of : Option Link → List Taken
+abbrev pub taken_of : Option Link → List TakenRecord
 taken_of None = []
 taken_of (Some link) = link.taken
 

@@ -8,7 +8,7 @@ use Rattle.block_codec.specs.Block.{block_bytes}
 use Rattle.connect_requests.specs.Request.{Request}
 use Rattle.pnio_status.specs.declared.call_fault.CallFault.{CallFault}
 use Rattle.pnio_status.specs.declared.call_fault.CallFault.TheVariants as fault
-use Rattle.record_writes.specs.declared.taken.Taken.{Taken}
+use Rattle.record_writes.specs.declared.taken.TakenRecord.{TakenRecord}
 use Rattle.record_writes.specs.Taken.{keep_of}
 use Rattle.pn_alarms.specs.declared.abort.Abort.{Abort}
 use Rattle.exchanges.specs.Flow.{Flow}
@@ -27,7 +27,7 @@ pub data Judged : Type 0 where
   Parameterized : Judged
   Confirmed : Judged
   Named : Judged
-  Took : (taken : List Taken) → Judged
+  Took : (taken : List TakenRecord) → Judged
   Exchanged : (flow : Flow) → Judged
   Passed : Judged
   Ended : Judged
@@ -63,7 +63,7 @@ abbrev pub restarted : Link → Link
 restarted link = record link { quiet = 0 }
 
 -- it has taken these parameter records
-abbrev pub with_taken : List Taken → Link → Link
+abbrev pub with_taken : List TakenRecord → Link → Link
 with_taken taken link = record link { taken = taken }
 
 -- what it exchanges became this
@@ -96,10 +96,10 @@ abbrev pub answered : {A : Type 0} → Judged → Result A CallFault → Judged
 answered judged (Ok answer) = judged
 answered judged (Err fault) = Unmoved
 
-abbrev pub keeping : Taken → Option Link → Result (List Taken) CallFault
+abbrev pub keeping : TakenRecord → Option Link → Result (List TakenRecord) CallFault
 keeping parameter None = Err fault.UnknownRelation
 keeping parameter (Some link) = keep_of parameter link.taken
 
-abbrev pub taking : Result (List Taken) CallFault → Judged
+abbrev pub taking : Result (List TakenRecord) CallFault → Judged
 taking (Ok taken) = Took taken
 taking (Err fault) = Unmoved

@@ -2,7 +2,7 @@
 use Rattle.std.specs.Prelude.{◌==◌, ◌&&◌, ℕ, Bool, nat_eq, List, Option, Some, None, Result, Ok, Err, if◌then◌else◌}
 use Rattle.std.specs.Cmp.Lexicographic.{pointwise}
 use Rattle.rpc_core.specs.declared.interface.Interface.TheVariants.{Controller}
-use Rattle.rpc_core.specs.declared.header.Header.{Header}
+use Rattle.rpc_core.specs.declared.header.CallHeader.{CallHeader}
 use Rattle.rpc_core.specs.Interface.{interface_uuid}
 use Rattle.rpc_core.specs.Response.{Answered, is_done}
 use Rattle.block_fields.specs.declared.fault.BlockFault.{BlockFault}
@@ -10,8 +10,8 @@ use Rattle.block_codec.specs.declared.block.Block.{Block}
 use Rattle.block_codec.specs.Block.{block_of, in_application_ready_res}
 use Rattle.connect_blocks.specs.declared.control.ControlBlock.{ControlBlock}
 use Rattle.pn_alarms.specs.declared.abort.Abort.TheVariants.{Other}
-use Rattle.relations.specs.declared.hearing.Heard.{Heard}
-use Rattle.relations.specs.declared.hearing.Heard.TheVariants as heard
+use Rattle.relations.specs.declared.hearing.ReadyAnswer.{ReadyAnswer}
+use Rattle.relations.specs.declared.hearing.ReadyAnswer.TheVariants as heard
 use Rattle.relations.specs.declared.ready.Ready.{Ready}
 use Rattle.relations.specs.Link.{Link, is_awaiting}
 use Rattle.relations.specs.Farewells.{farewell_of}
@@ -39,7 +39,7 @@ ready_of link = record {
 -- ---- the answer
 
 -- it answers that call
-abbrev pub is_answer_to : List ℕ → Header → Bool
+abbrev pub is_answer_to : List ℕ → CallHeader → Bool
 is_answer_to uuid header = pointwise nat_eq header.activity uuid && (header.sequence == 0 && header.operation == 4)
 
 -- it is wanted: the relation waits for it
@@ -52,23 +52,23 @@ confirmed_block (Ok x) = in_application_ready_res x.0
 confirmed_block (Err fault) = None
 
 -- a positive one confirms if its block names the relation
-abbrev pub confirmed_by : List ℕ → Option ControlBlock → Heard
+abbrev pub confirmed_by : List ℕ → Option ControlBlock → ReadyAnswer
 confirmed_by uuid None = heard.Garbled
 confirmed_by uuid (Some block) = if pointwise nat_eq block.ar_uuid uuid then heard.Confirmed else heard.NotWanted
 
-abbrev pub answer_in : Answered → Link → Heard
+abbrev pub answer_in : Answered → Link → ReadyAnswer
 answer_in response link =
     if is_wanted response link
     then (if is_done response.status then confirmed_by link.request.ar.uuid (confirmed_block (block_of response.blocks)) else heard.Refused (farewell_of Other link))
     else heard.NotWanted
 
 -- what an answer is to a device
-unfoldable pub answer_of : Answered → Option Link → Heard
+unfoldable pub answer_of : Answered → Option Link → ReadyAnswer
 answer_of response None = heard.NotWanted
 answer_of response (Some link) = answer_in response link
 
 -- what it does to the relation
-abbrev pub judged_by : Heard → Judged
+abbrev pub judged_by : ReadyAnswer → Judged
 judged_by heard.NotWanted = Unmoved
 judged_by heard.Garbled = Unmoved
 judged_by heard.Confirmed = Confirmed

@@ -7,7 +7,7 @@ ghost use Rattle.relations.specs.Phases.{moved};
 
 use crate::Relation;
 use exchanges::{DataExchange, Received};
-use pn_alarms::{Heard, Message};
+use pn_alarms::{Message, PduFate};
 use pn_values::{Mac, Real};
 
 impl Relation {
@@ -69,15 +69,15 @@ impl Relation {
     }
 
     /// A PDU of the partner comes. Answers what becomes of it: data is to be answered, and an ERR has ended the relation.
-    pub fn hear(&mut self, message: &Message) -> Heard
+    pub fn hear(&mut self, message: &Message) -> PduFate
         ensures heard { result ≡ heard_by message.now self.old }
         ensures state { self.new ≡ moved (hearing message.now self.old) self.old }
     {
         let Some(_) = self.phase else {
-            return Heard::Ignored;
+            return PduFate::Ignored;
         };
         let heard = self.exchange.hear(message);
-        if let Heard::Aborted = heard {
+        if let PduFate::Aborted = heard {
             self.phase = None;
         }
         heard

@@ -19,7 +19,7 @@ mod time;
 
 pub use exchanges::{DataExchange, Received, Route};
 pub use farewell::Farewell;
-pub use hearing::Heard;
+pub use hearing::ReadyAnswer;
 pub use laws::{phases_are_kept, time_is_kept};
 pub use phase::{Partner, Phase};
 pub use pn_alarms::Abort;

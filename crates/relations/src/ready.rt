@@ -9,7 +9,7 @@ use crate::{Partner, Relation};
 use arrayvec::ArrayVec;
 use block_codec::{Block, ControlBlock, write_block};
 use connect_blocks::control_len;
-use rpc_core::{Header, Interface};
+use rpc_core::{CallHeader, Interface};
 
 /// ControlCommand of ApplicationReady.
 const APPLICATION_READY: u16 = 2;
@@ -23,7 +23,7 @@ pub struct Ready {
     /// To whom: whence the Connect came.
     pub partner: Partner,
     /// The header of the call.
-    pub header: Header,
+    pub header: CallHeader,
     /// Its one block.
     pub block: ControlBlock,
 }
@@ -51,7 +51,7 @@ impl Relation {
         let ar = self.request.ar();
         Some(Ready {
             partner: self.partner,
-            header: Header {
+            header: CallHeader {
                 object: ar.object,
                 interface: Interface::Controller.uuid(),
                 activity: ar.uuid,

@@ -12,7 +12,7 @@ use exchanges::{DataExchange, OWN_REFERENCE};
 use pn_alarms::{Abort, PduType};
 use pn_values::Mac;
 use pnio_status::CallFault;
-use record_writes::{Taken, TakenRecords};
+use record_writes::{TakenRecord, TakenRecords};
 use std::marker::Model;
 use uuid::Uuid;
 
@@ -98,7 +98,7 @@ impl Relation {
     }
 
     /// The parameter records that it took, in their order; none where there is no relation.
-    pub fn taken(&self) -> &[Taken]
+    pub fn taken(&self) -> &[TakenRecord]
         ensures { result.now ≡ taken_of self.now }
     {
         match self.phase {
@@ -119,7 +119,7 @@ impl Relation {
     }
 
     /// Takes a parameter record that was written, behind the others: TooManyRecords where there are 64.
-    pub fn keep(&mut self, parameter: Taken) -> Result<(), CallFault>
+    pub fn keep(&mut self, parameter: TakenRecord) -> Result<(), CallFault>
         ensures kept { OnOk result (IsOk (keeping parameter self.old)) }
         ensures refused { IfErr result (λ fault. keeping parameter self.old ≡ Err fault) }
         ensures state { self.new ≡ moved (taking (keeping parameter self.old)) self.old }

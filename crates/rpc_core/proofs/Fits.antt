@@ -1,6 +1,6 @@
 -- What can be sent can be written, and is read.
 use Rattle.std.proofs.Common.{◌≡◌, ◌≤◌, ◌<◌, ◌^◌, ◌+◌, ℕ, List, [], ◌++◌, length, Option, Some, Ok, refl, arith}
-use Rattle.rpc_core.specs.declared.header.Header.{Header}
+use Rattle.rpc_core.specs.declared.header.CallHeader.{CallHeader}
 use Rattle.rpc_core.specs.declared.interface.Interface.{Interface}
 use Rattle.rpc_core.specs.declared.response.Status.{Status}
 use Rattle.rpc_core.specs.Body.{Args, body_size, counts, counts_of, status}
@@ -24,11 +24,11 @@ pub response_opening_fits : opening.Fits (record { version = 4; packet_type = 2;
 unfolding opening
 response_opening_fits = (omega arith, (omega arith, (omega arith, (refl, (omega arith, refl)))))
 
-names_fit : (header : Header) → IsHeader header → (names (order_of 0)).Fits (record { object = header.object; interface = header.interface; activity = header.activity })
+names_fit : (header : CallHeader) → IsHeader header → (names (order_of 0)).Fits (record { object = header.object; interface = header.interface; activity = header.activity })
 unfolding names uuid
 names_fit header is = (is.object, (is.interface, is.activity))
 
-turn_fits : (header : Header) → IsHeader header → (turn (order_of 0)).Fits (record { sequence = header.sequence; operation = header.operation })
+turn_fits : (header : CallHeader) → IsHeader header → (turn (order_of 0)).Fits (record { sequence = header.sequence; operation = header.operation })
 unfolding turn ordered
 turn_fits header is = (refl, (omega (arith, is.sequence), omega (arith, is.operation)))
 
@@ -66,7 +66,7 @@ response_read answer more is =
 -- ---- how long they are
 
 -- a header takes 80 octets
-head_size : (packet_type flags size : ℕ) (header : Header) → IsHeader header → head.size (head_for packet_type flags header size) ≡ 80
+head_size : (packet_type flags size : ℕ) (header : CallHeader) → IsHeader header → head.size (head_for packet_type flags header size) ≡ 80
 unfolding head opening names turn extent uuid ordered
 head_size packet_type flags size header is = omega (arith, is.object, is.interface, is.activity)
 

@@ -11,7 +11,7 @@ use Rattle.wire.specs.Whole.{loose}
 use Rattle.wire.proofs.Wholes.{loose_sound}
 use Rattle.rpc_core.specs.declared.fault.RpcFault.{RpcFault}
 use Rattle.rpc_core.specs.declared.fields.Order.TheVariants.{Big}
-use Rattle.rpc_core.specs.declared.header.Header.{Header}
+use Rattle.rpc_core.specs.declared.header.CallHeader.{CallHeader}
 use Rattle.rpc_core.specs.declared.header.Head.{Head}
 use Rattle.rpc_core.specs.declared.header.Names.{Names}
 use Rattle.rpc_core.specs.declared.interface.Interface.{Interface}
@@ -29,14 +29,14 @@ use Rattle.rpc_core.proofs.Sound.{opening_sound, names_sound, turn_sound, head_s
 -- ---- the header
 
 -- identifiers that are equal one by one
-pub names_same : (n : Names) (header : Header) → n.object ≡ header.object → n.interface ≡ header.interface → n.activity ≡ header.activity
+pub names_same : (n : Names) (header : CallHeader) → n.object ≡ header.object → n.interface ≡ header.interface → n.activity ≡ header.activity
     → n ≡ record { object = header.object; interface = header.interface; activity = header.activity }
 names_same n header e1 e2 e3 = ap (λ (object : List ℕ). record { object = object; interface = n.interface; activity = n.activity }) e1
     ∙ ap (λ (interface : List ℕ). record { object = header.object; interface = interface; activity = n.activity }) e2
     ∙ ap (λ (activity : List ℕ). record { object = header.object; interface = header.interface; activity = activity }) e3
 
 -- four parts, one behind the other, are a header
-pub head_joined : (packet_type flags size : ℕ) (header : Header) (names_are : Names) (a b d out : List ℕ) → let h = head_for packet_type flags header size in
+pub head_joined : (packet_type flags size : ℕ) (header : CallHeader) (names_are : Names) (a b d out : List ℕ) → let h = head_for packet_type flags header size in
     names_are ≡ h.names → a ≡ opening.write h.opening [] → b ≡ a ++ (names Big).write names_are [] → d ≡ b ++ (turn Big).write h.turn []
     → out ≡ d ++ (extent Big).write h.extent [] → out ≡ head.write h []
 unfolding head
@@ -53,7 +53,7 @@ head_joined packet_type flags size header names_are a b d out same e1 e2 e3 e4 =
     ∙ ap (λ (xs : List ℕ). o ++ xs) ((names_sound Big).local h.names ((turn Big).write h.turn x) ∙ ap (λ (xs : List ℕ). n ++ xs) ((turn_sound Big).local h.turn x)) in
     whole ∙ append_assoc (o ++ n) t x ∙ append_assoc o n (t ++ x) ∙ sym parts
 
-pub head_fits : (packet_type flags size : ℕ) (header : Header) (names_are : Names) → let h = head_for packet_type flags header size in
+pub head_fits : (packet_type flags size : ℕ) (header : CallHeader) (names_are : Names) → let h = head_for packet_type flags header size in
     names_are ≡ h.names → opening.Fits h.opening → (names Big).Fits names_are → (turn Big).Fits h.turn → (extent Big).Fits h.extent → head.Fits h
 unfolding head
 head_fits packet_type flags size header names_are same a b d e = (a, (subst (λ (n : Names). (names Big).Fits n) same b, (d, e)))
@@ -61,7 +61,7 @@ head_fits packet_type flags size header names_are same a b d e = (a, (subst (λ 
 -- ---- the tests
 
 -- a header that is written passes the tests in front of a body of its length
-pub pdu_fits : (packet_type flags size : ℕ) (interface : Option Interface) (header : Header) (inside : List ℕ)
+pub pdu_fits : (packet_type flags size : ℕ) (interface : Option Interface) (header : CallHeader) (inside : List ℕ)
     → is_version packet_type (head_for packet_type flags header size) ≡ true → is_whole (head_for packet_type flags header size) ≡ true
     → is_served interface (head_for packet_type flags header size) ≡ true → length inside ≡ size → 20 ≤ size
     → head.Fits (head_for packet_type flags header size) → (pdu packet_type interface).Fits (head_for packet_type flags header size, inside)

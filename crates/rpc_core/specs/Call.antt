@@ -8,7 +8,7 @@ use Rattle.wire.specs.Kept.{within}
 use Rattle.rpc_core.specs.declared.call.Call.{Call}
 use Rattle.rpc_core.specs.declared.fault.RpcFault.{RpcFault}
 use Rattle.rpc_core.specs.declared.header.Head.{Head}
-use Rattle.rpc_core.specs.declared.header.Header.{Header}
+use Rattle.rpc_core.specs.declared.header.CallHeader.{CallHeader}
 use Rattle.rpc_core.specs.declared.interface.Interface.{Interface}
 use Rattle.rpc_core.specs.Fields.{ordered}
 use Rattle.rpc_core.specs.Header.{order_of, header_of, head_for}
@@ -17,7 +17,7 @@ use Rattle.rpc_core.specs.Body.{Args, octets_of, body, body_size}
 
 -- what a call asks: its blocks are none where they are not counted well
 pub record Asked : Type 0 where
-  pub header : Header
+  pub header : CallHeader
   pub args_maximum : ℕ
   pub blocks : Option (List ℕ)
 

@@ -5,7 +5,7 @@ use Rattle.wire.specs.Formats.{then_by, ◌⨾◌, seen}
 use Rattle.rpc_core.specs.declared.fault.RpcFault.{RpcFault}
 use Rattle.rpc_core.specs.declared.fields.Order.{Order}
 use Rattle.rpc_core.specs.declared.fields.Order.TheVariants.{Big, Little}
-use Rattle.rpc_core.specs.declared.header.Header.{Header}
+use Rattle.rpc_core.specs.declared.header.CallHeader.{CallHeader}
 use Rattle.rpc_core.specs.declared.header.Opening.{Opening}
 use Rattle.rpc_core.specs.declared.header.Names.{Names}
 use Rattle.rpc_core.specs.declared.header.Turn.{Turn}
@@ -53,7 +53,7 @@ head = seen
     (then_by opening (λ (o : Opening). names (order_of o.representation) ⨾ turn (order_of o.representation) ⨾ extent (order_of o.representation)))
 
 -- what a call and its response share
-abbrev pub header_of : Head → Header
+abbrev pub header_of : Head → CallHeader
 header_of h = record {
   object = h.names.object;
   interface = h.names.interface;
@@ -63,7 +63,7 @@ header_of h = record {
 }
 
 -- what is written in front of a body of this length: version 4, big endian, no fragment and no authentication
-abbrev pub head_for : ℕ → ℕ → Header → ℕ → Head
+abbrev pub head_for : ℕ → ℕ → CallHeader → ℕ → Head
 head_for packet_type flags header size = record {
   opening = record { version = 4; packet_type = packet_type; flags = flags; representation = 0 };
   names = record { object = header.object; interface = header.interface; activity = header.activity };

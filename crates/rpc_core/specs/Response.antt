@@ -8,7 +8,7 @@ use Rattle.wire.specs.Kept.{within}
 use Rattle.rpc_core.specs.declared.fault.RpcFault.{RpcFault}
 use Rattle.rpc_core.specs.declared.fault.RpcFault.TheVariants as fault
 use Rattle.rpc_core.specs.declared.header.Head.{Head}
-use Rattle.rpc_core.specs.declared.header.Header.{Header}
+use Rattle.rpc_core.specs.declared.header.CallHeader.{CallHeader}
 use Rattle.rpc_core.specs.declared.response.Response.{Response}
 use Rattle.rpc_core.specs.declared.response.Status.{Status}
 use Rattle.rpc_core.specs.Header.{order_of, header_of, head_for}
@@ -18,7 +18,7 @@ use Rattle.rpc_core.specs.Call.{Asked}
 
 -- what a response says
 pub record Answered : Type 0 where
-  pub header : Header
+  pub header : CallHeader
   pub status : Status
   pub maximum_count : ℕ
   pub blocks : List ℕ

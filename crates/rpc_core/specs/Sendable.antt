@@ -1,6 +1,6 @@
 -- Which calls and responses can be sent: each field has its size, and there are at most 1,372 octets of blocks.
 use Rattle.std.specs.Prelude.{◌≡◌, ◌≤◌, ◌<◌, ℕ, List, length, Some}
-use Rattle.rpc_core.specs.declared.header.Header.{Header}
+use Rattle.rpc_core.specs.declared.header.CallHeader.{CallHeader}
 use Rattle.rpc_core.specs.declared.interface.Interface.{Interface}
 use Rattle.rpc_core.specs.declared.response.Status.{Status}
 use Rattle.rpc_core.specs.Call.{Asked}
@@ -12,7 +12,7 @@ abbrev pub IsUuid : List ℕ → Type 0
 IsUuid octets = length octets ≡ 16
 
 -- the fields of a header have their sizes
-pub record IsHeader (header : Header) : Type 0 where
+pub record IsHeader (header : CallHeader) : Type 0 where
   pub object : IsUuid header.object
   pub interface : IsUuid header.interface
   pub activity : IsUuid header.activity

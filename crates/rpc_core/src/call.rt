@@ -8,7 +8,7 @@ ghost use Rattle.rpc_core.specs.Call.{Asked, asked, IsCall, call_of};
 ghost use Rattle.rpc_core.specs.Response.{answered, answer_to};
 
 use crate::fields::{Order, u32_at};
-use crate::header::{Header, order_under};
+use crate::header::{CallHeader, order_under};
 use crate::pdu::{blocks_of, counts_at, pdu_at};
 use crate::{Interface, Response, RpcFault, Status};
 
@@ -18,7 +18,7 @@ pub(crate) const REQUEST: u8 = 0;
 /// A call.
 #[derive(Clone, Copy)]
 pub struct Call<'a> {
-    pub header: Header,
+    pub header: CallHeader,
     /// How many octets the answer may have. It limits none, and the response repeats it.
     pub args_maximum: u32,
     /// The blocks. There are none where Offset is not 0, or ArgsLength differs from ActualCount or exceeds what is there: that is

@@ -9,7 +9,7 @@ use uuid::Uuid;
 
 /// What a call and its response share.
 #[derive(Clone, Copy, Debug, PartialEq, Eq)]
-pub struct Header {
+pub struct CallHeader {
     /// The object that is asked. It is not checked.
     pub object: Uuid,
     /// The interface that is meant.
@@ -65,10 +65,10 @@ pub(crate) struct Head {
 
 impl Head {
     /// The part that a call and its response share.
-    pub(crate) fn header(&self) -> Header
+    pub(crate) fn header(&self) -> CallHeader
         ensures { result ≡ header_of self.now }
     {
-        Header {
+        CallHeader {
             object: Uuid::from_bytes(self.names.object),
             interface: Uuid::from_bytes(self.names.interface),
             activity: Uuid::from_bytes(self.names.activity),

@@ -16,7 +16,7 @@ mod writing;
 pub use cache::{CallCache, Looked};
 pub use call::{Call, read_call};
 pub use fault::RpcFault;
-pub use header::Header;
+pub use header::CallHeader;
 pub use interface::Interface;
 pub use law::{
     calls_and_responses_differ, calls_are_read, calls_name_their_interface, responses_are_read,

@@ -7,7 +7,7 @@ ghost use Rattle.rpc_core.specs.Response.{Answered, answered, is_done, IsRespons
 
 use crate::RpcFault;
 use crate::fields::{Order, u8_at};
-use crate::header::{Header, order_under};
+use crate::header::{CallHeader, order_under};
 use crate::pdu::{blocks_of, counts_at, pdu_at};
 
 /// The packet type of a response (C706, 12.5.2.2).
@@ -39,7 +39,7 @@ impl Status {
 #[derive(Clone, Copy)]
 pub struct Response<'a> {
     /// That of the call.
-    pub header: Header,
+    pub header: CallHeader,
     pub status: Status,
     /// ArgsMaximum of the call.
     pub maximum_count: u32,

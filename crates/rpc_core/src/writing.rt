@@ -13,7 +13,7 @@ use crate::call::REQUEST;
 use crate::header::{Extent, Names, Opening, Turn};
 use crate::pdu::Counts;
 use crate::response::RESPONSE;
-use crate::{Call, Header, Response, Status};
+use crate::{Call, CallHeader, Response, Status};
 use arrayvec::ArrayVec;
 use wire::{append, append_u8, append_u16, append_u32};
 
@@ -79,7 +79,7 @@ fn put_extent(out: &mut Datagram, value: &Extent)
 }
 
 /// Appends the header in front of a body that carries so many octets of blocks.
-fn put_head(out: &mut Datagram, packet_type: u8, flags: u8, header: &Header, carried: usize)
+fn put_head(out: &mut Datagram, packet_type: u8, flags: u8, header: &CallHeader, carried: usize)
     requires empty { out.old.items ≡ [] }
     requires room { carried ≤ 1372 }
     ensures items { out.new.items ≡ head.write (head_for packet_type flags header.now (body_size carried)) [] }

@@ -3,8 +3,8 @@ use crate::device::Device;
 use pn_values::Command;
 use pnio_status::{CallFault, Operation};
 use record_reads::Blocks;
-use relations::{Abort, Due, Farewell, Heard, Phase, Relation};
-use rpc_core::{Header, Response, Status};
+use relations::{Abort, Due, Farewell, Phase, ReadyAnswer, Relation};
+use rpc_core::{CallHeader, Response, Status};
 use std::alloc::{AllocError, Global};
 use std::io::{self, ErrorKind};
 use std::str::Split;
@@ -176,7 +176,7 @@ fn put_answer(alloc: Global, device: &mut Device, rest: &str, text: &mut String)
     let operation = number(words.next().ok_or(wrong())?)?;
     let blocks = octets(alloc, words.next().ok_or(wrong())?)?;
     let response = Response {
-        header: Header {
+        header: CallHeader {
             object: Uuid::nil(),
             interface: Uuid::nil(),
             activity,
@@ -193,10 +193,10 @@ fn put_answer(alloc: Global, device: &mut Device, rest: &str, text: &mut String)
         blocks: blocks.as_slice(),
     };
     match device.relation.hear_ready(&response) {
-        Heard::NotWanted => text.push_str("not-wanted")?,
-        Heard::Garbled => text.push_str("garbled")?,
-        Heard::Confirmed => text.push_str("confirmed")?,
-        Heard::Refused(farewell) => put_reason(Some(farewell), text)?,
+        ReadyAnswer::NotWanted => text.push_str("not-wanted")?,
+        ReadyAnswer::Garbled => text.push_str("garbled")?,
+        ReadyAnswer::Confirmed => text.push_str("confirmed")?,
+        ReadyAnswer::Refused(farewell) => put_reason(Some(farewell), text)?,
     }
     Ok(())
 }

@@ -8,7 +8,7 @@ use Rattle.flash_model.specs.Image.{Image}
 use Rattle.settings_store.specs.Machine.{Outcome}
 use Rattle.connect_requests.specs.Request.{Request}
 use Rattle.rpc_core.specs.Cache.{Kept as Answer, kept_of}
-use Rattle.record_writes.specs.declared.taken.Taken.{Taken}
+use Rattle.record_writes.specs.declared.taken.TakenRecord.{TakenRecord}
 use Rattle.relations.specs.declared.phase.Phase.TheVariants.{Exchanging as in_exchange}
 use Rattle.relations.specs.Link.{Link}
 use Rattle.plans.specs.declared.parts.Parts.{Parts}
@@ -42,7 +42,7 @@ use Rattle.world_ends.specs.Played.{AreMade, AreMeant, Begins, IsRunOf, last_wor
 -- ---- the laws below
 
 abbrev pub DeviceGoesOn : Type 0
-DeviceGoesOn = (rules : Rules Taken Request) (activity : List ℕ) (outcomes : List Outcome) (station : Station) (live : Live) (heard : Heard)
+DeviceGoesOn = (rules : Rules TakenRecord Request) (activity : List ℕ) (outcomes : List Outcome) (station : Station) (live : Live) (heard : Heard)
     → IsPlanned rules activity station.real heard
     → AllByRecursion (IsHeardAs rules station.identity) (heard_step outcomes station live heard).sent
     → DeviceSteps rules (heard_as heard) (device.small_of activity live) (device.small_of activity (heard_step outcomes station live heard).live) (heard_step outcomes station live heard).frames
@@ -76,7 +76,7 @@ unfolding step_of
 frames_are old event = refl
 
 module _ {F : Type 0} where
-  abbrev rules_at : World F → Rules Taken Request
+  abbrev rules_at : World F → Rules TakenRecord Request
   rules_at w = rules_of w.controller.setup w.device.station
 
   -- what a move leaves of the world, and that it is a step
@@ -230,14 +230,14 @@ module _ {F : Type 0} where
 
     -- ---- runs
 
-    pub runs : (on : ControllerGoesOn) (rules : Rules Taken Request) (before : World F) (run : List (Move × World F)) → rules_at before ≡ rules → InStep before
+    pub runs : (on : ControllerGoesOn) (rules : Rules TakenRecord Request) (before : World F) (run : List (Move × World F)) → rules_at before ≡ rules → InStep before
         → AreMade image failures asked before run → AreMeant before run → IsRun rules (view_of before) (viewed run)
     runs on rules before [] same in_step made meant = tt
     runs on rules before (one ∷ run) same in_step made meant =
         let step = happens_steps on before one.1 in_step one.0 meant.0 made.0 in
         let still : rules_at one.1 ≡ rules_at before =
         ap (λ (s : Setup). rules_of s one.1.device.station) step.setup ∙ ap (λ (s : Station). rules_of before.controller.setup s) step.station in (
-          subst (λ (r : Rules Taken Request). Steps r (view_of before) (move_of one.0) (view_of one.1)) same step.is,
+          subst (λ (r : Rules TakenRecord Request). Steps r (view_of before) (move_of one.0) (view_of one.1)) same step.is,
           runs on rules one.1 run (still ∙ same) step.in_step made.1 meant.1,
         )
 
@@ -263,10 +263,10 @@ module _ {F : Type 0} where
   pub exchanges_small : (first : World F) (run : List (Move × World F)) → (last_world first run).controller.live.phase ≡ Exchanging → (last_of (view_of first) (viewed run)).controller ≡ small.Exchanges
   exchanges_small first run exchanges =
       let last = last_world first run in
-      ap (λ (w : small.World Taken Request). w.controller) (last_viewed first run)
+      ap (λ (w : small.World TakenRecord Request). w.controller) (last_viewed first run)
       ∙ ap (λ (p : Phase). state_of last.controller.setup.plan p last.controller.live.asked) exchanges
 
   pub related_small : (first : World F) (run : List (Move × World F)) (link : Link) → (last_world first run).device.live.rest.link ≡ Some link
       → (last_of (view_of first) (viewed run)).device.link ≡ Some (link_of link)
   related_small first run link is =
-      ap (λ (w : small.World Taken Request). w.device.link) (last_viewed first run) ∙ ap (λ (l : Option Link). option_map link_of l) is
+      ap (λ (w : small.World TakenRecord Request). w.device.link) (last_viewed first run) ∙ ap (λ (l : Option Link). option_map link_of l) is

@@ -9,7 +9,7 @@ use Rattle.network_world.specs.World.{World, Happens, Played}
 use Rattle.both_ends.specs.Small as small
 use Rattle.both_ends.specs.Steps.{IsDull}
 use Rattle.connect_requests.specs.Request.{Request}
-use Rattle.record_writes.specs.declared.taken.Taken.{Taken}
+use Rattle.record_writes.specs.declared.taken.TakenRecord.{TakenRecord}
 use Rattle.world_ends.specs.View.{IsMeant, move_of, rules_of, view_of}
 
 module _ {F : Type 0} where
@@ -23,7 +23,7 @@ module _ {F : Type 0} where
   moves_of run = map (λ one. one.0) run
 
   -- the same run, as a start-up sees it
-  abbrev pub viewed : List (Move × World F) → List (small.Move × small.World Taken Request)
+  abbrev pub viewed : List (Move × World F) → List (small.Move × small.World TakenRecord Request)
   viewed run = map (λ one. (move_of one.0, view_of one.1)) run
 
   -- A world at the beginning: the device answered no call since its start and has no relation, the controller was just made, and of the

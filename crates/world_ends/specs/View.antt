@@ -4,7 +4,7 @@ use Rattle.std.specs.List.{AllByRecursion}
 use Rattle.flash_model.specs.Calls.{Call}
 use Rattle.settings_store.specs.Machine.{Outcome}
 use Rattle.connect_requests.specs.Request.{Request}
-use Rattle.record_writes.specs.declared.taken.Taken.{Taken}
+use Rattle.record_writes.specs.declared.taken.TakenRecord.{TakenRecord}
 use Rattle.plans.specs.declared.parts.PlanRecord.{PlanRecord}
 use Rattle.plan_connect.specs.Request.{request_for}
 use Rattle.device_frames.specs.declared.event.Event.TheVariants.{Frame}
@@ -31,11 +31,11 @@ use Rattle.device_ends.specs.Small as device
 -- ---- the start-up of a plan
 
 -- a record of the plan, as a device keeps it
-abbrev pub taken_for : PlanRecord → Taken
+abbrev pub taken_for : PlanRecord → TakenRecord
 taken_for entry = record { slot = entry.slot; subslot = entry.subslot; index = entry.index; value = record { items = entry.data.items } }
 
 -- what the Connect of the plan asks for, the plan's records, and what each end hears of octets
-abbrev pub rules_of : Setup → Station → Rules Taken Request
+abbrev pub rules_of : Setup → Station → Rules TakenRecord Request
 rules_of setup station = record {
   request = request_for setup.plan setup.ar;
   records = map taken_for setup.plan.records.items;
@@ -44,7 +44,7 @@ rules_of setup station = record {
 }
 
 -- a world, as a start-up sees it
-abbrev pub view_of : {F : Type 0} → World F → small.World Taken Request
+abbrev pub view_of : {F : Type 0} → World F → small.World TakenRecord Request
 view_of world = record {
   device = device.small_of world.controller.setup.activity world.device.live;
   controller = small_of world.controller.setup.plan world.controller.live;

@@ -14,7 +14,7 @@ use connect_requests::ConnectRequest;
 use controller_ends::controller_goes_on;
 use device_ends::device_goes_on;
 use flash_model::Flash;
-use record_writes::Taken;
+use record_writes::TakenRecord;
 
 /// A start-up over the worlds of any moves, whatever the flash of the device does, where all that comes and is sent is heard as it is meant.
 pub fn worlds_start_up<F: Flash<S>, const S: usize>()
@@ -30,7 +30,7 @@ pub fn worlds_start_up<F: Flash<S>, const S: usize>()
     ensures device { (first : World F) (run : List (Move × World F)) → Begins first → AreMade F.image F.failures F.asked first run → AreMeant first run
         → (link : Link) → (last_world first run).device.live.rest.link ≡ Some link → link.phase ≡ in_exchange → WasExchanging (viewed run) }
 {
-    start_up_is_kept::<Taken, ConnectRequest>();
+    start_up_is_kept::<TakenRecord, ConnectRequest>();
     controller_goes_on();
     device_goes_on();
 }

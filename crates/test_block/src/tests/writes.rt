@@ -4,7 +4,7 @@ use arrayvec::ArrayVec;
 use block_fields::Uuid;
 use pn_values::{Command, Settings};
 use pnio_status::{CallFault, Operation};
-use record_writes::{Effect, Taken, TakenRecords, Write, judge_write, put_write_answer};
+use record_writes::{Effect, TakenRecord, TakenRecords, Write, judge_write, put_write_answer};
 
 /// Parameter record 1 of the submodule in slot 2, subslot 2, which takes four octets.
 const GOOD: Asked = Asked {
@@ -47,7 +47,7 @@ fn refused(asked: Asked, behind: &[u8]) -> Option<[u8; 4]> {
 }
 
 /// The parameter record that a Write asks to keep.
-fn kept(asked: Asked, behind: &[u8]) -> Option<Taken> {
+fn kept(asked: Asked, behind: &[u8]) -> Option<TakenRecord> {
     match judged_in(7, asked, behind).ok()?.effect {
         Effect::Keeps(taken) => Some(taken),
         Effect::Stores(_value) => None,
@@ -155,7 +155,7 @@ fn takes_sixty_four_records(rt: HostRuntime) {
         };
         assert_eq!(rt; records.keep(taken), Ok(()));
     }
-    let fault = records.keep(Taken::default()).err();
+    let fault = records.keep(TakenRecord::default()).err();
     assert_eq!(rt; fault.map(octets_of), Some([0xDF, 0x80, 0xB5, 0x06]));
     for (place, taken) in records.as_slice().iter().enumerate() {
         let first = taken

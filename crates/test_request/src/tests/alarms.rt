@@ -5,7 +5,7 @@ use alarm_exchange::{Exchange, Kept, Move};
 use arrayvec::ArrayVec;
 use block_codec::AlarmAck;
 use pn_alarms::{
-    Abort, Alarm, AlarmFault, DeviceAlarms, Due, Heard, Message, PduType, RaiseFault, Receiver,
+    Abort, Alarm, AlarmFault, DeviceAlarms, Due, Message, PduFate, PduType, RaiseFault, Receiver,
     Taken, read_message, read_notification, read_pdu, write_alarm, write_pdu,
 };
 
@@ -61,7 +61,7 @@ fn number_at(octets: &[u8], place: usize) -> u16 {
 }
 
 /// What becomes of octets that come.
-fn heard(alarms: &mut DeviceAlarms, octets: &[u8]) -> Option<Heard> {
+fn heard(alarms: &mut DeviceAlarms, octets: &[u8]) -> Option<PduFate> {
     match read_message(octets) {
         Ok((_header, message)) => Some(alarms.hear(&message)),
         Err(_) => None,
@@ -101,11 +101,11 @@ fn one_stands_at_a_time(rt: HostRuntime) {
     let refused = alarms.raise(&alarm_of(&[])).err();
     assert_eq!(rt; refused, Some(RaiseFault::Busy));
     assert_eq!(rt; RaiseFault::Busy.number(), 1);
-    assert_eq!(rt; heard(&mut alarms, &ACK), Some(Heard::Data(Taken::New)));
+    assert_eq!(rt; heard(&mut alarms, &ACK), Some(PduFate::Data(Taken::New)));
     assert!(rt; alarms.standing().is_none());
     // again it is acknowledged, and ends nothing
     assert!(rt; alarms.raise(&alarm_of(&[])).is_ok());
-    assert_eq!(rt; heard(&mut alarms, &ACK), Some(Heard::Data(Taken::Again)));
+    assert_eq!(rt; heard(&mut alarms, &ACK), Some(PduFate::Data(Taken::Again)));
     assert!(rt; alarms.standing().is_some());
     // number 0 and AlarmSpecifier 1; the AlarmAck was number 0xFFFF
     let octets = sent(&alarms);
@@ -137,18 +137,18 @@ fn sent_again_until_it_is_spent(rt: HostRuntime) {
 #[test]
 fn acknowledged(rt: HostRuntime) {
     let mut alarms = alarmed();
-    assert_eq!(rt; alarms.hear(&Message::Nack), Heard::Ignored);
-    assert_eq!(rt; alarms.hear(&Message::Ack(0)), Heard::Ignored);
-    assert_eq!(rt; alarms.hear(&Message::Ack(0xFFFF)), Heard::Done);
+    assert_eq!(rt; alarms.hear(&Message::Nack), PduFate::Ignored);
+    assert_eq!(rt; alarms.hear(&Message::Ack(0)), PduFate::Ignored);
+    assert_eq!(rt; alarms.hear(&Message::Ack(0xFFFF)), PduFate::Done);
     let mut is_due = false;
     for _ in 0..20_000_u32 {
         is_due = is_due || alarms.tick() != Due::Nothing;
     }
     assert!(rt; !is_due);
-    assert_eq!(rt; alarms.hear(&Message::Abort), Heard::Aborted);
+    assert_eq!(rt; alarms.hear(&Message::Abort), PduFate::Aborted);
     assert_eq!(rt;
         DeviceAlarms::new(1, 3).hear(&Message::Ack(0xFFFF)),
-        Heard::Ignored
+        PduFate::Ignored
     );
 }
 

@@ -2,7 +2,7 @@
 use arrayvec::ArrayVec;
 use frame_codec::Frame;
 use rpc_core::{
-    Call, CallCache, Datagram, Header, Interface, Looked, Response, RpcFault, Status, Uuid,
+    Call, CallCache, CallHeader, Datagram, Interface, Looked, Response, RpcFault, Status, Uuid,
     read_call, read_response, write_request, write_response,
 };
 
@@ -104,7 +104,7 @@ fn seen<const N: usize>(cache: &CallCache<N>, activity: &[u8; 16], sequence: u32
 }
 
 /// Whether a call was read, and has this header, so many octets of blocks, and the first of them.
-fn is_read(bytes: &[u8], header: &Header, carried: usize) -> bool {
+fn is_read(bytes: &[u8], header: &CallHeader, carried: usize) -> bool {
     match read_call(Interface::Device, bytes) {
         Ok(call) => match call.blocks {
             Some(blocks) => {
@@ -121,7 +121,7 @@ fn is_read(bytes: &[u8], header: &Header, carried: usize) -> bool {
 
 #[test]
 fn reads_a_call(rt: HostRuntime) {
-    let header = Header {
+    let header = CallHeader {
         object: Uuid::from_bytes(OBJECT),
         interface: Interface::Device.uuid(),
         activity: Uuid::from_bytes(ACTIVITY),
@@ -133,7 +133,7 @@ fn reads_a_call(rt: HostRuntime) {
 
 #[test]
 fn reads_a_call_in_little_endian(rt: HostRuntime) {
-    let header = Header {
+    let header = CallHeader {
         object: Uuid::from_bytes(OBJECT),
         interface: Interface::Device.uuid(),
         activity: Uuid::from_bytes(OTHER_ACTIVITY),

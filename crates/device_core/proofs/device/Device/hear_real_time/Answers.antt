@@ -3,7 +3,7 @@ use Rattle.std.proofs.Common.{ap, map, refl, sym, ◌∙◌}
 use Rattle.device_frames.specs.declared.note.Note.TheVariants.{NotMine}
 use Rattle.device_frames.specs.Sent.{bytes_of}
 use Rattle.device_frames.specs.Heard.{Cyclic, Elsewhere as elsewhere}
-use Rattle.device_frames.specs.declared.hearing.Kind.TheVariants as kind
+use Rattle.device_frames.specs.declared.hearing.RealTimeKind.TheVariants as kind
 use Rattle.device_core.specs.Judged.{judged_cyclic}
 use Rattle.device_core.proofs.Judged.{cyclic_asks_nothing, cyclic_sends_nothing}
 use Rattle.device_core.proofs.OfKind.{kind_steps}
