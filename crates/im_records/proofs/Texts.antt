@@ -1,5 +1,5 @@
 -- The records of texts, octet by octet.
-use Rattle.std.proofs.Common.{◌≡◌, ◌==◌, ◌+◌, ◌⊎◌, inl, inr, ℕ, Bool, true, false, cond, List, ◌++◌, ◌∙◌, length, take, drop, Result, Ok, Err, IfOk, refl, sym, arith}
+use Rattle.std.proofs.Common.{◌≡◌, ◌==◌, ◌+◌, ℕ, Bool, true, false, cond, List, ◌++◌, ◌∙◌, length, take, drop, Option, Some, None, Result, Ok, Err, IfOk, refl, sym, arith}
 use Rattle.std.specs.Prelude.{nat_eq}
 use Rattle.std.specs.Cmp.Lexicographic.{pointwise, same_text}
 use Rattle.std.proofs.lemmas.Bool.{eqb-true}
@@ -19,7 +19,10 @@ use Rattle.record_blocks.specs.Im4.{im4}
 use Rattle.im_records.specs.declared.fault.RecordFault.{RecordFault}
 use Rattle.im_records.specs.declared.fault.RecordFault.TheVariants.{Length, Block}
 use Rattle.im_records.specs.Records.{im1_record, im2_record, im3_record, im4_record}
-use Rattle.im_records.specs.Writes.{IsWritten, header_of, text_of, command_of}
+use Rattle.im_records.specs.declared.record.Record.{Record}
+use Rattle.im_records.specs.declared.record.Record.TheVariants as named
+use Rattle.im_records.specs.Indices.{record_with}
+use Rattle.im_records.specs.Writes.{IsWritten, header_of, text_of, command_in, command_of}
 
 pub im1_bytes : (text : List ℕ) → length text ≡ 54 → im1_record text ≡ header_of 0x21 54 ++ text
 unfolding block_bytes block body_of fields_of number_of type_of body im1 number_bytes octet_bytes version
@@ -66,11 +69,6 @@ whole index bytes (im.Im4 text) w = rw (w.0, w.2, im4_bytes text w.1, whole_4 te
 
 -- ---- what is taken is a whole record
 
--- a choice that came out as a value
-chosen : {F A : Type 0} (b : Bool) (x y : Result A F) (value : A) → cond b x y ≡ Ok value → ((b ≡ true) × (x ≡ Ok value)) ⊎ ((b ≡ false) × (y ≡ Ok value))
-chosen true x y value e = inl (refl, e)
-chosen false x y value e = inr (refl, e)
-
 -- a test that was passed
 passed : {F A : Type 0} (b : Bool) (fault : F) (x : Result A F) (value : A) → cond b x (Err fault) ≡ Ok value → (b ≡ true) × (x ≡ Ok value)
 passed true fault x value e = (refl, e)
@@ -86,35 +84,33 @@ text_found size header bytes text e =
     let long : length bytes ≡ 6 + size = eqb-true (length bytes) (6 + size) a.0 in
     (rw (← behind) (omega (arith, length-drop 6 bytes, long)), rw (← front, ← behind) (sym (take-append-drop 6 bytes)))
 
+only_in : (index : ℕ) (bytes : List ℕ) (command : Command) (one : Option Record) → record_with index ≡ one → command_in one bytes ≡ Ok command
+    → (value : ImValue) × (command ≡ SetIm value) × IsWritten index bytes value
+only_in index bytes command (Some named.Im1) is e =
+    let a = bind_ok (text_of 54 (header_of 0x21 54) bytes) (λ text. Ok (SetIm (im.Im1 text))) command e in
+    let f = text_found 54 (header_of 0x21 54) bytes a.0 a.1 in
+    (im.Im1 a.0, sym (ok_is {F = RecordFault} (SetIm (im.Im1 a.0)) command a.2), (is, f.0, f.1 ∙ sym (im1_bytes a.0 f.0)))
+only_in index bytes command (Some named.Im2) is e =
+    let a = bind_ok (text_of 16 (header_of 0x22 16) bytes) (λ text. Ok (SetIm (im.Im2 text))) command e in
+    let f = text_found 16 (header_of 0x22 16) bytes a.0 a.1 in
+    (im.Im2 a.0, sym (ok_is {F = RecordFault} (SetIm (im.Im2 a.0)) command a.2), (is, f.0, f.1 ∙ sym (im2_bytes a.0 f.0)))
+only_in index bytes command (Some named.Im3) is e =
+    let a = bind_ok (text_of 54 (header_of 0x23 54) bytes) (λ text. Ok (SetIm (im.Im3 text))) command e in
+    let f = text_found 54 (header_of 0x23 54) bytes a.0 a.1 in
+    (im.Im3 a.0, sym (ok_is {F = RecordFault} (SetIm (im.Im3 a.0)) command a.2), (is, f.0, f.1 ∙ sym (im3_bytes a.0 f.0)))
+only_in index bytes command (Some named.Im4) is e =
+    let a = bind_ok (text_of 54 (header_of 0x24 54) bytes) (λ text. Ok (SetIm (im.Im4 text))) command e in
+    let f = text_found 54 (header_of 0x24 54) bytes a.0 a.1 in
+    (im.Im4 a.0, sym (ok_is {F = RecordFault} (SetIm (im.Im4 a.0)) command a.2), (is, f.0, f.1 ∙ sym (im4_bytes a.0 f.0)))
+only_in index bytes command None is e = absurd cc
+only_in index bytes command (Some named.Im0) is e = absurd cc
+only_in index bytes command (Some named.FilterData) is e = absurd cc
+only_in index bytes command (Some named.ModuleDiff) is e = absurd cc
+
 pub only : (index : ℕ) (bytes : List ℕ) (command : Command) → command_of index bytes ≡ Ok command
     → (value : ImValue) × (command ≡ SetIm value) × IsWritten index bytes value
 unfolding command_of
-only index bytes command e =
-    elim (chosen (index == 0xAFF1) _ _ command e) [
-      | inl t ↦
-          let a = bind_ok (text_of 54 (header_of 0x21 54) bytes) (λ text. Ok (SetIm (im.Im1 text))) command t.1 in
-          let f = text_found 54 (header_of 0x21 54) bytes a.0 a.1 in
-          (im.Im1 a.0, sym (ok_is {F = RecordFault} (SetIm (im.Im1 a.0)) command a.2), (eqb-true index 0xAFF1 t.0, f.0, f.1 ∙ sym (im1_bytes a.0 f.0)))
-      | inr t ↦ elim (chosen (index == 0xAFF2) _ _ command t.1) [
-        | inl u ↦
-            let a = bind_ok (text_of 16 (header_of 0x22 16) bytes) (λ text. Ok (SetIm (im.Im2 text))) command u.1 in
-            let f = text_found 16 (header_of 0x22 16) bytes a.0 a.1 in
-            (im.Im2 a.0, sym (ok_is {F = RecordFault} (SetIm (im.Im2 a.0)) command a.2), (eqb-true index 0xAFF2 u.0, f.0, f.1 ∙ sym (im2_bytes a.0 f.0)))
-        | inr u ↦ elim (chosen (index == 0xAFF3) _ _ command u.1) [
-          | inl v ↦
-              let a = bind_ok (text_of 54 (header_of 0x23 54) bytes) (λ text. Ok (SetIm (im.Im3 text))) command v.1 in
-              let f = text_found 54 (header_of 0x23 54) bytes a.0 a.1 in
-              (im.Im3 a.0, sym (ok_is {F = RecordFault} (SetIm (im.Im3 a.0)) command a.2), (eqb-true index 0xAFF3 v.0, f.0, f.1 ∙ sym (im3_bytes a.0 f.0)))
-          | inr v ↦ elim (chosen (index == 0xAFF4) _ _ command v.1) [
-            | inl w ↦
-                let a = bind_ok (text_of 54 (header_of 0x24 54) bytes) (λ text. Ok (SetIm (im.Im4 text))) command w.1 in
-                let f = text_found 54 (header_of 0x24 54) bytes a.0 a.1 in
-                (im.Im4 a.0, sym (ok_is {F = RecordFault} (SetIm (im.Im4 a.0)) command a.2), (eqb-true index 0xAFF4 w.0, f.0, f.1 ∙ sym (im4_bytes a.0 f.0)))
-            | inr w ↦ absurd (let e = w.1 in cc)
-          ]
-        ]
-      ]
-    ]
+only index bytes command e = only_in index bytes command (record_with index) refl e
 
 -- the same of a result that is known
 pub only_if : (index : ℕ) (bytes : List ℕ) (result : Result Command RecordFault) → result ≡ command_of index bytes

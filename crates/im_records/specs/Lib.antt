@@ -1,3 +1,4 @@
+pub mod Indices
 pub mod Plugged
 pub mod Records
 pub mod Writes

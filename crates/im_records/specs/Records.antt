@@ -1,5 +1,5 @@
 -- The records of identification and maintenance (IEC 61158-6-10, 5.2.3.22).
-use Rattle.std.specs.Prelude.{◌==◌, ◌&&◌, ℕ, Bool, true, false, List, take, drop, Option, Some, None, if◌then◌else◌}
+use Rattle.std.specs.Prelude.{◌==◌, ◌&&◌, ℕ, Bool, true, false, List, take, drop, Option, Some, None}
 use Rattle.pn_values.specs.declared.identity.Identity.{Identity}
 use Rattle.std.specs.List.{list_any}
 use Rattle.pn_values.specs.declared.real.Real.{Real}
@@ -9,6 +9,9 @@ use Rattle.block_codec.specs.declared.block.Block.TheVariants as is
 use Rattle.block_codec.specs.Block.{block_bytes}
 use Rattle.record_blocks.specs.declared.im0.Im0.{Im0}
 use Rattle.record_blocks.specs.declared.im1.Im1.{Im1}
+use Rattle.im_records.specs.declared.record.Record.{Record}
+use Rattle.im_records.specs.declared.record.Record.TheVariants as named
+use Rattle.im_records.specs.Indices.{record_with}
 use Rattle.im_records.specs.Plugged.{filter_record}
 
 -- I&M0 of a device
@@ -61,18 +64,18 @@ abbrev pub where_holds : Bool → List ℕ → Option (List ℕ)
 where_holds true octets = Some octets
 where_holds false octets = None
 
--- the index of I&M0FilterData
-abbrev pub filter_data_index : ℕ
-filter_data_index = 0xF840
+-- the record at this submodule, if there is one: I&M0 at each real submodule, I&M1 to I&M4 at that of the device, and I&M0FilterData
+-- everywhere
+abbrev pub record_in : Option Record → ℕ → ℕ → Identity → Real → Settings → Option (List ℕ)
+record_in None slot subslot identity real settings = None
+record_in (Some named.Im0) slot subslot identity real settings = where_holds (is_real real slot subslot) (im0_record identity)
+record_in (Some named.Im1) slot subslot identity real settings = where_holds (is_device slot subslot) (im1_record settings.im1)
+record_in (Some named.Im2) slot subslot identity real settings = where_holds (is_device slot subslot) (im2_record settings.im2)
+record_in (Some named.Im3) slot subslot identity real settings = where_holds (is_device slot subslot) (im3_record settings.im3)
+record_in (Some named.Im4) slot subslot identity real settings = where_holds (is_device slot subslot) (im4_record settings.im4)
+record_in (Some named.FilterData) slot subslot identity real settings = Some (filter_record real)
+record_in (Some named.ModuleDiff) slot subslot identity real settings = None
 
--- the record of this index at this submodule, if there is one: I&M0 at each real submodule, I&M1 to I&M4 at that of the
--- device, and I&M0FilterData everywhere
+-- the record of this index there
 abbrev pub record_of : ℕ → ℕ → ℕ → Identity → Real → Settings → Option (List ℕ)
-record_of index slot subslot identity real settings =
-    if index == 0xAFF0 then where_holds (is_real real slot subslot) (im0_record identity)
-    else if index == 0xAFF1 then where_holds (is_device slot subslot) (im1_record settings.im1)
-    else if index == 0xAFF2 then where_holds (is_device slot subslot) (im2_record settings.im2)
-    else if index == 0xAFF3 then where_holds (is_device slot subslot) (im3_record settings.im3)
-    else if index == 0xAFF4 then where_holds (is_device slot subslot) (im4_record settings.im4)
-    else if index == filter_data_index then Some (filter_record real)
-    else None
+record_of index slot subslot identity real settings = record_in (record_with index) slot subslot identity real settings

@@ -5,8 +5,10 @@
 mod fault;
 mod plugged;
 mod reading;
+mod record;
 mod writing;
 
 pub use fault::RecordFault;
-pub use reading::{FILTER_DATA, is_real, is_writable, read_record};
+pub use reading::{is_real, is_writable, read_record};
+pub use record::{Record, is_anywhere, is_module_diff, is_read_only};
 pub use writing::read_write;

@@ -5,14 +5,13 @@ ghost use Rattle.block_codec.specs.Block.{block_bytes, block_size};
 ghost use Rattle.im_records.specs.Records.{has_subslot, im0_record, im1_record, im2_record, im3_record, im4_record, is_device, is_real, record_of};
 ghost use Rattle.im_records.specs.Writable.{is_writable};
 
+use crate::Record;
 use crate::plugged::filter_of;
+use crate::record::is_text;
 use arrayvec::ArrayVec;
 use block_codec::{Block, Im0, Im1, Im2, Im3, Im4, write_block};
 use pn_values::{Identity, Padded, Real, RealModule, Settings};
 use record_blocks::im0_len;
-
-/// The index of I&M0FilterData.
-pub const FILTER_DATA: u16 = 0xF840;
 
 /// The record of this index at this slot and subslot of a device, if there is one to be read: I&M0 (0xAFF0) at each
 /// submodule that is plugged in, I&M1 to I&M4 (0xAFF1 to 0xAFF4) at slot 0, subslot 1, and I&M0FilterData (0xF840) at any.
@@ -26,14 +25,15 @@ pub fn read_record(
 ) -> Option<ArrayVec<u8, 1024>>
     ensures { option_map (λ octets. octets.items) result ≡ record_of index slot subslot identity.now real.now settings.now }
 {
-    match index {
+    match Record::of(index)? {
         // I&M0 is one for all submodules: they are parts of one product.
-        0xAFF0 if is_real(real, slot, subslot) => Some(im0_of(identity)),
-        0xAFF1 if is_device(slot, subslot) => Some(im1_of(&settings.im1)),
-        0xAFF2 if is_device(slot, subslot) => Some(im2_of(&settings.im2)),
-        0xAFF3 if is_device(slot, subslot) => Some(im3_of(&settings.im3)),
-        0xAFF4 if is_device(slot, subslot) => Some(im4_of(&settings.im4)),
-        FILTER_DATA => Some(filter_of(real)),
+        Record::Im0 if is_real(real, slot, subslot) => Some(im0_of(identity)),
+        Record::Im1 if is_device(slot, subslot) => Some(im1_of(&settings.im1)),
+        Record::Im2 if is_device(slot, subslot) => Some(im2_of(&settings.im2)),
+        Record::Im3 if is_device(slot, subslot) => Some(im3_of(&settings.im3)),
+        Record::Im4 if is_device(slot, subslot) => Some(im4_of(&settings.im4)),
+        Record::FilterData => Some(filter_of(real)),
+        // The ModuleDiffBlock is one of a relation, and who has none reads none.
         _ => None,
     }
 }
@@ -63,7 +63,7 @@ fn has_subslot(entry: &RealModule, subslot: u16) -> bool
 pub fn is_writable(index: u16, slot: u16, subslot: u16) -> bool
     ensures { result ≡ is_writable index slot subslot }
 {
-    index >= 0xAFF1 && index <= 0xAFF4 && is_device(slot, subslot)
+    is_text(index) && is_device(slot, subslot)
 }
 
 /// Whether this is the submodule that stands for the device.

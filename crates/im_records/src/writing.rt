@@ -4,7 +4,7 @@ ghost use Rattle.pn_values.specs.declared.im_value.ImValue.{ImValue};
 ghost use Rattle.pn_values.specs.declared.command.Command.TheVariants.{SetIm};
 ghost use Rattle.im_records.specs.Writes.{IsWritten, command_of, text_of};
 
-use crate::RecordFault;
+use crate::{Record, RecordFault};
 use pn_values::{Command, ImValue, Padded};
 
 /// What the record of this index asks for when these octets are written to it. The first fault counts: Index, Length,
@@ -26,11 +26,11 @@ pub fn read_write(index: u16, bytes: &[u8]) -> Result<Command, RecordFault>
 fn command_at(index: u16, bytes: &[u8]) -> Result<Command, RecordFault>
     ensures { result ≡ command_of index bytes.now }
 {
-    let value = match index {
-        0xAFF1 => ImValue::Im1(text_at(bytes, [0, 0x21, 0, 56, 1, 0])?),
-        0xAFF2 => ImValue::Im2(text_at(bytes, [0, 0x22, 0, 18, 1, 0])?),
-        0xAFF3 => ImValue::Im3(text_at(bytes, [0, 0x23, 0, 56, 1, 0])?),
-        0xAFF4 => ImValue::Im4(text_at(bytes, [0, 0x24, 0, 56, 1, 0])?),
+    let value = match Record::of(index) {
+        Some(Record::Im1) => ImValue::Im1(text_at(bytes, [0, 0x21, 0, 56, 1, 0])?),
+        Some(Record::Im2) => ImValue::Im2(text_at(bytes, [0, 0x22, 0, 18, 1, 0])?),
+        Some(Record::Im3) => ImValue::Im3(text_at(bytes, [0, 0x23, 0, 56, 1, 0])?),
+        Some(Record::Im4) => ImValue::Im4(text_at(bytes, [0, 0x24, 0, 56, 1, 0])?),
         _ => return Err(RecordFault::Index),
     };
     Ok(Command::SetIm(value))

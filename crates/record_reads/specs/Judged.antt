@@ -6,7 +6,8 @@ use Rattle.wire.specs.Codec.{◌>>=◌}
 use Rattle.block_codec.specs.declared.block_type.BlockType.TheVariants as kind
 use Rattle.block_codec.specs.Block.{in_iod_read_req}
 use Rattle.record_blocks.specs.declared.read_record.IodReadReq.{IodReadReq}
-use Rattle.im_records.specs.Records.{filter_data_index, is_real}
+use Rattle.im_records.specs.Indices.{is_anywhere, record_with}
+use Rattle.im_records.specs.Records.{is_real}
 use Rattle.pnio_status.specs.declared.call_fault.CallFault.{CallFault}
 use Rattle.pnio_status.specs.declared.call_fault.CallFault.TheVariants as fault
 use Rattle.call_blocks.specs.Judged.{judged}
@@ -18,19 +19,11 @@ use Rattle.record_reads.specs.Parameters.{parameter_length}
 unfoldable pub request_of : List ℕ → Result IodReadReq CallFault
 request_of blocks = single_of kind.IodReadReq blocks >>= λ x. or_fault fault.BlockForm (in_iod_read_req x.0)
 
--- the index of the ModuleDiffBlock of a relation
-abbrev pub module_diff_index : ℕ
-module_diff_index = 0xE002
-
--- the indices of records that stand at any place: I&M0FilterData and ModuleDiffBlock
-abbrev pub is_anywhere : ℕ → Bool
-is_anywhere index = index == filter_data_index || index == module_diff_index
-
 -- where a record stands: the API, and then the slot and subslot
 unfoldable pub placed : Real → ℕ → ℕ → ℕ → ℕ → Result (Unit {0}) CallFault
 placed real api slot subslot index = judged
     ((not (api == 0), fault.Api)
-    ∷ (not (is_anywhere index || is_real real slot subslot), fault.Place)
+    ∷ (not (is_anywhere (record_with index) || is_real real slot subslot), fault.Place)
     ∷ [])
     (Ok tt)
 

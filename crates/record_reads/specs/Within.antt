@@ -1,20 +1,21 @@
 -- Read: a record is read within a relation.
-use Rattle.std.specs.Prelude.{◌==◌, ℕ, Bool, false, List, Option, Some, Result, Ok, Err, if◌then◌else◌}
+use Rattle.std.specs.Prelude.{ℕ, Bool, false, List, Option, Some, Result, Ok, Err, if◌then◌else◌}
 use Rattle.pn_values.specs.declared.identity.Identity.{Identity}
 use Rattle.pn_values.specs.declared.real.Real.{Real}
 use Rattle.pn_values.specs.declared.settings.Settings.{Settings}
 use Rattle.wire.specs.Codec.{◌>>=◌}
 use Rattle.record_blocks.specs.declared.read_record.IodReadReq.{IodReadReq}
+use Rattle.im_records.specs.Indices.{is_module_diff, record_with}
 use Rattle.im_records.specs.Records.{record_of}
 use Rattle.pnio_status.specs.declared.call_fault.CallFault.{CallFault}
 use Rattle.call_blocks.specs.Naming.{in_relation, is_relation}
-use Rattle.record_reads.specs.Judged.{module_diff_index, request_of, read_of}
+use Rattle.record_reads.specs.Judged.{request_of, read_of}
 
 -- the record that a request means where the ModuleDiffBlock of the relation is these octets: it stands at each place, and anybody
 -- reads the others
 abbrev pub record_within : List ℕ → IodReadReq → Identity → Real → Settings → Option (List ℕ)
 record_within differing request identity real settings =
-    if request.index == module_diff_index then Some differing
+    if is_module_diff (record_with request.index) then Some differing
     else record_of request.index request.slot_number request.subslot_number identity real settings
 
 -- the IODReadReqHeader that a call consists of while this relation stands: ARUUID is judged right behind the block

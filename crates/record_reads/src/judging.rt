@@ -1,11 +1,11 @@
 //! The judgements that calls of Read and Write have in common.
 ghost use Rattle.std.specs.Prelude.{◌≡◌};
 ghost use Rattle.wire.specs.Codec.{Gives};
-ghost use Rattle.record_reads.specs.Judged.{is_anywhere, placed, request_of};
+ghost use Rattle.record_reads.specs.Judged.{placed, request_of};
 
 use block_codec::{Block, BlockType, IodReadReq};
 use call_blocks::single_block;
-use im_records::{FILTER_DATA, is_real};
+use im_records::{is_anywhere, is_real};
 use pn_values::Real;
 use pnio_status::CallFault;
 
@@ -20,16 +20,6 @@ pub fn read_request(blocks: &[u8]) -> Result<IodReadReq, CallFault>
         Block::IodReadReq(request) => Ok(request),
         _ => Err(CallFault::BlockForm),
     }
-}
-
-/// The index of the ModuleDiffBlock of a relation.
-pub(crate) const MODULE_DIFF: u16 = 0xE002;
-
-/// Whether the record of this index stands at any place: I&M0FilterData and ModuleDiffBlock.
-pub fn is_anywhere(index: u16) -> bool
-    ensures { result ≡ is_anywhere index }
-{
-    index == FILTER_DATA || index == MODULE_DIFF
 }
 
 /// Whether a request names API 0 and, where its index wants one, a submodule that is plugged in.

@@ -11,7 +11,7 @@ mod within;
 
 pub use answering::put_read_answer;
 pub use implicit::read_implicit;
-pub use judging::{check_place, is_anywhere, read_request};
+pub use judging::{check_place, read_request};
 pub use naming::names_relation;
 pub use parameters::parameter_length;
 pub use serving::Blocks;

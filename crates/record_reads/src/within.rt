@@ -5,11 +5,12 @@ ghost use Rattle.record_reads.specs.Judged.{read_of};
 ghost use Rattle.record_reads.specs.Within.{record_within, relation_read, request_within};
 
 use crate::answering::put_read_answer;
-use crate::judging::{MODULE_DIFF, check_place, read_request};
+use crate::judging::{check_place, read_request};
 use crate::serving::{Blocks, serve};
 use block_codec::IodReadReq;
 use block_fields::Uuid;
 use call_blocks::check_relation;
+use im_records::is_module_diff;
 use pn_values::{Identity, Real, Settings};
 use pnio_status::CallFault;
 
@@ -64,7 +65,7 @@ fn serve_within(
     ensures done { IfOk result (λ _. read_of real.now request.now (record_within differing.now request.now identity.now real.now settings.now) ≡ Ok answer.new.items) }
     ensures refused { IfErr result (λ fault. (read_of real.now request.now (record_within differing.now request.now identity.now real.now settings.now) ≡ Err fault) × (answer.new.items ≡ [])) }
 {
-    if request.index != MODULE_DIFF {
+    if !is_module_diff(request.index) {
         return serve(identity, real, settings, request, answer);
     }
     check_place(

@@ -9,6 +9,7 @@ use Rattle.block_codec.specs.declared.block_type.BlockType.TheVariants as kind
 use Rattle.block_codec.specs.Block.{in_iod_write_req}
 use Rattle.record_blocks.specs.declared.write_record.IodWriteReq.{IodWriteReq}
 use Rattle.im_records.specs.declared.fault.RecordFault.{RecordFault}
+use Rattle.im_records.specs.Indices.{is_read_only, record_with}
 use Rattle.im_records.specs.Writable.{is_writable}
 use Rattle.im_records.specs.Writes.{command_of}
 use Rattle.pnio_status.specs.declared.call_fault.CallFault.{CallFault}
@@ -16,7 +17,7 @@ use Rattle.pnio_status.specs.declared.call_fault.CallFault.TheVariants as fault
 use Rattle.call_blocks.specs.Judged.{judged}
 use Rattle.call_blocks.specs.Single.{single_of}
 use Rattle.call_blocks.specs.Naming.{in_relation}
-use Rattle.record_reads.specs.Judged.{has_parameter, is_anywhere, placed}
+use Rattle.record_reads.specs.Judged.{has_parameter, placed}
 use Rattle.record_reads.specs.Parameters.{parameter_length}
 use Rattle.record_writes.specs.declared.write.Effect.{Effect}
 use Rattle.record_writes.specs.declared.write.Effect.TheVariants.{Stores, Keeps}
@@ -24,13 +25,9 @@ use Rattle.record_writes.specs.declared.write.Write.{Write}
 
 -- ---- what it asks for
 
--- the indices of records that are read alone: I&M0, and those that stand at any place
-abbrev pub is_read_only : ℕ → Bool
-is_read_only index = index == 0xAFF0 || is_anywhere index
-
 -- whether there is a record of the index of a request at its slot and subslot, where a submodule is plugged in
 abbrev pub is_known : Real → IodWriteReq → Bool
-is_known real request = is_read_only request.index
+is_known real request = is_read_only (record_with request.index)
     || is_writable request.index request.slot_number request.subslot_number
     || has_parameter real request.slot_number request.subslot_number request.index
 
@@ -71,7 +68,7 @@ effect_of real request octets =
 unfoldable pub written : Real → IodWriteReq → List ℕ → Result Effect CallFault
 written real request behind = judged
     ((not (is_known real request), fault.Index)
-    ∷ (is_read_only request.index, fault.Access)
+    ∷ (is_read_only (record_with request.index), fault.Access)
     ∷ (nat_lt (length behind) request.record_data_length, fault.WriteLength)
     ∷ [])
     (or_fault fault.WriteLength (effect_of real request (take request.record_data_length behind)))

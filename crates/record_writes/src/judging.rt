@@ -1,17 +1,17 @@
 //! The judgements of a Write.
 ghost use Rattle.std.specs.Prelude.{◌≡◌};
 ghost use Rattle.std.specs.Option.{option_map};
-ghost use Rattle.record_writes.specs.Judged.{effect_of, is_known, is_read_only, judged_request, kept, stored, targeted, write_of, written};
+ghost use Rattle.record_writes.specs.Judged.{effect_of, is_known, judged_request, kept, stored, targeted, write_of, written};
 
 use crate::{Effect, TakenRecord, Write};
 use arrayvec::ArrayVec;
 use block_codec::{Block, BlockType, IodWriteReq};
 use block_fields::Uuid;
 use call_blocks::{check_relation, single_block};
-use im_records::{is_writable, read_write};
+use im_records::{is_read_only, is_writable, read_write};
 use pn_values::{Command, Real};
 use pnio_status::CallFault;
-use record_reads::{check_place, is_anywhere, parameter_length};
+use record_reads::{check_place, parameter_length};
 
 /// What a Write asks for while the relation of this ARUUID stands, if one does, or why it is refused. Of the faults the first in the
 /// order of the statuses counts.
@@ -86,13 +86,6 @@ fn check_record(real: &Real, request: &IodWriteReq, behind: &[u8]) -> Result<Eff
         Some(effect) => Ok(effect),
         None => Err(CallFault::WriteLength),
     }
-}
-
-/// Whether this index is one of a record that is read alone.
-fn is_read_only(index: u16) -> bool
-    ensures { result ≡ is_read_only index }
-{
-    index == 0xAFF0 || is_anywhere(index)
 }
 
 /// Whether there is a record of this index where a request means it, at a proper place.
