@@ -1,8 +1,9 @@
 // The device: an access point, a module with an input in slot 1 and one with an output in slot 2.
 use arrayvec::ArrayVec;
+use demo_station::identity;
 use device_core::Device;
 use flash_model::MemoryFlash;
-use pn_values::{Identity, Mac, Real, RealModule, RealSubmodule};
+use pn_values::{Real, RealModule, RealSubmodule};
 
 /// A device over the smallest flash.
 pub(crate) type Station = Device<MemoryFlash<768>, 768>;
@@ -10,24 +11,6 @@ pub(crate) type Station = Device<MemoryFlash<768>, 768>;
 /// A device that was never set.
 pub(crate) fn station() -> Option<Station> {
     Device::boot(identity(), real(), MemoryFlash::blank()).ok()
-}
-
-fn identity() -> Identity {
-    Identity {
-        mac: Mac {
-            octets: [2, 0, 0, 0, 0, 1],
-        },
-        station_type: ArrayVec::new(),
-        vendor_id: 0x0123,
-        device_id: 0x0456,
-        instance: 1,
-        order_id: [b' '; 20],
-        serial_number: [b' '; 16],
-        hardware_revision: 0,
-        software_revision: *b"V\0\0\0",
-        profile_id: 0,
-        profile_specific_type: 0,
-    }
 }
 
 // Slot and ident number of each module; its one submodule has the same ident number.

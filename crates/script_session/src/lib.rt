@@ -4,7 +4,6 @@
 mod both;
 mod bytes;
 mod copies;
-mod demo;
 mod device;
 mod laws;
 mod other_end;

@@ -5,7 +5,6 @@ ghost use Rattle.flash_model.specs.Image.{erased};
 ghost use Rattle.flash_model.specs.Memory.{image_of, IsReliable};
 ghost use Rattle.settings_journal.specs.Image.{StartsWith, LeftByDevice};
 
-use crate::demo;
 use device_core::Device;
 use flash_model::{Flash, Lent, MemoryFlash};
 use settings_journal::BootFault;
@@ -37,7 +36,7 @@ impl<'a> Power<'a> {
         ensures blank { IsReliable flash.entry → image_of flash.entry ≡ record { first = erased 4096; second = erased 4096 } → IsRunning factory_device result }
         ensures back { IsOver flash.entry result }
     {
-        match Device::boot(demo::identity(), demo::real(), flash) {
+        match Device::boot(demo_station::identity(), demo_station::real(), flash) {
             Ok(device) => Power::On(device),
             Err((fault, flash)) => Power::Off(fault, flash),
         }

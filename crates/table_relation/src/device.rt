@@ -1,7 +1,6 @@
 // What serves the calls.
 ghost use Rattle.std.specs.Prelude.{◌≡◌, []};
 
-use crate::station;
 use pn_values::{Command, Identity, Mac, Real, Settings};
 use pnio_status::{CallFault, Operation};
 use record_reads::{Blocks, names_relation, read_implicit, read_within};
@@ -30,8 +29,8 @@ impl Device {
     /// As it leaves the factory.
     pub(crate) fn new() -> Device {
         Device {
-            identity: station::identity(),
-            real: station::real(),
+            identity: demo_station::identity(),
+            real: demo_station::real(),
             settings: Settings::factory(),
             relation: Relation::new(),
         }

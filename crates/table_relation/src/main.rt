@@ -18,7 +18,6 @@
 
 mod device;
 mod line;
-mod station;
 
 use device::Device;
 use std::io::{self, Write};

@@ -8,7 +8,6 @@ pub use calls::{
     CONNECT, CONTROL, END, PRM_END, READ, RELEASE, WRITE, call, mend, response, set, shortened,
 };
 pub use stations::{
-    DONE, IDENTIFY, PUMP_1, SET, Station, UNNAMED, addressed, frame, identity, is_filled,
-    is_padded, no_modules, octets, plugged, restart, set_address, set_pump, start, station,
-    write_last,
+    DONE, IDENTIFY, PUMP_1, SET, Station, UNNAMED, addressed, frame, is_filled, is_padded,
+    no_modules, octets, plugged, restart, set_address, set_pump, start, station, write_last,
 };

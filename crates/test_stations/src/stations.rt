@@ -1,9 +1,10 @@
 //! The station, over the smallest flash, and frames that were worked out by hand.
 use arrayvec::ArrayVec;
+use demo_station::identity;
 use device_core::{Device, Event};
 use flash_model::{Flash, FlashFault, MemoryFlash, Sector};
 use frame_codec::{Bytes, Frame, Outbox};
-use pn_values::{Identity, Mac, Real, RealModule, RealSubmodule};
+use pn_values::{Real, RealModule, RealSubmodule};
 
 /// A device over the smallest flash.
 pub type Station = Device<MemoryFlash<768>, 768>;
@@ -39,27 +40,6 @@ pub const DONE: [u8; 34] =
 const SET_ADDRESS: [u8; 44] =
     *b"\x02\x00\x00\x00\x00\x01\x02\x00\x00\x00\x00\x02\x88\x92\xfe\xfd\x04\x00\x00\x00\x00\x02\x00\x00\x00\x12\
     \x01\x02\x00\x0e\x00\x01\xc0\xa8\x00\x02\xff\xff\xff\x00\x00\x00\x00\x00";
-
-/// What the station is.
-pub fn identity() -> Identity {
-    let mut station_type = ArrayVec::new();
-    let _ = station_type.try_extend_from_slice(b"pn-demo");
-    Identity {
-        mac: Mac {
-            octets: [2, 0, 0, 0, 0, 1],
-        },
-        station_type,
-        vendor_id: 0x0123,
-        device_id: 0x0456,
-        instance: 1,
-        order_id: [b' '; 20],
-        serial_number: [b' '; 16],
-        hardware_revision: 0,
-        software_revision: *b"V\0\0\0",
-        profile_id: 0,
-        profile_specific_type: 0,
-    }
-}
 
 /// Nothing is plugged.
 pub fn no_modules() -> Real {

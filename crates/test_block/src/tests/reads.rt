@@ -1,32 +1,14 @@
 // Records that are read by a Read Implicit, octet by octet.
 use super::records::{module, settings};
 use arrayvec::ArrayVec;
-use pn_values::{Identity, Mac, ParameterRecord, Real, RealSubmodule};
+use demo_station::identity;
+use pn_values::{ParameterRecord, Real, RealSubmodule};
 use pnio_status::{CallFault, Operation};
 use record_reads::{Blocks, read_implicit};
 
-/// I&M0 of the station below.
+/// I&M0 of the demo station.
 const IM0: [u8; 60] =
     *b"\x00\x20\x00\x38\x01\x00\x01\x23                                    \x00\x00V\x00\x00\x00\x00\x00\x00\x00\x00\x00\x01\x01\x00\x1E";
-
-/// A station whose texts are spaces.
-pub(crate) fn station() -> Identity {
-    Identity {
-        mac: Mac {
-            octets: [2, 0, 0, 0, 0, 1],
-        },
-        station_type: ArrayVec::new(),
-        vendor_id: 0x0123,
-        device_id: 0x0456,
-        instance: 1,
-        order_id: [b' '; 20],
-        serial_number: [b' '; 16],
-        hardware_revision: 0,
-        software_revision: [b'V', 0, 0, 0],
-        profile_id: 0,
-        profile_specific_type: 0,
-    }
-}
 
 /// A submodule with parameter records 1 and 700.
 fn with_parameters() -> RealSubmodule {
@@ -104,7 +86,7 @@ impl Asked {
 /// What these octets are answered.
 fn answered(octets: &[u8]) -> Result<Blocks, CallFault> {
     let mut answer = Blocks::new();
-    read_implicit(&station(), &plugged(), &settings(), octets, &mut answer)?;
+    read_implicit(&identity(), &plugged(), &settings(), octets, &mut answer)?;
     Ok(answer)
 }
 

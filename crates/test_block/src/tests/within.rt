@@ -1,9 +1,10 @@
 // Records that are read within a relation.
 ghost use Rattle.std.specs.Prelude.{◌≤◌, length};
 
-use super::reads::{Asked, GOOD, plugged, station};
+use super::reads::{Asked, GOOD, plugged};
 use super::records::settings;
 use block_fields::Uuid;
+use demo_station::identity;
 use pnio_status::{CallFault, Operation};
 use record_reads::{Blocks, names_relation, read_within};
 
@@ -24,7 +25,7 @@ fn answered(relation: u8, differing: &[u8], asked: Asked) -> Result<Blocks, Call
     read_within(
         Some(&uuid),
         differing,
-        &station(),
+        &identity(),
         &plugged(),
         &settings(),
         &asked.octets(),

@@ -4,7 +4,8 @@ use dcp_core::{
     DcpFault, Kind, Outcome, ResponseBlock, ResponseBlocks, Service, get_answer, identify_answer,
     identify_matches, read_answer, read_request, set_answer, set_plan,
 };
-use pn_values::{BlockError, Command, Identity, IpSuite, Mac, SetItem, Settings};
+use demo_station::identity;
+use pn_values::{BlockError, Command, IpSuite, SetItem, Settings};
 use station_names::check;
 use std::test::Fail;
 
@@ -23,26 +24,6 @@ const NAME_AND_SUITE: [u8; 40] = [
     14, 0, 1, 192, 168, 0, 2, 255, 0, 255, 0, 0, 0, 0, 0,
 ];
 
-fn demo() -> Identity {
-    let mut station_type = ArrayVec::new();
-    let _ = station_type.try_extend_from_slice(b"pn-demo");
-    Identity {
-        mac: Mac {
-            octets: [2, 0, 0, 0, 0, 1],
-        },
-        station_type,
-        vendor_id: 0x0123,
-        device_id: 0x0456,
-        instance: 1,
-        order_id: [b' '; 20],
-        serial_number: [b' '; 16],
-        hardware_revision: 0,
-        software_revision: [b'V', 0, 0, 0],
-        profile_id: 0,
-        profile_specific_type: 0,
-    }
-}
-
 fn fault(frame_id: u16, bytes: &[u8]) -> Option<DcpFault> {
     read_request(frame_id, bytes).err()
 }
@@ -52,8 +33,8 @@ fn answers_identify_all(rt: HostRuntime) {
     let request = read_request(IDENTIFY, &ALL).ok().expect(&rt, "a request");
     assert_eq!(rt; request.service, Service::Identify);
     assert_eq!(rt; request.xid, 1);
-    assert!(rt; identify_matches(&demo(), &Settings::factory(), &request));
-    let answer = identify_answer(&demo(), &Settings::factory(), request.xid);
+    assert!(rt; identify_matches(&identity(), &Settings::factory(), &request));
+    let answer = identify_answer(&identity(), &Settings::factory(), request.xid);
     let expected = [
         5, 1, 0, 0, 0, 1, 0, 0, 0, 0x5e, // the header
         2, 1, 0, 9, 0, 0, b'p', b'n', b'-', b'd', b'e', b'm', b'o', 0, // the station type
@@ -73,7 +54,7 @@ fn gets_each_pair_once(rt: HostRuntime) {
     let request = read_request(GET_SET, &asked_for)
         .ok()
         .expect(&rt, "a request");
-    let answer = get_answer(&demo(), &Settings::factory(), &request);
+    let answer = get_answer(&identity(), &Settings::factory(), &request);
     let expected = [
         3, 1, 0, 0, 0, 3, 0, 0, 0, 32, 2, 2, 0, 2, 0, 0, 1, 2, 0, 14, 0, 0, 0, 0, 0, 0, 0, 0, 0, 0,
         0, 0, 0, 0, 5, 4, 0, 3, 3, 1, 1, 0,
@@ -96,7 +77,7 @@ fn answers_identify_with_its_address(rt: HostRuntime) -> Result<(), Fail> {
         name: check(b"pump-1").ok().ok_or("a name")?,
         ..at_192_168_0_2()?
     };
-    let answer = identify_answer(&demo(), &settings, 0x1122_3344);
+    let answer = identify_answer(&identity(), &settings, 0x1122_3344);
     let expected = [
         5, 1, 0x11, 0x22, 0x33, 0x44, 0, 0, 0, 0x64, // the header
         2, 1, 0, 9, 0, 0, b'p', b'n', b'-', b'd', b'e', b'm', b'o', 0, // the station type
@@ -115,7 +96,7 @@ fn answers_identify_with_its_address(rt: HostRuntime) -> Result<(), Fail> {
 fn gets_an_address_that_is_set(rt: HostRuntime) -> Result<(), Fail> {
     let asked_for = [3, 0, 0, 0, 0, 3, 0, 0, 0, 2, 1, 2];
     let request = read_request(GET_SET, &asked_for).ok().ok_or("a request")?;
-    let answer = get_answer(&demo(), &at_192_168_0_2()?, &request);
+    let answer = get_answer(&identity(), &at_192_168_0_2()?, &request);
     let expected = [
         3, 1, 0, 0, 0, 3, 0, 0, 0, 18, 1, 2, 0, 14, 0, 1, 192, 168, 0, 2, 255, 255, 255, 0, 192,
         168, 0, 1,

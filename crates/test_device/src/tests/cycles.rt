@@ -1,10 +1,11 @@
 //! A cycle of the device, and the start after it.
+use demo_station::identity;
 use device_core::{Event, Sink, cycle};
 use flash_model::{MemoryFlash, Sector};
 use frame_codec::Frame;
 use std::process::Abort;
 use std::test::Fail;
-use test_stations::{DONE, IDENTIFY, frame, identity, no_modules, set_pump};
+use test_stations::{DONE, IDENTIFY, frame, no_modules, set_pump};
 
 // What is handed on, kept in memory.
 #[derive(Drop)]

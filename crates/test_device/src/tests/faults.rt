@@ -1,4 +1,5 @@
 //! What a station goes on with after a flash call that failed, and a start that cannot read.
+use demo_station::identity;
 use device_core::{Device, Event, Note};
 use flash_model::{MemoryFlash, Order};
 use frame_codec::Outbox;
@@ -6,8 +7,7 @@ use settings_journal::BootFault;
 use std::process::Abort;
 use std::test::Fail;
 use test_stations::{
-    DONE, IDENTIFY, PUMP_1, SET, Station, frame, identity, is_padded, no_modules, restart,
-    set_pump, start,
+    DONE, IDENTIFY, PUMP_1, SET, Station, frame, is_padded, no_modules, restart, set_pump, start,
 };
 
 // The answer "local application error" to a Set of a name.

@@ -1,11 +1,12 @@
 //! A station whose flash has no room for one more commit, and a flash that another layout was written to.
+use demo_station::identity;
 use device_core::{Device, Note};
 use flash_model::{Flash, MemoryFlash, Sector};
 use frame_codec::Outbox;
 use settings_journal::BootFault;
 use std::test::Fail;
 use test_stations::{
-    IDENTIFY, PUMP_1, Station, frame, identity, is_padded, no_modules, set_pump, start, write_last,
+    IDENTIFY, PUMP_1, Station, frame, is_padded, no_modules, set_pump, start, write_last,
 };
 
 // A reset of DCP without its block, and the answer without how the block came out.

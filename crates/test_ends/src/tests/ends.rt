@@ -2,6 +2,7 @@
 use super::{OTHER_MODULES, PUMP};
 use configurator::plan_from_json;
 use controller_core::{Cause, Controller, Event as ControllerEvent, State};
+use demo_station::identity;
 use device_core::{Device, Event, Note};
 use flash_model::{MemoryFlash, Order};
 use frame_codec::{Bytes, Frame, Outbox};
@@ -9,8 +10,7 @@ use relations::Phase;
 use std::alloc::Global;
 use std::test::Fail;
 use test_stations::{
-    DONE, SET, Station, WRITE, call, frame, identity, is_filled, is_padded, octets, plugged,
-    set_pump,
+    DONE, SET, Station, WRITE, call, frame, is_filled, is_padded, octets, plugged, set_pump,
 };
 use uuid::Uuid;
 

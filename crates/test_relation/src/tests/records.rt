@@ -3,6 +3,7 @@
 use crate::tests::connects::{Blocks, THREE, connect};
 use crate::tests::exchange::{is_interval_sent, outputs};
 use crate::tests::requests::{exchanging, related, served, write};
+use demo_station::identity;
 use device_core::{Device, Note};
 use flash_model::{MemoryFlash, Order};
 use frame_codec::Outbox;
@@ -10,8 +11,7 @@ use pn_values::{ParameterRecord, Real, RealModule, RealSubmodule};
 use relations::Phase;
 use std::test::Fail;
 use test_stations::{
-    CONNECT, Station, WRITE, call, frame, identity, no_modules, plugged, restart, station,
-    write_last,
+    CONNECT, Station, WRITE, call, frame, no_modules, plugged, restart, station, write_last,
 };
 
 // I&M2, the date of installation.

@@ -1,37 +1,14 @@
-// The device that scripts are run on.
+// What is plugged in it.
 ghost use Rattle.std.specs.Prelude.{◌≡◌, [], ◌∷◌};
-ghost use Rattle.script_session.specs.Demo.{demo, demo_real, module_of, plugged};
+ghost use Rattle.demo_station.specs.Demo.{demo_real, module_of, plugged};
 
-use crate::bytes::copied;
 use arrayvec::ArrayVec;
-use pn_values::{Identity, Mac, Real, RealModule, RealSubmodule};
+use pn_values::{Real, RealModule, RealSubmodule};
 
-/// What the demo device is.
-#[tactic(auto, unfolding(crate::specs::Demo::demo))]
-pub(crate) fn identity() -> Identity
-    ensures { result ≡ demo }
-{
-    Identity {
-        mac: Mac {
-            octets: [2, 0, 0, 0, 0, 1],
-        },
-        station_type: copied(b"pn-demo"),
-        vendor_id: 0x0123,
-        device_id: 0x0456,
-        instance: 1,
-        order_id: [b' '; 20],
-        serial_number: [b' '; 16],
-        hardware_revision: 0,
-        software_revision: [b'V', 0, 0, 0],
-        profile_id: 0,
-        profile_specific_type: 0,
-    }
-}
-
-/// What is plugged in it: the access point with its interface and a port, a module of two bytes of input, and one of
+/// The access point with its interface and a port, a module of two bytes of input, and one of
 /// two bytes of output.
 #[tactic(auto, unfolding(crate::specs::Demo::demo_real))]
-pub(crate) fn real() -> Real
+pub fn real() -> Real
     ensures { result ≡ demo_real }
 {
     let mut access_point = ArrayVec::new();

@@ -1,0 +1,9 @@
+//! The demo station: what it is, and what is plugged in it. Scripts are run on it, and tests, tables and benches take it where any station
+//! would do.
+#![tactic(auto)]
+
+mod identity;
+mod real;
+
+pub use identity::identity;
+pub use real::real;
