@@ -230,12 +230,12 @@ impl<F: Flash<S>, const S: usize> Device<F, S> {
         if elapsed.is_nothing() {
             return Note::Done;
         }
-        match elapsed.ending {
+        match elapsed.tick.ending {
             Some(reason) => self.end(reason, outbox),
             None => self.send_due(
-                elapsed.is_alarm,
+                elapsed.tick.is_alarm,
                 elapsed.is_ready,
-                elapsed.is_cyclic,
+                elapsed.tick.is_cyclic,
                 outbox,
             ),
         }

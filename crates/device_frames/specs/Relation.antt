@@ -5,7 +5,7 @@ use Rattle.cyclic_exchange.specs.declared.route.Route.{Route}
 use Rattle.exchanges.specs.Flow.{Flow}
 use Rattle.exchanges.specs.Frames.{Frame, alarm_frame, inputs_frame, reply_frame}
 use Rattle.relations.specs.declared.farewell.Farewell.{Farewell}
-use Rattle.relations.specs.declared.time.Due.{Due}
+use Rattle.relations.specs.Timers.{Due}
 use Rattle.relations.specs.Link.{Link, flow_of}
 use Rattle.relations.specs.Ready.{ready_of}
 use Rattle.device_frames.specs.Sent.{Sent, ReadyCall, Ends, Exchanges}

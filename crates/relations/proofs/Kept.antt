@@ -8,7 +8,7 @@ use Rattle.pn_alarms.specs.declared.abort.Abort.{Abort}
 use Rattle.pn_alarms.specs.declared.abort.Abort.TheVariants.{Activity}
 use Rattle.pn_alarms.specs.Numbers.{send_number, ack_number}
 use Rattle.relations.specs.declared.farewell.Farewell.{Farewell}
-use Rattle.relations.specs.declared.time.Due.{Due}
+use Rattle.relations.specs.Timers.{Due}
 use Rattle.relations.specs.Link.{Link, phase_of, is_awaiting}
 use Rattle.relations.specs.Farewells.{farewell_of}
 use Rattle.relations.specs.Timers.{is_timed, ending_of, is_again, limit_of, waited_later, quiet_later, unit_later, due_by, due_of}

@@ -7,7 +7,6 @@ use Rattle.pn_alarms.specs.declared.abort.Abort.{Abort}
 use Rattle.pn_alarms.specs.declared.abort.Abort.TheVariants.{Activity, DataHold, Other}
 use Rattle.cyclic_data.specs.Timing.{held_on}
 use Rattle.relations.specs.declared.farewell.Farewell.{Farewell}
-use Rattle.relations.specs.declared.time.Due.{Due}
 use Rattle.relations.specs.declared.time.Elapsed.{Elapsed}
 use Rattle.relations.specs.Link.{Link, is_awaiting}
 use Rattle.relations.specs.Farewells.{farewell_of}
@@ -54,6 +53,13 @@ waited_later link = if is_again link then 0 else (if is_awaiting link.phase then
 abbrev pub unit_later : Link → Link
 unit_later link = record link { quiet = quiet_later link; waited = waited_later link; flow = flow_later link.flow }
 
+-- what is due with a unit
+pub record Due : Type 0 where
+  pub farewell : Option Farewell
+  pub is_alarm : Bool
+  pub is_ready : Bool
+  pub is_cyclic : Bool
+
 -- what a unit brings: a timeout ends the relation, and nothing more is done; else the alarm that stands may be due again, then
 -- ApplicationReady, and then a frame of inputs
 abbrev pub due_by : Link → Option Abort → Due
@@ -78,11 +84,16 @@ farewell_for None link = None
 
 -- what is due behind a unit that brought this, of the relation that stands then
 abbrev pub due_behind : Elapsed → Option Link → Due
-due_behind elapsed link = record { farewell = farewell_for elapsed.ending link; is_alarm = elapsed.is_alarm; is_ready = elapsed.is_ready; is_cyclic = elapsed.is_cyclic }
+due_behind elapsed link = record {
+  farewell = farewell_for elapsed.tick.ending link;
+  is_alarm = elapsed.tick.is_alarm;
+  is_ready = elapsed.is_ready;
+  is_cyclic = elapsed.tick.is_cyclic;
+}
 
 -- whether nothing is to be sent
 abbrev pub brings_nothing : Elapsed → Bool
-brings_nothing elapsed = is_none elapsed.ending && (not elapsed.is_alarm && (not elapsed.is_ready && not elapsed.is_cyclic))
+brings_nothing elapsed = is_none elapsed.tick.ending && (not elapsed.tick.is_alarm && (not elapsed.is_ready && not elapsed.tick.is_cyclic))
 
 -- the relation once it has ended for this reason, if it is to end
 abbrev pub left_behind : Option Abort → Option Link → Option Link

@@ -25,4 +25,4 @@ pub use phase::{Partner, Phase};
 pub use pn_alarms::Abort;
 pub use ready::Ready;
 pub use relation::Relation;
-pub use time::{Due, Elapsed};
+pub use time::Elapsed;

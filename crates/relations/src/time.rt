@@ -1,7 +1,7 @@
 //! The units of time.
 //!
 //! `inline(always)` stands where instructions were counted (`bench/figures/exchange.py`): most units bring nothing, and cost little.
-ghost use Rattle.std.specs.Prelude.{◌≡◌, ◌==◌, ◌+◌, ◌<◌, ◌⊎◌, IfSome, None, Option, Some, false, nat_le, true, if◌then◌else◌};
+ghost use Rattle.std.specs.Prelude.{◌≡◌, ◌==◌, ◌+◌, ◌<◌, IfSome, None, Option, Some, false, nat_le, true, if◌then◌else◌};
 ghost use Rattle.pn_alarms.specs.declared.abort.Abort.TheVariants.{Activity, DataHold};
 ghost use Rattle.relations.specs.declared.phase.Phase.TheVariants.{Exchanging};
 ghost use Rattle.relations.specs.Farewells.{farewell_of};
@@ -10,7 +10,8 @@ ghost use Rattle.relations.specs.Timers.{EndsIn, brings_nothing, due_behind, due
 ghost use Rattle.relations.specs.Phases.{moved, passing};
 ghost use Rattle.relations.specs.Ready.{ready_of};
 
-use crate::{Farewell, Phase, Relation};
+use crate::{Phase, Relation};
+use exchanges::Tick;
 use pn_alarms::Abort;
 
 /// 100 ms, in units of 31.25 microseconds: what CMInitiatorActivityTimeoutFactor counts.
@@ -19,30 +20,14 @@ const TENTH_OF_A_SECOND: u32 = 3_200;
 /// One second, in units of 31.25 microseconds: after so long ApplicationReady is sent again.
 const SECOND: u32 = 32_000;
 
-/// What is to be sent with a unit of time.
-#[derive(Clone, Copy, Debug, PartialEq, Eq)]
-pub struct Due {
-    /// A timeout has ended the relation: its ERR, and nothing else.
-    pub farewell: Option<Farewell>,
-    /// The alarm that stands is sent again.
-    pub is_alarm: bool,
-    /// ApplicationReady is sent again.
-    pub is_ready: bool,
-    /// A frame of inputs is sent.
-    pub is_cyclic: bool,
-}
-
 /// What a unit of time brings, before it is sent: few bits, so that most units, which bring nothing, cost little.
 #[derive(Clone, Copy, Debug, PartialEq, Eq)]
 pub struct Elapsed {
-    /// A timeout is over: why the relation is to end, and nothing else is sent.
-    pub ending: Option<Abort>,
-    /// The alarm that stands is sent again.
-    pub is_alarm: bool,
+    /// What it brings to the exchange: the alarm that stands is sent again, a frame of inputs is sent. Or the relation is to end, for the
+    /// activity timer's sake too, and nothing else is sent.
+    pub tick: Tick,
     /// ApplicationReady is sent again.
     pub is_ready: bool,
-    /// A frame of inputs is sent.
-    pub is_cyclic: bool,
 }
 
 impl Elapsed {
@@ -51,21 +36,24 @@ impl Elapsed {
     pub fn is_nothing(&self) -> bool
         ensures value { result ≡ brings_nothing self.now }
         ensures nothing { (link : Option Link) → result ≡ true → due_behind self.now link ≡ nothing }
-        ensures left { (link : Option Link) → result ≡ true → left_behind self.now.ending link ≡ link }
+        ensures left { (link : Option Link) → result ≡ true → left_behind self.now.tick.ending link ≡ link }
     {
-        self.ending.is_none() && !self.is_alarm && !self.is_ready && !self.is_cyclic
+        let tick = &self.tick;
+        tick.ending.is_none() && !tick.is_alarm && !self.is_ready && !tick.is_cyclic
     }
 
     /// There is no relation, or a timeout is over.
     #[inline(always)]
     fn ending(ending: Option<Abort>) -> Elapsed
-        ensures { result ≡ record { ending = ending; is_alarm = false; is_ready = false; is_cyclic = false } }
+        ensures { result ≡ record { tick = record { ending = ending; is_alarm = false; is_cyclic = false }; is_ready = false } }
     {
         Elapsed {
-            ending,
-            is_alarm: false,
+            tick: Tick {
+                ending,
+                is_alarm: false,
+                is_cyclic: false,
+            },
             is_ready: false,
-            is_cyclic: false,
         }
     }
 }
@@ -94,42 +82,20 @@ impl Relation {
     /// A unit of 31.25 microseconds passes. The activity timer ends the relation at CMInitiatorActivityTimeoutFactor times 3,200
     /// units; once data is exchanged data hold does, and then an alarm that was sent as often as it may be. Where none does, the alarm
     /// that stands may be due again, ApplicationReady is each 32,000 units until it is answered, and a frame of inputs each interval.
-    pub fn tick(&mut self) -> Due
-        ensures due { result ≡ due_of self.old }
-        ensures state { self.new ≡ moved (passing self.old) self.old }
-        // The activity timer ends a relation before data is exchanged, data hold and an alarm without an ACK only then,
-        ensures reason { IfSome result.farewell (λ farewell. EndsIn farewell.reason (phase_of self.old)) }
-        // and then data hold always does where it is over.
-        ensures hold { (old : Link) → self.old ≡ Some old → old.phase ≡ Exchanging → is_unheard old ≡ true → result.farewell ≡ Some (farewell_of DataHold old) }
-        // A unit of time leads nowhere but to the end.
-        ensures phase { (phase_of self.new ≡ None) ⊎ (phase_of self.new ≡ phase_of self.old) }
-        // ApplicationReady is sent again as it was.
-        ensures same { (old new : Link) → self.old ≡ Some old → self.new ≡ Some new → ready_of new ≡ ready_of old }
-    {
-        let elapsed = self.elapse();
-        let farewell = match elapsed.ending {
-            Some(reason) => self.end(reason),
-            None => None,
-        };
-        Due {
-            farewell,
-            is_alarm: elapsed.is_alarm,
-            is_ready: elapsed.is_ready,
-            is_cyclic: elapsed.is_cyclic,
-        }
-    }
-
-    /// A unit of 31.25 microseconds passes, as `tick` says, but a relation that a timeout ends still stands: who calls it has it end
-    /// for this reason.
+    /// A relation that a timeout ends still stands: who calls this has it end for that reason.
     #[inline(always)]
     pub fn elapse(&mut self) -> Elapsed
         ensures due { due_of self.old ≡ due_behind result self.new }
-        ensures state { moved (passing self.old) self.old ≡ left_behind result.ending self.new }
+        ensures state { moved (passing self.old) self.old ≡ left_behind result.tick.ending self.new }
+        // The activity timer ends a relation before data is exchanged, data hold and an alarm without an ACK only then.
+        ensures reason { IfSome result.tick.ending (λ reason. EndsIn reason (phase_of self.old)) }
         // What still stands is in its phase and has its records, also where it is to end.
         ensures stands { phase_of self.new ≡ phase_of self.old }
         ensures records { taken_of self.new ≡ taken_of self.old }
         // Once data is exchanged data hold always ends it where it is over.
-        ensures hold { (old : Link) → self.old ≡ Some old → old.phase ≡ Exchanging → is_unheard old ≡ true → farewell_for result.ending self.new ≡ Some (farewell_of DataHold old) }
+        ensures hold { (old : Link) → self.old ≡ Some old → old.phase ≡ Exchanging → is_unheard old ≡ true → farewell_for result.tick.ending self.new ≡ Some (farewell_of DataHold old) }
+        // ApplicationReady is sent again as it was.
+        ensures same { (old new : Link) → self.old ≡ Some old → self.new ≡ Some new → ready_of new ≡ ready_of old }
     {
         let Some(phase) = self.phase else {
             return Elapsed::ending(None);
@@ -146,10 +112,12 @@ impl Relation {
             return Elapsed::ending(ending);
         }
         Elapsed {
-            ending: None,
-            is_alarm: tick.is_alarm,
+            tick: Tick {
+                ending: None,
+                is_alarm: tick.is_alarm,
+                is_cyclic: tick.is_cyclic,
+            },
             is_ready: is_awaiting(phase) && unit_waited(&mut self.waited),
-            is_cyclic: tick.is_cyclic,
         }
     }
 }

@@ -3,7 +3,7 @@ use crate::device::Device;
 use pn_values::Command;
 use pnio_status::{CallFault, Operation};
 use record_reads::Blocks;
-use relations::{Abort, Due, Farewell, Phase, ReadyAnswer, Relation};
+use relations::{Abort, Farewell, Phase, ReadyAnswer, Relation};
 use rpc_core::{CallHeader, Response, Status};
 use std::alloc::{AllocError, Global};
 use std::io::{self, ErrorKind};
@@ -71,23 +71,32 @@ fn put_octets(alloc: Global, octets: &[u8], text: &mut String) -> Result<(), All
 fn put_ticks(device: &mut Device, units: u32, text: &mut String) -> Result<(), AllocError> {
     let mut gap = "";
     for _ in 0..units {
-        let due = device.relation.tick();
-        gap = put_due(due, gap, text)?;
+        let elapsed = device.relation.elapse();
+        let farewell = match elapsed.tick.ending {
+            Some(reason) => device.relation.end(reason),
+            None => None,
+        };
+        gap = put_due(elapsed.is_ready, farewell, gap, text)?;
     }
     text.push_str(if gap.is_empty() { "-" } else { "" })
 }
 
 /// Appends what is due with a unit, with this in front of it. Answers what comes in front of the next.
-fn put_due(due: Due, gap: &'static str, text: &mut String) -> Result<&'static str, AllocError> {
+fn put_due(
+    is_ready: bool,
+    farewell: Option<Farewell>,
+    gap: &'static str,
+    text: &mut String,
+) -> Result<&'static str, AllocError> {
     let mut gap = gap;
-    if due.is_ready {
+    if is_ready {
         text.push_str(gap)?;
         text.push_str("ready")?;
         gap = " ";
     }
-    if due.farewell.is_some() {
+    if farewell.is_some() {
         text.push_str(gap)?;
-        put_reason(due.farewell, text)?;
+        put_reason(farewell, text)?;
         gap = " ";
     }
     Ok(gap)

@@ -16,7 +16,7 @@ pub returns-in-Some-clause-frames : goal.returns-in-Some-clause-frames
 returns-in-Some-clause-frames g c =
     let elapsed = c.elapse-elapsed.result in
     rw (← c.self.view_is) (rw (c.end.ensures.frames, c.elapse-elapsed.ensures.due, c.elapse-elapsed.ensures.state, c.in-Some.is)
-    (rw (idle elapsed.is_alarm, idle elapsed.is_ready, idle elapsed.is_cyclic, append-nil (farewells_in (option_map (farewell_of c.in-Some.reason) c.elapse-elapsed.new.self))) refl))
+    (rw (idle elapsed.tick.is_alarm, idle elapsed.is_ready, idle elapsed.tick.is_cyclic, append-nil (farewells_in (option_map (farewell_of c.in-Some.reason) c.elapse-elapsed.new.self))) refl))
 
 pub returns-in-None-clause-frames : goal.returns-in-None-clause-frames
 returns-in-None-clause-frames g c =
@@ -43,7 +43,7 @@ pub returns-in-Some-clause-sendable : goal.returns-in-Some-clause-sendable
 returns-in-Some-clause-sendable g c =
     let elapsed = c.elapse-elapsed.result in
     rw (← c.self.view_is) (rw (c.elapse-elapsed.ensures.due, c.elapse-elapsed.ensures.state, c.in-Some.is)
-    (rw (idle elapsed.is_alarm, idle elapsed.is_ready, idle elapsed.is_cyclic, append-nil (farewells_in (option_map (farewell_of c.in-Some.reason) c.elapse-elapsed.new.self))) c.end.ensures.sendable))
+    (rw (idle elapsed.tick.is_alarm, idle elapsed.is_ready, idle elapsed.tick.is_cyclic, append-nil (farewells_in (option_map (farewell_of c.in-Some.reason) c.elapse-elapsed.new.self))) c.end.ensures.sendable))
 
 pub returns-in-None-clause-sendable : goal.returns-in-None-clause-sendable
 returns-in-None-clause-sendable g c =
