@@ -7,6 +7,7 @@ ghost use Rattle.controller_core.specs.State.{with_live};
 ghost use Rattle.controller_core.specs.Machine.{ack_now, behind_data, confirming, noticed, over, reply_of, taken};
 ghost use Rattle.pn_alarms.specs.Format.{is_long};
 ghost use Rattle.pn_alarms.specs.Receiver.{taken_as};
+ghost use Rattle.frame_codec.specs.Outbox.{boxed};
 
 use crate::kept::{KeptAlarm, ack_of};
 use crate::{Cause, Controller, State};
@@ -41,8 +42,8 @@ impl Controller {
     fn reply(&self, kind: PduType, outbox: &mut Outbox)
         requires room { array_vec_len outbox.old < 4 }
         requires kind { is_long kind 0 ≡ true }
-        ensures frames { map (λ frame. frame.items) outbox.new.items
-            ≡ map (λ frame. frame.items) outbox.old.items
+        ensures frames { boxed outbox.new
+            ≡ boxed outbox.old
             ++ bytes_of self.now.setup (reply_of self.now.live kind) ∷ [] }
         ensures len { array_vec_len outbox.new ≡ array_vec_len outbox.old + 1 }
     {
@@ -55,8 +56,8 @@ impl Controller {
     fn confirm(&mut self, alarm: &AlarmNotification<'_>, outbox: &mut Outbox)
         requires room { array_vec_len outbox.old < 4 }
         ensures state { self.new ≡ with_live self.old (confirming self.old.live alarm.now) }
-        ensures frames { map (λ frame. frame.items) outbox.new.items
-            ≡ map (λ frame. frame.items) outbox.old.items
+        ensures frames { boxed outbox.new
+            ≡ boxed outbox.old
             ++ bytes_of self.old.setup (ack_now (confirming self.old.live alarm.now) (ack_of alarm.now)) ∷ [] }
         ensures len { array_vec_len outbox.new ≡ array_vec_len outbox.old + 1 }
     {
@@ -72,7 +73,7 @@ impl Controller {
     fn take(&mut self, number: u16, alarm: &AlarmNotification<'_>, outbox: &mut Outbox)
         requires empty { outbox.old.items ≡ [] }
         ensures state { self.new ≡ with_live self.old (taken (behind_data self.old.live number) alarm.now (taken_as self.old.live.alarms.seen number)).live }
-        ensures frames { map (λ frame. frame.items) outbox.new.items
+        ensures frames { boxed outbox.new
             ≡ map (bytes_of self.old.setup) (taken (behind_data self.old.live number) alarm.now (taken_as self.old.live.alarms.seen number)).sent }
     {
         match self.alarms.take(number) {
@@ -94,7 +95,7 @@ impl Controller {
     )
         requires empty { outbox.old.items ≡ [] }
         ensures state { self.new ≡ with_live self.old (noticed self.old.live notice.now).live }
-        ensures frames { map (λ frame. frame.items) outbox.new.items ≡ map (bytes_of self.old.setup) (noticed self.old.live notice.now).sent }
+        ensures frames { boxed outbox.new ≡ map (bytes_of self.old.setup) (noticed self.old.live notice.now).sent }
     {
         match notice {
             Notice::Data(number, alarm) => self.take(*number, alarm, outbox),

@@ -11,6 +11,7 @@ ghost use Rattle.controller_core.specs.Answers.{is_answer, is_ready};
 ghost use Rattle.controller_core.specs.Connect.{nothing, found_in as all_found};
 ghost use Rattle.controller_core.specs.State.{with_live};
 ghost use Rattle.controller_core.specs.Machine.{acks_of, addressed, alarmed, answered, asking, called, come, connected, connected_by, decided, done, due_frames, ended_by, found, given, is_again, judged, later, outputs_of, readied, ready_in as block_of_ready, related_by, released, requests_of, responded, step_of, stopped, ticked, turned, where_due, writing};
+ghost use Rattle.frame_codec.specs.Outbox.{boxed};
 
 use crate::alarms::{header_of, is_alarm};
 use crate::answers::{
@@ -45,7 +46,7 @@ impl Controller {
     #[tactic(auto, unfolding(crate::specs::Machine::step_of))]
     pub fn step(&mut self, event: &Event, outbox: &mut Outbox)
         ensures state { self.new ≡ (step_of self.old event.now).controller }
-        ensures frames { map (λ frame. frame.items) outbox.new.items ≡ (step_of self.old event.now).frames }
+        ensures frames { boxed outbox.new ≡ (step_of self.old event.now).frames }
     {
         outbox.clear();
         match event {
@@ -60,7 +61,7 @@ impl Controller {
     fn ask(&mut self, phase: State, request: Request, outbox: &mut Outbox)
         requires empty { outbox.old.items ≡ [] }
         ensures state { self.new ≡ with_live self.old (asking phase request self.old.live).live }
-        ensures frames { map (λ frame. frame.items) outbox.new.items ≡ map (bytes_of self.old.setup) (asking phase request self.old.live).sent }
+        ensures frames { boxed outbox.new ≡ map (bytes_of self.old.setup) (asking phase request self.old.live).sent }
     {
         self.phase = phase;
         self.asked = Some(request);
@@ -72,7 +73,7 @@ impl Controller {
     fn release(&mut self, cause: Cause, outbox: &mut Outbox)
         requires empty { outbox.old.items ≡ [] }
         ensures state { self.new ≡ with_live self.old (released self.old.setup cause self.old.live).live }
-        ensures frames { map (λ frame. frame.items) outbox.new.items ≡ map (bytes_of self.old.setup) (released self.old.setup cause self.old.live).sent }
+        ensures frames { boxed outbox.new ≡ map (bytes_of self.old.setup) (released self.old.setup cause self.old.live).sent }
     {
         let sequence = next_sequence(&self.setup.plan, self.asked);
         self.end(cause);
@@ -83,7 +84,7 @@ impl Controller {
     fn stop(&mut self, outbox: &mut Outbox)
         requires empty { outbox.old.items ≡ [] }
         ensures state { self.new ≡ with_live self.old (stopped self.old.setup self.old.live self.old.live.phase).live }
-        ensures frames { map (λ frame. frame.items) outbox.new.items ≡ map (bytes_of self.old.setup) (stopped self.old.setup self.old.live self.old.live.phase).sent }
+        ensures frames { boxed outbox.new ≡ map (bytes_of self.old.setup) (stopped self.old.setup self.old.live self.old.live.phase).sent }
     {
         match self.phase {
             // No relation was asked for yet, so there is none that a device would have to be told of.
@@ -109,7 +110,7 @@ impl Controller {
     fn hear(&mut self, bytes: &Bytes, outbox: &mut Outbox)
         requires empty { outbox.old.items ≡ [] }
         ensures state { self.new ≡ with_live self.old (turned self.old.setup self.old.live (heard_of self.old.setup.plan.controller bytes.now.items)).live }
-        ensures frames { map (λ frame. frame.items) outbox.new.items
+        ensures frames { boxed outbox.new
             ≡ map (bytes_of self.old.setup) (turned self.old.setup self.old.live (heard_of self.old.setup.plan.controller bytes.now.items)).sent }
     {
         match cyclic_in(self.setup.plan.controller(), bytes) {
@@ -123,7 +124,7 @@ impl Controller {
     fn hear_other(&mut self, bytes: &Bytes, outbox: &mut Outbox)
         requires empty { outbox.old.items ≡ [] }
         ensures state { self.new ≡ with_live self.old (turned self.old.setup self.old.live (heard_of self.old.setup.plan.controller bytes.now.items)).live }
-        ensures frames { map (λ frame. frame.items) outbox.new.items
+        ensures frames { boxed outbox.new
             ≡ map (bytes_of self.old.setup) (turned self.old.setup self.old.live (heard_of self.old.setup.plan.controller bytes.now.items)).sent }
     {
         let hearing = heard(self.setup.plan.controller(), bytes);
@@ -134,7 +135,7 @@ impl Controller {
     fn turn(&mut self, hearing: &Hearing<'_>, outbox: &mut Outbox)
         requires empty { outbox.old.items ≡ [] }
         ensures state { self.new ≡ with_live self.old (turned self.old.setup self.old.live (told hearing.now)).live }
-        ensures frames { map (λ frame. frame.items) outbox.new.items ≡ map (bytes_of self.old.setup) (turned self.old.setup self.old.live (told hearing.now)).sent }
+        ensures frames { boxed outbox.new ≡ map (bytes_of self.old.setup) (turned self.old.setup self.old.live (told hearing.now)).sent }
     {
         match hearing {
             Hearing::Nothing => {}
@@ -152,7 +153,7 @@ impl Controller {
     fn hear_answer(&mut self, source: Mac, answer: &dcp_core::Response<'_>, outbox: &mut Outbox)
         requires empty { outbox.old.items ≡ [] }
         ensures state { self.new ≡ with_live self.old (answered self.old.setup self.old.live source (answered_as answer.now) self.old.live.phase).live }
-        ensures frames { map (λ frame. frame.items) outbox.new.items
+        ensures frames { boxed outbox.new
             ≡ map (bytes_of self.old.setup) (answered self.old.setup self.old.live source (answered_as answer.now) self.old.live.phase).sent }
     {
         match self.phase {
@@ -179,7 +180,7 @@ impl Controller {
     fn find(&mut self, source: Mac, answer: &dcp_core::Response<'_>, outbox: &mut Outbox)
         requires empty { outbox.old.items ≡ [] }
         ensures state { self.new ≡ with_live self.old (found self.old.setup self.old.live source (answered_as answer.now)).live }
-        ensures frames { map (λ frame. frame.items) outbox.new.items ≡ map (bytes_of self.old.setup) (found self.old.setup self.old.live source (answered_as answer.now)).sent }
+        ensures frames { boxed outbox.new ≡ map (bytes_of self.old.setup) (found self.old.setup self.old.live source (answered_as answer.now)).sent }
     {
         // A station of another type has the name: going on would write records into the wrong machine.
         if !is_right(&self.setup.plan, answer) {
@@ -199,7 +200,7 @@ impl Controller {
     fn hear_set(&mut self, answer: &dcp_core::Response<'_>, outbox: &mut Outbox)
         requires empty { outbox.old.items ≡ [] }
         ensures state { self.new ≡ with_live self.old (addressed self.old.live (answered_as answer.now)).live }
-        ensures frames { map (λ frame. frame.items) outbox.new.items ≡ map (bytes_of self.old.setup) (addressed self.old.live (answered_as answer.now)).sent }
+        ensures frames { boxed outbox.new ≡ map (bytes_of self.old.setup) (addressed self.old.live (answered_as answer.now)).sent }
     {
         if answer.is_positive() {
             self.ask(State::Connecting, Request::Connect, outbox);
@@ -226,7 +227,7 @@ impl Controller {
     fn hear_response(&mut self, response: &Response<'_>, outbox: &mut Outbox)
         requires empty { outbox.old.items ≡ [] }
         ensures state { self.new ≡ with_live self.old (responded self.old.setup self.old.live (responded_as response.now) self.old.live.asked).live }
-        ensures frames { map (λ frame. frame.items) outbox.new.items
+        ensures frames { boxed outbox.new
             ≡ map (bytes_of self.old.setup) (responded self.old.setup self.old.live (responded_as response.now) self.old.live.asked).sent }
     {
         let Some(request) = self.asked else {
@@ -241,7 +242,7 @@ impl Controller {
     fn decide(&mut self, request: Request, response: &Response<'_>, outbox: &mut Outbox)
         requires empty { outbox.old.items ≡ [] }
         ensures state { self.new ≡ with_live self.old (decided self.old.setup self.old.live (responded_as response.now) request).live }
-        ensures frames { map (λ frame. frame.items) outbox.new.items ≡ map (bytes_of self.old.setup) (decided self.old.setup self.old.live (responded_as response.now) request).sent }
+        ensures frames { boxed outbox.new ≡ map (bytes_of self.old.setup) (decided self.old.setup self.old.live (responded_as response.now) request).sent }
     {
         match request {
             Request::Release(_) => self.asked = None,
@@ -257,7 +258,7 @@ impl Controller {
     fn judge(&mut self, request: Request, response: &Response<'_>, outbox: &mut Outbox)
         requires empty { outbox.old.items ≡ [] }
         ensures state { self.new ≡ with_live self.old (judged self.old.setup self.old.live (responded_as response.now) request).live }
-        ensures frames { map (λ frame. frame.items) outbox.new.items ≡ map (bytes_of self.old.setup) (judged self.old.setup self.old.live (responded_as response.now) request).sent }
+        ensures frames { boxed outbox.new ≡ map (bytes_of self.old.setup) (judged self.old.setup self.old.live (responded_as response.now) request).sent }
     {
         if response.status.is_done() {
             self.go_on(request, response.blocks, outbox);
@@ -270,7 +271,7 @@ impl Controller {
     fn go_on(&mut self, request: Request, blocks: &[u8], outbox: &mut Outbox)
         requires empty { outbox.old.items ≡ [] }
         ensures state { self.new ≡ with_live self.old (done self.old.setup self.old.live blocks.now request).live }
-        ensures frames { map (λ frame. frame.items) outbox.new.items ≡ map (bytes_of self.old.setup) (done self.old.setup self.old.live blocks.now request).sent }
+        ensures frames { boxed outbox.new ≡ map (bytes_of self.old.setup) (done self.old.setup self.old.live blocks.now request).sent }
     {
         match request {
             Request::Identify | Request::Address => {}
@@ -291,7 +292,7 @@ impl Controller {
     fn write(&mut self, request: Request, outbox: &mut Outbox)
         requires empty { outbox.old.items ≡ [] }
         ensures state { self.new ≡ with_live self.old (writing request self.old.live).live }
-        ensures frames { map (λ frame. frame.items) outbox.new.items ≡ map (bytes_of self.old.setup) (writing request self.old.live).sent }
+        ensures frames { boxed outbox.new ≡ map (bytes_of self.old.setup) (writing request self.old.live).sent }
     {
         self.ask(phase_for(request), request, outbox);
     }
@@ -300,7 +301,7 @@ impl Controller {
     fn connect(&mut self, blocks: &[u8], outbox: &mut Outbox)
         requires empty { outbox.old.items ≡ [] }
         ensures state { self.new ≡ with_live self.old (connected self.old.setup self.old.live (all_found 400 blocks.now nothing)).live }
-        ensures frames { map (λ frame. frame.items) outbox.new.items ≡ map (bytes_of self.old.setup) (connected self.old.setup self.old.live (all_found 400 blocks.now nothing)).sent }
+        ensures frames { boxed outbox.new ≡ map (bytes_of self.old.setup) (connected self.old.setup self.old.live (all_found 400 blocks.now nothing)).sent }
     {
         // Blocks that do not read are no answer: the Connect is sent again, and the device answers as it did.
         if let Some(found) = found_in(MOST_BLOCKS, blocks) {
@@ -312,7 +313,7 @@ impl Controller {
     fn connect_by(&mut self, found: &Found, outbox: &mut Outbox)
         requires empty { outbox.old.items ≡ [] }
         ensures state { self.new ≡ with_live self.old (connected_by self.old.setup self.old.live found.now).live }
-        ensures frames { map (λ frame. frame.items) outbox.new.items ≡ map (bytes_of self.old.setup) (connected_by self.old.setup self.old.live found.now).sent }
+        ensures frames { boxed outbox.new ≡ map (bytes_of self.old.setup) (connected_by self.old.setup self.old.live found.now).sent }
     {
         if !found.is_whole() {
             return;
@@ -331,7 +332,7 @@ impl Controller {
     fn relate(&mut self, frame_id: u16, outbox: &mut Outbox)
         requires empty { outbox.old.items ≡ [] }
         ensures state { self.new ≡ with_live self.old (related_by self.old.setup self.old.live (Some frame_id)).live }
-        ensures frames { map (λ frame. frame.items) outbox.new.items ≡ map (bytes_of self.old.setup) (related_by self.old.setup self.old.live (Some frame_id)).sent }
+        ensures frames { boxed outbox.new ≡ map (bytes_of self.old.setup) (related_by self.old.setup self.old.live (Some frame_id)).sent }
     {
         let times = self.setup.plan.times();
         let provider = Provider::start(times.send_clock_factor, times.reduction_ratio);
@@ -346,7 +347,7 @@ impl Controller {
     fn hear_call(&mut self, caller: &Caller, call: &Call<'_>, outbox: &mut Outbox)
         requires empty { outbox.old.items ≡ [] }
         ensures state { self.new ≡ with_live self.old (called self.old.setup self.old.live caller.now (asked call.now) (block_of_ready (asked call.now))).live }
-        ensures frames { map (λ frame. frame.items) outbox.new.items
+        ensures frames { boxed outbox.new
             ≡ map (bytes_of self.old.setup) (called self.old.setup self.old.live caller.now (asked call.now) (block_of_ready (asked call.now))).sent }
     {
         let Some(block) = ready_in(call) else {
@@ -375,7 +376,7 @@ impl Controller {
     )
         requires empty { outbox.old.items ≡ [] }
         ensures state { self.new ≡ with_live self.old (readied self.old.live caller.now (asked call.now) block.now self.old.live.phase).live }
-        ensures frames { map (λ frame. frame.items) outbox.new.items
+        ensures frames { boxed outbox.new
             ≡ map (bytes_of self.old.setup) (readied self.old.live caller.now (asked call.now) block.now self.old.live.phase).sent }
     {
         match self.phase {
@@ -415,7 +416,7 @@ impl Controller {
     )
         requires empty { outbox.old.items ≡ [] }
         ensures state { self.new ≡ with_live self.old (alarmed self.old.live source header.now notice.now).live }
-        ensures frames { map (λ frame. frame.items) outbox.new.items ≡ map (bytes_of self.old.setup) (alarmed self.old.live source header.now notice.now).sent }
+        ensures frames { boxed outbox.new ≡ map (bytes_of self.old.setup) (alarmed self.old.live source header.now notice.now).sent }
     {
         if self.stands && is_alarm(self.exchange.route(), source, header) {
             self.hear_notice(notice, outbox);
@@ -442,7 +443,7 @@ impl Controller {
     fn tick(&mut self, outbox: &mut Outbox)
         requires empty { outbox.old.items ≡ [] }
         ensures state { self.new ≡ with_live self.old (ticked self.old.live).live }
-        ensures frames { map (λ frame. frame.items) outbox.new.items ≡ map (bytes_of self.old.setup) (ticked self.old.live).sent }
+        ensures frames { boxed outbox.new ≡ map (bytes_of self.old.setup) (ticked self.old.live).sent }
     {
         let is_again = self.pass();
         if !self.stands {
@@ -461,7 +462,7 @@ impl Controller {
     fn end_by(&mut self, reason: Abort, outbox: &mut Outbox)
         requires empty { outbox.old.items ≡ [] }
         ensures state { self.new ≡ with_live self.old (ended_by self.old.live reason).live }
-        ensures frames { map (λ frame. frame.items) outbox.new.items ≡ map (bytes_of self.old.setup) (ended_by self.old.live reason).sent }
+        ensures frames { boxed outbox.new ≡ map (bytes_of self.old.setup) (ended_by self.old.live reason).sent }
     {
         let route = self.exchange.route();
         let header = header_of(&self.alarms, route, PduType::Error);
@@ -472,7 +473,7 @@ impl Controller {
     // What is due with a unit is sent.
     fn send_due(&self, is_ack: bool, is_request: bool, is_cyclic: bool, outbox: &mut Outbox)
         requires empty { outbox.old.items ≡ [] }
-        ensures frames { map (λ frame. frame.items) outbox.new.items ≡ map (bytes_of self.now.setup) (due_frames self.now.live is_ack is_request is_cyclic) }
+        ensures frames { boxed outbox.new ≡ map (bytes_of self.now.setup) (due_frames self.now.live is_ack is_request is_cyclic) }
     {
         // In this order, so that what a step sends is one list for every reader of it.
         self.send_ack_again(is_ack, outbox);
@@ -483,8 +484,8 @@ impl Controller {
     // The AlarmAck again, if it is due and there is one.
     fn send_ack_again(&self, is_due: bool, outbox: &mut Outbox)
         requires room { array_vec_len outbox.old < 4 }
-        ensures frames { map (λ frame. frame.items) outbox.new.items
-            ≡ map (λ frame. frame.items) outbox.old.items ++ map (bytes_of self.now.setup) (where_due is_due (acks_of self.now.live)) }
+        ensures frames { boxed outbox.new
+            ≡ boxed outbox.old ++ map (bytes_of self.now.setup) (where_due is_due (acks_of self.now.live)) }
         ensures few { array_vec_len outbox.new ≤ array_vec_len outbox.old + 1 }
     {
         if !is_due {
@@ -501,8 +502,8 @@ impl Controller {
     // The request again, if it is due and there is one.
     fn send_request_again(&self, is_due: bool, outbox: &mut Outbox)
         requires room { array_vec_len outbox.old < 4 }
-        ensures frames { map (λ frame. frame.items) outbox.new.items
-            ≡ map (λ frame. frame.items) outbox.old.items ++ map (bytes_of self.now.setup) (where_due is_due (requests_of self.now.live.device self.now.live.asked)) }
+        ensures frames { boxed outbox.new
+            ≡ boxed outbox.old ++ map (bytes_of self.now.setup) (where_due is_due (requests_of self.now.live.device self.now.live.asked)) }
         ensures few { array_vec_len outbox.new ≤ array_vec_len outbox.old + 1 }
     {
         if !is_due {
@@ -517,8 +518,8 @@ impl Controller {
     // The outputs, if they are due.
     fn send_outputs(&self, is_due: bool, outbox: &mut Outbox)
         requires room { array_vec_len outbox.old < 4 }
-        ensures frames { map (λ frame. frame.items) outbox.new.items
-            ≡ map (λ frame. frame.items) outbox.old.items ++ map (bytes_of self.now.setup) (where_due is_due (outputs_of self.now.live)) }
+        ensures frames { boxed outbox.new
+            ≡ boxed outbox.old ++ map (bytes_of self.now.setup) (where_due is_due (outputs_of self.now.live)) }
         ensures few { array_vec_len outbox.new ≤ array_vec_len outbox.old + 1 }
     {
         if is_due {

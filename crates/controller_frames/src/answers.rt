@@ -1,9 +1,10 @@
 //! The answer to ApplicationReady.
-ghost use Rattle.std.specs.Prelude.{◌≡◌, ◌+◌, ◌<◌, ◌++◌, ◌∷◌, [], length, map};
+ghost use Rattle.std.specs.Prelude.{◌≡◌, ◌+◌, ◌<◌, ◌++◌, ◌∷◌, [], length};
 ghost use Rattle.arrayvec.specs.ArrayVec.{array_vec_len};
 ghost use Rattle.rpc_core.specs.Call.{asked};
 ghost use Rattle.block_codec.specs.Block.{block_bytes};
 ghost use Rattle.controller_frames.specs.Sent.{Agrees, bytes_of, ready_answer, ready_done};
+ghost use Rattle.frame_codec.specs.Outbox.{boxed};
 
 use crate::Setup;
 use arrayvec::ArrayVec;
@@ -48,8 +49,8 @@ pub fn send_ready_answer(
     outbox: &mut Outbox,
 )
     requires room { array_vec_len outbox.old < 4 }
-    ensures frames { map (λ frame. frame.items) outbox.new.items
-        ≡ map (λ frame. frame.items) outbox.old.items ++ bytes_of setup.now (Agrees caller.now (ready_answer (asked call.now) block.now)) ∷ [] }
+    ensures frames { boxed outbox.new
+        ≡ boxed outbox.old ++ bytes_of setup.now (Agrees caller.now (ready_answer (asked call.now) block.now)) ∷ [] }
     ensures len { array_vec_len outbox.new ≡ array_vec_len outbox.old + 1 }
 {
     let blocks = done_block(block);

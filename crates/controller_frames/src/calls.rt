@@ -1,10 +1,11 @@
 // The calls of a start-up, and their blocks (IEC 61158-6-10, 5.2).
-ghost use Rattle.std.specs.Prelude.{◌≡◌, ◌+◌, ◌<◌, ◌≤◌, ◌++◌, ◌∷◌, [], Some, length, map};
+ghost use Rattle.std.specs.Prelude.{◌≡◌, ◌+◌, ◌<◌, ◌≤◌, ◌++◌, ◌∷◌, [], Some, length};
 ghost use Rattle.std.specs.List.{slice_get};
 ghost use Rattle.arrayvec.specs.ArrayVec.{array_vec_len};
 ghost use Rattle.block_codec.specs.Block.{block_bytes};
 ghost use Rattle.controller_frames.specs.Requests.{blocks_of, call_for, control_of, header_of, object_of, write_blocks, write_of};
 ghost use Rattle.controller_frames.specs.Sent.{call_frame};
+ghost use Rattle.frame_codec.specs.Outbox.{boxed};
 
 use crate::{Request, Setup};
 use arrayvec::ArrayVec;
@@ -136,8 +137,8 @@ fn put_blocks(setup: &Setup, request: Request, blocks: &mut ArrayVec<u8, 1372>)
 /// Puts a call to the device into the box, behind what is in it.
 pub(crate) fn send_call(setup: &Setup, device: Mac, request: Request, outbox: &mut Outbox)
     requires room { array_vec_len outbox.old < 4 }
-    ensures frames { map (λ frame. frame.items) outbox.new.items
-        ≡ map (λ frame. frame.items) outbox.old.items ++ call_frame setup.now device (call_for setup.now request) ∷ [] }
+    ensures frames { boxed outbox.new
+        ≡ boxed outbox.old ++ call_frame setup.now device (call_for setup.now request) ∷ [] }
     ensures len { array_vec_len outbox.new ≡ array_vec_len outbox.old + 1 }
 {
     let mut blocks: ArrayVec<u8, 1372> = ArrayVec::new();

@@ -1,5 +1,5 @@
 //! What a controller sends of what its relation exchanges (IEC 61158-6-10, 4.7 and 4.8).
-ghost use Rattle.std.specs.Prelude.{◌≡◌, ◌+◌, ◌<◌, ◌≤◌, ◌++◌, ◌∷◌, [], length, map, true};
+ghost use Rattle.std.specs.Prelude.{◌≡◌, ◌+◌, ◌<◌, ◌≤◌, ◌++◌, ◌∷◌, [], length, true};
 ghost use Rattle.arrayvec.specs.ArrayVec.{array_vec_len};
 ghost use Rattle.block_codec.specs.Block.{block_bytes};
 ghost use Rattle.pn_alarms.specs.declared.pdu.PduType.TheVariants.{Error};
@@ -7,6 +7,7 @@ ghost use Rattle.pn_alarms.specs.Format.{frame_id_of, is_long, said, pdu_bytes};
 ghost use Rattle.cyclic_exchange.specs.Frames.{tagged_frame};
 ghost use Rattle.frame_codec.specs.Meaning.{RealTime};
 ghost use Rattle.controller_frames.specs.Sent.{Confirms, Cycles, Ends, Replies, bytes_of};
+ghost use Rattle.frame_codec.specs.Outbox.{boxed};
 
 use crate::Setup;
 use arrayvec::ArrayVec;
@@ -24,8 +25,8 @@ const LOW_TAG: u16 = 0xA000;
 #[inline(always)]
 pub fn send_outputs(setup: &Setup, counter: u16, exchange: &CyclicExchange, outbox: &mut Outbox)
     requires room { array_vec_len outbox.old < 4 }
-    ensures frames { map (λ frame. frame.items) outbox.new.items
-        ≡ map (λ frame. frame.items) outbox.old.items ++ bytes_of setup.now (Cycles exchange.now.route exchange.now.shown counter) ∷ [] }
+    ensures frames { boxed outbox.new
+        ≡ boxed outbox.old ++ bytes_of setup.now (Cycles exchange.now.route exchange.now.shown counter) ∷ [] }
     ensures len { array_vec_len outbox.new ≡ array_vec_len outbox.old + 1 }
 {
     send_cyclic(setup.plan.controller().mac, counter, exchange, outbox);
@@ -36,8 +37,8 @@ fn send_pdu(source: Mac, destination: Mac, tag: u16, pdu: &Pdu<'_>, outbox: &mut
     requires room { array_vec_len outbox.old < 4 }
     requires few { length pdu.now.body.now ≤ 28 }
     requires long { is_long pdu.now.header.kind (length pdu.now.body.now) ≡ true }
-    ensures frames { map (λ frame. frame.items) outbox.new.items
-        ≡ map (λ frame. frame.items) outbox.old.items
+    ensures frames { boxed outbox.new
+        ≡ boxed outbox.old
         ++ tagged_frame source destination tag (RealTime (frame_id_of pdu.now.header.kind) (pdu_bytes (said pdu.now))) ∷ [] }
     ensures len { array_vec_len outbox.new ≡ array_vec_len outbox.old + 1 }
 {
@@ -75,8 +76,8 @@ pub fn send_alarm_ack(
 )
     requires room { array_vec_len outbox.old < 4 }
     requires kind { header.now.kind ≡ PduType.Data }
-    ensures frames { map (λ frame. frame.items) outbox.new.items
-        ≡ map (λ frame. frame.items) outbox.old.items ++ bytes_of setup.now (Confirms route.now header.now ack.now) ∷ [] }
+    ensures frames { boxed outbox.new
+        ≡ boxed outbox.old ++ bytes_of setup.now (Confirms route.now header.now ack.now) ∷ [] }
     ensures len { array_vec_len outbox.new ≡ array_vec_len outbox.old + 1 }
 {
     let octets = ack_octets(ack);
@@ -97,8 +98,8 @@ pub fn send_alarm_ack(
 pub fn send_alarm_reply(setup: &Setup, route: &Route, header: &Header, outbox: &mut Outbox)
     requires room { array_vec_len outbox.old < 4 }
     requires kind { is_long header.now.kind 0 ≡ true }
-    ensures frames { map (λ frame. frame.items) outbox.new.items
-        ≡ map (λ frame. frame.items) outbox.old.items ++ bytes_of setup.now (Replies route.now header.now) ∷ [] }
+    ensures frames { boxed outbox.new
+        ≡ boxed outbox.old ++ bytes_of setup.now (Replies route.now header.now) ∷ [] }
     ensures len { array_vec_len outbox.new ≡ array_vec_len outbox.old + 1 }
 {
     let pdu = Pdu {
@@ -123,8 +124,8 @@ pub fn send_alarm_end(
     outbox: &mut Outbox,
 )
     requires room { array_vec_len outbox.old < 4 }
-    ensures frames { map (λ frame. frame.items) outbox.new.items
-        ≡ map (λ frame. frame.items) outbox.old.items ++ bytes_of setup.now (Ends route.now header.now reason) ∷ [] }
+    ensures frames { boxed outbox.new
+        ≡ boxed outbox.old ++ bytes_of setup.now (Ends route.now header.now reason) ∷ [] }
     ensures len { array_vec_len outbox.new ≡ array_vec_len outbox.old + 1 }
 {
     let pdu = reason.pdu(

@@ -8,6 +8,7 @@ ghost use Rattle.cyclic_exchange.specs.Frames.{plain_frame};
 ghost use Rattle.frame_codec.specs.Meaning.{RealTime};
 ghost use Rattle.controller_frames.specs.Requests.{address_asked, identify_asked};
 ghost use Rattle.controller_frames.specs.Sent.{Requests as requests, bytes_of, identify_multicast, request_frame};
+ghost use Rattle.frame_codec.specs.Outbox.{boxed};
 
 use crate::calls::send_call;
 use crate::{Request, Setup};
@@ -56,8 +57,8 @@ fn suite_octets(suite: &IpSuite) -> ArrayVec<u8, 14>
 /// Puts a request of DCP into the box, behind what is in it.
 fn send_dcp(source: Mac, destination: Mac, frame_id: u16, request: &Octets, outbox: &mut Outbox)
     requires room { array_vec_len outbox.old < 4 }
-    ensures frames { map (λ frame. frame.items) outbox.new.items
-        ≡ map (λ frame. frame.items) outbox.old.items ++ plain_frame source destination (RealTime frame_id request.now.items) ∷ [] }
+    ensures frames { boxed outbox.new
+        ≡ boxed outbox.old ++ plain_frame source destination (RealTime frame_id request.now.items) ∷ [] }
     ensures len { array_vec_len outbox.new ≡ array_vec_len outbox.old + 1 }
 {
     outbox.put(&Layered {
@@ -76,8 +77,8 @@ fn send_dcp(source: Mac, destination: Mac, frame_id: u16, request: &Octets, outb
 #[tactic(auto, unfolding(dcp_core::specs::Format::block_of, dcp_core::specs::Format::block, dcp_core::specs::Format::kind))]
 fn send_identify(setup: &Setup, outbox: &mut Outbox)
     requires room { array_vec_len outbox.old < 4 }
-    ensures frames { map (λ frame. frame.items) outbox.new.items
-        ≡ map (λ frame. frame.items) outbox.old.items
+    ensures frames { boxed outbox.new
+        ≡ boxed outbox.old
         ++ plain_frame setup.now.plan.controller.mac identify_multicast (RealTime 0xFEFE (request_bytes (identify_asked setup.now.plan))) ∷ [] }
     ensures len { array_vec_len outbox.new ≡ array_vec_len outbox.old + 1 }
 {
@@ -102,8 +103,8 @@ fn send_identify(setup: &Setup, outbox: &mut Outbox)
 #[tactic(auto, unfolding(dcp_core::specs::Format::block_of, dcp_core::specs::Format::block, dcp_core::specs::Format::kind))]
 fn send_address(setup: &Setup, device: Mac, outbox: &mut Outbox)
     requires room { array_vec_len outbox.old < 4 }
-    ensures frames { map (λ frame. frame.items) outbox.new.items
-        ≡ map (λ frame. frame.items) outbox.old.items ++ request_frame setup.now device Request.Address ∷ [] }
+    ensures frames { boxed outbox.new
+        ≡ boxed outbox.old ++ request_frame setup.now device Request.Address ∷ [] }
     ensures len { array_vec_len outbox.new ≡ array_vec_len outbox.old + 1 }
 {
     let mut octets = Octets::new();
@@ -126,8 +127,8 @@ fn send_address(setup: &Setup, device: Mac, outbox: &mut Outbox)
 /// Puts what is asked of this device into the box, behind what is in it. An Identify goes to all stations.
 pub fn send_request(setup: &Setup, device: Mac, request: Request, outbox: &mut Outbox)
     requires room { array_vec_len outbox.old < 4 }
-    ensures frames { map (λ frame. frame.items) outbox.new.items
-        ≡ map (λ frame. frame.items) outbox.old.items ++ bytes_of setup.now (requests device request) ∷ [] }
+    ensures frames { boxed outbox.new
+        ≡ boxed outbox.old ++ bytes_of setup.now (requests device request) ∷ [] }
     ensures len { array_vec_len outbox.new ≡ array_vec_len outbox.old + 1 }
 {
     match request {

@@ -1,7 +1,8 @@
 //! Cyclic frames that are sent.
-ghost use Rattle.std.specs.Prelude.{◌≡◌, ◌<◌, ◌≤◌, ◌+◌, ◌++◌, ◌∷◌, [], length, map};
+ghost use Rattle.std.specs.Prelude.{◌≡◌, ◌<◌, ◌≤◌, ◌+◌, ◌++◌, ◌∷◌, [], length};
 ghost use Rattle.arrayvec.specs.ArrayVec.{array_vec_len};
 ghost use Rattle.cyclic_exchange.specs.Frames.{cyclic_body, cyclic_frame};
+ghost use Rattle.frame_codec.specs.Outbox.{boxed};
 
 use crate::CyclicExchange;
 use frame_codec::{Outbox, Pieces};
@@ -11,8 +12,8 @@ use pn_values::Mac;
 #[inline(always)]
 pub fn send_cyclic(source: Mac, counter: u16, exchange: &CyclicExchange, outbox: &mut Outbox)
     requires room { array_vec_len outbox.old < 4 }
-    ensures frames { map (λ frame. frame.items) outbox.new.items
-        ≡ map (λ frame. frame.items) outbox.old.items ++ cyclic_frame source exchange.now.route exchange.now.shown counter ∷ [] }
+    ensures frames { boxed outbox.new
+        ≡ boxed outbox.old ++ cyclic_frame source exchange.now.route exchange.now.shown counter ∷ [] }
     ensures fits { length (cyclic_body exchange.now.shown counter) ≤ 1498 }
     ensures len { array_vec_len outbox.new ≡ array_vec_len outbox.old + 1 }
 {

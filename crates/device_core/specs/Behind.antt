@@ -1,6 +1,5 @@
 -- What is behind an event that asks nothing of the settings.
 use Rattle.std.specs.Prelude.{ℕ, Bool, List, None, map}
-use Rattle.arrayvec.specs.ArrayVec.{ArrayVec as Items}
 use Rattle.rpc_core.specs.Call.{asked}
 use Rattle.pnio_status.specs.declared.operation.Operation.{Operation}
 use Rattle.device_frames.specs.Relation.{due_frames}
@@ -10,10 +9,6 @@ use Rattle.device_core.specs.declared.calls.Serving.{Serving}
 use Rattle.device_core.specs.State.{State, with_rest}
 use Rattle.device_core.specs.Judged.{Judged, judged_new}
 use Rattle.device_core.specs.Machine.{end_of}
-
--- the octets of each frame in a box
-abbrev pub octets_in : Items (Items ℕ) → List (List ℕ)
-octets_in outbox = map (λ (frame : Items ℕ). frame.items) outbox.items
 
 -- the device then
 abbrev pub behind : {F : Type 0} → State F → Judged → State F

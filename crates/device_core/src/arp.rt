@@ -1,8 +1,9 @@
 // Address resolution (RFC 826).
 ghost use Rattle.std.specs.Prelude.{◌≡◌, ◌<◌, [], ◌∷◌};
-ghost use Rattle.device_core.specs.Behind.{CanSend, frames_of, octets_in};
+ghost use Rattle.device_core.specs.Behind.{CanSend, frames_of};
 ghost use Rattle.device_core.specs.Judged.{is_running as runs, is_request as requests, judged_arp};
 ghost use Rattle.device_core.specs.Machine.{end_of};
+ghost use Rattle.frame_codec.specs.Outbox.{boxed};
 
 use crate::{Device, Note};
 use device_frames::send_arp_reply;
@@ -15,7 +16,7 @@ impl<F: Flash<S>, const S: usize> Device<F, S> {
     #[inline(never)]
     pub(crate) fn resolve(&self, asker: Mac, packet: &Arp, outbox: &mut Outbox) -> Note
         requires empty { outbox.old.items ≡ [] }
-        ensures frames { octets_in outbox.new ≡ frames_of self.now (judged_arp self.now.live asker packet.now) }
+        ensures frames { boxed outbox.new ≡ frames_of self.now (judged_arp self.now.live asker packet.now) }
         ensures sendable { CanSend self.now (judged_arp self.now.live asker packet.now) }
         ensures note { result ≡ (end_of self.now.station self.now.live (judged_arp self.now.live asker packet.now)).note }
     {

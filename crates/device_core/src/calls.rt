@@ -1,5 +1,5 @@
 // Calls, and the answers that are kept of them (IEC 61158-6-10, 4.10; C706, 9.5).
-ghost use Rattle.std.specs.Prelude.{◌≡◌, ◌<◌, [], ◌∷◌, map, Err};
+ghost use Rattle.std.specs.Prelude.{◌≡◌, ◌<◌, [], ◌∷◌, Err};
 ghost use Rattle.arrayvec.specs.ArrayVec.{array_vec_len};
 ghost use Rattle.settings_store.specs.Carries.{Holds};
 ghost use Rattle.rpc_core.specs.Call.{asked};
@@ -16,9 +16,10 @@ ghost use Rattle.device_frames.specs.Heard.{Heard as Hears, Told, said_by};
 ghost use Rattle.device_frames.specs.Sendable.{IsSendable};
 ghost use Rattle.device_frames.specs.Sent.{bytes_of};
 ghost use Rattle.device_core.specs.Judged.{Writes, answer_from, came_with, kept_for, judged, judged_answer, judged_call, judged_effect, judged_write, outcome_of};
-ghost use Rattle.device_core.specs.Behind.{CanSend, behind, called, frames_of, octets_in};
+ghost use Rattle.device_core.specs.Behind.{CanSend, behind, called, frames_of};
 ghost use Rattle.device_core.specs.Machine.{end_of, written_as as comes_out};
 ghost use Rattle.device_core.specs.Steps.{Steps};
+ghost use Rattle.frame_codec.specs.Outbox.{boxed};
 
 use crate::arp::is_running;
 use crate::{Device, Note};
@@ -46,7 +47,7 @@ impl<F: Flash<S>, const S: usize> Device<F, S> {
     ) -> Note
         requires stored { Holds (F.image self.old.flash) self.old.live.values }
         requires empty { outbox.old.items ≡ [] }
-        ensures steps { Steps F.image F.failures F.asked self.old (Told caller.now address (said_by body.now)) (map (λ frame. frame.items) outbox.new.items) result self.new }
+        ensures steps { Steps F.image F.failures F.asked self.old (Told caller.now address (said_by body.now)) (boxed outbox.new) result self.new }
         ensures reliable { F.is_reliable self.old.flash → F.is_reliable self.new.flash × (self.new.live.values.has_failed ≡ self.old.live.values.has_failed) }
     {
         if !is_running(self.store.running(), address) {
@@ -67,7 +68,7 @@ impl<F: Flash<S>, const S: usize> Device<F, S> {
         requires empty { outbox.old.items ≡ [] }
         ensures state { self.new
             ≡ behind self.old (judged_answer self.old.live (ready_answer (answered response.now) self.old.live.rest.link)) }
-        ensures frames { octets_in outbox.new
+        ensures frames { boxed outbox.new
             ≡ frames_of self.old (judged_answer self.old.live (ready_answer (answered response.now) self.old.live.rest.link)) }
         ensures sendable { CanSend self.old (judged_answer self.old.live (ready_answer (answered response.now) self.old.live.rest.link)) }
         ensures note { result ≡ (end_of self.old.station self.old.live (judged_answer self.old.live (ready_answer (answered response.now) self.old.live.rest.link))).note }
@@ -88,7 +89,7 @@ impl<F: Flash<S>, const S: usize> Device<F, S> {
         requires stored { Holds (F.image self.old.flash) self.old.live.values }
         requires empty { outbox.old.items ≡ [] }
         ensures steps { (heard : Hears) → judged self.old.station self.old.live heard ≡ judged_call self.old.station self.old.live caller.now (asked call.now) (operation_of call.now.header.operation) →
-            Steps F.image F.failures F.asked self.old heard (map (λ frame. frame.items) outbox.new.items) result self.new }
+            Steps F.image F.failures F.asked self.old heard (boxed outbox.new) result self.new }
         ensures reliable { F.is_reliable self.old.flash → F.is_reliable self.new.flash × (self.new.live.values.has_failed ≡ self.old.live.values.has_failed) }
     {
         let Some(operation) = Operation::of(call.header.operation) else {
@@ -128,7 +129,7 @@ impl<F: Flash<S>, const S: usize> Device<F, S> {
         outbox: &mut Outbox,
     ) -> Note
         requires empty { outbox.old.items ≡ [] }
-        ensures frames { map (λ frame. frame.items) outbox.new.items
+        ensures frames { boxed outbox.new
             ≡ bytes_of self.now.station.identity (answer_from self.now.live.values.running.suite.address caller.now (asked call.now) operation (Err Arguments)) ∷ [] }
         ensures sendable { IsSendable self.now.station.identity (answer_from self.now.live.values.running.suite.address caller.now (asked call.now) operation (Err Arguments)) }
         ensures note { result ≡ Note.Done }
@@ -149,7 +150,7 @@ impl<F: Flash<S>, const S: usize> Device<F, S> {
         requires stored { Holds (F.image self.old.flash) self.old.live.values }
         requires empty { outbox.old.items ≡ [] }
         ensures steps { (heard : Hears) → judged self.old.station self.old.live heard ≡ called self.old serving.now serving.now.operation →
-            Steps F.image F.failures F.asked self.old heard (map (λ frame. frame.items) outbox.new.items) result self.new }
+            Steps F.image F.failures F.asked self.old heard (boxed outbox.new) result self.new }
         ensures reliable { F.is_reliable self.old.flash → F.is_reliable self.new.flash × (self.new.live.values.has_failed ≡ self.old.live.values.has_failed) }
     {
         match serving.operation {
@@ -167,7 +168,7 @@ impl<F: Flash<S>, const S: usize> Device<F, S> {
         requires operation { serving.now.operation ≡ operation.Connect }
         requires empty { outbox.old.items ≡ [] }
         ensures state { self.new ≡ behind self.old (called self.old serving.now operation.Connect) }
-        ensures frames { octets_in outbox.new ≡ frames_of self.old (called self.old serving.now operation.Connect) }
+        ensures frames { boxed outbox.new ≡ frames_of self.old (called self.old serving.now operation.Connect) }
         ensures sendable { CanSend self.old (called self.old serving.now operation.Connect) }
         ensures note { result ≡ Note.Done }
     {
@@ -193,7 +194,7 @@ impl<F: Flash<S>, const S: usize> Device<F, S> {
         requires operation { serving.now.operation ≡ operation.Release }
         requires empty { outbox.old.items ≡ [] }
         ensures state { self.new ≡ behind self.old (called self.old serving.now operation.Release) }
-        ensures frames { octets_in outbox.new ≡ frames_of self.old (called self.old serving.now operation.Release) }
+        ensures frames { boxed outbox.new ≡ frames_of self.old (called self.old serving.now operation.Release) }
         ensures sendable { CanSend self.old (called self.old serving.now operation.Release) }
         ensures note { result ≡ Note.Done }
     {
@@ -212,7 +213,7 @@ impl<F: Flash<S>, const S: usize> Device<F, S> {
         requires operation { serving.now.operation ≡ operation.Control }
         requires empty { outbox.old.items ≡ [] }
         ensures state { self.new ≡ behind self.old (called self.old serving.now operation.Control) }
-        ensures frames { octets_in outbox.new ≡ frames_of self.old (called self.old serving.now operation.Control) }
+        ensures frames { boxed outbox.new ≡ frames_of self.old (called self.old serving.now operation.Control) }
         ensures sendable { CanSend self.old (called self.old serving.now operation.Control) }
         ensures note { result ≡ Note.Done }
     {
@@ -233,7 +234,7 @@ impl<F: Flash<S>, const S: usize> Device<F, S> {
         requires operation { serving.now.operation ≡ operation.Read }
         requires empty { outbox.old.items ≡ [] }
         ensures state { self.new ≡ behind self.old (called self.old serving.now operation.Read) }
-        ensures frames { octets_in outbox.new ≡ frames_of self.old (called self.old serving.now operation.Read) }
+        ensures frames { boxed outbox.new ≡ frames_of self.old (called self.old serving.now operation.Read) }
         ensures sendable { CanSend self.old (called self.old serving.now operation.Read) }
         ensures note { result ≡ Note.Done }
     {
@@ -260,7 +261,7 @@ impl<F: Flash<S>, const S: usize> Device<F, S> {
         requires operation { serving.now.operation ≡ operation.ReadImplicit }
         requires empty { outbox.old.items ≡ [] }
         ensures state { self.new ≡ behind self.old (called self.old serving.now operation.ReadImplicit) }
-        ensures frames { octets_in outbox.new ≡ frames_of self.old (called self.old serving.now operation.ReadImplicit) }
+        ensures frames { boxed outbox.new ≡ frames_of self.old (called self.old serving.now operation.ReadImplicit) }
         ensures sendable { CanSend self.old (called self.old serving.now operation.ReadImplicit) }
         ensures note { result ≡ Note.Done }
     {
@@ -288,7 +289,7 @@ impl<F: Flash<S>, const S: usize> Device<F, S> {
         requires stored { Holds (F.image self.old.flash) self.old.live.values }
         requires empty { outbox.old.items ≡ [] }
         ensures steps { (heard : Hears) → judged self.old.station self.old.live heard ≡ called self.old serving.now operation.Write →
-            Steps F.image F.failures F.asked self.old heard (map (λ frame. frame.items) outbox.new.items) result self.new }
+            Steps F.image F.failures F.asked self.old heard (boxed outbox.new) result self.new }
         ensures reliable { F.is_reliable self.old.flash → F.is_reliable self.new.flash × (self.new.live.values.has_failed ≡ self.old.live.values.has_failed) }
     {
         match judge_write(serving.blocks, self.relation.uuid(), &self.real) {
@@ -308,7 +309,7 @@ impl<F: Flash<S>, const S: usize> Device<F, S> {
         requires empty { outbox.old.items ≡ [] }
         ensures state { self.new
             ≡ behind self.old (judged_write self.old.station self.old.live serving.now.caller.now (asked serving.now.call.now) (Err fault)) }
-        ensures frames { octets_in outbox.new
+        ensures frames { boxed outbox.new
             ≡ frames_of self.old (judged_write self.old.station self.old.live serving.now.caller.now (asked serving.now.call.now) (Err fault)) }
         ensures sendable { CanSend self.old (judged_write self.old.station self.old.live serving.now.caller.now (asked serving.now.call.now) (Err fault)) }
         ensures note { result ≡ Note.Done }
@@ -330,7 +331,7 @@ impl<F: Flash<S>, const S: usize> Device<F, S> {
         requires operation { serving.now.operation ≡ operation.Write }
         requires empty { outbox.old.items ≡ [] }
         ensures steps { (heard : Hears) → judged self.old.station self.old.live heard ≡ Writes serving.now.caller.now self.old.live.values.running.suite.address (asked serving.now.call.now) header.now value →
-            Steps F.image F.failures F.asked self.old heard (map (λ frame. frame.items) outbox.new.items) result self.new }
+            Steps F.image F.failures F.asked self.old heard (boxed outbox.new) result self.new }
         ensures reliable { F.is_reliable self.old.flash → F.is_reliable self.new.flash × (self.new.live.values.has_failed ≡ self.old.live.values.has_failed) }
     {
         let address = self.store.running().suite.address();
@@ -354,7 +355,7 @@ impl<F: Flash<S>, const S: usize> Device<F, S> {
         requires empty { outbox.old.items ≡ [] }
         ensures state { self.new
             ≡ behind self.old (judged_effect self.old.station self.old.live serving.now.caller.now (asked serving.now.call.now) header.now (Keeps parameter)) }
-        ensures frames { octets_in outbox.new
+        ensures frames { boxed outbox.new
             ≡ frames_of self.old (judged_effect self.old.station self.old.live serving.now.caller.now (asked serving.now.call.now) header.now (Keeps parameter)) }
         ensures sendable { CanSend self.old (judged_effect self.old.station self.old.live serving.now.caller.now (asked serving.now.call.now) header.now (Keeps parameter)) }
         ensures note { result ≡ Note.Done }
@@ -396,7 +397,7 @@ impl Answering {
         outbox: &mut Outbox,
     )
         requires empty { outbox.old.items ≡ [] }
-        ensures frames { map (λ frame. frame.items) outbox.new.items ≡ bytes_of identity.now (answer_from address serving.now.caller.now (asked serving.now.call.now) serving.now.operation (came_with came self.old.blocks.items)) ∷ [] }
+        ensures frames { boxed outbox.new ≡ bytes_of identity.now (answer_from address serving.now.caller.now (asked serving.now.call.now) serving.now.operation (came_with came self.old.blocks.items)) ∷ [] }
         ensures sendable { IsSendable identity.now (answer_from address serving.now.caller.now (asked serving.now.call.now) serving.now.operation (came_with came self.old.blocks.items)) }
         ensures one { array_vec_len outbox.new ≡ 1 }
         ensures kept { self.new.kept ≡ kept_more 4 (kept_for identity.now (asked serving.now.call.now) (answer_from address serving.now.caller.now (asked serving.now.call.now) serving.now.operation (came_with came self.old.blocks.items))) self.old.kept }

@@ -8,10 +8,11 @@ ghost use Rattle.dcp_core.specs.Request.{asked};
 ghost use Rattle.device_frames.specs.Heard.{Asks, heard_request};
 ghost use Rattle.device_frames.specs.Sendable.{AreSendable, IsSendable};
 ghost use Rattle.device_frames.specs.Sent.{GetAnswer, bytes_of};
-ghost use Rattle.device_core.specs.Behind.{CanSend, frames_of, octets_in};
+ghost use Rattle.device_core.specs.Behind.{CanSend, frames_of};
 ghost use Rattle.device_core.specs.Judged.{identified};
 ghost use Rattle.device_core.specs.Machine.{farewells_at, finished, is_done as is_done_by, is_reset as is_reset_by, is_signal, lamp_after as lamp_of, link_after, resets};
 ghost use Rattle.device_core.specs.Steps.{Steps};
+ghost use Rattle.frame_codec.specs.Outbox.{boxed};
 
 use crate::{Device, Note};
 use dcp_core::{
@@ -40,7 +41,7 @@ impl<F: Flash<S>, const S: usize> Device<F, S> {
     ) -> Note
         requires stored { Holds (F.image self.old.flash) self.old.live.values }
         requires empty { outbox.old.items ≡ [] }
-        ensures steps { Steps F.image F.failures F.asked self.old (heard_request asker (request_of frame_id body.now)) (map (λ frame. frame.items) outbox.new.items) result self.new }
+        ensures steps { Steps F.image F.failures F.asked self.old (heard_request asker (request_of frame_id body.now)) (boxed outbox.new) result self.new }
         ensures reliable { F.is_reliable self.old.flash → F.is_reliable self.new.flash × (self.new.live.values.has_failed ≡ self.old.live.values.has_failed) }
     {
         match &read_request(frame_id, body) {
@@ -53,7 +54,7 @@ impl<F: Flash<S>, const S: usize> Device<F, S> {
     fn serve(&mut self, asker: Mac, request: &Request<'_>, outbox: &mut Outbox) -> Note
         requires stored { Holds (F.image self.old.flash) self.old.live.values }
         requires empty { outbox.old.items ≡ [] }
-        ensures steps { Steps F.image F.failures F.asked self.old (Asks asker (asked request.now)) (map (λ frame. frame.items) outbox.new.items) result self.new }
+        ensures steps { Steps F.image F.failures F.asked self.old (Asks asker (asked request.now)) (boxed outbox.new) result self.new }
         ensures reliable { F.is_reliable self.old.flash → F.is_reliable self.new.flash × (self.new.live.values.has_failed ≡ self.old.live.values.has_failed) }
     {
         match request.service {
@@ -66,7 +67,7 @@ impl<F: Flash<S>, const S: usize> Device<F, S> {
     // An Identify request (IEC 61158-6-10, 4.3.2.3).
     fn identify(&self, asker: Mac, request: &Request<'_>, outbox: &mut Outbox) -> Note
         requires { outbox.old.items ≡ [] }
-        ensures frames { octets_in outbox.new ≡ frames_of self.now (identified self.now.station self.now.live asker (asked request.now)) }
+        ensures frames { boxed outbox.new ≡ frames_of self.now (identified self.now.station self.now.live asker (asked request.now)) }
         ensures sendable { CanSend self.now (identified self.now.station self.now.live asker (asked request.now)) }
         ensures note { result ≡ (finished self.now.station.identity self.now.live.rest (identified self.now.station self.now.live asker (asked request.now)) []).note }
     {
@@ -83,7 +84,7 @@ impl<F: Flash<S>, const S: usize> Device<F, S> {
     // A Get (4.3.2.4).
     fn get(&self, asker: Mac, request: &Request<'_>, outbox: &mut Outbox) -> Note
         requires { outbox.old.items ≡ [] }
-        ensures frames { map (λ frame. frame.items) outbox.new.items
+        ensures frames { boxed outbox.new
             ≡ bytes_of self.now.station.identity (GetAnswer asker self.now.live.values.running (asked request.now)) ∷ [] }
         ensures sendable { IsSendable self.now.station.identity (GetAnswer asker self.now.live.values.running (asked request.now)) }
         ensures note { result ≡ Note.Done }
@@ -98,7 +99,7 @@ impl<F: Flash<S>, const S: usize> Device<F, S> {
     fn set(&mut self, asker: Mac, request: &Request<'_>, outbox: &mut Outbox) -> Note
         requires service { request.now.service ≡ Service.Set }
         requires empty { outbox.old.items ≡ [] }
-        ensures steps { Steps F.image F.failures F.asked self.old (Asks asker (asked request.now)) (map (λ frame. frame.items) outbox.new.items) result self.new }
+        ensures steps { Steps F.image F.failures F.asked self.old (Asks asker (asked request.now)) (boxed outbox.new) result self.new }
         ensures reliable { F.is_reliable self.old.flash → F.is_reliable self.new.flash × (self.new.live.values.has_failed ≡ self.old.live.values.has_failed) }
     {
         fill_plan(request, is_in_operation(&self.relation), &mut self.plan);
@@ -152,8 +153,8 @@ fn is_in_operation(relation: &Relation) -> bool
 fn end_if(is_ended: bool, identity: &Identity, relation: &mut Relation, outbox: &mut Outbox)
     requires room { array_vec_len outbox.old < 4 }
     ensures link { relation.new ≡ link_after is_ended relation.old }
-    ensures frames { map (λ frame. frame.items) outbox.new.items
-        ≡ map (λ frame. frame.items) outbox.old.items ++ map (bytes_of identity.now) (farewells_at is_ended relation.old) }
+    ensures frames { boxed outbox.new
+        ≡ boxed outbox.old ++ map (bytes_of identity.now) (farewells_at is_ended relation.old) }
     ensures sendable { AreSendable identity.now (farewells_at is_ended relation.old) }
     ensures few { array_vec_len outbox.new ≤ array_vec_len outbox.old + 1 }
 {

@@ -1,8 +1,9 @@
 // Runs of steps.
-ghost use Rattle.std.specs.Prelude.{◌≡◌, ◌<◌, ◌-◌, ◌^◌, ◌++◌, true, false, map};
+ghost use Rattle.std.specs.Prelude.{◌≡◌, ◌<◌, ◌-◌, ◌^◌, ◌++◌, true, false};
 ghost use Rattle.device_frames.specs.Heard.{heard_of};
 ghost use Rattle.device_core.specs.Faults.{RunGoesOn};
 ghost use Rattle.device_core.specs.Steps.{HandsOn, Runs, IsExactRun, IsBehindCalls, TakesRoom};
+ghost use Rattle.frame_codec.specs.Outbox.{boxed};
 
 use crate::{Device, Event, Sink};
 use flash_model::Flash;
@@ -49,7 +50,7 @@ impl<F: Flash<S>, const S: usize> Device<F, S> {
 
 // Hands the frames in the box on, in order.
 fn hand_on<K: Sink>(outbox: &Outbox, sink: &mut K)
-    ensures { K.taken sink.new ≡ K.taken sink.old ++ map (λ frame. frame.items) outbox.now.items }
+    ensures { K.taken sink.new ≡ K.taken sink.old ++ boxed outbox.now }
 {
     for frame in outbox.as_slice() {
         sink.take(frame);

@@ -13,12 +13,13 @@ ghost use Rattle.device_frames.specs.Sendable.{AreSendable};
 ghost use Rattle.device_frames.specs.Sent.{bytes_of};
 ghost use Rattle.device_core.specs.Judged.{judged_alarm, judged_message, judged_cyclic, judged_given, judged_raised, judged_received, ticked};
 ghost use Rattle.device_frames.specs.Relation.{farewells_in, inputs_of};
-ghost use Rattle.device_core.specs.Behind.{CanSend, behind, due_in, frames_of, octets_in};
+ghost use Rattle.device_core.specs.Behind.{CanSend, behind, due_in, frames_of};
 ghost use Rattle.device_core.specs.Machine.{end_of};
 ghost use Rattle.rpc_core.specs.Call.{Asked as Called};
 ghost use Rattle.rpc_core.specs.Cache.{looked, again};
 ghost use Rattle.device_core.specs.Faults.{StepGoesOn};
 ghost use Rattle.device_core.specs.Steps.{Steps, Identifies, IsServed, IsAgain, IsExactStep};
+ghost use Rattle.frame_codec.specs.Outbox.{boxed};
 
 use crate::{Device, Event, Note};
 use dcp_core::Service;
@@ -35,27 +36,27 @@ use relations::Received;
 impl<F: Flash<S>, const S: usize> Device<F, S> {
     /// Takes an event, and puts the frames to be sent into the box, which holds nothing else then.
     pub fn step(&mut self, event: &Event, outbox: &mut Outbox) -> Note
-        ensures steps { Steps F.image F.failures F.asked self.old (heard_of self.old.station.identity event.now) (map (λ frame. frame.items) outbox.new.items) result self.new }
+        ensures steps { Steps F.image F.failures F.asked self.old (heard_of self.old.station.identity event.now) (boxed outbox.new) result self.new }
 
         // With no flash call failing.
         ensures exact { F.failures self.new.flash ≡ F.failures self.old.flash → F.failures self.old.flash < 2 ^ 64 - 1 →
-            IsExactStep self.old event.now (map (λ frame. frame.items) outbox.new.items) result self.new }
+            IsExactStep self.old event.now (boxed outbox.new) result self.new }
         ensures reliable { F.is_reliable self.old.flash → self.old.live.values.has_failed ≡ false →
             F.is_reliable self.new.flash × (self.new.live.values.has_failed ≡ false)
-            × IsExactStep self.old event.now (map (λ frame. frame.items) outbox.new.items) result self.new }
+            × IsExactStep self.old event.now (boxed outbox.new) result self.new }
 
         // Whatever the flash does, the device goes on: a fault shows in the answers to commands and in the settings alone.
-        ensures goes_on { StepGoesOn self.old.station self.old.live (heard_of self.old.station.identity event.now) (map (λ frame. frame.items) outbox.new.items) result self.new.live }
+        ensures goes_on { StepGoesOn self.old.station self.old.live (heard_of self.old.station.identity event.now) (boxed outbox.new) result self.new.live }
 
         // An event that is refused changes nothing at all.
         ensures refused { result ≢ Note.Done → (self.new ≡ self.old) × (outbox.new.items ≡ []) }
         ensures identify { (asker : Mac) (request : Asked) → heard_of self.old.station.identity event.now ≡ Asks asker request → request.service ≡ Service.Identify →
-            Identifies self.old asker request (map (λ frame. frame.items) outbox.new.items) result self.new }
+            Identifies self.old asker request (boxed outbox.new) result self.new }
 
         // A call that was answered gets the same frame again, while it is kept.
         ensures again { (call : Called) (frame : List ℕ) → IsServed self.old.live (heard_of self.old.station.identity event.now) call →
             looked call.header.activity call.header.sequence self.old.live.rest.calls ≡ again frame →
-            IsAgain self.old frame (map (λ frame. frame.items) outbox.new.items) result self.new }
+            IsAgain self.old frame (boxed outbox.new) result self.new }
     {
         outbox.clear();
         self.respond(event, outbox)
@@ -64,7 +65,7 @@ impl<F: Flash<S>, const S: usize> Device<F, S> {
     // What comes of an event.
     fn respond(&mut self, event: &Event, outbox: &mut Outbox) -> Note
         requires empty { outbox.old.items ≡ [] }
-        ensures steps { Steps F.image F.failures F.asked self.old (heard_of self.old.station.identity event.now) (map (λ frame. frame.items) outbox.new.items) result self.new }
+        ensures steps { Steps F.image F.failures F.asked self.old (heard_of self.old.station.identity event.now) (boxed outbox.new) result self.new }
         ensures reliable { F.is_reliable self.old.flash → F.is_reliable self.new.flash × (self.new.live.values.has_failed ≡ self.old.live.values.has_failed) }
     {
         match event {
@@ -81,7 +82,7 @@ impl<F: Flash<S>, const S: usize> Device<F, S> {
     #[inline(never)]
     fn hear(&mut self, bytes: &Bytes, outbox: &mut Outbox) -> Note
         requires empty { outbox.old.items ≡ [] }
-        ensures steps { Steps F.image F.failures F.asked self.old (heard_of self.old.station.identity (Frame bytes.now)) (map (λ frame. frame.items) outbox.new.items) result self.new }
+        ensures steps { Steps F.image F.failures F.asked self.old (heard_of self.old.station.identity (Frame bytes.now)) (boxed outbox.new) result self.new }
         ensures reliable { F.is_reliable self.old.flash → F.is_reliable self.new.flash × (self.new.live.values.has_failed ≡ self.old.live.values.has_failed) }
     {
         // The invariant is known where a field is used.
@@ -102,7 +103,7 @@ impl<F: Flash<S>, const S: usize> Device<F, S> {
     #[inline(never)]
     fn hear_other(&mut self, bytes: &Bytes, outbox: &mut Outbox) -> Note
         requires empty { outbox.old.items ≡ [] }
-        ensures steps { Steps F.image F.failures F.asked self.old (heard_of self.old.station.identity (Frame bytes.now)) (map (λ frame. frame.items) outbox.new.items) result self.new }
+        ensures steps { Steps F.image F.failures F.asked self.old (heard_of self.old.station.identity (Frame bytes.now)) (boxed outbox.new) result self.new }
         ensures reliable { F.is_reliable self.old.flash → F.is_reliable self.new.flash × (self.new.live.values.has_failed ≡ self.old.live.values.has_failed) }
     {
         // The invariant is known where a field is used.
@@ -118,7 +119,7 @@ impl<F: Flash<S>, const S: usize> Device<F, S> {
     fn hear_layers(&mut self, layered: &Layered, outbox: &mut Outbox) -> Note
         requires stored { Holds (F.image self.old.flash) self.old.live.values }
         requires empty { outbox.old.items ≡ [] }
-        ensures steps { Steps F.image F.failures F.asked self.old (heard_content self.old.station.identity layered.now.destination layered.now.source (content_of layered.now.payload)) (map (λ frame. frame.items) outbox.new.items) result self.new }
+        ensures steps { Steps F.image F.failures F.asked self.old (heard_content self.old.station.identity layered.now.destination layered.now.source (content_of layered.now.payload)) (boxed outbox.new) result self.new }
         ensures reliable { F.is_reliable self.old.flash → F.is_reliable self.new.flash × (self.new.live.values.has_failed ≡ self.old.live.values.has_failed) }
     {
         let (destination, source) = (layered.destination, layered.source);
@@ -143,7 +144,7 @@ impl<F: Flash<S>, const S: usize> Device<F, S> {
     ) -> Note
         requires stored { Holds (F.image self.old.flash) self.old.live.values }
         requires empty { outbox.old.items ≡ [] }
-        ensures steps { Steps F.image F.failures F.asked self.old (heard_content self.old.station.identity destination source (RealTime frame_id body.now)) (map (λ frame. frame.items) outbox.new.items) result self.new }
+        ensures steps { Steps F.image F.failures F.asked self.old (heard_content self.old.station.identity destination source (RealTime frame_id body.now)) (boxed outbox.new) result self.new }
         ensures reliable { F.is_reliable self.old.flash → F.is_reliable self.new.flash × (self.new.live.values.has_failed ≡ self.old.live.values.has_failed) }
     {
         match kind_of(&self.identity, destination, frame_id) {
@@ -165,7 +166,7 @@ impl<F: Flash<S>, const S: usize> Device<F, S> {
     ) -> Note
         requires stored { Holds (F.image self.old.flash) self.old.live.values }
         requires empty { outbox.old.items ≡ [] }
-        ensures steps { Steps F.image F.failures F.asked self.old (heard_content self.old.station.identity destination asker (ArpPacket packet.now)) (map (λ frame. frame.items) outbox.new.items) result self.new }
+        ensures steps { Steps F.image F.failures F.asked self.old (heard_content self.old.station.identity destination asker (ArpPacket packet.now)) (boxed outbox.new) result self.new }
         ensures reliable { F.is_reliable self.old.flash → F.is_reliable self.new.flash × (self.new.live.values.has_failed ≡ self.old.live.values.has_failed) }
     {
         if !is_asked(&self.identity, destination) {
@@ -185,7 +186,7 @@ impl<F: Flash<S>, const S: usize> Device<F, S> {
     ) -> Note
         requires stored { Holds (F.image self.old.flash) self.old.live.values }
         requires empty { outbox.old.items ≡ [] }
-        ensures steps { Steps F.image F.failures F.asked self.old (heard_content self.old.station.identity destination source (UdpDatagram datagram.now.source datagram.now.destination datagram.now.body.now)) (map (λ frame. frame.items) outbox.new.items) result self.new }
+        ensures steps { Steps F.image F.failures F.asked self.old (heard_content self.old.station.identity destination source (UdpDatagram datagram.now.source datagram.now.destination datagram.now.body.now)) (boxed outbox.new) result self.new }
         ensures reliable { F.is_reliable self.old.flash → F.is_reliable self.new.flash × (self.new.live.values.has_failed ≡ self.old.live.values.has_failed) }
     {
         if !is_called(&self.identity, destination, datagram.destination.port) {
@@ -203,7 +204,7 @@ impl<F: Flash<S>, const S: usize> Device<F, S> {
     fn read_alarm(&mut self, source: Mac, body: &[u8], outbox: &mut Outbox) -> Note
         requires stored { Holds (F.image self.old.flash) self.old.live.values }
         requires empty { outbox.old.items ≡ [] }
-        ensures steps { Steps F.image F.failures F.asked self.old (heard_alarm source (message_of body.now)) (map (λ frame. frame.items) outbox.new.items) result self.new }
+        ensures steps { Steps F.image F.failures F.asked self.old (heard_alarm source (message_of body.now)) (boxed outbox.new) result self.new }
         ensures reliable { F.is_reliable self.old.flash → F.is_reliable self.new.flash × (self.new.live.values.has_failed ≡ self.old.live.values.has_failed) }
     {
         match read_message(body) {
@@ -216,7 +217,7 @@ impl<F: Flash<S>, const S: usize> Device<F, S> {
     fn tick(&mut self, outbox: &mut Outbox) -> Note
         requires empty { outbox.old.items ≡ [] }
         ensures state { self.new ≡ behind self.old (ticked self.old.live) }
-        ensures frames { octets_in outbox.new ≡ frames_of self.old (ticked self.old.live) }
+        ensures frames { boxed outbox.new ≡ frames_of self.old (ticked self.old.live) }
         ensures sendable { CanSend self.old (ticked self.old.live) }
         ensures note { result ≡ Note.Done }
         // Its invariant, for those who do not look into it.
@@ -247,7 +248,7 @@ impl<F: Flash<S>, const S: usize> Device<F, S> {
     fn end(&mut self, reason: Abort, outbox: &mut Outbox)
         requires empty { outbox.old.items ≡ [] }
         ensures state { self.new ≡ with_rest self.old (record self.old.live.rest { link = None }) }
-        ensures frames { map (λ frame. frame.items) outbox.new.items
+        ensures frames { boxed outbox.new
             ≡ map (bytes_of self.old.station.identity) (farewells_in (option_map (farewell_of reason) self.old.live.rest.link)) }
         ensures sendable { AreSendable self.old.station.identity (farewells_in (option_map (farewell_of reason) self.old.live.rest.link)) }
     {
@@ -261,7 +262,7 @@ impl<F: Flash<S>, const S: usize> Device<F, S> {
     #[inline(always)]
     fn send_due(&self, is_alarm: bool, is_ready: bool, is_cyclic: bool, outbox: &mut Outbox)
         requires { outbox.old.items ≡ [] }
-        ensures frames { octets_in outbox.new ≡ map (bytes_of self.now.station.identity) (due_in self.now is_alarm is_ready is_cyclic) }
+        ensures frames { boxed outbox.new ≡ map (bytes_of self.now.station.identity) (due_in self.now is_alarm is_ready is_cyclic) }
         ensures sendable { AreSendable self.now.station.identity (due_in self.now is_alarm is_ready is_cyclic) }
     {
         match (is_alarm, is_ready, is_cyclic) {
@@ -275,7 +276,7 @@ impl<F: Flash<S>, const S: usize> Device<F, S> {
     #[inline(never)]
     fn send_inputs(&self, outbox: &mut Outbox)
         requires { outbox.old.items ≡ [] }
-        ensures frames { map (λ frame. frame.items) outbox.new.items
+        ensures frames { boxed outbox.new
             ≡ map (bytes_of self.now.station.identity) (inputs_of self.now.live.rest.units (flow_of self.now.live.rest.link)) }
         ensures sendable { AreSendable self.now.station.identity (inputs_of self.now.live.rest.units (flow_of self.now.live.rest.link)) }
     {
@@ -286,7 +287,7 @@ impl<F: Flash<S>, const S: usize> Device<F, S> {
     #[inline(never)]
     fn send_each(&self, is_alarm: bool, is_ready: bool, is_cyclic: bool, outbox: &mut Outbox)
         requires { outbox.old.items ≡ [] }
-        ensures frames { octets_in outbox.new ≡ map (bytes_of self.now.station.identity) (due_in self.now is_alarm is_ready is_cyclic) }
+        ensures frames { boxed outbox.new ≡ map (bytes_of self.now.station.identity) (due_in self.now is_alarm is_ready is_cyclic) }
         ensures sendable { AreSendable self.now.station.identity (due_in self.now is_alarm is_ready is_cyclic) }
     {
         let address = self.store.running().suite.address();
@@ -326,7 +327,7 @@ impl<F: Flash<S>, const S: usize> Device<F, S> {
     fn raise(&mut self, slot: u16, subslot: u16, octets: &[u8], outbox: &mut Outbox) -> Note
         requires empty { outbox.old.items ≡ [] }
         ensures state { self.new ≡ behind self.old (judged_raised self.old.station self.old.live slot subslot octets.now) }
-        ensures frames { octets_in outbox.new ≡ frames_of self.old (judged_raised self.old.station self.old.live slot subslot octets.now) }
+        ensures frames { boxed outbox.new ≡ frames_of self.old (judged_raised self.old.station self.old.live slot subslot octets.now) }
         ensures sendable { CanSend self.old (judged_raised self.old.station self.old.live slot subslot octets.now) }
         ensures note { result ≡ (end_of self.old.station self.old.live (judged_raised self.old.station self.old.live slot subslot octets.now)).note }
         // Its invariant, for those who do not look into it.
@@ -350,7 +351,7 @@ impl<F: Flash<S>, const S: usize> Device<F, S> {
     ) -> Note
         requires empty { outbox.old.items ≡ [] }
         ensures state { self.new ≡ behind self.old (judged_alarm self.old.live source header.now message.now) }
-        ensures frames { octets_in outbox.new ≡ frames_of self.old (judged_alarm self.old.live source header.now message.now) }
+        ensures frames { boxed outbox.new ≡ frames_of self.old (judged_alarm self.old.live source header.now message.now) }
         ensures sendable { CanSend self.old (judged_alarm self.old.live source header.now message.now) }
         ensures note { result ≡ (end_of self.old.station self.old.live (judged_alarm self.old.live source header.now message.now)).note }
     {
@@ -368,7 +369,7 @@ impl<F: Flash<S>, const S: usize> Device<F, S> {
     fn hear_message(&mut self, message: &Message, outbox: &mut Outbox) -> Note
         requires empty { outbox.old.items ≡ [] }
         ensures state { self.new ≡ behind self.old (judged_message self.old.live message.now) }
-        ensures frames { octets_in outbox.new ≡ frames_of self.old (judged_message self.old.live message.now) }
+        ensures frames { boxed outbox.new ≡ frames_of self.old (judged_message self.old.live message.now) }
         ensures sendable { CanSend self.old (judged_message self.old.live message.now) }
         ensures note { result ≡ (end_of self.old.station self.old.live (judged_message self.old.live message.now)).note }
     {

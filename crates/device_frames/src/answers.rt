@@ -1,11 +1,12 @@
 //! The answers of a device: to a request of DCP, to a packet of ARP, and to a call.
-ghost use Rattle.std.specs.Prelude.{◌≡◌, ◌<◌, ◌≤◌, ◌+◌, [], ◌∷◌, ◌++◌, None, length, map};
+ghost use Rattle.std.specs.Prelude.{◌≡◌, ◌<◌, ◌≤◌, ◌+◌, [], ◌∷◌, ◌++◌, None, length};
 ghost use Rattle.arrayvec.specs.ArrayVec.{array_vec_len};
 ghost use Rattle.rpc_core.specs.Response.{answered};
 ghost use Rattle.device_frames.specs.Sendable.{IsSendable};
 ghost use Rattle.device_frames.specs.Sent.{ArpReply, CallAnswer, answer_frame, reply_frame, response_frame};
 ghost use Rattle.frame_codec.specs.Meaning.{RealTime};
 ghost use Rattle.frame_laws.specs.Sendable.{CanBeSent, carrying};
+ghost use Rattle.frame_codec.specs.Outbox.{boxed};
 
 use crate::Caller;
 use crate::sizes::can_be_sent;
@@ -23,7 +24,7 @@ pub fn send_dcp_answer(
     outbox: &mut Outbox,
 )
     requires { array_vec_len outbox.old < 4 }
-    ensures frames { map (λ frame. frame.items) outbox.new.items ≡ map (λ frame. frame.items) outbox.old.items ++ answer_frame identity.now asker frame_id answer.now.items ∷ [] }
+    ensures frames { boxed outbox.new ≡ boxed outbox.old ++ answer_frame identity.now asker frame_id answer.now.items ∷ [] }
     ensures sendable { CanBeSent (carrying asker identity.now.mac None (RealTime frame_id answer.now.items)) }
 {
     let layered = Layered {
@@ -48,7 +49,7 @@ pub fn send_arp_reply(
     outbox: &mut Outbox,
 )
     requires room { array_vec_len outbox.old < 4 }
-    ensures frames { map (λ frame. frame.items) outbox.new.items ≡ map (λ frame. frame.items) outbox.old.items ++ reply_frame identity.now asker address target ∷ [] }
+    ensures frames { boxed outbox.new ≡ boxed outbox.old ++ reply_frame identity.now asker address target ∷ [] }
     ensures sendable { IsSendable identity.now (ArpReply asker address target) }
 {
     let sender = Holder {
@@ -80,8 +81,8 @@ pub fn send_response(
     requires room { array_vec_len outbox.old < 4 }
     requires blocks { length response.now.blocks.now ≤ 1372 }
     ensures one { array_vec_len outbox.new ≡ array_vec_len outbox.old + 1 }
-    ensures frames { map (λ frame. frame.items) outbox.new.items
-        ≡ map (λ frame. frame.items) outbox.old.items ++ response_frame identity.now caller.now address (answered response.now) ∷ [] }
+    ensures frames { boxed outbox.new
+        ≡ boxed outbox.old ++ response_frame identity.now caller.now address (answered response.now) ∷ [] }
     ensures sendable { IsSendable identity.now (CallAnswer caller.now address (answered response.now)) }
 {
     let mut datagram = Datagram::new();

@@ -5,6 +5,7 @@ ghost use Rattle.device_frames.specs.Sendable.{AreSendable};
 ghost use Rattle.device_frames.specs.Sent.{bytes_of};
 ghost use Rattle.device_frames.specs.Relation.{alarms_of, inputs_of, ready_calls, replies_of, where_due};
 ghost use Rattle.relations.specs.Link.{flow_of};
+ghost use Rattle.frame_codec.specs.Outbox.{boxed};
 
 use crate::relation::send_ready;
 use crate::sizes::{can_be_sent_in, cyclic_can_be_sent};
@@ -24,8 +25,8 @@ pub fn send_inputs(
     outbox: &mut Outbox,
 )
     requires room { array_vec_len outbox.old < 4 }
-    ensures frames { map (λ frame. frame.items) outbox.new.items
-        ≡ map (λ frame. frame.items) outbox.old.items ++ map (bytes_of identity.now) (where_due is_due (inputs_of counter (flow_of relation.now))) }
+    ensures frames { boxed outbox.new
+        ≡ boxed outbox.old ++ map (bytes_of identity.now) (where_due is_due (inputs_of counter (flow_of relation.now))) }
     ensures sendable { AreSendable identity.now (where_due is_due (inputs_of counter (flow_of relation.now))) }
     ensures few { array_vec_len outbox.new ≤ array_vec_len outbox.old + 1 }
 {
@@ -44,8 +45,8 @@ pub fn send_inputs(
 #[inline(always)]
 pub fn send_alarm(identity: &Identity, relation: &Relation, outbox: &mut Outbox)
     requires room { array_vec_len outbox.old < 4 }
-    ensures frames { map (λ frame. frame.items) outbox.new.items
-        ≡ map (λ frame. frame.items) outbox.old.items ++ map (bytes_of identity.now) (alarms_of (flow_of relation.now)) }
+    ensures frames { boxed outbox.new
+        ≡ boxed outbox.old ++ map (bytes_of identity.now) (alarms_of (flow_of relation.now)) }
     ensures sendable { AreSendable identity.now (alarms_of (flow_of relation.now)) }
     ensures few { array_vec_len outbox.new ≤ array_vec_len outbox.old + 1 }
 {
@@ -73,8 +74,8 @@ pub fn send_alarm(identity: &Identity, relation: &Relation, outbox: &mut Outbox)
 #[inline(never)]
 pub fn send_alarm_again(identity: &Identity, is_due: bool, relation: &Relation, outbox: &mut Outbox)
     requires room { array_vec_len outbox.old < 4 }
-    ensures frames { map (λ frame. frame.items) outbox.new.items
-        ≡ map (λ frame. frame.items) outbox.old.items ++ map (bytes_of identity.now) (where_due is_due (alarms_of (flow_of relation.now))) }
+    ensures frames { boxed outbox.new
+        ≡ boxed outbox.old ++ map (bytes_of identity.now) (where_due is_due (alarms_of (flow_of relation.now))) }
     ensures sendable { AreSendable identity.now (where_due is_due (alarms_of (flow_of relation.now))) }
     ensures few { array_vec_len outbox.new ≤ array_vec_len outbox.old + 1 }
 {
@@ -86,8 +87,8 @@ pub fn send_alarm_again(identity: &Identity, is_due: bool, relation: &Relation, 
 /// Puts the answer to the data of an alarm that was taken so into the box, behind what is in it, if there is a relation.
 pub fn send_alarm_reply(identity: &Identity, taken: Taken, relation: &Relation, outbox: &mut Outbox)
     requires room { array_vec_len outbox.old < 4 }
-    ensures frames { map (λ frame. frame.items) outbox.new.items
-        ≡ map (λ frame. frame.items) outbox.old.items ++ map (bytes_of identity.now) (replies_of taken (flow_of relation.now)) }
+    ensures frames { boxed outbox.new
+        ≡ boxed outbox.old ++ map (bytes_of identity.now) (replies_of taken (flow_of relation.now)) }
     ensures sendable { AreSendable identity.now (replies_of taken (flow_of relation.now)) }
 {
     let Some(exchange) = relation.exchange() else {
@@ -117,8 +118,8 @@ pub fn send_ready_again(
     outbox: &mut Outbox,
 )
     requires room { array_vec_len outbox.old < 4 }
-    ensures frames { map (λ frame. frame.items) outbox.new.items
-        ≡ map (λ frame. frame.items) outbox.old.items ++ map (bytes_of identity.now) (where_due is_due (ready_calls address relation.now)) }
+    ensures frames { boxed outbox.new
+        ≡ boxed outbox.old ++ map (bytes_of identity.now) (where_due is_due (ready_calls address relation.now)) }
     ensures sendable { AreSendable identity.now (where_due is_due (ready_calls address relation.now)) }
     ensures few { array_vec_len outbox.new ≤ array_vec_len outbox.old + 1 }
 {

@@ -4,6 +4,7 @@ ghost use Rattle.arrayvec.specs.ArrayVec.{array_vec_len};
 ghost use Rattle.device_frames.specs.Sendable.{AreSendable, IsSendable};
 ghost use Rattle.device_frames.specs.Sent.{Ends, bytes_of, farewell_frame};
 ghost use Rattle.device_frames.specs.Relation.{ready_calls};
+ghost use Rattle.frame_codec.specs.Outbox.{boxed};
 
 use crate::sizes::can_be_sent;
 use arrayvec::ArrayVec;
@@ -19,7 +20,7 @@ const ARGS_MAXIMUM: u32 = 1_372;
 /// Puts the ERR that ends the relation into the box, behind what is in it.
 pub fn send_farewell(identity: &Identity, farewell: &Farewell, outbox: &mut Outbox)
     requires room { array_vec_len outbox.old < 4 }
-    ensures frames { map (λ frame. frame.items) outbox.new.items ≡ map (λ frame. frame.items) outbox.old.items ++ farewell_frame identity.now farewell.now ∷ [] }
+    ensures frames { boxed outbox.new ≡ boxed outbox.old ++ farewell_frame identity.now farewell.now ∷ [] }
     ensures sendable { IsSendable identity.now (Ends farewell.now) }
     ensures len { array_vec_len outbox.new ≡ array_vec_len outbox.old + 1 }
 {
@@ -42,8 +43,8 @@ pub fn send_farewell(identity: &Identity, farewell: &Farewell, outbox: &mut Outb
 /// Puts ApplicationReady of the relation, if there is one, into the box, behind what is in it.
 pub fn send_ready(identity: &Identity, address: [u8; 4], relation: &Relation, outbox: &mut Outbox)
     requires room { array_vec_len outbox.old < 4 }
-    ensures frames { map (λ frame. frame.items) outbox.new.items
-        ≡ map (λ frame. frame.items) outbox.old.items ++ map (bytes_of identity.now) (ready_calls address relation.now) }
+    ensures frames { boxed outbox.new
+        ≡ boxed outbox.old ++ map (bytes_of identity.now) (ready_calls address relation.now) }
     ensures sendable { AreSendable identity.now (ready_calls address relation.now) }
     ensures few { array_vec_len outbox.new ≤ array_vec_len outbox.old + 1 }
 {

@@ -8,6 +8,7 @@ ghost use Rattle.relations.specs.Link.{phase_of, taken_of};
 ghost use Rattle.relations.specs.Outputs.{output_of};
 ghost use Rattle.device_port.specs.State.{IsIdle, IsNext, IsUntold, advanced, barred, closed, has_work as is_left, lost, past_start as too_late};
 ghost use Rattle.device_port.specs.Steps.{Answers, KnowsOrNot, Passes, PassesOrNot, StartsOrNot, Takes};
+ghost use Rattle.frame_codec.specs.Outbox.{boxed};
 
 use crate::{Refusal, Stage};
 use device_core::{Device, Event, Note};
@@ -41,7 +42,7 @@ pub struct Port {
 }
 
 impl Model for Port {
-    ghost use Rattle.std.specs.Prelude.{◌≤◌, length, map, drop};
+    ghost use Rattle.std.specs.Prelude.{◌≤◌, length, drop};
     ghost use Rattle.recorded_flash.specs.Record.{record_of};
     ghost use Rattle.device_port.specs.State.{State, IsSteady};
 
@@ -51,13 +52,13 @@ impl Model for Port {
       device = port.device;
       stage = port.stage;
       calls = drop port.calls_past (record_of port.device.flash).recent;
-      frames = drop port.frames_past (map (λ frame. frame.items) port.outbox.items);
+      frames = drop port.frames_past (boxed port.outbox);
     } };
 
     ghost invariant = { λ port. (port.calls_past ≤ length (record_of port.device.flash).recent)
         × (port.frames_past ≤ length port.outbox.items)
         × IsSteady port.stage port.device.live.values.has_failed (drop port.calls_past (record_of port.device.flash).recent)
-        (drop port.frames_past (map (λ frame. frame.items) port.outbox.items)) };
+        (drop port.frames_past (boxed port.outbox)) };
 }
 
 /// A piece of work.

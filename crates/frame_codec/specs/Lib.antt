@@ -5,3 +5,4 @@ pub mod Internet
 pub mod Frame
 pub mod FrameFault
 pub mod FrameId
+pub mod Outbox

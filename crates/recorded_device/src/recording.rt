@@ -1,8 +1,9 @@
 // One step, and what it records for the host.
-ghost use Rattle.std.specs.Prelude.{◌≡◌, false, [], map};
+ghost use Rattle.std.specs.Prelude.{◌≡◌, false, []};
 ghost use Rattle.device_core.specs.Machine.{step_of};
 ghost use Rattle.device_core.specs.Steps.{IsExactStep};
 ghost use Rattle.recorded_device.specs.Recorded.{Records};
+ghost use Rattle.frame_codec.specs.Outbox.{boxed};
 
 use device_core::{Device, Event, Note};
 use frame_codec::Outbox;
@@ -16,7 +17,7 @@ pub fn step<const S: usize>(
     outbox: &mut Outbox,
 ) -> Note
     requires { device.old.live.values.has_failed ≡ false }
-    ensures exact { IsExactStep device.old event.now (map (λ frame. frame.items) outbox.new.items) result device.new }
+    ensures exact { IsExactStep device.old event.now (boxed outbox.new) result device.new }
     ensures going { device.new.live.values.has_failed ≡ false }
 
     // What is recorded is exactly the calls of the commands that the step accepts, in order; and wherever a host is cut off as
