@@ -85,10 +85,10 @@ same_farewell reason link later request last seen =
 wraps : (waited units : ℕ) → waited ≡ units % 32000 → (if (waited + 1 == 32000) then 0 else waited + 1) ≡ (units + 1) % 32000
 wraps waited units h = grind (arith, nat_tests)
 
-again_with : (waited units : ℕ) → waited ≡ units % 32000 → (waited + 1 == 32000) ≡ ((units + 1) % 32000 == 0)
+pub again_with : (waited units : ℕ) → waited ≡ units % 32000 → (waited + 1 == 32000) ≡ ((units + 1) % 32000 == 0)
 again_with waited units h = grind (arith, nat_tests)
 
-waited_next : (link : Link) (units : ℕ) → is_awaiting link.phase ≡ true → link.waited ≡ units % 32000 → waited_later link ≡ (units + 1) % 32000
+pub waited_next : (link : Link) (units : ℕ) → is_awaiting link.phase ≡ true → link.waited ≡ units % 32000 → waited_later link ≡ (units + 1) % 32000
 waited_next link units waits h = rw waits (wraps link.waited units h)
 
 quiet_next : (link : Link) → is_timed link.phase ≡ true → quiet_later link ≡ link.quiet + 1

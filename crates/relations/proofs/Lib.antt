@@ -1,3 +1,4 @@
 pub mod Kept
 mod Held
 mod Moves
+mod Waiting

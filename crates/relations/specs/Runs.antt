@@ -1,13 +1,13 @@
 -- Relations over many units of time.
-use Rattle.std.specs.Prelude.{◌≡◌, ◌+◌, ◌%◌, ◌==◌, ◌<◌, ℕ, zero, suc, true, Option, Some, None}
+use Rattle.std.specs.Prelude.{◌≡◌, ◌+◌, ◌%◌, ◌==◌, ◌<◌, ℕ, Bool, zero, suc, true, false, List, [], ◌∷◌, Option, Some, None}
 use Rattle.pn_alarms.specs.declared.abort.Abort.{Abort}
 use Rattle.pn_alarms.specs.declared.abort.Abort.TheVariants.{Activity, DataHold, Other}
 use Rattle.pn_alarms.specs.Sending.{Sending}
 use Rattle.relations.specs.declared.phase.Phase.TheVariants.{Started, Awaiting, Exchanging}
 use Rattle.relations.specs.Link.{Link, phase_of, is_awaiting}
 use Rattle.relations.specs.Farewells.{farewell_of}
-use Rattle.relations.specs.Timers.{due_of, is_timed, limit_of}
-use Rattle.relations.specs.Phases.{Judged, Parameterized, Confirmed, moved, passing}
+use Rattle.relations.specs.Timers.{due_of, is_again, is_timed, limit_of}
+use Rattle.relations.specs.Phases.{Judged, Made, Parameterized, Confirmed, Named, Took, Exchanged, Passed, Ended, Unmoved, moved, passing}
 
 -- a unit later, and so many units later, with no other event
 abbrev pub unit_over : Option Link → Option Link
@@ -31,6 +31,44 @@ EndsAt = (link : Link) (units : ℕ) → is_timed link.phase ≡ true → link.q
 abbrev pub IsDueEachSecond : Type 0
 IsDueEachSecond = (link : Link) (units : ℕ) → is_awaiting link.phase ≡ true → link.quiet ≡ 0 → link.waited ≡ 0 → units + 1 < limit_of link
     → (due_of (units_over units (Some link))).is_ready ≡ ((units + 1) % 32000 == 0)
+
+-- ---- whatever comes while it waits
+
+-- what leaves a relation in its phase: a unit that ends nothing, a call that is answered or refused, a record that is written, a frame
+abbrev pub leaves_waiting : Judged → Bool
+leaves_waiting (Made request partner rows) = false
+leaves_waiting Parameterized = false
+leaves_waiting Confirmed = false
+leaves_waiting Named = true
+leaves_waiting (Took taken) = true
+leaves_waiting (Exchanged flow) = true
+leaves_waiting Passed = true
+leaves_waiting Ended = false
+leaves_waiting Unmoved = true
+
+-- each of some events does
+abbrev pub AreWaiting : List Judged → Type 0
+AreWaiting [] = Unit {0}
+AreWaiting (judged ∷ more) = (leaves_waiting judged ≡ true) × AreWaiting more
+
+-- the relation behind them, one behind the other, and how many of them are units
+abbrev pub all_moved : List Judged → Option Link → Option Link
+all_moved [] link = link
+all_moved (judged ∷ more) link = all_moved more (moved judged link)
+
+abbrev pub units_in : Judged → ℕ
+units_in Passed = 1
+units_in judged = 0
+
+abbrev pub units_of : List Judged → ℕ
+units_of [] = 0
+units_of (judged ∷ more) = units_in judged + units_of more
+
+-- While a relation waits for the answer to ApplicationReady, this is due again with each 32,000th unit since it was sent, and with no
+-- other, whatever calls and frames come between.
+abbrev pub IsDueWhateverComes : Type 0
+IsDueWhateverComes = (link now : Link) (events : List Judged) → is_awaiting link.phase ≡ true → link.waited ≡ 0 → AreWaiting events
+    → all_moved events (Some link) ≡ Some now → is_again now ≡ ((units_of events + 1) % 32000 == 0)
 
 -- ---- while data is exchanged
 

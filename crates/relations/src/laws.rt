@@ -1,5 +1,5 @@
 //! What holds of relations over many events.
-ghost use Rattle.relations.specs.Runs.{StandsUntil, EndsAt, IsByPrmEnd, IsByReady, IsDueEachSecond, IsGivenUp, IsHeldFor};
+ghost use Rattle.relations.specs.Runs.{StandsUntil, EndsAt, IsByPrmEnd, IsByReady, IsDueEachSecond, IsDueWhateverComes, IsGivenUp, IsHeldFor};
 
 /// The timers, over any number of units with nothing else between: a law of the definitions by which `Relation::elapse` is stated, and no code.
 pub fn time_is_kept()
@@ -8,6 +8,8 @@ pub fn time_is_kept()
     ensures ends { EndsAt }
     // ApplicationReady is sent again with each 32,000th unit, and with no other.
     ensures again { IsDueEachSecond }
+    // So it is where calls and frames come between.
+    ensures whatever { IsDueWhateverComes }
     // Once data is exchanged a relation of which nothing is heard stands until the last unit of its data hold time, which ends it,
     ensures hold { IsHeldFor }
     // or until an alarm without an ACK is given up before.

@@ -1,0 +1,32 @@
+-- Whatever comes while a relation waits for the answer to ApplicationReady.
+use Rattle.std.proofs.Common.{◌≡◌, ◌+◌, ◌%◌, ◌==◌, ℕ, true, List, [], ◌∷◌, Some, ap, arith, subst, ◌∙◌}
+use Rattle.relations.specs.Link.{Link, is_awaiting}
+use Rattle.relations.specs.Phases.{Judged, Made, Parameterized, Confirmed, Named, Took, Exchanged, Passed, Ended, Unmoved, restarted, with_flow, with_taken}
+use Rattle.relations.specs.Timers.{unit_later}
+use Rattle.relations.specs.Runs.{AreWaiting, IsDueWhateverComes, all_moved, units_of}
+use Rattle.relations.proofs.Kept.{again_with, waited_next}
+
+-- it waits on, and has waited for the units that were among them
+waits_on : (events : List Judged) (link now : Link) (units : ℕ) → is_awaiting link.phase ≡ true → link.waited ≡ units % 32000 → AreWaiting events
+    → all_moved events (Some link) ≡ Some now → (is_awaiting now.phase ≡ true) × (now.waited ≡ (units_of events + units) % 32000)
+waits_on [] link now units waits so still e =
+    let same : link ≡ now = cc in
+    subst (λ (l : Link). (is_awaiting l.phase ≡ true) × (l.waited ≡ units % 32000)) same (waits, so)
+waits_on (Made request partner rows ∷ more) link now units waits so still e = absurd (let no = still.0 in cc)
+waits_on (Parameterized ∷ more) link now units waits so still e = absurd (let no = still.0 in cc)
+waits_on (Confirmed ∷ more) link now units waits so still e = absurd (let no = still.0 in cc)
+waits_on (Named ∷ more) link now units waits so still e = waits_on more (restarted link) now units waits so still.1 e
+waits_on (Took taken ∷ more) link now units waits so still e = waits_on more (with_taken taken link) now units waits so still.1 e
+waits_on (Exchanged flow ∷ more) link now units waits so still e = waits_on more (with_flow flow link) now units waits so still.1 e
+waits_on (Passed ∷ more) link now units waits so still e =
+    let on = waits_on more (unit_later link) now (units + 1) waits (waited_next link units waits so) still.1 e in
+    let count : units_of more + (units + 1) ≡ units_of (Passed ∷ more) + units = omega arith in
+    (on.0, on.1 ∙ ap (λ (n : ℕ). n % 32000) count)
+waits_on (Ended ∷ more) link now units waits so still e = absurd (let no = still.0 in cc)
+waits_on (Unmoved ∷ more) link now units waits so still e = waits_on more link now units waits so still.1 e
+
+pub is_due_whatever_comes : IsDueWhateverComes
+is_due_whatever_comes link now events waits new still e =
+    let on = waits_on events link now 0 waits new still e in
+    let count : units_of events + 0 ≡ units_of events = omega arith in
+    rw on.0 (again_with now.waited (units_of events) (on.1 ∙ ap (λ (n : ℕ). n % 32000) count))
