@@ -3,7 +3,7 @@ use Rattle.std.proofs.Common.{◌≡◌, ℕ, ◌+◌, ◌-◌, ◌≤◌, Bool,
 use Rattle.std.proofs.lemmas.Bool.{ltb-false, le-ltb}
 use Rattle.std.proofs.lemmas.List.{length-append, length-replicate}
 use Rattle.wire.proofs.Fields.{bind_ok}
-use Rattle.frame_codec.specs.declared.link.Link.{Link}
+use Rattle.frame_codec.specs.declared.link.LinkHeader.{LinkHeader}
 use Rattle.frame_codec.specs.declared.fault.FrameFault.{FrameFault}
 use Rattle.frame_codec.specs.declared.fault.FrameFault.TheVariants.{TooLong}
 use Rattle.frame_codec.specs.Meaning.{Content, RealTime, ArpPacket, UdpDatagram, Meaning}
@@ -22,7 +22,7 @@ judged false r meaning e = (refl, e)
 
 -- the link header that stands in front of a frame
 record HasLink (bytes : List ℕ) (meaning : Meaning) : Type 0 where
-  header : Link
+  header : LinkHeader
   rest : List ℕ
   reads : link.read bytes ≡ Ok (header, rest)
   tag : header.tag ≡ meaning.tag
@@ -46,7 +46,7 @@ frame_takes bytes meaning e =
     let h = link_in bytes meaning spelled in
     let one : a.0.0 ≡ h.header = cc in
     let short : length bytes ≤ longest a.0.0.tag = ltb-false _ _ j.0 in
-    record { spelled = spelled; short = subst (λ (tag : Option ℕ). length bytes ≤ longest tag) (ap (λ (x : Link). x.tag) one ∙ h.tag) short }
+    record { spelled = spelled; short = subst (λ (tag : Option ℕ). length bytes ≤ longest tag) (ap (λ (x : LinkHeader). x.tag) one ∙ h.tag) short }
 
 -- a frame is read
 pub frame_again : (bytes : List ℕ) (meaning : Meaning) → IsFrame bytes meaning → frame_of bytes ≡ Ok meaning

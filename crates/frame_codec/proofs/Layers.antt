@@ -9,7 +9,7 @@ use Rattle.wire.proofs.Judged.{checked_sound, checked_onward, fixed_sound, fixed
 use Rattle.wire.proofs.Kept.{kept_sound, kept_onward, cut_sound, cut_onward}
 use Rattle.wire.proofs.Wholes.{everything_sound, refused_sound, ends_by_sound, seen_whole_sound, pick_sound, loose_sound, loose_behind}
 use Rattle.pn_values.specs.declared.mac.Mac.{Mac}
-use Rattle.frame_codec.specs.declared.link.Link.{Link}
+use Rattle.frame_codec.specs.declared.link.LinkHeader.{LinkHeader}
 use Rattle.frame_codec.specs.declared.arp.Arp.{Arp}
 use Rattle.frame_codec.specs.declared.arp.ArpOperation.{ArpOperation}
 use Rattle.frame_codec.specs.declared.arp.ArpOperation.TheVariants.{Request, Reply}
@@ -53,7 +53,7 @@ tag_and_type_onward = seen_onward tag_and_type_of parts_of_tag _ (then_by_onward
 
 pub link_onward : IsOnward link
 unfolding link
-link_onward = seen_onward _ (λ (header : Link). (header.destination, (header.source, (header.tag, header.ether_type)))) _
+link_onward = seen_onward _ (λ (header : LinkHeader). (header.destination, (header.source, (header.tag, header.ether_type)))) _
     (then_by_onward _ _ mac_onward (λ _. then_by_onward _ _ mac_onward (λ _. tag_and_type_onward)))
 
 -- ---- ARP
@@ -209,7 +209,7 @@ content_under_sound ether_type =
 
 pub layers_sound : IsSoundWhole layers
 unfolding layers
-layers_sound = seen_whole_sound _ _ _ (λ meaning. refl) (ends_by_sound _ _ link_sound (λ (header : Link). content_under_sound header.ether_type))
+layers_sound = seen_whole_sound _ _ _ (λ meaning. refl) (ends_by_sound _ _ link_sound (λ (header : LinkHeader). content_under_sound header.ether_type))
 
 -- ---- more behind what is spelled
 

@@ -4,7 +4,7 @@ use Rattle.wire.specs.Codec.{◌>>=◌}
 use Rattle.wire.specs.Whole.{loose, pick, refused}
 use Rattle.frame_codec.specs.declared.fault.FrameFault.{FrameFault}
 use Rattle.frame_codec.specs.declared.fault.FrameFault.TheVariants.{TooLong, Tag, EtherType}
-use Rattle.frame_codec.specs.declared.link.Link.{Link}
+use Rattle.frame_codec.specs.declared.link.LinkHeader.{LinkHeader}
 use Rattle.frame_codec.specs.Meaning.{ArpPacket, Content, IsNoRealTime, IsOther, IsOtherOrNone, Meaning}
 use Rattle.frame_codec.specs.Arp.{arp_packet}
 use Rattle.frame_codec.specs.Internet.{packet}
@@ -32,8 +32,8 @@ picked false false false true bytes e = datagram_other bytes
 picked false false false false bytes e = tt
 
 -- a frame is another one if its content is
-framed : (header : Link) (r : Result Content FrameFault) → IsOtherOrNone r
-    → IsNoRealTime (◌>>=◌ {A = Link × Content} (r >>= λ y. Ok (header, y)) (λ x. Ok (record { destination = x.0.destination; source = x.0.source; tag = x.0.tag; content = x.1 })))
+framed : (header : LinkHeader) (r : Result Content FrameFault) → IsOtherOrNone r
+    → IsNoRealTime (◌>>=◌ {A = LinkHeader × Content} (r >>= λ y. Ok (header, y)) (λ x. Ok (record { destination = x.0.destination; source = x.0.source; tag = x.0.tag; content = x.1 })))
 framed header (Ok content) is = is
 framed header (Err fault) is = tt
 
@@ -42,7 +42,7 @@ judged true r is = tt
 judged false r is = is
 
 -- a frame of another EtherType
-pub other_frame : (bytes rest : List ℕ) (header : Link) → link.read bytes ≡ Ok (header, rest) → (header.ether_type == profinet) ≡ false → IsNoRealTime (frame_of bytes)
+pub other_frame : (bytes rest : List ℕ) (header : LinkHeader) → link.read bytes ≡ Ok (header, rest) → (header.ether_type == profinet) ≡ false → IsNoRealTime (frame_of bytes)
 unfolding frame_of layers
 other_frame bytes rest header e other =
     rw e (judged (nat_lt (longest header.tag) (length bytes)) _ (framed header ((content_under header.ether_type).read rest)

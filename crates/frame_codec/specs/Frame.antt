@@ -5,7 +5,7 @@ use Rattle.wire.specs.Codec.{Codec, Whole, ◌>>=◌}
 use Rattle.wire.specs.Formats.{raw, number, then_by, ◌⨾◌, seen, when}
 use Rattle.wire.specs.Whole.{everything, refused, ends_by, seen_whole, pick, loose}
 use Rattle.wire.specs.Checks.{variant}
-use Rattle.frame_codec.specs.declared.link.Link.{Link}
+use Rattle.frame_codec.specs.declared.link.LinkHeader.{LinkHeader}
 use Rattle.frame_codec.specs.declared.fault.FrameFault.{FrameFault}
 use Rattle.frame_codec.specs.declared.fault.FrameFault.TheVariants.{TooShort, TooLong, Tag, EtherType}
 use Rattle.frame_codec.specs.declared.arp.Arp.{Arp}
@@ -52,7 +52,7 @@ tag_and_type = seen tag_and_type_of parts_of_tag
     (then_by (number TooShort 2) (λ first. when (first == vlan) (number TooShort 2 ⨾ number TooShort 2)))
 
 -- the link header
-unfoldable pub link : Codec FrameFault Link
+unfoldable pub link : Codec FrameFault LinkHeader
 link = seen (λ x. record { destination = x.0; source = x.1.0; tag = x.1.1.0; ether_type = x.1.1.1 })
     (λ header. (header.destination, (header.source, (header.tag, header.ether_type))))
     (mac ⨾ mac ⨾ tag_and_type)
@@ -122,14 +122,14 @@ type_of (UdpDatagram source destination body) = internet
 -- ---- the frame
 
 -- the link header of a frame of this meaning
-abbrev pub link_of : Meaning → Link
+abbrev pub link_of : Meaning → LinkHeader
 link_of meaning = record { destination = meaning.destination; source = meaning.source; tag = meaning.tag; ether_type = type_of meaning.content }
 
 -- the layers of a frame, however long it is
 unfoldable pub layers : Whole FrameFault Meaning
 layers = seen_whole (λ x. record { destination = x.0.destination; source = x.0.source; tag = x.0.tag; content = x.1 })
     (λ meaning. (link_of meaning, meaning.content))
-    (ends_by link (λ (header : Link). content_under header.ether_type))
+    (ends_by link (λ (header : LinkHeader). content_under header.ether_type))
 
 -- how long a frame may be: a tag is on top
 abbrev pub longest : Option ℕ → ℕ

@@ -15,7 +15,7 @@ pub(crate) const PROFINET: u16 = 0x8892;
 
 /// The addresses, the word of the tag if there is one, and the EtherType.
 #[derive(Clone, Copy)]
-pub(crate) struct Link {
+pub(crate) struct LinkHeader {
     pub(crate) destination: Mac,
     pub(crate) source: Mac,
     pub(crate) tag: Option<u16>,
@@ -60,14 +60,14 @@ fn tag_and_type_at(bytes: &[u8]) -> Result<(Option<u16>, u16, &[u8]), FrameFault
 /// The link header, and the octets behind it.
 #[tactic(auto, unfolding(crate::specs::Frame::link))]
 #[inline(always)]
-pub(crate) fn link_at(bytes: &[u8]) -> Result<(Link, &[u8]), FrameFault>
+pub(crate) fn link_at(bytes: &[u8]) -> Result<(LinkHeader, &[u8]), FrameFault>
     ensures { Gives (λ x. (x.0, x.1.now)) result (link.read bytes.now) }
 {
     let (destination, rest) = mac_at(bytes)?;
     let (source, rest) = mac_at(rest)?;
     let (tag, ether_type, rest) = tag_and_type_at(rest)?;
     Ok((
-        Link {
+        LinkHeader {
             destination,
             source,
             tag,

@@ -9,7 +9,7 @@ ghost use Rattle.frame_codec.specs.Frame.{IsFrame, FitsFrame, content_size, cont
 
 use crate::arp::{ADDRESS_RESOLUTION, put_arp};
 use crate::internet::{INTERNET, InternetHeader, put_internet_header};
-use crate::link::{Link, PROFINET, VLAN};
+use crate::link::{LinkHeader, PROFINET, VLAN};
 use crate::udp::{UdpHeader, put_udp_header};
 use crate::{Frame, Layered, Payload, Pieces, Udp};
 use arrayvec::ArrayVec;
@@ -49,7 +49,7 @@ fn put_tag_and_type(frame: &mut Frame, tag: Option<u16>, ether_type: u16)
 /// Appends the link header to an empty frame.
 #[tactic(auto, unfolding(crate::specs::Frame::link, crate::specs::Frame::mac))]
 #[inline(always)]
-fn put_link(frame: &mut Frame, header: &Link)
+fn put_link(frame: &mut Frame, header: &LinkHeader)
     requires empty { array_vec_len frame.old ≡ 0 }
     requires kind { header.now.ether_type ≢ vlan }
     ensures items { frame.new.items ≡ link.write header.now [] }
@@ -116,7 +116,7 @@ fn put_layers(frame: &mut Frame, layered: &Layered)
     ensures items { frame.new.items ≡ layers.write (meaning_of layered.now) }
     ensures fits { layers.Fits (meaning_of layered.now) }
 {
-    let header = Link {
+    let header = LinkHeader {
         destination: layered.destination,
         source: layered.source,
         tag: layered.tag,
@@ -172,7 +172,7 @@ pub(crate) fn fill_pieces(frame: &mut Frame, pieces: &Pieces)
     ensures exact { frame.new.items ≡ frame_bytes (meaning_in pieces.now) }
     ensures again { IsReadBack (meaning_in pieces.now) }
 {
-    let header = Link {
+    let header = LinkHeader {
         destination: pieces.destination,
         source: pieces.source,
         tag: pieces.tag,
