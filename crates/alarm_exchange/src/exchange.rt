@@ -1,7 +1,9 @@
 //! Both ends of a relation's alarms, and each PDU that either ever sent.
 ghost use Rattle.std.specs.Prelude.{◌≡◌, ◌<◌, ◌≤◌, ◌+◌, ◌∷◌, [], ◌++◌, length, slice_get, IfOk, OnOk, Some};
 ghost use Rattle.std.specs.Option.{option_copied};
-ghost use Rattle.alarm_exchange.specs.World.{start, with_raised, after_raise, after_confirm, after_device_tick, after_controller_tick, repeated_to_controller, repeated_to_device, after_alarm, after_confirms, after_ack_to_device, after_ack_to_controller, after_nack_to_device, happens, behind_all, IsPrefixOf};
+ghost use Rattle.alarm_exchange.specs.World.{start, with_raised, after_raise, after_confirm, after_device_tick, after_controller_tick};
+ghost use Rattle.alarm_exchange.specs.World.{repeated_to_controller, repeated_to_device, after_alarm, after_confirms, after_ack_to_device};
+ghost use Rattle.alarm_exchange.specs.World.{after_ack_to_controller, after_nack_to_device, happens, behind_all, IsPrefixOf};
 ghost use Rattle.alarm_exchange.specs.Shown.{world_of};
 
 use arrayvec::ArrayVec;
@@ -54,7 +56,17 @@ impl Model for Kept {
 
     ghost Value = { AlarmNotification };
 
-    ghost view = { λ kept. record { alarm_type = kept.alarm_type; api = kept.api; slot_number = kept.slot_number; subslot_number = kept.subslot_number; module_ident_number = kept.module_ident_number; submodule_ident_number = kept.submodule_ident_number; alarm_specifier = kept.alarm_specifier; alarm_data = kept.alarm_data.items } };
+    ghost view = { λ kept. record {
+      alarm_type = kept.alarm_type;
+      api = kept.api;
+      slot_number = kept.slot_number;
+      subslot_number =
+          kept.subslot_number;
+      module_ident_number = kept.module_ident_number;
+      submodule_ident_number = kept.submodule_ident_number;
+      alarm_specifier = kept.alarm_specifier;
+      alarm_data = kept.alarm_data.items;
+    } };
 }
 
 /// So many octets.
@@ -413,8 +425,10 @@ impl Exchange {
         requires factor { 0 < timeout_factor }
         requires few { retries ≤ 15 }
         ensures state { IfOk result (λ exchange. world_of exchange ≡ behind_all moves.now (start timeout_factor retries)) }
-        ensures prefix { IfOk result (λ exchange. let w = world_of exchange in length w.alarms.sent ≤ 32768 → IsPrefixOf w.alarms.taken w.alarms.sent) }
-        ensures last { IfOk result (λ exchange. let w = world_of exchange in length w.alarms.sent ≤ 32768 → length w.alarms.sent ≤ length w.alarms.taken + 1) }
+        ensures prefix { IfOk result (λ exchange. let w = world_of exchange in length w.alarms.sent ≤ 32768 →
+            IsPrefixOf w.alarms.taken w.alarms.sent) }
+        ensures last { IfOk result (λ exchange. let w = world_of exchange in length w.alarms.sent ≤ 32768 →
+            length w.alarms.sent ≤ length w.alarms.taken + 1) }
     {
         let exchange = Exchange::played(alloc, timeout_factor, retries, moves)?;
         Ok(exchange)

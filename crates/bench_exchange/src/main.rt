@@ -9,7 +9,8 @@
 //! ```
 //!
 //! Octets are in hex. It prints how many events were done, how many frames were sent since the last frame that was no cyclic one and
-//! no alarm, how many octets they had, and the sum of these: bench/figures/exchange.rs, which does the same in plain Rust, has to print it too.
+//! no alarm, how many octets they had, and the sum of these: bench/figures/exchange.rs, which does the same in plain Rust, has to print it
+//! too.
 #![tactic(auto)]
 
 mod line;

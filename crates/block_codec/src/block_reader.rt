@@ -40,7 +40,8 @@ impl<'a> BlockReader<'a> {
         // Each field of a block that is given has an accepted value.
         ensures accepted { GaveAccepted result }
         // Octets that are blocks one behind the other are given so.
-        ensures in_order { (blocks : List Block) → self.old.has_failed ≡ false → AreBlocks self.old.rest blocks → GivesNext blocks result self.new }
+        ensures in_order { (blocks : List Block) → self.old.has_failed ≡ false → AreBlocks self.old.rest blocks →
+            GivesNext blocks result self.new }
     {
         if self.rest.is_empty() || self.has_failed {
             return None;

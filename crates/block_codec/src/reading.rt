@@ -2,7 +2,8 @@
 ghost use Rattle.std.specs.Prelude.{◌≡◌, ◌≤◌, ◌++◌, ℕ, List, [], length, IfOk};
 ghost use Rattle.wire.specs.Codec.{Gives};
 ghost use Rattle.wire.specs.Formats.{big_number};
-ghost use Rattle.block_codec.specs.declared.block_type.BlockType.TheVariants.{AlarmAck as alarm_ack, ExpectedSubmoduleBlockReq as expected_req};
+ghost use Rattle.block_codec.specs.declared.block_type.BlockType.TheVariants.{AlarmAck as alarm_ack};
+ghost use Rattle.block_codec.specs.declared.block_type.BlockType.TheVariants.{ExpectedSubmoduleBlockReq as expected_req};
 ghost use Rattle.block_codec.specs.Kinds.{number_of, type_of};
 ghost use Rattle.block_codec.specs.Block.{IsAccepted, IsBlock, block, block_of, body_of, fields_of, front};
 
@@ -32,7 +33,8 @@ pub fn read_block(bytes: &[u8]) -> Result<(Block<'_>, &[u8]), BlockFault>
     // What is spelled so is read, and as nothing else.
     ensures only { (value : Block) (rest : List ℕ) → IsBlock bytes.now value rest → Gives (λ x. (x.0, x.1.now)) result (front value rest) }
     // No block begins another one: with anything behind it, it is read as itself.
-    ensures behind { (first more : List ℕ) (value : Block) → IsBlock first value [] → bytes.now ≡ first ++ more → Gives (λ x. (x.0, x.1.now)) result (front value more) }
+    ensures behind { (first more : List ℕ) (value : Block) → IsBlock first value [] → bytes.now ≡ first ++ more →
+        Gives (λ x. (x.0, x.1.now)) result (front value more) }
     // Which fault it is.
     ensures exact { Gives (λ x. (x.0, x.1.now)) result (block_of bytes.now) }
 {
@@ -68,7 +70,8 @@ pub fn read_alarm_ack(bytes: &[u8]) -> Result<(AlarmAck, &[u8]), BlockFault>
     // What is read is spelled so.
     ensures found { IfOk result (λ x. IsBlock bytes.now (Block.AlarmAck x.0) x.1.now) }
     // What is spelled so is read, and as nothing else.
-    ensures only { (value : Block) (rest : List ℕ) → IsBlock bytes.now value rest → Gives (λ x. (Block.AlarmAck x.0, x.1.now)) result (front value rest) }
+    ensures only { (value : Block) (rest : List ℕ) → IsBlock bytes.now value rest →
+        Gives (λ x. (Block.AlarmAck x.0, x.1.now)) result (front value rest) }
     // Which fault it is.
     ensures exact { Gives (λ x. (Block.AlarmAck x.0, x.1.now)) result (block_of bytes.now) }
 {

@@ -131,7 +131,8 @@ pub fn notification_front(alarm: &AlarmNotification) -> [u8; 28]
     ensures exact { result ++ alarm.now.alarm_data ≡ block_bytes (Block.AlarmNotification alarm.now) }
     ensures len { length result ≡ 28 }
     // They are read as it.
-    ensures behind { (rest : List ℕ) → block_of (block_bytes (Block.AlarmNotification alarm.now) ++ rest) ≡ front (Block.AlarmNotification alarm.now) rest }
+    ensures behind { (rest : List ℕ) → block_of (block_bytes (Block.AlarmNotification alarm.now) ++ rest)
+        ≡ front (Block.AlarmNotification alarm.now) rest }
 {
     let kind = BlockType::AlarmNotification.number().to_be_bytes();
     let size = ((2 + alarm_notification_len(alarm)) as u16).to_be_bytes();

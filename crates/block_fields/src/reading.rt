@@ -1,7 +1,8 @@
 //! Readers of fields.
 ghost use Rattle.std.specs.Prelude.{◌≡◌, length, IfOk};
 ghost use Rattle.wire.specs.Codec.{Gives};
-ghost use Rattle.block_fields.specs.Fields.{one, two, four, ranged, fixed, fixed_one, fixed_four, unchecked_two, octets, blank, mac, version, nothing};
+ghost use Rattle.block_fields.specs.Fields.{one, two, four, ranged, fixed, fixed_one, fixed_four, unchecked_two, octets, blank, mac};
+ghost use Rattle.block_fields.specs.Fields.{version, nothing};
 
 use crate::BlockFault;
 use pn_values::Mac;

@@ -13,7 +13,8 @@ pub fn blocks_are_read()
     ensures read { (block : Block) (rest : List ℕ) → CanBeWritten block → block_of (block_bytes block ++ rest) ≡ front block rest }
     ensures alone { (block : Block) → CanBeWritten block → block_of (block_bytes block) ≡ front block [] }
     // Blocks that stand one behind the other are read one behind the other.
-    ensures each { (blocks : List Block) (rest : List ℕ) → AllByRecursion CanBeWritten blocks → AreRead (octets_of blocks ++ rest) blocks rest }
+    ensures each { (blocks : List Block) (rest : List ℕ) → AllByRecursion CanBeWritten blocks →
+        AreRead (octets_of blocks ++ rest) blocks rest }
     // How many octets a block takes.
     ensures long { (block : Block) → length (block_bytes block) ≡ block_size block }
 {

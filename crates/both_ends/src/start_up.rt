@@ -7,7 +7,8 @@ ghost use Rattle.both_ends.specs.StartUp.{Begins, IsRun, last_of, WasExchanging,
 pub fn start_up_is_kept<T, Q>()
     // A controller that exchanges data was handed an ApplicationReady, which the device had sent at an earlier point: at that point it had
     // accepted what the Connect asks for, and had taken the records, in their order, each once.
-    ensures controller { (rules : Rules T Q) (first : World T Q) (run : List (Move × World T Q)) → Begins rules first → IsRun rules first run
+    ensures controller { (rules : Rules T Q) (first : World T Q) (run : List (Move × World T Q)) → Begins rules first →
+        IsRun rules first run
         → (last_of first run).controller ≡ Exchanges → WasHanded rules first run }
     // Where a device exchanges data, its controller did so at an earlier point.
     ensures device { (rules : Rules T Q) (first : World T Q) (run : List (Move × World T Q)) → Begins rules first → IsRun rules first run

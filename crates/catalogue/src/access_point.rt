@@ -42,7 +42,15 @@ pub struct AccessPoint {
 impl Model for AccessPoint {
     ghost Value = { AccessPoint };
 
-    ghost view = { λ item. record { ident = item.ident; physical_slots = item.physical_slots.items; station_type = string_bytes item.station_type; least_interval = item.least_interval; submodules = item.submodules.items; references = item.references.items } };
+    ghost view = { λ item. record {
+      ident = item.ident;
+      physical_slots = item.physical_slots.items;
+      station_type = string_bytes
+          item.station_type;
+      least_interval = item.least_interval;
+      submodules = item.submodules.items;
+      references = item.references.items;
+    } };
 }
 
 impl Entry<()> for u16 {

@@ -33,7 +33,13 @@ pub struct Catalogue {
 impl Model for Catalogue {
     ghost Value = { Catalogue };
 
-    ghost view = { λ item. record { identity = item.identity; access_point = item.access_point; modules = item.modules.items; project = item.project } };
+    ghost view = { λ item. record {
+      identity = item.identity;
+      access_point = item.access_point;
+      modules = item.modules.items;
+      project =
+          item.project;
+    } };
 }
 
 /// The identity of the device.

@@ -32,7 +32,8 @@ impl Model for ModuleItem {
 /// Adds an ID to those of the modules before. Says whether it is new.
 fn add_id(alloc: Global, ids: &mut BTreeSet<String>, id: &str) -> Result<bool, AllocError>
     ensures new { IfOk result (λ is_new. is_new ≡ not (contains_text ids.old id.now)) }
-    ensures added { OnOk result ((other : List ℕ) → contains_text ids.new other ≡ cond (bytes_eq id.now other) true (contains_text ids.old other)) }
+    ensures added { OnOk result ((other : List ℕ) → contains_text ids.new other
+        ≡ cond (bytes_eq id.now other) true (contains_text ids.old other)) }
 {
     let copy = String::from_str(alloc, id)?;
     let is_new = ids.insert(copy)?;

@@ -39,7 +39,12 @@ pub struct StationItem {
 impl Model for StationItem {
     ghost Value = { Station };
 
-    ghost view = { λ item. record { name = string_bytes item.name; address = string_bytes item.address; mask = string_bytes item.mask; gateway = string_bytes item.gateway } };
+    ghost view = { λ item. record {
+      name = string_bytes item.name;
+      address = string_bytes item.address;
+      mask = string_bytes item.mask;
+      gateway = string_bytes item.gateway;
+    } };
 }
 
 /// What is wanted of a station.
@@ -56,7 +61,14 @@ pub struct Project {
 impl Model for Project {
     ghost Value = { Project };
 
-    ghost view = { λ item. record { station = item.station; controller = item.controller; send_clock_factor = item.send_clock_factor; reduction_ratio = item.reduction_ratio; data_hold_factor = item.data_hold_factor; slots = item.slots.items } };
+    ghost view = { λ item. record {
+      station = item.station;
+      controller = item.controller;
+      send_clock_factor = item.send_clock_factor;
+      reduction_ratio = item.reduction_ratio;
+      data_hold_factor = item.data_hold_factor;
+      slots = item.slots.items;
+    } };
 }
 
 /// The station's name and IP suite.

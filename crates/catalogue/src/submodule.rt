@@ -3,7 +3,8 @@ ghost use Rattle.std.specs.Prelude.{◌≡◌, List, Some, None, ℕ};
 ghost use Rattle.wire.specs.Codec.{Gives};
 ghost use Rattle.serde_json.specs.View.{view, items_view};
 ghost use Rattle.catalogue.specs.Reader.{Reads};
-ghost use Rattle.catalogue.specs.Submodules.{Submodule, is_octet_type, is_word_type, is_long_type, size_of_type, data_item, octets_in, octets_at, io_of, has_index, has_subslot, parameter, submodule};
+ghost use Rattle.catalogue.specs.Submodules.{Submodule, is_octet_type, is_word_type, is_long_type, size_of_type, data_item, octets_in};
+ghost use Rattle.catalogue.specs.Submodules.{octets_at, io_of, has_index, has_subslot, parameter, submodule};
 
 use crate::TreeFault;
 use crate::entry::{Entry, list};
@@ -35,7 +36,14 @@ pub struct SubmoduleItem {
 impl Model for SubmoduleItem {
     ghost Value = { Submodule };
 
-    ghost view = { λ item. record { subslot = item.subslot; ident = item.ident; input = item.input; output = item.output; parameters = item.parameters.items } };
+    ghost view = { λ item. record {
+      subslot = item.subslot;
+      ident = item.ident;
+      input = item.input;
+      output = item.output;
+      parameters =
+          item.parameters.items;
+    } };
 }
 
 /// Whether a type of data takes one octet.

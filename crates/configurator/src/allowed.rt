@@ -84,7 +84,8 @@ fn stands_well(known: &Known, entry: &SlotItem) -> bool
 
 /// Whether all may.
 fn do_all_stand(known: &Known, slots: &[SlotItem]) -> bool
-    ensures { result ≡ list_all (stands_well (physical_in known.now) (fixed_by known.now) (taken_by known.now) (number_in known.now)) slots.now }
+    ensures { result ≡ list_all (stands_well (physical_in known.now) (fixed_by known.now) (taken_by known.now) (number_in known.now))
+        slots.now }
 {
     for entry in slots {
         if !stands_well(known, entry) {
@@ -122,7 +123,9 @@ fn are_once(slots: &[SlotItem]) -> bool
 
 /// Whether the fixed modules stand in open slots, those that are put into slots stand well, and each slot is named once.
 fn is_allowed(known: &Known, references: &[ModuleReference], slots: &[SlotItem]) -> bool
-    ensures { result ≡ (list_all (is_fixed_open (physical_in known.now) (fixed_by known.now) (number_in known.now)) references.now && list_all (stands_well (physical_in known.now) (fixed_by known.now) (taken_by known.now) (number_in known.now)) slots.now && are_once slots.now) }
+    ensures { result ≡ (list_all (is_fixed_open (physical_in known.now) (fixed_by known.now) (number_in known.now)) references.now
+        && list_all (stands_well (physical_in known.now) (fixed_by known.now) (taken_by known.now) (number_in known.now)) slots.now
+        && are_once slots.now) }
 {
     are_fixed_open(known, references) && do_all_stand(known, slots) && are_once(slots)
 }

@@ -44,7 +44,8 @@ fn number_module(
     id: &str,
     number: usize,
 ) -> Result<(), AllocError>
-    ensures { OnOk result ((other : List ℕ) → get_by_text numbers.new other ≡ cond (bytes_eq id.now other) (Some number) (get_by_text numbers.old other)) }
+    ensures { OnOk result ((other : List ℕ) → get_by_text numbers.new other
+        ≡ cond (bytes_eq id.now other) (Some number) (get_by_text numbers.old other)) }
 {
     let key = String::from_str(alloc, id)?;
     numbers.insert(key, number)?;
@@ -67,7 +68,8 @@ fn numbers_of(alloc: Global, modules: &[ModuleItem]) -> Result<BTreeMap<String, 
 /// Fixes a module in a slot, if none is fixed there yet.
 #[tactic(auto, using(crate::proofs::Steps::fixed_there, crate::proofs::Steps::kept_there))]
 fn fix_in(fixed: &mut BTreeMap<u64, usize>, slot: u64, number: usize) -> Result<(), AllocError>
-    ensures { OnOk result ((other : ℕ) → get nat_cmp fixed.new other ≡ option_or (get nat_cmp fixed.old other) (if slot == other then Some number else None)) }
+    ensures { OnOk result ((other : ℕ) → get nat_cmp fixed.new other
+        ≡ option_or (get nat_cmp fixed.old other) (if slot == other then Some number else None)) }
 {
     // The first module that is fixed there counts; another one is then judged as not allowed.
     if fixed.contains_key(&slot) {
@@ -79,7 +81,8 @@ fn fix_in(fixed: &mut BTreeMap<u64, usize>, slot: u64, number: usize) -> Result<
 
 /// Fixes a module in slots in which none is fixed yet.
 fn fix(fixed: &mut BTreeMap<u64, usize>, slots: &[u64], number: usize) -> Result<(), AllocError>
-    ensures { OnOk result ((slot : ℕ) → get nat_cmp fixed.new slot ≡ option_or (get nat_cmp fixed.old slot) (if is_in slot slots.now then Some number else None)) }
+    ensures { OnOk result ((slot : ℕ) → get nat_cmp fixed.new slot
+        ≡ option_or (get nat_cmp fixed.old slot) (if is_in slot slots.now then Some number else None)) }
 {
     for slot in slots {
         fix_in(fixed, *slot, number)?;
@@ -93,7 +96,8 @@ fn fix_module(
     numbers: &BTreeMap<String, usize>,
     reference: &ModuleReference,
 ) -> Result<(), AllocError>
-    ensures { OnOk result ((slot : ℕ) → get nat_cmp fixed.new slot ≡ option_or (get nat_cmp fixed.old slot) (fixes (get_by_text numbers.now) slot reference.now)) }
+    ensures { OnOk result ((slot : ℕ) → get nat_cmp fixed.new slot
+        ≡ option_or (get nat_cmp fixed.old slot) (fixes (get_by_text numbers.now) slot reference.now)) }
 {
     match numbers.get(reference.target.as_str()) {
         Some(number) => fix(fixed, reference.fixed_in.as_slice(), *number),
@@ -119,7 +123,8 @@ fn fixed_of(
 
 /// Lets a module into slots.
 fn take(taken: &mut BTreeSet<(u64, usize)>, slots: &[u64], number: usize) -> Result<(), AllocError>
-    ensures { OnOk result ((slot n : ℕ) → contains place_cmp taken.new (slot, n) ≡ (contains place_cmp taken.old (slot, n) || (number == n && is_in slot slots.now))) }
+    ensures { OnOk result ((slot n : ℕ) → contains place_cmp taken.new (slot, n)
+        ≡ (contains place_cmp taken.old (slot, n) || (number == n && is_in slot slots.now))) }
 {
     for slot in slots {
         taken.insert((*slot, number))?;
@@ -133,7 +138,9 @@ fn take_both(
     reference: &ModuleReference,
     number: usize,
 ) -> Result<(), AllocError>
-    ensures { OnOk result ((slot n : ℕ) → contains place_cmp taken.new (slot, n) ≡ (contains place_cmp taken.old (slot, n) || (number == n && (is_in slot reference.now.allowed_in || is_in slot reference.now.fixed_in)))) }
+    ensures { OnOk result ((slot n : ℕ) → contains place_cmp taken.new (slot, n)
+        ≡ (contains place_cmp taken.old (slot, n) || (number == n
+        && (is_in slot reference.now.allowed_in || is_in slot reference.now.fixed_in)))) }
 {
     take(taken, reference.allowed_in.as_slice(), number)?;
     take(taken, reference.fixed_in.as_slice(), number)
@@ -145,7 +152,8 @@ fn take_module(
     numbers: &BTreeMap<String, usize>,
     reference: &ModuleReference,
 ) -> Result<(), AllocError>
-    ensures { OnOk result ((slot n : ℕ) → contains place_cmp taken.new (slot, n) ≡ (contains place_cmp taken.old (slot, n) || takes_by (get_by_text numbers.now) slot n reference.now)) }
+    ensures { OnOk result ((slot n : ℕ) → contains place_cmp taken.new (slot, n)
+        ≡ (contains place_cmp taken.old (slot, n) || takes_by (get_by_text numbers.now) slot n reference.now)) }
 {
     match numbers.get(reference.target.as_str()) {
         Some(number) => take_both(taken, reference, *number),
@@ -160,7 +168,8 @@ fn taken_of(
     numbers: &BTreeMap<String, usize>,
     references: &[ModuleReference],
 ) -> Result<BTreeSet<(u64, usize)>, AllocError>
-    ensures { IfOk result (λ found. (slot n : ℕ) → contains place_cmp found (slot, n) ≡ list_any (takes_by (get_by_text numbers.now) slot n) references.now) }
+    ensures { IfOk result (λ found. (slot n : ℕ) → contains place_cmp found (slot, n)
+        ≡ list_any (takes_by (get_by_text numbers.now) slot n) references.now) }
 {
     let mut found = BTreeSet::new(alloc);
     for reference in references {

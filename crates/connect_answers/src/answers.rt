@@ -19,8 +19,8 @@ pub fn responses_are_no_calls()
         → (fault : RpcFault) × (call_of interface bytes ≡ Err fault) }
 {}
 
-/// Each response of a device to a controller is heard as it, whatever its status and its blocks, if these are at most 1,372 octets: a law of
-/// the definitions by which the device answers and the controller hears.
+/// Each response of a device to a controller is heard as it, whatever its status and its blocks, if these are at most 1,372 octets: a law
+/// of the definitions by which the device answers and the controller hears.
 pub fn answers_are_read(
     controller: &Controller,
     identity: &Identity,
@@ -28,7 +28,8 @@ pub fn answers_are_read(
     response: &Response<'_>,
 )
     requires room { length response.now.blocks.now ≤ 1372 }
-    ensures heard { heard_of controller.now (response_frame identity.now (caller_of controller.now) address (answered response.now)) ≡ Responds (answered response.now) }
+    ensures heard { heard_of controller.now (response_frame identity.now (caller_of controller.now) address (answered response.now))
+        ≡ Responds (answered response.now) }
 {
     responses_are_no_calls();
     let mut datagram = Datagram::new();

@@ -19,17 +19,19 @@ fn block_is_read(block: &Block<'_>)
     write_block(&mut octets, block);
 }
 
-/// The blocks by which a device answers a Connect, both IOCRBlockRes in any order, hold all that a relation needs, and no module that differs:
-/// a law of the definitions by which they are written and read.
+/// The blocks by which a device answers a Connect, both IOCRBlockRes in any order, hold all that a relation needs, and no module that
+/// differs: a law of the definitions by which they are written and read.
 #[tactic(auto, unfolding(block_codec::specs::Block::block_size, block_codec::specs::Block::fields_of, block_fields::specs::Fields::body, block_fields::specs::Fields::version))]
 pub fn answer_blocks_are_read(relation: &ArBlockRes, input: &IocrBlockRes, output: &IocrBlockRes)
     // With that of inputs first,
     ensures input_first { input.now.iocr_type ≡ 1 → output.now.iocr_type ≡ 2
-        → IsAllThere (block_bytes (Block.ArBlockRes relation.now) ++ (block_bytes (Block.IocrBlockRes input.now) ++ block_bytes (Block.IocrBlockRes output.now))
+        → IsAllThere (block_bytes (Block.ArBlockRes relation.now)
+        ++ (block_bytes (Block.IocrBlockRes input.now) ++ block_bytes (Block.IocrBlockRes output.now))
         ++ block_bytes (Block.AlarmCrBlockRes (record {})) ++ []) output.now.frame_id }
     // and with that of outputs first.
     ensures output_first { input.now.iocr_type ≡ 1 → output.now.iocr_type ≡ 2
-        → IsAllThere (block_bytes (Block.ArBlockRes relation.now) ++ (block_bytes (Block.IocrBlockRes output.now) ++ block_bytes (Block.IocrBlockRes input.now))
+        → IsAllThere (block_bytes (Block.ArBlockRes relation.now)
+        ++ (block_bytes (Block.IocrBlockRes output.now) ++ block_bytes (Block.IocrBlockRes input.now))
         ++ block_bytes (Block.AlarmCrBlockRes (record {})) ++ []) output.now.frame_id }
 {
     let alarm = AlarmCrBlockRes {};

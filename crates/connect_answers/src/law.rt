@@ -28,7 +28,8 @@ fn blocks_of(
     input: &IocrBlockRes,
     output: &IocrBlockRes,
 ) -> ArrayVec<u8, 128>
-    ensures value { result.items ≡ ((block_bytes (Block.ArBlockRes relation.now) ++ block_bytes (Block.IocrBlockRes input.now)) ++ block_bytes (Block.IocrBlockRes output.now))
+    ensures value { result.items ≡ ((block_bytes (Block.ArBlockRes relation.now) ++ block_bytes (Block.IocrBlockRes input.now))
+        ++ block_bytes (Block.IocrBlockRes output.now))
         ++ block_bytes (Block.AlarmCrBlockRes (record {})) }
 {
     let alarm = AlarmCrBlockRes {};
@@ -44,8 +45,8 @@ fn blocks_of(
     octets
 }
 
-/// What a device answers to the Connect of a plan, whose ARUUID is not zero, is a positive answer to the plan's controller, if the device has
-/// no relation and the plan's modules: a law of the definitions by which the device answers and the controller goes on.
+/// What a device answers to the Connect of a plan, whose ARUUID is not zero, is a positive answer to the plan's controller, if the device
+/// has no relation and the plan's modules: a law of the definitions by which the device answers and the controller goes on.
 pub fn connect_answer_is_read(setup: &Setup, identity: &Identity, address: [u8; 4])
     // The device sends this frame, from the address that runs, and no other.
     ensures answered { AnswersSo setup.now identity.now }

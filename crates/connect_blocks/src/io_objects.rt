@@ -110,7 +110,8 @@ fn object_in(octets: &[u8], count: usize, index: usize) -> IoObject
 /// A place behind so many others, of at most 256.
 #[tactic(auto, unfolding(crate::specs::Objects::next_object))]
 fn next_object_at(bytes: &[u8], before: usize) -> Result<(IoObject, &[u8]), BlockFault>
-    ensures read { (objects : List IoObject) → length objects ≡ before → Gives (λ x. (x.0, x.1.now)) result ((next_object objects).read bytes.now) }
+    ensures read { (objects : List IoObject) → length objects ≡ before →
+        Gives (λ x. (x.0, x.1.now)) result ((next_object objects).read bytes.now) }
     ensures room { IfOk result (λ _. before < 256) }
 {
     let (object, rest) = io_object_at(bytes)?;

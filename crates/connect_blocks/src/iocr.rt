@@ -3,7 +3,8 @@ ghost use Rattle.std.specs.Prelude.{◌≡◌, ◌+◌, ◌≤◌, ◌++◌, Lis
 ghost use Rattle.arrayvec.specs.ArrayVec.{array_vec_len};
 ghost use Rattle.wire.specs.Codec.{Gives};
 ghost use Rattle.block_fields.specs.Fields.{body};
-ghost use Rattle.connect_blocks.specs.Iocr.{iocr_type, rt_class, is_frame_id, frame_id, iocr_head, iocr_times, iocr_places, iocr_block_req, iocr_block_res, IsIocrBlockReq};
+ghost use Rattle.connect_blocks.specs.Iocr.{iocr_type, rt_class, is_frame_id, frame_id, iocr_head, iocr_times, iocr_places, iocr_block_req};
+ghost use Rattle.connect_blocks.specs.Iocr.{iocr_block_res, IsIocrBlockReq};
 
 use crate::io_objects::{IoObjects, io_objects_at, io_objects_len, put_io_objects};
 use arrayvec::ArrayVec;

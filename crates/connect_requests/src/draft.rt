@@ -4,7 +4,8 @@ ghost use Rattle.wire.specs.Codec.{Gives};
 ghost use Rattle.wire.specs.Formats.{big_number};
 ghost use Rattle.block_codec.specs.Block.{block_of, IsAccepted};
 ghost use Rattle.connect_requests.specs.Pieces.{behind, block_in, piece_at, pieces_in};
-ghost use Rattle.connect_requests.specs.Judged.{faulty, field_of, has_iocr, is_further, nothing, well_formed, with_block, with_piece, with_pieces};
+ghost use Rattle.connect_requests.specs.Judged.{faulty, field_of, has_iocr, is_further, nothing, well_formed, with_block, with_piece};
+ghost use Rattle.connect_requests.specs.Judged.{with_pieces};
 ghost use Rattle.connect_requests.specs.Drafts.{AreAccepted, sofar_of};
 
 use crate::expected::{Room, add_modules};
@@ -121,7 +122,8 @@ impl<'a> Draft<'a> {
 
     /// One more IOCRBlockReq: each type stands once.
     fn add_iocr(&mut self, block: IocrBlockReq<'a>) -> Result<(), CallFault>
-        ensures added { (expected : Expected) → Gives (λ _. sofar_of self.new expected) result (with_block (sofar_of self.old expected) (Block.IocrBlockReq block.entry)) }
+        ensures added { (expected : Expected) →
+            Gives (λ _. sofar_of self.new expected) result (with_block (sofar_of self.old expected) (Block.IocrBlockReq block.entry)) }
         ensures accepted { AreAccepted self.old → IsAccepted (Block.IocrBlockReq block.entry) → AreAccepted self.new }
     {
         // One input and one output: a relation here has no multicast and no further data.
@@ -171,7 +173,8 @@ impl<'a> Draft<'a> {
         room: &mut Room,
         expected: &mut Expected,
     ) -> Result<&'a [u8], CallFault>
-        ensures piece { Gives (λ _. sofar_of self.new expected.new) result (with_piece (sofar_of self.old expected.old) (piece_at bytes.now)) }
+        ensures piece { Gives (λ _. sofar_of self.new expected.new) result
+            (with_piece (sofar_of self.old expected.old) (piece_at bytes.now)) }
         ensures behind { IfOk result (λ rest. rest.now ≡ behind (block_of bytes.now)) }
         ensures accepted { AreAccepted self.old → AreAccepted self.new }
     {
@@ -199,7 +202,8 @@ impl<'a> Draft<'a> {
         room: &mut Room,
         expected: &mut Expected,
     ) -> Result<(), CallFault>
-        ensures pieces { Gives (λ _. sofar_of self.new expected.new) result (with_pieces (sofar_of self.old expected.old) (pieces_in most bytes.now)) }
+        ensures pieces { Gives (λ _. sofar_of self.new expected.new) result
+            (with_pieces (sofar_of self.old expected.old) (pieces_in most bytes.now)) }
         ensures accepted { AreAccepted self.old → AreAccepted self.new }
     {
         let mut rest = bytes;

@@ -49,7 +49,8 @@ pub(crate) fn fill_layouts(
 ) -> Result<(), CallFault>
     requires short { (input.now.data_length ≤ 1440) × (output.now.data_length ≤ 1440) }
     requires few { length parts.now ≤ 64 }
-    ensures { Gives (λ _. (inputs.new, outputs.new)) result (in_order input_first (layout_of parts.now input.now) (layout_of parts.now output.now)) }
+    ensures { Gives (λ _. (inputs.new, outputs.new)) result
+        (in_order input_first (layout_of parts.now input.now) (layout_of parts.now output.now)) }
 {
     // The first fault counts in the order of the blocks, and so does the fault of the layout that was asked for first.
     if input_first {

@@ -72,9 +72,11 @@ impl Controller {
     // An alarm comes, as data of this number: its ACK goes before its AlarmAck.
     fn take(&mut self, number: u16, alarm: &AlarmNotification<'_>, outbox: &mut Outbox)
         requires empty { outbox.old.items ≡ [] }
-        ensures state { self.new ≡ with_live self.old (taken (behind_data self.old.live number) alarm.now (taken_as self.old.live.alarms.seen number)).live }
+        ensures state { self.new ≡ with_live self.old (taken (behind_data self.old.live number) alarm.now
+            (taken_as self.old.live.alarms.seen number)).live }
         ensures frames { boxed outbox.new
-            ≡ map (bytes_of self.old.setup) (taken (behind_data self.old.live number) alarm.now (taken_as self.old.live.alarms.seen number)).sent }
+            ≡ map (bytes_of self.old.setup) (taken (behind_data self.old.live number) alarm.now
+            (taken_as self.old.live.alarms.seen number)).sent }
     {
         match self.alarms.take(number) {
             Taken::New => {

@@ -10,7 +10,10 @@ ghost use Rattle.controller_frames.specs.Told.{told};
 ghost use Rattle.controller_core.specs.Answers.{is_answer, is_ready};
 ghost use Rattle.controller_core.specs.Connect.{nothing, found_in as all_found};
 ghost use Rattle.controller_core.specs.State.{with_live};
-ghost use Rattle.controller_core.specs.Machine.{acks_of, addressed, alarmed, answered, asking, called, come, connected, connected_by, decided, done, due_frames, ended_by, found, given, is_again, judged, later, outputs_of, readied, ready_in as block_of_ready, related_by, released, requests_of, responded, step_of, stopped, ticked, turned, where_due, writing};
+ghost use Rattle.controller_core.specs.Machine.{acks_of, addressed, alarmed, answered, asking, called, come, connected, connected_by};
+ghost use Rattle.controller_core.specs.Machine.{decided, done, due_frames, ended_by, found, given, is_again, judged, later, outputs_of};
+ghost use Rattle.controller_core.specs.Machine.{readied, ready_in as block_of_ready, related_by, released, requests_of, responded, step_of};
+ghost use Rattle.controller_core.specs.Machine.{stopped, ticked, turned, where_due, writing};
 ghost use Rattle.frame_codec.specs.Outbox.{boxed};
 
 use crate::alarms::{header_of, is_alarm};
@@ -109,9 +112,11 @@ impl Controller {
     // A frame comes.
     fn hear(&mut self, bytes: &Bytes, outbox: &mut Outbox)
         requires empty { outbox.old.items ≡ [] }
-        ensures state { self.new ≡ with_live self.old (turned self.old.setup self.old.live (heard_of self.old.setup.plan.controller bytes.now.items)).live }
+        ensures state { self.new ≡ with_live self.old (turned self.old.setup self.old.live
+            (heard_of self.old.setup.plan.controller bytes.now.items)).live }
         ensures frames { boxed outbox.new
-            ≡ map (bytes_of self.old.setup) (turned self.old.setup self.old.live (heard_of self.old.setup.plan.controller bytes.now.items)).sent }
+            ≡ map (bytes_of self.old.setup) (turned self.old.setup self.old.live
+            (heard_of self.old.setup.plan.controller bytes.now.items)).sent }
     {
         match cyclic_in(self.setup.plan.controller(), bytes) {
             Some(frame) => self.hear_cyclic(frame.source, frame.frame_id, frame.body),
@@ -123,9 +128,11 @@ impl Controller {
     #[inline(never)]
     fn hear_other(&mut self, bytes: &Bytes, outbox: &mut Outbox)
         requires empty { outbox.old.items ≡ [] }
-        ensures state { self.new ≡ with_live self.old (turned self.old.setup self.old.live (heard_of self.old.setup.plan.controller bytes.now.items)).live }
+        ensures state { self.new ≡ with_live self.old (turned self.old.setup self.old.live
+            (heard_of self.old.setup.plan.controller bytes.now.items)).live }
         ensures frames { boxed outbox.new
-            ≡ map (bytes_of self.old.setup) (turned self.old.setup self.old.live (heard_of self.old.setup.plan.controller bytes.now.items)).sent }
+            ≡ map (bytes_of self.old.setup) (turned self.old.setup self.old.live
+            (heard_of self.old.setup.plan.controller bytes.now.items)).sent }
     {
         let hearing = heard(self.setup.plan.controller(), bytes);
         self.turn(&hearing, outbox);
@@ -152,7 +159,8 @@ impl Controller {
     // An answer of DCP.
     fn hear_answer(&mut self, source: Mac, answer: &dcp_core::Response<'_>, outbox: &mut Outbox)
         requires empty { outbox.old.items ≡ [] }
-        ensures state { self.new ≡ with_live self.old (answered self.old.setup self.old.live source (answered_as answer.now) self.old.live.phase).live }
+        ensures state { self.new ≡ with_live self.old (answered self.old.setup self.old.live source (answered_as answer.now)
+            self.old.live.phase).live }
         ensures frames { boxed outbox.new
             ≡ map (bytes_of self.old.setup) (answered self.old.setup self.old.live source (answered_as answer.now) self.old.live.phase).sent }
     {
@@ -180,7 +188,8 @@ impl Controller {
     fn find(&mut self, source: Mac, answer: &dcp_core::Response<'_>, outbox: &mut Outbox)
         requires empty { outbox.old.items ≡ [] }
         ensures state { self.new ≡ with_live self.old (found self.old.setup self.old.live source (answered_as answer.now)).live }
-        ensures frames { boxed outbox.new ≡ map (bytes_of self.old.setup) (found self.old.setup self.old.live source (answered_as answer.now)).sent }
+        ensures frames { boxed outbox.new
+            ≡ map (bytes_of self.old.setup) (found self.old.setup self.old.live source (answered_as answer.now)).sent }
     {
         // A station of another type has the name: going on would write records into the wrong machine.
         if !is_right(&self.setup.plan, answer) {
@@ -226,7 +235,8 @@ impl Controller {
     // A response.
     fn hear_response(&mut self, response: &Response<'_>, outbox: &mut Outbox)
         requires empty { outbox.old.items ≡ [] }
-        ensures state { self.new ≡ with_live self.old (responded self.old.setup self.old.live (responded_as response.now) self.old.live.asked).live }
+        ensures state { self.new ≡ with_live self.old (responded self.old.setup self.old.live (responded_as response.now)
+            self.old.live.asked).live }
         ensures frames { boxed outbox.new
             ≡ map (bytes_of self.old.setup) (responded self.old.setup self.old.live (responded_as response.now) self.old.live.asked).sent }
     {
@@ -242,7 +252,8 @@ impl Controller {
     fn decide(&mut self, request: Request, response: &Response<'_>, outbox: &mut Outbox)
         requires empty { outbox.old.items ≡ [] }
         ensures state { self.new ≡ with_live self.old (decided self.old.setup self.old.live (responded_as response.now) request).live }
-        ensures frames { boxed outbox.new ≡ map (bytes_of self.old.setup) (decided self.old.setup self.old.live (responded_as response.now) request).sent }
+        ensures frames { boxed outbox.new
+            ≡ map (bytes_of self.old.setup) (decided self.old.setup self.old.live (responded_as response.now) request).sent }
     {
         match request {
             Request::Release(_) => self.asked = None,
@@ -258,7 +269,8 @@ impl Controller {
     fn judge(&mut self, request: Request, response: &Response<'_>, outbox: &mut Outbox)
         requires empty { outbox.old.items ≡ [] }
         ensures state { self.new ≡ with_live self.old (judged self.old.setup self.old.live (responded_as response.now) request).live }
-        ensures frames { boxed outbox.new ≡ map (bytes_of self.old.setup) (judged self.old.setup self.old.live (responded_as response.now) request).sent }
+        ensures frames { boxed outbox.new
+            ≡ map (bytes_of self.old.setup) (judged self.old.setup self.old.live (responded_as response.now) request).sent }
     {
         if response.status.is_done() {
             self.go_on(request, response.blocks, outbox);
@@ -301,7 +313,8 @@ impl Controller {
     fn connect(&mut self, blocks: &[u8], outbox: &mut Outbox)
         requires empty { outbox.old.items ≡ [] }
         ensures state { self.new ≡ with_live self.old (connected self.old.setup self.old.live (all_found 400 blocks.now nothing)).live }
-        ensures frames { boxed outbox.new ≡ map (bytes_of self.old.setup) (connected self.old.setup self.old.live (all_found 400 blocks.now nothing)).sent }
+        ensures frames { boxed outbox.new
+            ≡ map (bytes_of self.old.setup) (connected self.old.setup self.old.live (all_found 400 blocks.now nothing)).sent }
     {
         // Blocks that do not read are no answer: the Connect is sent again, and the device answers as it did.
         if let Some(found) = found_in(MOST_BLOCKS, blocks) {
@@ -346,9 +359,11 @@ impl Controller {
     // A call.
     fn hear_call(&mut self, caller: &Caller, call: &Call<'_>, outbox: &mut Outbox)
         requires empty { outbox.old.items ≡ [] }
-        ensures state { self.new ≡ with_live self.old (called self.old.setup self.old.live caller.now (asked call.now) (block_of_ready (asked call.now))).live }
+        ensures state { self.new ≡ with_live self.old (called self.old.setup self.old.live caller.now (asked call.now)
+            (block_of_ready (asked call.now))).live }
         ensures frames { boxed outbox.new
-            ≡ map (bytes_of self.old.setup) (called self.old.setup self.old.live caller.now (asked call.now) (block_of_ready (asked call.now))).sent }
+            ≡ map (bytes_of self.old.setup) (called self.old.setup self.old.live caller.now (asked call.now)
+            (block_of_ready (asked call.now))).sent }
     {
         let Some(block) = ready_in(call) else {
             return;

@@ -1,7 +1,8 @@
 //! What a frame says to a controller.
 ghost use Rattle.std.specs.Prelude.{◌≡◌, ◌==◌, ◌&&◌, IfSome, nat_eq};
 ghost use Rattle.std.specs.Cmp.Lexicographic.{pointwise};
-ghost use Rattle.controller_frames.specs.Heard.{Cyclic, heard_alarm, heard_answer, heard_body, heard_of, heard_real_time, is_to as is_to_by};
+ghost use Rattle.controller_frames.specs.Heard.{Cyclic, heard_alarm, heard_answer, heard_body, heard_of, heard_real_time};
+ghost use Rattle.controller_frames.specs.Heard.{is_to as is_to_by};
 ghost use Rattle.controller_frames.specs.Told.{told};
 ghost use Rattle.dcp_core.specs.Answer.{answer_of};
 ghost use Rattle.frame_codec.specs.Frame.{frame_of};

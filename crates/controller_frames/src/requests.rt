@@ -79,7 +79,8 @@ fn send_identify(setup: &Setup, outbox: &mut Outbox)
     requires room { array_vec_len outbox.old < 4 }
     ensures frames { boxed outbox.new
         ≡ boxed outbox.old
-        ++ plain_frame setup.now.plan.controller.mac identify_multicast (RealTime 0xFEFE (request_bytes (identify_asked setup.now.plan))) ∷ [] }
+        ++ plain_frame setup.now.plan.controller.mac identify_multicast (RealTime 0xFEFE (request_bytes (identify_asked setup.now.plan))) ∷
+        [] }
     ensures len { array_vec_len outbox.new ≡ array_vec_len outbox.old + 1 }
 {
     let mut octets = Octets::new();

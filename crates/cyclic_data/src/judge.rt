@@ -74,7 +74,8 @@ impl<'a> Judge<'a> {
     ) -> Result<Place, LayoutFault>
         ensures ok { IfOk result (λ place. place ≡ place_of self.now.direction self.now.expected.now kind object) }
         ensures inside { OnOk result (IsInside self.now.data_length (place_of self.now.direction self.now.expected.now kind object)) }
-        ensures err { IfErr result (λ fault. (fault ≡ Outside) × IsOutside self.now.data_length (place_of self.now.direction self.now.expected.now kind object)) }
+        ensures err { IfErr result (λ fault. (fault ≡ Outside)
+            × IsOutside self.now.data_length (place_of self.now.direction self.now.expected.now kind object)) }
     {
         let size = self.size_of(kind, object.slot_number, object.subslot_number, last);
         if u32::from(object.frame_offset) + size > u32::from(self.data_length) {
@@ -97,10 +98,13 @@ impl<'a> Judge<'a> {
         places: &mut ArrayVec<Place, 512>,
     ) -> Result<(), LayoutFault>
         requires { array_vec_len places.old ≤ 256 }
-        ensures items { OnOk result (places.new.items ≡ places.old.items ++ map (place_of self.now.direction self.now.expected.now kind) objects.now) }
+        ensures items { OnOk result (places.new.items ≡ places.old.items
+            ++ map (place_of self.now.direction self.now.expected.now kind) objects.now) }
         ensures len { OnOk result (array_vec_len places.new ≤ array_vec_len places.old + 256) }
-        ensures inside { OnOk result (AllByRecursion (IsInside self.now.data_length) (map (place_of self.now.direction self.now.expected.now kind) objects.now)) }
-        ensures err { IfErr result (λ fault. (fault ≡ Outside) × AnyByRecursion (IsOutside self.now.data_length) (map (place_of self.now.direction self.now.expected.now kind) objects.now)) }
+        ensures inside { OnOk result (AllByRecursion (IsInside self.now.data_length)
+            (map (place_of self.now.direction self.now.expected.now kind) objects.now)) }
+        ensures err { IfErr result (λ fault. (fault ≡ Outside)
+            × AnyByRecursion (IsOutside self.now.data_length) (map (place_of self.now.direction self.now.expected.now kind) objects.now)) }
     {
         let mut last = 0;
         for index in 0..objects.len() {

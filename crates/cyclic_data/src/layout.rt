@@ -55,9 +55,12 @@ impl Layout {
     ) -> Result<Layout, LayoutFault>
         requires short { data_length ≤ 1440 }
         requires few { length expected.now ≤ 64 }
-        ensures valid { IfOk result (λ layout. IsLayout data_length direction expected.now (asked direction expected.now objects.now iocs.now)) }
-        ensures value { IfOk result (λ layout. layout ≡ record { data_length = data_length; places = asked direction expected.now objects.now iocs.now }) }
-        ensures fault { IfErr result (λ fault. IsFirstFault fault data_length direction expected.now (asked direction expected.now objects.now iocs.now)) }
+        ensures valid { IfOk result (λ layout. IsLayout data_length direction expected.now
+            (asked direction expected.now objects.now iocs.now)) }
+        ensures value { IfOk result (λ layout. layout
+            ≡ record { data_length = data_length; places = asked direction expected.now objects.now iocs.now }) }
+        ensures fault { IfErr result (λ fault. IsFirstFault fault data_length direction expected.now
+            (asked direction expected.now objects.now iocs.now)) }
         ensures only { IsLayout data_length direction expected.now (asked direction expected.now objects.now iocs.now) → IsOk result }
     {
         let judge = Judge {

@@ -1,5 +1,6 @@
 //! The octets of a frame: which are taken, and what they hold at a place.
-ghost use Rattle.std.specs.Prelude.{◌≡◌, ◌+◌, ◌-◌, ◌<◌, ◌≤◌, ℕ, true, false, length, get_or, slice_range, replicate, option_map, IfSome, MatchBool};
+ghost use Rattle.std.specs.Prelude.{◌≡◌, ◌+◌, ◌-◌, ◌<◌, ◌≤◌, ℕ, true, false, length, get_or, slice_range, replicate, option_map, IfSome};
+ghost use Rattle.std.specs.Prelude.{MatchBool};
 ghost use Rattle.std.specs.List.{list_any, AllByRecursion};
 ghost use Rattle.cyclic_data.specs.Layout.{IsInside, IsSolid, DoMeet, AreAllApart};
 ghost use Rattle.cyclic_data.specs.Marked.{IsTaken, IsFree, IsMarkedWith};

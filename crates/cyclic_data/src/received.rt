@@ -86,7 +86,8 @@ impl ReceivedImage {
 
     /// The data of a submodule, if it has data in these frames, whatever its IOPS.
     pub fn get(&self, slot: u16, subslot: u16) -> Option<&[u8]>
-        ensures value { option_map (λ value. value.now) result ≡ option_map (λ cell. cell.value) (cell_at Data slot subslot self.now.cells) }
+        ensures value { option_map (λ value. value.now) result
+            ≡ option_map (λ cell. cell.value) (cell_at Data slot subslot self.now.cells) }
         ensures short { IfSome result (λ value. length value.now ≤ 1440) }
     {
         value_at(&self.octets, self.places.as_slice(), slot, subslot)

@@ -46,7 +46,8 @@ impl Provider {
         ensures due { result ≡ is_due self.old }
         ensures state { self.new ≡ unit_later self.old }
         // One who began so many units ago has one due exactly where the units are a multiple of the interval.
-        ensures exactly { (units : ℕ) → HasRun self.old units → HasRun self.new (units + 1) × (result ≡ ((units + 1) % self.old.interval == 0)) }
+        ensures exactly { (units : ℕ) → HasRun self.old units →
+            HasRun self.new (units + 1) × (result ≡ ((units + 1) % self.old.interval == 0)) }
     {
         if self.elapsed + 1 == self.interval {
             self.elapsed = 0;
@@ -137,7 +138,8 @@ impl Consumer {
         ensures expired { result ≡ (self.new.held == self.old.limit) }
         ensures state { self.new ≡ held_on self.old }
         // For one who waits since so many units it is over exactly where with this one they are the limit or more.
-        ensures exactly { (units : ℕ) → HasWaited self.old units → HasWaited self.new (units + 1) × (result ≡ nat_le self.old.limit (units + 1)) }
+        ensures exactly { (units : ℕ) → HasWaited self.old units →
+            HasWaited self.new (units + 1) × (result ≡ nat_le self.old.limit (units + 1)) }
     {
         let held = self.held + 1;
         if held < self.limit {

@@ -12,7 +12,8 @@ ghost use Rattle.dcp_core.specs.Get.{get_bytes};
 ghost use Rattle.dcp_core.specs.Set.{set_bytes};
 ghost use Rattle.dcp_core.specs.Told.{IsSent, identify_said, get_said, set_said};
 ghost use Rattle.dcp_core.specs.Answered.{answered, answered_block, blocks_left, value_among, is_done, is_positive, is_agreed};
-ghost use Rattle.dcp_core.specs.Answer.{outcome_of, outcome_in, value_in, said_by, answer_block, answer_blocks, answered_service, is_supported_by, IsAnswer, answer_of};
+ghost use Rattle.dcp_core.specs.Answer.{outcome_of, outcome_in, value_in, said_by, answer_block, answer_blocks, answered_service};
+ghost use Rattle.dcp_core.specs.Answer.{is_supported_by, IsAnswer, answer_of};
 ghost use Rattle.dcp_core.specs.Reading.{Gives};
 
 use crate::reading::kind_at;
@@ -25,14 +26,18 @@ use wire::{skip, split, u8_at, u16_at, u32_at};
 pub fn read_answer<'a>(frame_id: u16, bytes: &'a [u8]) -> Result<Response<'a>, DcpFault>
     ensures found { IfOk result (λ response. IsAnswer frame_id bytes.now (answered response)) }
     ensures only { (said : Answered) → IsAnswer frame_id bytes.now said → Gives answered result (Ok said) }
-    ensures behind { (first more : List ℕ) (said : Answered) → IsAnswer frame_id first said → bytes.now ≡ first ++ more → Gives answered result (Ok said) }
+    ensures behind { (first more : List ℕ) (said : Answered) → IsAnswer frame_id first said → bytes.now ≡ first ++ more →
+        Gives answered result (Ok said) }
     ensures exact { Gives answered result (answer_of frame_id bytes.now) }
     // what is written here is read as what it says
-    ensures identify { (identity : Identity) (settings : Settings) (xid : ℕ) → frame_id ≡ 0xFEFF → IsSent xid (identify_bytes identity settings xid) bytes.now
+    ensures identify { (identity : Identity) (settings : Settings) (xid : ℕ) → frame_id ≡ 0xFEFF →
+        IsSent xid (identify_bytes identity settings xid) bytes.now
         → Gives answered result (Ok (identify_said identity settings xid)) }
-    ensures get { (identity : Identity) (settings : Settings) (request : Asked) → frame_id ≡ 0xFEFD → IsSent request.xid (get_bytes identity settings request) bytes.now
+    ensures get { (identity : Identity) (settings : Settings) (request : Asked) → frame_id ≡ 0xFEFD →
+        IsSent request.xid (get_bytes identity settings request) bytes.now
         → Gives answered result (Ok (get_said identity settings request)) }
-    ensures set { (request : Asked) (answers : List BlockError) → frame_id ≡ 0xFEFD → IsSent request.xid (set_bytes request answers) bytes.now
+    ensures set { (request : Asked) (answers : List BlockError) → frame_id ≡ 0xFEFD →
+        IsSent request.xid (set_bytes request answers) bytes.now
         → Gives answered result (Ok (set_said request answers)) }
 {
     response_at(frame_id, bytes)

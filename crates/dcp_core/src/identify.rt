@@ -138,7 +138,8 @@ pub(crate) fn put_value(
 /// Appends the block of the IP suite. There must be room.
 fn put_suite(blocks: &mut Blocks, suite: &IpSuite)
     requires { array_vec_len blocks.old + 19 ≤ 727 }
-    ensures items { blocks.new.items ≡ blocks.old.items ++ block_bytes Kind.IpSuite (suite_info (suite_bytes suite.now) ++ suite_bytes suite.now) }
+    ensures items { blocks.new.items ≡ blocks.old.items
+        ++ block_bytes Kind.IpSuite (suite_info (suite_bytes suite.now) ++ suite_bytes suite.now) }
     ensures most { array_vec_len blocks.new ≤ array_vec_len blocks.old + 19 }
 {
     let octets = octets_of(suite);

@@ -17,7 +17,8 @@ ghost use Rattle.dcp_core.specs.Sendable.{CanBeAsked};
 /// What is written for a request is read as that request: a law of the definitions, and no code.
 pub fn requests_are_read()
     // Under the FrameID of its service, whatever stands behind it.
-    ensures read { (asked : Asked) (more : List ℕ) → CanBeAsked asked → request_of (frame_id_of asked.service) (request_bytes asked ++ more) ≡ Ok asked }
+    ensures read { (asked : Asked) (more : List ℕ) → CanBeAsked asked →
+        request_of (frame_id_of asked.service) (request_bytes asked ++ more) ≡ Ok asked }
     // It fits a frame.
     ensures short { (asked : Asked) → CanBeAsked asked → length (request_bytes asked) ≤ 1498 }
 {}
@@ -25,12 +26,15 @@ pub fn requests_are_read()
 /// What is written for an answer is read as what it says: laws of the definitions, and no code.
 pub fn answers_are_read()
     // What a station tells of itself, with the Xid of the request, whatever stands behind it.
-    ensures identify { (identity : Identity) (settings : Settings) (xid : ℕ) (more : List ℕ) → xid < 4294967296 → length (identify_bytes identity settings xid) ≤ 1498
+    ensures identify { (identity : Identity) (settings : Settings) (xid : ℕ) (more : List ℕ) → xid < 4294967296 →
+        length (identify_bytes identity settings xid) ≤ 1498
         → answer_of 0xFEFF (identify_bytes identity settings xid ++ more) ≡ Ok (identify_said identity settings xid) }
     // What a station tells of each kind that was asked for.
-    ensures get { (identity : Identity) (settings : Settings) (request : Asked) (more : List ℕ) → request.xid < 4294967296 → length (get_bytes identity settings request) ≤ 1498
+    ensures get { (identity : Identity) (settings : Settings) (request : Asked) (more : List ℕ) → request.xid < 4294967296 →
+        length (get_bytes identity settings request) ≤ 1498
         → answer_of 0xFEFD (get_bytes identity settings request ++ more) ≡ Ok (get_said identity settings request) }
     // How each block of a Set came out.
-    ensures set { (request : Asked) (outcomes : List BlockError) (more : List ℕ) → request.xid < 4294967296 → length (set_bytes request outcomes) ≤ 1498
+    ensures set { (request : Asked) (outcomes : List BlockError) (more : List ℕ) → request.xid < 4294967296 →
+        length (set_bytes request outcomes) ≤ 1498
         → answer_of 0xFEFD (set_bytes request outcomes ++ more) ≡ Ok (set_said request outcomes) }
 {}

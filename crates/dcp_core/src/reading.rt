@@ -13,7 +13,8 @@ use wire::{skip, split, u8_at, u16_at, u32_at};
 pub fn read_request<'a>(frame_id: u16, bytes: &'a [u8]) -> Result<Request<'a>, DcpFault>
     ensures found { IfOk result (λ request. IsRequest frame_id bytes.now (asked request)) }
     ensures only { (request : Asked) → IsRequest frame_id bytes.now request → Gives asked result (Ok request) }
-    ensures behind { (first more : List ℕ) (request : Asked) → IsRequest frame_id first request → bytes.now ≡ first ++ more → Gives asked result (Ok request) }
+    ensures behind { (first more : List ℕ) (request : Asked) → IsRequest frame_id first request → bytes.now ≡ first ++ more →
+        Gives asked result (Ok request) }
     ensures exact { Gives asked result (request_of frame_id bytes.now) }
 {
     request_at(frame_id, bytes)

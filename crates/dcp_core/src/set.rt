@@ -2,7 +2,8 @@
 ghost use Rattle.std.specs.Prelude.{◌≡◌, ◌≤◌, ◌==◌, ◌%◌, ◌&&◌, ◌↔◌, IsTrue, IsSome, IfSome, length};
 ghost use Rattle.std.specs.Int.{w16, from_be_bytes};
 ghost use Rattle.dcp_core.specs.Request.{asked};
-ghost use Rattle.dcp_core.specs.Set.{plan_of, item_of, name_item, suite_item, suite_in, signal_item, is_flash, factory_item, reset_item, judged, set_bytes};
+ghost use Rattle.dcp_core.specs.Set.{plan_of, item_of, name_item, suite_item, suite_in, signal_item, is_flash, factory_item, reset_item};
+ghost use Rattle.dcp_core.specs.Set.{judged, set_bytes};
 ghost use Rattle.pn_values.specs.IpSuite.{is_suite};
 
 use crate::bytes::{Answer, Blocks, put_answer, put_response};

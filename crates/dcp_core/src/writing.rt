@@ -63,7 +63,8 @@ fn put_kind(data: &mut Asking, value: Kind)
 fn put_contents(data: &mut Asking, value: &Block<'_>)
     requires { array_vec_len data.old + (4 + length value.now.contents.now + length value.now.contents.now % 2) ≤ 1488 }
     ensures items { data.new.items ≡ data.old.items ++ (block everything).write (asked_block value.now) [] }
-    ensures len { array_vec_len data.new ≡ array_vec_len data.old + (4 + length value.now.contents.now + length value.now.contents.now % 2) }
+    ensures len { array_vec_len data.new
+        ≡ array_vec_len data.old + (4 + length value.now.contents.now + length value.now.contents.now % 2) }
 {
     put_kind(data, value.kind);
     append_u16(data, value.contents.len() as u16);
@@ -111,7 +112,8 @@ pub fn write_request<const N: usize>(request: &Request<'_>, out: &mut ArrayVec<u
     // They spell what was given.
     ensures spelled { IsRequest (frame_of request.now.service) (request_bytes (asked request.now)) (asked request.now) }
     // With anything behind them, they are read as that.
-    ensures behind { (more : List ℕ) → request_of (frame_of request.now.service) (request_bytes (asked request.now) ++ more) ≡ Ok (asked request.now) }
+    ensures behind { (more : List ℕ) → request_of (frame_of request.now.service) (request_bytes (asked request.now) ++ more)
+        ≡ Ok (asked request.now) }
 {
     let mut data: Asking = ArrayVec::new();
     put_all(&mut data, request);

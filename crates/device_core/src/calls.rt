@@ -15,7 +15,8 @@ ghost use Rattle.pnio_status.specs.Operation.{operation_of};
 ghost use Rattle.device_frames.specs.Heard.{Heard as Hears, Told, said_by};
 ghost use Rattle.device_frames.specs.Sendable.{IsSendable};
 ghost use Rattle.device_frames.specs.Sent.{bytes_of};
-ghost use Rattle.device_core.specs.Judged.{Writes, answer_from, came_with, kept_for, judged, judged_answer, judged_call, judged_effect, judged_write, outcome_of};
+ghost use Rattle.device_core.specs.Judged.{Writes, answer_from, came_with, kept_for, judged, judged_answer, judged_call, judged_effect};
+ghost use Rattle.device_core.specs.Judged.{judged_write, outcome_of};
 ghost use Rattle.device_core.specs.Behind.{CanSend, behind, called, frames_of};
 ghost use Rattle.device_core.specs.Machine.{end_of, written_as as comes_out};
 ghost use Rattle.device_core.specs.Steps.{Steps};
@@ -47,8 +48,10 @@ impl<F: Flash<S>, const S: usize> Device<F, S> {
     ) -> Note
         requires stored { Holds (F.image self.old.flash) self.old.live.values }
         requires empty { outbox.old.items ≡ [] }
-        ensures steps { Steps F.image F.failures F.asked self.old (Told caller.now address (said_by body.now)) (boxed outbox.new) result self.new }
-        ensures reliable { F.is_reliable self.old.flash → F.is_reliable self.new.flash × (self.new.live.values.has_failed ≡ self.old.live.values.has_failed) }
+        ensures steps { Steps F.image F.failures F.asked self.old (Told caller.now address (said_by body.now)) (boxed outbox.new) result
+            self.new }
+        ensures reliable { F.is_reliable self.old.flash → F.is_reliable self.new.flash
+            × (self.new.live.values.has_failed ≡ self.old.live.values.has_failed) }
     {
         if !is_running(self.store.running(), address) {
             return Note::NotMine;
@@ -71,7 +74,8 @@ impl<F: Flash<S>, const S: usize> Device<F, S> {
         ensures frames { boxed outbox.new
             ≡ frames_of self.old (judged_answer self.old.live (ready_answer (answered response.now) self.old.live.rest.link)) }
         ensures sendable { CanSend self.old (judged_answer self.old.live (ready_answer (answered response.now) self.old.live.rest.link)) }
-        ensures note { result ≡ (end_of self.old.station self.old.live (judged_answer self.old.live (ready_answer (answered response.now) self.old.live.rest.link))).note }
+        ensures note { result ≡ (end_of self.old.station self.old.live
+            (judged_answer self.old.live (ready_answer (answered response.now) self.old.live.rest.link))).note }
     {
         match self.relation.hear_ready(response) {
             ReadyAnswer::NotWanted => Note::NoRelation,
@@ -88,9 +92,11 @@ impl<F: Flash<S>, const S: usize> Device<F, S> {
     fn serve_call(&mut self, caller: &Caller, call: &Call<'_>, outbox: &mut Outbox) -> Note
         requires stored { Holds (F.image self.old.flash) self.old.live.values }
         requires empty { outbox.old.items ≡ [] }
-        ensures steps { (heard : Hears) → judged self.old.station self.old.live heard ≡ judged_call self.old.station self.old.live caller.now (asked call.now) (operation_of call.now.header.operation) →
+        ensures steps { (heard : Hears) → judged self.old.station self.old.live heard
+            ≡ judged_call self.old.station self.old.live caller.now (asked call.now) (operation_of call.now.header.operation) →
             Steps F.image F.failures F.asked self.old heard (boxed outbox.new) result self.new }
-        ensures reliable { F.is_reliable self.old.flash → F.is_reliable self.new.flash × (self.new.live.values.has_failed ≡ self.old.live.values.has_failed) }
+        ensures reliable { F.is_reliable self.old.flash → F.is_reliable self.new.flash
+            × (self.new.live.values.has_failed ≡ self.old.live.values.has_failed) }
     {
         let Some(operation) = Operation::of(call.header.operation) else {
             // An operation that is none cannot be answered: a status says which kind of call failed.
@@ -130,8 +136,10 @@ impl<F: Flash<S>, const S: usize> Device<F, S> {
     ) -> Note
         requires empty { outbox.old.items ≡ [] }
         ensures frames { boxed outbox.new
-            ≡ bytes_of self.now.station.identity (answer_from self.now.live.values.running.suite.address caller.now (asked call.now) operation (Err Arguments)) ∷ [] }
-        ensures sendable { IsSendable self.now.station.identity (answer_from self.now.live.values.running.suite.address caller.now (asked call.now) operation (Err Arguments)) }
+            ≡ bytes_of self.now.station.identity (answer_from self.now.live.values.running.suite.address caller.now (asked call.now)
+            operation (Err Arguments)) ∷ [] }
+        ensures sendable { IsSendable self.now.station.identity
+            (answer_from self.now.live.values.running.suite.address caller.now (asked call.now) operation (Err Arguments)) }
         ensures note { result ≡ Note.Done }
     {
         let status = CallFault::Arguments.number(operation);
@@ -151,7 +159,8 @@ impl<F: Flash<S>, const S: usize> Device<F, S> {
         requires empty { outbox.old.items ≡ [] }
         ensures steps { (heard : Hears) → judged self.old.station self.old.live heard ≡ called self.old serving.now serving.now.operation →
             Steps F.image F.failures F.asked self.old heard (boxed outbox.new) result self.new }
-        ensures reliable { F.is_reliable self.old.flash → F.is_reliable self.new.flash × (self.new.live.values.has_failed ≡ self.old.live.values.has_failed) }
+        ensures reliable { F.is_reliable self.old.flash → F.is_reliable self.new.flash
+            × (self.new.live.values.has_failed ≡ self.old.live.values.has_failed) }
     {
         match serving.operation {
             Operation::Connect => self.connect(serving, outbox),
@@ -290,7 +299,8 @@ impl<F: Flash<S>, const S: usize> Device<F, S> {
         requires empty { outbox.old.items ≡ [] }
         ensures steps { (heard : Hears) → judged self.old.station self.old.live heard ≡ called self.old serving.now operation.Write →
             Steps F.image F.failures F.asked self.old heard (boxed outbox.new) result self.new }
-        ensures reliable { F.is_reliable self.old.flash → F.is_reliable self.new.flash × (self.new.live.values.has_failed ≡ self.old.live.values.has_failed) }
+        ensures reliable { F.is_reliable self.old.flash → F.is_reliable self.new.flash
+            × (self.new.live.values.has_failed ≡ self.old.live.values.has_failed) }
     {
         match judge_write(serving.blocks, self.relation.uuid(), &self.real) {
             Ok(Write { request, effect }) => match effect {
@@ -310,8 +320,10 @@ impl<F: Flash<S>, const S: usize> Device<F, S> {
         ensures state { self.new
             ≡ behind self.old (judged_write self.old.station self.old.live serving.now.caller.now (asked serving.now.call.now) (Err fault)) }
         ensures frames { boxed outbox.new
-            ≡ frames_of self.old (judged_write self.old.station self.old.live serving.now.caller.now (asked serving.now.call.now) (Err fault)) }
-        ensures sendable { CanSend self.old (judged_write self.old.station self.old.live serving.now.caller.now (asked serving.now.call.now) (Err fault)) }
+            ≡ frames_of self.old (judged_write self.old.station self.old.live serving.now.caller.now (asked serving.now.call.now)
+            (Err fault)) }
+        ensures sendable { CanSend self.old (judged_write self.old.station self.old.live serving.now.caller.now (asked serving.now.call.now)
+            (Err fault)) }
         ensures note { result ≡ Note.Done }
     {
         let address = self.store.running().suite.address();
@@ -330,9 +342,11 @@ impl<F: Flash<S>, const S: usize> Device<F, S> {
     ) -> Note
         requires operation { serving.now.operation ≡ operation.Write }
         requires empty { outbox.old.items ≡ [] }
-        ensures steps { (heard : Hears) → judged self.old.station self.old.live heard ≡ Writes serving.now.caller.now self.old.live.values.running.suite.address (asked serving.now.call.now) header.now value →
+        ensures steps { (heard : Hears) → judged self.old.station self.old.live heard
+            ≡ Writes serving.now.caller.now self.old.live.values.running.suite.address (asked serving.now.call.now) header.now value →
             Steps F.image F.failures F.asked self.old heard (boxed outbox.new) result self.new }
-        ensures reliable { F.is_reliable self.old.flash → F.is_reliable self.new.flash × (self.new.live.values.has_failed ≡ self.old.live.values.has_failed) }
+        ensures reliable { F.is_reliable self.old.flash → F.is_reliable self.new.flash
+            × (self.new.live.values.has_failed ≡ self.old.live.values.has_failed) }
     {
         let address = self.store.running().suite.address();
         let came = written_as(self.store.carry(&SetItem::Ask(Command::SetIm(value))));
@@ -354,10 +368,13 @@ impl<F: Flash<S>, const S: usize> Device<F, S> {
         requires operation { serving.now.operation ≡ operation.Write }
         requires empty { outbox.old.items ≡ [] }
         ensures state { self.new
-            ≡ behind self.old (judged_effect self.old.station self.old.live serving.now.caller.now (asked serving.now.call.now) header.now (Keeps parameter)) }
+            ≡ behind self.old (judged_effect self.old.station self.old.live serving.now.caller.now (asked serving.now.call.now) header.now
+            (Keeps parameter)) }
         ensures frames { boxed outbox.new
-            ≡ frames_of self.old (judged_effect self.old.station self.old.live serving.now.caller.now (asked serving.now.call.now) header.now (Keeps parameter)) }
-        ensures sendable { CanSend self.old (judged_effect self.old.station self.old.live serving.now.caller.now (asked serving.now.call.now) header.now (Keeps parameter)) }
+            ≡ frames_of self.old (judged_effect self.old.station self.old.live serving.now.caller.now (asked serving.now.call.now)
+            header.now (Keeps parameter)) }
+        ensures sendable { CanSend self.old (judged_effect self.old.station self.old.live serving.now.caller.now
+            (asked serving.now.call.now) header.now (Keeps parameter)) }
         ensures note { result ≡ Note.Done }
     {
         let came = self.relation.keep(parameter);
@@ -397,10 +414,15 @@ impl Answering {
         outbox: &mut Outbox,
     )
         requires empty { outbox.old.items ≡ [] }
-        ensures frames { boxed outbox.new ≡ bytes_of identity.now (answer_from address serving.now.caller.now (asked serving.now.call.now) serving.now.operation (came_with came self.old.blocks.items)) ∷ [] }
-        ensures sendable { IsSendable identity.now (answer_from address serving.now.caller.now (asked serving.now.call.now) serving.now.operation (came_with came self.old.blocks.items)) }
+        ensures frames { boxed outbox.new
+            ≡ bytes_of identity.now (answer_from address serving.now.caller.now (asked serving.now.call.now) serving.now.operation
+            (came_with came self.old.blocks.items)) ∷ [] }
+        ensures sendable { IsSendable identity.now (answer_from address serving.now.caller.now (asked serving.now.call.now)
+            serving.now.operation (came_with came self.old.blocks.items)) }
         ensures one { array_vec_len outbox.new ≡ 1 }
-        ensures kept { self.new.kept ≡ kept_more 4 (kept_for identity.now (asked serving.now.call.now) (answer_from address serving.now.caller.now (asked serving.now.call.now) serving.now.operation (came_with came self.old.blocks.items))) self.old.kept }
+        ensures kept { self.new.kept ≡ kept_more 4 (kept_for identity.now (asked serving.now.call.now)
+            (answer_from address serving.now.caller.now (asked serving.now.call.now) serving.now.operation
+            (came_with came self.old.blocks.items))) self.old.kept }
     {
         let call = serving.call;
         let status = settle(serving.operation, came, &mut self.blocks);

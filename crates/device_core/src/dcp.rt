@@ -10,7 +10,8 @@ ghost use Rattle.device_frames.specs.Sendable.{AreSendable, IsSendable};
 ghost use Rattle.device_frames.specs.Sent.{GetAnswer, bytes_of};
 ghost use Rattle.device_core.specs.Behind.{CanSend, frames_of};
 ghost use Rattle.device_core.specs.Judged.{identified};
-ghost use Rattle.device_core.specs.Machine.{farewells_at, finished, is_done as is_done_by, is_reset as is_reset_by, is_signal, lamp_after as lamp_of, link_after, resets};
+ghost use Rattle.device_core.specs.Machine.{farewells_at, finished, is_done as is_done_by, is_reset as is_reset_by, is_signal};
+ghost use Rattle.device_core.specs.Machine.{lamp_after as lamp_of, link_after, resets};
 ghost use Rattle.device_core.specs.Steps.{Steps};
 ghost use Rattle.frame_codec.specs.Outbox.{boxed};
 
@@ -41,8 +42,10 @@ impl<F: Flash<S>, const S: usize> Device<F, S> {
     ) -> Note
         requires stored { Holds (F.image self.old.flash) self.old.live.values }
         requires empty { outbox.old.items ≡ [] }
-        ensures steps { Steps F.image F.failures F.asked self.old (heard_request asker (request_of frame_id body.now)) (boxed outbox.new) result self.new }
-        ensures reliable { F.is_reliable self.old.flash → F.is_reliable self.new.flash × (self.new.live.values.has_failed ≡ self.old.live.values.has_failed) }
+        ensures steps { Steps F.image F.failures F.asked self.old (heard_request asker (request_of frame_id body.now)) (boxed outbox.new)
+            result self.new }
+        ensures reliable { F.is_reliable self.old.flash → F.is_reliable self.new.flash
+            × (self.new.live.values.has_failed ≡ self.old.live.values.has_failed) }
     {
         match &read_request(frame_id, body) {
             Ok(request) => self.serve(asker, request, outbox),
@@ -55,7 +58,8 @@ impl<F: Flash<S>, const S: usize> Device<F, S> {
         requires stored { Holds (F.image self.old.flash) self.old.live.values }
         requires empty { outbox.old.items ≡ [] }
         ensures steps { Steps F.image F.failures F.asked self.old (Asks asker (asked request.now)) (boxed outbox.new) result self.new }
-        ensures reliable { F.is_reliable self.old.flash → F.is_reliable self.new.flash × (self.new.live.values.has_failed ≡ self.old.live.values.has_failed) }
+        ensures reliable { F.is_reliable self.old.flash → F.is_reliable self.new.flash
+            × (self.new.live.values.has_failed ≡ self.old.live.values.has_failed) }
     {
         match request.service {
             Service::Identify => self.identify(asker, request, outbox),
@@ -69,7 +73,8 @@ impl<F: Flash<S>, const S: usize> Device<F, S> {
         requires { outbox.old.items ≡ [] }
         ensures frames { boxed outbox.new ≡ frames_of self.now (identified self.now.station self.now.live asker (asked request.now)) }
         ensures sendable { CanSend self.now (identified self.now.station self.now.live asker (asked request.now)) }
-        ensures note { result ≡ (finished self.now.station.identity self.now.live.rest (identified self.now.station self.now.live asker (asked request.now)) []).note }
+        ensures note { result ≡ (finished self.now.station.identity self.now.live.rest
+            (identified self.now.station self.now.live asker (asked request.now)) []).note }
     {
         let running = self.store.running();
         if !identify_matches(&self.identity, running, request) {
@@ -100,7 +105,8 @@ impl<F: Flash<S>, const S: usize> Device<F, S> {
         requires service { request.now.service ≡ Service.Set }
         requires empty { outbox.old.items ≡ [] }
         ensures steps { Steps F.image F.failures F.asked self.old (Asks asker (asked request.now)) (boxed outbox.new) result self.new }
-        ensures reliable { F.is_reliable self.old.flash → F.is_reliable self.new.flash × (self.new.live.values.has_failed ≡ self.old.live.values.has_failed) }
+        ensures reliable { F.is_reliable self.old.flash → F.is_reliable self.new.flash
+            × (self.new.live.values.has_failed ≡ self.old.live.values.has_failed) }
     {
         fill_plan(request, is_in_operation(&self.relation), &mut self.plan);
         let answers = self.store.carry_out(self.plan.as_slice());

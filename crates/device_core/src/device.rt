@@ -80,7 +80,8 @@ impl<F: Flash<S>, const S: usize> Device<F, S> {
         ensures cause { MatchResult result (λ device. F.failures device.flash ≡ F.failures flash)
             (λ refused. HasBootCause refused.0 (F.failures flash) (F.failures refused.1)) }
         ensures reliable { F.is_reliable flash →
-            MatchResult result (λ device. F.is_reliable device.flash) (λ refused. F.is_reliable refused.1 × (refused.0 ≡ BootFault.Foreign)) }
+            MatchResult result (λ device. F.is_reliable device.flash) (λ refused. F.is_reliable refused.1
+            × (refused.0 ≡ BootFault.Foreign)) }
     {
         let mut device = Device::unstarted(identity, real, flash);
         match device.load() {
@@ -136,7 +137,8 @@ impl<F: Flash<S>, const S: usize> Device<F, S> {
     /// The output of a submodule: what the last cyclic frame that was taken holds at its place; zeros where none was, its IOPS is not
     /// good or, as many as the submodule that is plugged has, where it has no place. None where nothing with an output is plugged either.
     pub fn output(&self, slot: u16, subslot: u16) -> Option<&[u8]>
-        ensures value { option_map (λ value. value.now) result ≡ output_of self.now.station.real slot subslot (output_in slot subslot self.now.live.rest.link) }
+        ensures value { option_map (λ value. value.now) result
+            ≡ output_of self.now.station.real slot subslot (output_in slot subslot self.now.live.rest.link) }
         ensures short { IfSome result (λ value. length value.now ≤ 1440) }
     {
         self.relation.output(&self.real, slot, subslot)

@@ -21,7 +21,8 @@ impl<F: Flash<S>, const S: usize> Device<F, S> {
             F.is_reliable self.new.flash × (self.new.live.values.has_failed ≡ false)
             × IsExactRun self.old events.now (K.taken sink.old) (K.taken sink.new) self.new }
         // Whatever faults strike, while power is there: each event goes on, and all its frames are handed on.
-        ensures goes_on { self.new.live.values.is_lost ≡ false → RunGoesOn self.old events.now (K.taken sink.old) (K.taken sink.new) self.new }
+        ensures goes_on { self.new.live.values.is_lost ≡ false →
+            RunGoesOn self.old events.now (K.taken sink.old) (K.taken sink.new) self.new }
         // Nothing but calls changes what is kept of them: what `CallCache::look` says of calls that come again holds over the run.
         ensures calls { IsBehindCalls self.old.live.rest.calls self.new.live.rest.calls }
         ensures room { self.new.live.values.has_failed ≡ false → TakesRoom self.old events.now self.new }
@@ -36,7 +37,8 @@ impl<F: Flash<S>, const S: usize> Device<F, S> {
 
     // One event of a run.
     fn take<K: Sink>(&mut self, event: &Event, outbox: &mut Outbox, sink: &mut K)
-        ensures steps { HandsOn F.image F.failures F.asked self.old (heard_of self.old.station.identity event.now) (K.taken sink.old) (K.taken sink.new) self.new }
+        ensures steps { HandsOn F.image F.failures F.asked self.old (heard_of self.old.station.identity event.now) (K.taken sink.old)
+            (K.taken sink.new) self.new }
         ensures reliable { F.is_reliable self.old.flash → self.old.live.values.has_failed ≡ false →
             F.is_reliable self.new.flash × (self.new.live.values.has_failed ≡ false) }
     {

@@ -11,7 +11,8 @@ ghost use Rattle.relations.specs.Link.{Link, flow_of};
 ghost use Rattle.device_core.specs.State.{Live, Station, with_rest};
 ghost use Rattle.device_frames.specs.Sendable.{AreSendable};
 ghost use Rattle.device_frames.specs.Sent.{bytes_of};
-ghost use Rattle.device_core.specs.Judged.{judged_alarm, judged_message, judged_cyclic, judged_given, judged_raised, judged_received, ticked};
+ghost use Rattle.device_core.specs.Judged.{judged_alarm, judged_message, judged_cyclic, judged_given, judged_raised, judged_received};
+ghost use Rattle.device_core.specs.Judged.{ticked};
 ghost use Rattle.device_frames.specs.Relation.{farewells_in, inputs_of};
 ghost use Rattle.device_core.specs.Behind.{CanSend, behind, due_in, frames_of};
 ghost use Rattle.device_core.specs.Machine.{end_of};
@@ -36,7 +37,8 @@ use relations::Received;
 impl<F: Flash<S>, const S: usize> Device<F, S> {
     /// Takes an event, and puts the frames to be sent into the box, which holds nothing else then.
     pub fn step(&mut self, event: &Event, outbox: &mut Outbox) -> Note
-        ensures steps { Steps F.image F.failures F.asked self.old (heard_of self.old.station.identity event.now) (boxed outbox.new) result self.new }
+        ensures steps { Steps F.image F.failures F.asked self.old (heard_of self.old.station.identity event.now) (boxed outbox.new) result
+            self.new }
 
         // With no flash call failing.
         ensures exact { F.failures self.new.flash ≡ F.failures self.old.flash → F.failures self.old.flash < 2 ^ 64 - 1 →
@@ -46,11 +48,13 @@ impl<F: Flash<S>, const S: usize> Device<F, S> {
             × IsExactStep self.old event.now (boxed outbox.new) result self.new }
 
         // Whatever the flash does, the device goes on: a fault shows in the answers to commands and in the settings alone.
-        ensures goes_on { StepGoesOn self.old.station self.old.live (heard_of self.old.station.identity event.now) (boxed outbox.new) result self.new.live }
+        ensures goes_on { StepGoesOn self.old.station self.old.live (heard_of self.old.station.identity event.now) (boxed outbox.new) result
+            self.new.live }
 
         // An event that is refused changes nothing at all.
         ensures refused { result ≢ Note.Done → (self.new ≡ self.old) × (outbox.new.items ≡ []) }
-        ensures identify { (asker : Mac) (request : Asked) → heard_of self.old.station.identity event.now ≡ Asks asker request → request.service ≡ Service.Identify →
+        ensures identify { (asker : Mac) (request : Asked) → heard_of self.old.station.identity event.now ≡ Asks asker request →
+            request.service ≡ Service.Identify →
             Identifies self.old asker request (boxed outbox.new) result self.new }
 
         // A call that was answered gets the same frame again, while it is kept.
@@ -65,8 +69,10 @@ impl<F: Flash<S>, const S: usize> Device<F, S> {
     // What comes of an event.
     fn respond(&mut self, event: &Event, outbox: &mut Outbox) -> Note
         requires empty { outbox.old.items ≡ [] }
-        ensures steps { Steps F.image F.failures F.asked self.old (heard_of self.old.station.identity event.now) (boxed outbox.new) result self.new }
-        ensures reliable { F.is_reliable self.old.flash → F.is_reliable self.new.flash × (self.new.live.values.has_failed ≡ self.old.live.values.has_failed) }
+        ensures steps { Steps F.image F.failures F.asked self.old (heard_of self.old.station.identity event.now) (boxed outbox.new) result
+            self.new }
+        ensures reliable { F.is_reliable self.old.flash → F.is_reliable self.new.flash
+            × (self.new.live.values.has_failed ≡ self.old.live.values.has_failed) }
     {
         match event {
             Event::Tick => self.tick(outbox),
@@ -78,12 +84,15 @@ impl<F: Flash<S>, const S: usize> Device<F, S> {
         }
     }
 
-    // A frame: it is read first, and then its destination is looked at. Real-time frames are read by themselves, since they come each interval.
+    // A frame: it is read first, and then its destination is looked at. Real-time frames are read by themselves, since they come each
+    // interval.
     #[inline(never)]
     fn hear(&mut self, bytes: &Bytes, outbox: &mut Outbox) -> Note
         requires empty { outbox.old.items ≡ [] }
-        ensures steps { Steps F.image F.failures F.asked self.old (heard_of self.old.station.identity (Frame bytes.now)) (boxed outbox.new) result self.new }
-        ensures reliable { F.is_reliable self.old.flash → F.is_reliable self.new.flash × (self.new.live.values.has_failed ≡ self.old.live.values.has_failed) }
+        ensures steps { Steps F.image F.failures F.asked self.old (heard_of self.old.station.identity (Frame bytes.now)) (boxed outbox.new)
+            result self.new }
+        ensures reliable { F.is_reliable self.old.flash → F.is_reliable self.new.flash
+            × (self.new.live.values.has_failed ≡ self.old.live.values.has_failed) }
     {
         // The invariant is known where a field is used.
         let _ = &self.identity;
@@ -103,8 +112,10 @@ impl<F: Flash<S>, const S: usize> Device<F, S> {
     #[inline(never)]
     fn hear_other(&mut self, bytes: &Bytes, outbox: &mut Outbox) -> Note
         requires empty { outbox.old.items ≡ [] }
-        ensures steps { Steps F.image F.failures F.asked self.old (heard_of self.old.station.identity (Frame bytes.now)) (boxed outbox.new) result self.new }
-        ensures reliable { F.is_reliable self.old.flash → F.is_reliable self.new.flash × (self.new.live.values.has_failed ≡ self.old.live.values.has_failed) }
+        ensures steps { Steps F.image F.failures F.asked self.old (heard_of self.old.station.identity (Frame bytes.now)) (boxed outbox.new)
+            result self.new }
+        ensures reliable { F.is_reliable self.old.flash → F.is_reliable self.new.flash
+            × (self.new.live.values.has_failed ≡ self.old.live.values.has_failed) }
     {
         // The invariant is known where a field is used.
         let _ = &self.identity;
@@ -119,8 +130,11 @@ impl<F: Flash<S>, const S: usize> Device<F, S> {
     fn hear_layers(&mut self, layered: &Layered, outbox: &mut Outbox) -> Note
         requires stored { Holds (F.image self.old.flash) self.old.live.values }
         requires empty { outbox.old.items ≡ [] }
-        ensures steps { Steps F.image F.failures F.asked self.old (heard_content self.old.station.identity layered.now.destination layered.now.source (content_of layered.now.payload)) (boxed outbox.new) result self.new }
-        ensures reliable { F.is_reliable self.old.flash → F.is_reliable self.new.flash × (self.new.live.values.has_failed ≡ self.old.live.values.has_failed) }
+        ensures steps { Steps F.image F.failures F.asked self.old
+            (heard_content self.old.station.identity layered.now.destination layered.now.source (content_of layered.now.payload))
+            (boxed outbox.new) result self.new }
+        ensures reliable { F.is_reliable self.old.flash → F.is_reliable self.new.flash
+            × (self.new.live.values.has_failed ≡ self.old.live.values.has_failed) }
     {
         let (destination, source) = (layered.destination, layered.source);
         match &layered.payload {
@@ -144,8 +158,10 @@ impl<F: Flash<S>, const S: usize> Device<F, S> {
     ) -> Note
         requires stored { Holds (F.image self.old.flash) self.old.live.values }
         requires empty { outbox.old.items ≡ [] }
-        ensures steps { Steps F.image F.failures F.asked self.old (heard_content self.old.station.identity destination source (RealTime frame_id body.now)) (boxed outbox.new) result self.new }
-        ensures reliable { F.is_reliable self.old.flash → F.is_reliable self.new.flash × (self.new.live.values.has_failed ≡ self.old.live.values.has_failed) }
+        ensures steps { Steps F.image F.failures F.asked self.old
+            (heard_content self.old.station.identity destination source (RealTime frame_id body.now)) (boxed outbox.new) result self.new }
+        ensures reliable { F.is_reliable self.old.flash → F.is_reliable self.new.flash
+            × (self.new.live.values.has_failed ≡ self.old.live.values.has_failed) }
     {
         match kind_of(&self.identity, destination, frame_id) {
             RealTimeKind::Cyclic => self.hear_cyclic(source, frame_id, body),
@@ -166,8 +182,10 @@ impl<F: Flash<S>, const S: usize> Device<F, S> {
     ) -> Note
         requires stored { Holds (F.image self.old.flash) self.old.live.values }
         requires empty { outbox.old.items ≡ [] }
-        ensures steps { Steps F.image F.failures F.asked self.old (heard_content self.old.station.identity destination asker (ArpPacket packet.now)) (boxed outbox.new) result self.new }
-        ensures reliable { F.is_reliable self.old.flash → F.is_reliable self.new.flash × (self.new.live.values.has_failed ≡ self.old.live.values.has_failed) }
+        ensures steps { Steps F.image F.failures F.asked self.old
+            (heard_content self.old.station.identity destination asker (ArpPacket packet.now)) (boxed outbox.new) result self.new }
+        ensures reliable { F.is_reliable self.old.flash → F.is_reliable self.new.flash
+            × (self.new.live.values.has_failed ≡ self.old.live.values.has_failed) }
     {
         if !is_asked(&self.identity, destination) {
             return Note::NotMine;
@@ -186,8 +204,11 @@ impl<F: Flash<S>, const S: usize> Device<F, S> {
     ) -> Note
         requires stored { Holds (F.image self.old.flash) self.old.live.values }
         requires empty { outbox.old.items ≡ [] }
-        ensures steps { Steps F.image F.failures F.asked self.old (heard_content self.old.station.identity destination source (UdpDatagram datagram.now.source datagram.now.destination datagram.now.body.now)) (boxed outbox.new) result self.new }
-        ensures reliable { F.is_reliable self.old.flash → F.is_reliable self.new.flash × (self.new.live.values.has_failed ≡ self.old.live.values.has_failed) }
+        ensures steps { Steps F.image F.failures F.asked self.old
+            (heard_content self.old.station.identity destination source
+            (UdpDatagram datagram.now.source datagram.now.destination datagram.now.body.now)) (boxed outbox.new) result self.new }
+        ensures reliable { F.is_reliable self.old.flash → F.is_reliable self.new.flash
+            × (self.new.live.values.has_failed ≡ self.old.live.values.has_failed) }
     {
         if !is_called(&self.identity, destination, datagram.destination.port) {
             return Note::NotMine;
@@ -204,8 +225,10 @@ impl<F: Flash<S>, const S: usize> Device<F, S> {
     fn read_alarm(&mut self, source: Mac, body: &[u8], outbox: &mut Outbox) -> Note
         requires stored { Holds (F.image self.old.flash) self.old.live.values }
         requires empty { outbox.old.items ≡ [] }
-        ensures steps { Steps F.image F.failures F.asked self.old (heard_alarm source (message_of body.now)) (boxed outbox.new) result self.new }
-        ensures reliable { F.is_reliable self.old.flash → F.is_reliable self.new.flash × (self.new.live.values.has_failed ≡ self.old.live.values.has_failed) }
+        ensures steps { Steps F.image F.failures F.asked self.old (heard_alarm source (message_of body.now)) (boxed outbox.new) result
+            self.new }
+        ensures reliable { F.is_reliable self.old.flash → F.is_reliable self.new.flash
+            × (self.new.live.values.has_failed ≡ self.old.live.values.has_failed) }
     {
         match read_message(body) {
             Ok((header, message)) => self.hear_alarm(source, &header, &message, outbox),
@@ -329,7 +352,8 @@ impl<F: Flash<S>, const S: usize> Device<F, S> {
         ensures state { self.new ≡ behind self.old (judged_raised self.old.station self.old.live slot subslot octets.now) }
         ensures frames { boxed outbox.new ≡ frames_of self.old (judged_raised self.old.station self.old.live slot subslot octets.now) }
         ensures sendable { CanSend self.old (judged_raised self.old.station self.old.live slot subslot octets.now) }
-        ensures note { result ≡ (end_of self.old.station self.old.live (judged_raised self.old.station self.old.live slot subslot octets.now)).note }
+        ensures note { result ≡ (end_of self.old.station self.old.live
+            (judged_raised self.old.station self.old.live slot subslot octets.now)).note }
         // Its invariant, for those who do not look into it.
         ensures stored { Holds (F.image self.old.flash) self.old.live.values }
     {
@@ -387,7 +411,8 @@ impl<F: Flash<S>, const S: usize> Device<F, S> {
 
 // What is said of a cyclic frame.
 fn note_of(received: Received) -> Note
-    ensures { (station : Station) (live : Live) (link : Option Link) → result ≡ (end_of station live (judged_received live received link)).note }
+    ensures { (station : Station) (live : Live) (link : Option Link) →
+        result ≡ (end_of station live (judged_received live received link)).note }
 {
     match received {
         Received::Foreign => Note::NoRelation,

@@ -17,10 +17,12 @@ use pnio_status::refusals_are_not_done;
 pub fn device_goes_on()
     // Whatever a device hears, where each call is one of the start-up and each message that is sent is heard as it is meant: it is a step
     // of the small machine, whatever the flash did.
-    ensures { (rules : Rules TakenRecord Request) (activity : List ℕ) (outcomes : List Outcome) (station : Station) (live : Live) (heard : Heard)
+    ensures { (rules : Rules TakenRecord Request) (activity : List ℕ) (outcomes : List Outcome) (station : Station) (live : Live)
+        (heard : Heard)
         → IsPlanned rules activity station.real heard
         → AllByRecursion (IsHeardAs rules station.identity) (heard_step outcomes station live heard).sent
-        → DeviceSteps rules (heard_as heard) (small_of activity live) (small_of activity (heard_step outcomes station live heard).live) (heard_step outcomes station live heard).frames }
+        → DeviceSteps rules (heard_as heard) (small_of activity live) (small_of activity (heard_step outcomes station live heard).live)
+        (heard_step outcomes station live heard).frames }
 {
     refusals_are_not_done();
 }

@@ -25,7 +25,9 @@ const BROADCAST: Mac = Mac { octets: [0xFF; 6] };
 #[inline(always)]
 #[tactic(auto, unfolding(crate::specs::Heard::heard_of))]
 pub fn real_time_in(bytes: &Bytes) -> Option<RealTimeFrame<'_>>
-    ensures found { IfSome result (λ frame. (identity : Identity) → heard_of identity (Frame bytes.now) ≡ heard_content identity frame.destination frame.source (RealTime frame.frame_id frame.body.now)) }
+    ensures found { IfSome result (λ frame. (identity : Identity) →
+        heard_of identity (Frame bytes.now)
+        ≡ heard_content identity frame.destination frame.source (RealTime frame.frame_id frame.body.now)) }
     // One that is there is found.
     ensures none { IfNone result (IsNoRealTime (frame_of bytes.now.items)) }
 {
@@ -56,7 +58,8 @@ pub enum RealTimeKind {
 /// What a frame with this destination and FrameID is.
 #[inline(always)]
 pub fn kind_of(identity: &Identity, destination: Mac, frame_id: u16) -> RealTimeKind
-    ensures { (source : Mac) (body : List ℕ) → heard_content identity.now destination source (RealTime frame_id body) ≡ heard_as result source frame_id body }
+    ensures { (source : Mac) (body : List ℕ) → heard_content identity.now destination source (RealTime frame_id body)
+        ≡ heard_as result source frame_id body }
 {
     if is_taken(identity, destination, frame_id) {
         return RealTimeKind::Request;

@@ -35,7 +35,8 @@ pub(crate) fn can_be_sent_in(pieces: &Pieces<'_>)
 // A cyclic frame, whatever fits it.
 #[inline(always)]
 pub(crate) fn cyclic_can_be_sent(source: &Mac, route: &Route)
-    ensures { (body : List ℕ) → length body ≤ 1498 → CanBeSent (carrying route.now.partner source.now (Some route.now.sent_tag) (RealTime route.now.sent_id body)) }
+    ensures { (body : List ℕ) → length body ≤ 1498 →
+        CanBeSent (carrying route.now.partner source.now (Some route.now.sent_tag) (RealTime route.now.sent_id body)) }
 {
     has_six(&route.partner);
     has_six(source);

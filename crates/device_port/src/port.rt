@@ -6,7 +6,8 @@ ghost use Rattle.device_frames.specs.declared.event.Event.TheVariants.{Alarm, Fr
 ghost use Rattle.relations.specs.Exchanged.{output_in};
 ghost use Rattle.relations.specs.Link.{phase_of, taken_of};
 ghost use Rattle.relations.specs.Outputs.{output_of};
-ghost use Rattle.device_port.specs.State.{IsIdle, IsNext, IsUntold, advanced, barred, closed, has_work as is_left, lost, past_start as too_late};
+ghost use Rattle.device_port.specs.State.{IsIdle, IsNext, IsUntold, advanced, barred, closed, has_work as is_left, lost};
+ghost use Rattle.device_port.specs.State.{past_start as too_late};
 ghost use Rattle.device_port.specs.Steps.{Answers, KnowsOrNot, Passes, PassesOrNot, StartsOrNot, Takes};
 ghost use Rattle.frame_codec.specs.Outbox.{boxed};
 
@@ -83,7 +84,8 @@ impl Fill<RecordedFlash<4096>> for Chip<'_> {
     ghost use Rattle.std.specs.Prelude.{◌≡◌, length};
     ghost use Rattle.recorded_flash.specs.Record.{record_of, filled};
 
-    ghost post = { λ chip old new. length chip.octets.now ≡ 4096 → record_of new ≡ filled 4096 (record_of old) chip.sector chip.octets.now };
+    ghost post = { λ chip old new. length chip.octets.now ≡ 4096 →
+        record_of new ≡ filled 4096 (record_of old) chip.sector chip.octets.now };
 
     fn fill(&self, flash: &mut RecordedFlash<4096>) {
         flash.put_sector(self.sector, self.octets);
@@ -201,7 +203,8 @@ impl Port {
     /// A call of the flash failed on the side of the host, which counts as power that is lost. The work that is left is
     /// dropped, and nothing is handed out any more.
     pub fn lose(&mut self) -> Result<(), Refusal>
-        ensures { MatchResult result (λ _. (closed self.old.stage ≡ None) × (self.new ≡ lost self.old)) (λ refusal. (closed self.old.stage ≡ Some refusal) × (self.new ≡ self.old)) }
+        ensures { MatchResult result (λ _. (closed self.old.stage ≡ None)
+            × (self.new ≡ lost self.old)) (λ refusal. (closed self.old.stage ≡ Some refusal) × (self.new ≡ self.old)) }
     {
         if let Some(refusal) = why_closed(self.stage) {
             return Err(refusal);
@@ -216,7 +219,8 @@ impl Port {
 
     /// The next piece of work: the calls of the flash in their order, and behind the last of them the frames.
     pub fn work(&self) -> Result<Work<'_>, Refusal>
-        ensures { MatchResult result (λ work. (closed self.now.stage ≡ None) × IsNext self.now work) (λ refusal. closed self.now.stage ≡ Some refusal) }
+        ensures { MatchResult result (λ work. (closed self.now.stage ≡ None)
+            × IsNext self.now work) (λ refusal. closed self.now.stage ≡ Some refusal) }
     {
         match why_closed(self.stage) {
             Some(refusal) => Err(refusal),
@@ -253,7 +257,8 @@ impl Port {
 
     /// The settings that run.
     pub fn running(&self) -> Result<&Settings, Refusal>
-        ensures { MatchResult result (λ settings. (closed self.now.stage ≡ None) × (settings.now ≡ self.now.device.live.values.running)) (λ refusal. closed self.now.stage ≡ Some refusal) }
+        ensures { MatchResult result (λ settings. (closed self.now.stage ≡ None)
+            × (settings.now ≡ self.now.device.live.values.running)) (λ refusal. closed self.now.stage ≡ Some refusal) }
     {
         match why_closed(self.stage) {
             Some(refusal) => Err(refusal),
@@ -263,7 +268,8 @@ impl Port {
 
     /// The settings that a restart finds, once all work is taken and carried out.
     pub fn stored(&self) -> Result<&Settings, Refusal>
-        ensures { MatchResult result (λ settings. (closed self.now.stage ≡ None) × (settings.now ≡ self.now.device.live.values.stored)) (λ refusal. closed self.now.stage ≡ Some refusal) }
+        ensures { MatchResult result (λ settings. (closed self.now.stage ≡ None)
+            × (settings.now ≡ self.now.device.live.values.stored)) (λ refusal. closed self.now.stage ≡ Some refusal) }
     {
         match why_closed(self.stage) {
             Some(refusal) => Err(refusal),
@@ -273,7 +279,8 @@ impl Port {
 
     /// What the application relation waits for, if there is one.
     pub fn phase(&self) -> Result<Option<Phase>, Refusal>
-        ensures { MatchResult result (λ phase. (closed self.now.stage ≡ None) × (phase ≡ phase_of self.now.device.live.rest.link)) (λ refusal. closed self.now.stage ≡ Some refusal) }
+        ensures { MatchResult result (λ phase. (closed self.now.stage ≡ None)
+            × (phase ≡ phase_of self.now.device.live.rest.link)) (λ refusal. closed self.now.stage ≡ Some refusal) }
     {
         match why_closed(self.stage) {
             Some(refusal) => Err(refusal),
@@ -283,7 +290,8 @@ impl Port {
 
     /// For how many units the lamp still flashes.
     pub fn lamp(&self) -> Result<u32, Refusal>
-        ensures { MatchResult result (λ lamp. (closed self.now.stage ≡ None) × (lamp ≡ self.now.device.live.rest.lamp)) (λ refusal. closed self.now.stage ≡ Some refusal) }
+        ensures { MatchResult result (λ lamp. (closed self.now.stage ≡ None)
+            × (lamp ≡ self.now.device.live.rest.lamp)) (λ refusal. closed self.now.stage ≡ Some refusal) }
     {
         match why_closed(self.stage) {
             Some(refusal) => Err(refusal),
@@ -293,7 +301,8 @@ impl Port {
 
     /// The parameter records that the relation took, in their order.
     pub fn taken(&self) -> Result<&[TakenRecord], Refusal>
-        ensures { MatchResult result (λ taken. (closed self.now.stage ≡ None) × (taken.now ≡ taken_of self.now.device.live.rest.link)) (λ refusal. closed self.now.stage ≡ Some refusal) }
+        ensures { MatchResult result (λ taken. (closed self.now.stage ≡ None)
+            × (taken.now ≡ taken_of self.now.device.live.rest.link)) (λ refusal. closed self.now.stage ≡ Some refusal) }
     {
         match why_closed(self.stage) {
             Some(refusal) => Err(refusal),
@@ -303,8 +312,10 @@ impl Port {
 
     /// The output of a submodule: NoSlot where nothing with an output is plugged.
     pub fn output(&self, slot: u16, subslot: u16) -> Result<&[u8], Refusal>
-        ensures value { let value = output_of self.now.device.station.real slot subslot (output_in slot subslot self.now.device.live.rest.link) in
-            MatchResult result (λ told. (closed self.now.stage ≡ None) × (value ≡ Some told.now)) (λ refusal. IsUntold (closed self.now.stage) value refusal) }
+        ensures value { let value = output_of self.now.device.station.real slot subslot
+            (output_in slot subslot self.now.device.live.rest.link) in
+            MatchResult result (λ told. (closed self.now.stage ≡ None)
+            × (value ≡ Some told.now)) (λ refusal. IsUntold (closed self.now.stage) value refusal) }
         ensures short { IfOk result (λ value. length value.now ≤ 1440) }
     {
         if let Some(refusal) = why_closed(self.stage) {
@@ -421,7 +432,8 @@ fn counted(flash: &RecordedFlash<4096>) -> u32
 // How many of the calls that a flash keeps are older than those that it recorded since it had recorded so many.
 fn older(before: u32, flash: &RecordedFlash<4096>) -> usize
     ensures most { result ≤ length (record_of flash.now).recent }
-    ensures exact { (calls : ℕ) → (record_of flash.now).count ≡ (before + calls) % 2 ^ 32 → calls ≤ length (record_of flash.now).recent → calls ≤ 48 →
+    ensures exact { (calls : ℕ) → (record_of flash.now).count ≡ (before + calls) % 2 ^ 32 → calls ≤ length (record_of flash.now).recent →
+        calls ≤ 48 →
         result ≡ length (record_of flash.now).recent - calls }
 {
     let newer = flash.count().wrapping_sub(before) as usize;

@@ -68,8 +68,10 @@ pub trait Flash<const S: usize>: Drop {
     /// Turns to 0 each bit that is 0 in `bytes`, from `place` on.
     fn program(&mut self, sector: Sector, place: usize, bytes: &[u8]) -> Result<(), FlashFault>
         requires { place + length bytes.now ≤ S }
-        ensures done { OnOk result (image self.new ≡ with_sector (image self.old) sector (programmed (sector_of (image self.old) sector) place bytes.now)) }
-        ensures torn { OnErr result (Torn sector place (place + length bytes.now) (programmed (sector_of (image self.old) sector) place bytes.now) (image self.old) (image self.new)) }
+        ensures done { OnOk result (image self.new
+            ≡ with_sector (image self.old) sector (programmed (sector_of (image self.old) sector) place bytes.now)) }
+        ensures torn { OnErr result (Torn sector place (place + length bytes.now)
+            (programmed (sector_of (image self.old) sector) place bytes.now) (image self.old) (image self.new)) }
         ensures calls { asked self.old (Programs sector place bytes.now ∷ []) self.new }
         ensures cause { HasCause (failures self.old) (failures self.new) result }
         ensures lost { StaysLost (is_lost self.old) (is_lost self.new) result }
@@ -112,5 +114,6 @@ pub trait Flash<const S: usize>: Drop {
     ghost asked_nothing: { (flash : Self) → asked flash [] flash };
 
     /// Some calls, and then more, are all of them in order.
-    ghost asked_more: { (old between new : Self) (front back : List Call) → asked old front between → asked between back new → asked old (front ++ back) new };
+    ghost asked_more: { (old between new : Self) (front back : List Call) → asked old front between → asked between back new →
+        asked old (front ++ back) new };
 }

@@ -1,5 +1,6 @@
 // A flash in memory, whose calls can be made to fail, with power lost inside one or not.
-ghost use Rattle.std.specs.Prelude.{◌≡◌, ◌+◌, ◌≤◌, ◌↔◌, Option, None, Some, true, false, [], ◌∷◌, length, slice_range, IsOk, OnOk, OnErr, min};
+ghost use Rattle.std.specs.Prelude.{◌≡◌, ◌+◌, ◌≤◌, ◌↔◌, Option, None, Some, true, false, [], ◌∷◌, length, slice_range, IsOk, OnOk, OnErr};
+ghost use Rattle.std.specs.Prelude.{min};
 ghost use Rattle.std.proofs.Props.{props};
 ghost use Rattle.flash_model.specs.Calls.{Programs, Erases, Arms};
 ghost use Rattle.flash_model.specs.Image.{IsImage, IsSectorSize, sector_of, with_sector, programmed, erased};
@@ -25,7 +26,8 @@ pub struct MemoryFlash<const S: usize> {
 }
 
 impl<const S: usize> MemoryFlash<S> {
-    ghost use Rattle.flash_model.specs.Memory.{image_of, armed_in, failures_of, is_powerless, next_fate, next_armed, next_lost, next_readable, next_read_armed};
+    ghost use Rattle.flash_model.specs.Memory.{image_of, armed_in, failures_of, is_powerless, next_fate, next_armed, next_lost};
+    ghost use Rattle.flash_model.specs.Memory.{next_readable, next_read_armed};
     ghost use Rattle.flash_model.specs.declared.flash.Order.TheVariants.{Cut, Fault, ReadFault};
 
     /// A flash with both sectors erased, power there, nothing armed and no failure counted.
@@ -199,7 +201,8 @@ impl<const S: usize> MemoryFlash<S> {
 }
 
 impl<const S: usize> Flash<S> for MemoryFlash<S> {
-    ghost use Rattle.flash_model.specs.Memory.{image_of, armed_in, failures_of, is_powerless, next_fate, next_armed, next_lost, next_readable, next_read_armed, IsReliable};
+    ghost use Rattle.flash_model.specs.Memory.{image_of, armed_in, failures_of, is_powerless, next_fate, next_armed, next_lost};
+    ghost use Rattle.flash_model.specs.Memory.{next_readable, next_read_armed, IsReliable};
     ghost use Rattle.flash_model.specs.Asked.{IsAsked};
     ghost use Rattle.flash_model.specs.MemoryLaws.{IsImage-of, IsSectorSize-of, has_power-of, asked_nothing-of, asked_more-of};
 
@@ -247,8 +250,10 @@ impl<const S: usize> Flash<S> for MemoryFlash<S> {
         requires { place + length bytes.now ≤ S }
 
         // What the trait asks, and that a call without power changes no byte.
-        ensures done { OnOk result (image_of self.new ≡ with_sector (image_of self.old) sector (programmed (sector_of (image_of self.old) sector) place bytes.now)) }
-        ensures torn { OnErr result (Torn sector place (place + length bytes.now) (programmed (sector_of (image_of self.old) sector) place bytes.now) (image_of self.old) (image_of self.new)) }
+        ensures done { OnOk result (image_of self.new
+            ≡ with_sector (image_of self.old) sector (programmed (sector_of (image_of self.old) sector) place bytes.now)) }
+        ensures torn { OnErr result (Torn sector place (place + length bytes.now)
+            (programmed (sector_of (image_of self.old) sector) place bytes.now) (image_of self.old) (image_of self.new)) }
         ensures calls { IsAsked self.old (Programs sector place bytes.now ∷ []) self.new }
         ensures cause { HasCause (failures_of self.old) (failures_of self.new) result }
         ensures lost { StaysLost (is_powerless self.old) (is_powerless self.new) result }
@@ -257,7 +262,9 @@ impl<const S: usize> Flash<S> for MemoryFlash<S> {
 
         // What a flash in memory does beside, exactly.
         ensures passes { IsOk result ↔ (next_fate self.old ≡ Fate.Passes) }
-        ensures image { image_of self.new ≡ with_sector (image_of self.old) sector (sector_after (next_fate self.old) place (place + length bytes.now) (programmed (sector_of (image_of self.old) sector) place bytes.now) (sector_of (image_of self.old) sector)) }
+        ensures image { image_of self.new
+            ≡ with_sector (image_of self.old) sector (sector_after (next_fate self.old) place (place + length bytes.now)
+            (programmed (sector_of (image_of self.old) sector) place bytes.now) (sector_of (image_of self.old) sector)) }
         ensures armed { armed_in self.new ≡ next_armed self.old }
         ensures power { is_powerless self.new ≡ next_lost self.old }
         ensures failures { failures_of self.new ≡ failures_after (failures_of self.old) result }
@@ -283,7 +290,9 @@ impl<const S: usize> Flash<S> for MemoryFlash<S> {
 
         // What a flash in memory does beside, exactly.
         ensures passes { IsOk result ↔ (next_fate self.old ≡ Fate.Passes) }
-        ensures image { image_of self.new ≡ with_sector (image_of self.old) sector (sector_after (next_fate self.old) 0 S (erased S) (sector_of (image_of self.old) sector)) }
+        ensures image { image_of self.new
+            ≡ with_sector (image_of self.old) sector (sector_after (next_fate self.old) 0 S (erased S)
+            (sector_of (image_of self.old) sector)) }
         ensures armed { armed_in self.new ≡ next_armed self.old }
         ensures power { is_powerless self.new ≡ next_lost self.old }
         ensures failures { failures_of self.new ≡ failures_after (failures_of self.old) result }

@@ -10,7 +10,8 @@ pub fn fitting_frames_are_read()
     // A frame whose layers fit their formats, and the frame.
     ensures back { (meaning : Meaning) → FitsFrame meaning → layers.Fits meaning → IsReadBack meaning }
     // A datagram fits where its addresses, ports and octets do: lengths and checksums that are written always fit.
-    ensures datagram { (from to : Endpoint) (body : List ℕ) → length from.address ≡ 4 → length to.address ≡ 4 → from.port < 65536 → to.port < 65536
+    ensures datagram { (from to : Endpoint) (body : List ℕ) → length from.address ≡ 4 → length to.address ≡ 4 → from.port < 65536 →
+        to.port < 65536
         → length body ≤ 1472 → datagram.Fits (UdpDatagram from to body) }
 {}
 

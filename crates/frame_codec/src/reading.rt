@@ -111,7 +111,8 @@ pub fn read(bytes: &[u8]) -> Result<Layered<'_>, FrameFault>
     // What is spelled so is read, and as nothing else.
     ensures only { (meaning : Meaning) → IsFrame bytes.now meaning → Gives meaning_of result (Ok meaning) }
     // With anything behind it, up to the limit, it is read as the same, and under EtherType 0x8892 with that behind.
-    ensures behind { (first more : List ℕ) (meaning : Meaning) → IsFrame first meaning → bytes.now ≡ first ++ more → length bytes.now ≤ longest meaning.tag →
+    ensures behind { (first more : List ℕ) (meaning : Meaning) → IsFrame first meaning → bytes.now ≡ first ++ more →
+        length bytes.now ≤ longest meaning.tag →
         Gives meaning_of result (Ok (with_behind meaning more)) }
     // Which fault it is.
     ensures exact { Gives meaning_of result (frame_of bytes.now) }

@@ -5,7 +5,8 @@
 ghost use Rattle.std.specs.Prelude.{◌≡◌, ◌+◌, ◌-◌, ◌≢◌, ◌≤◌, List, ℕ, [], ◌++◌, length, replicate, Ok};
 ghost use Rattle.arrayvec.specs.ArrayVec.{array_vec_len};
 ghost use Rattle.frame_codec.specs.Meaning.{UdpDatagram, content_of, meaning_in, meaning_of};
-ghost use Rattle.frame_codec.specs.Frame.{IsFrame, FitsFrame, content_size, content_under, datagram, frame_of, frame_bytes, layers, link, longest, padding_of, real_time, tag_and_type, type_of, vlan, with_behind, IsReadBack};
+ghost use Rattle.frame_codec.specs.Frame.{IsFrame, FitsFrame, content_size, content_under, datagram, frame_of, frame_bytes, layers, link};
+ghost use Rattle.frame_codec.specs.Frame.{longest, padding_of, real_time, tag_and_type, type_of, vlan, with_behind, IsReadBack};
 
 use crate::arp::{ADDRESS_RESOLUTION, put_arp};
 use crate::internet::{INTERNET, InternetHeader, put_internet_header};

@@ -18,19 +18,24 @@ pub fn frames_are_read()
     ensures real_time { (destination source : Mac) (tag : Option ℕ) (frame_id : ℕ) (body : List ℕ)
         → CanBeSent (carrying destination source tag (RealTime frame_id body))
         → frame_of (frame_bytes (carrying destination source tag (RealTime frame_id body)))
-        ≡ Ok (carrying destination source tag (RealTime frame_id (body ++ padding_of (carrying destination source tag (RealTime frame_id body))))) }
+        ≡ Ok (carrying destination source tag (RealTime frame_id (body
+        ++ padding_of (carrying destination source tag (RealTime frame_id body))))) }
     // A packet of ARP is read as it, and a datagram of UDP as it: their own lengths tell where they end.
     ensures arp { (destination source : Mac) (tag : Option ℕ) (packet : Arp)
         → CanBeSent (carrying destination source tag (ArpPacket packet))
-        → frame_of (frame_bytes (carrying destination source tag (ArpPacket packet))) ≡ Ok (carrying destination source tag (ArpPacket packet)) }
+        → frame_of (frame_bytes (carrying destination source tag (ArpPacket packet)))
+        ≡ Ok (carrying destination source tag (ArpPacket packet)) }
     ensures udp { (destination source : Mac) (tag : Option ℕ) (from to : Endpoint) (body : List ℕ)
         → CanBeSent (carrying destination source tag (UdpDatagram from to body))
-        → frame_of (frame_bytes (carrying destination source tag (UdpDatagram from to body))) ≡ Ok (carrying destination source tag (UdpDatagram from to body)) }
+        → frame_of (frame_bytes (carrying destination source tag (UdpDatagram from to body)))
+        ≡ Ok (carrying destination source tag (UdpDatagram from to body)) }
     // However long real-time data is, and whatever its FrameID, it is never read as a packet of ARP or as a datagram.
-    ensures alone { (destination source : Mac) (tag : Option ℕ) (frame_id : ℕ) (body : List ℕ) → IsMac destination → IsMac source → IsTag tag
+    ensures alone { (destination source : Mac) (tag : Option ℕ) (frame_id : ℕ) (body : List ℕ) → IsMac destination → IsMac source →
+        IsTag tag
         → IsRealTimeOrNone (frame_of (frame_bytes (carrying destination source tag (RealTime frame_id body)))) }
     // A datagram that does not fit a frame is never read.
-    ensures long { (destination source : Mac) (tag : Option ℕ) (from to : Endpoint) (body : List ℕ) → IsMac destination → IsMac source → IsTag tag
+    ensures long { (destination source : Mac) (tag : Option ℕ) (from to : Endpoint) (body : List ℕ) → IsMac destination → IsMac source →
+        IsTag tag
         → length from.address ≡ 4 → length to.address ≡ 4 → 1472 < length body
         → IsErr (frame_of (frame_bytes (carrying destination source tag (UdpDatagram from to body)))) }
 {

@@ -75,7 +75,8 @@ pub fn confirmations_are_heard()
 /// What either end hears of the ERR by which the other ends the relation: laws of the definitions.
 pub fn ends_are_heard()
     // That it ends, whatever the reason.
-    ensures device { (identity : Identity) (setup : Setup) (route : Route) (header : Header) (reason : Abort) → IsSetup setup → IsRoute route → IsHeader header
+    ensures device { (identity : Identity) (setup : Setup) (route : Route) (header : Header) (reason : Abort) → IsSetup setup →
+        IsRoute route → IsHeader header
         → device_hears identity (comes (controller_bytes setup (Ends route header reason)))
         ≡ own_hears identity route.partner (Alarms setup.plan.controller.mac (end_pdu header reason).header notice.Abort) }
     ensures controller { (mine : Controller) (identity : Identity) (farewell : Farewell)

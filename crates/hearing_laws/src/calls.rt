@@ -33,9 +33,11 @@ use rpc_core::{
 /// Calls and the answer to ApplicationReady can be sent: laws of the definitions.
 pub fn calls_can_be_sent()
     // Each call of a controller over a plan: its header and its blocks fit.
-    ensures call { (setup : Setup) (request : Request) → IsSetup setup → IsCalled request → IsNumbered request → CanBeCalled devices (call_for setup request) }
+    ensures call { (setup : Setup) (request : Request) → IsSetup setup → IsCalled request → IsNumbered request →
+        CanBeCalled devices (call_for setup request) }
     // ApplicationReady, and the answer to it: they have one block, which fits.
-    ensures ready { (ready : Ready) → IsHeader ready.header → ready.header.interface ≡ interface_uuid controllers → IsUuid ready.block.ar_uuid
+    ensures ready { (ready : Ready) → IsHeader ready.header → ready.header.interface ≡ interface_uuid controllers →
+        IsUuid ready.block.ar_uuid
         → CanBeCalled controllers (ready_call ready) }
     ensures answer { (call : Call) (block : ControlBlock) → IsHeader call.header → call.args_maximum < 4294967296 → IsUuid block.ar_uuid
         → CanBeAnswered (ready_answer call block) }
@@ -48,7 +50,8 @@ pub fn calls_are_heard()
     // The device with the address of Ethernet that it goes to hears that call: from the controller, to the IP address of the plan.
     ensures device { (identity : Identity) (setup : Setup) (to : Mac) (call : Call) → IsSetup setup → IsMac to → CanBeCalled devices call
         → device_hears identity (comes (call_frame setup to call))
-        ≡ own_told identity setup.plan.controller.mac to (calls_at setup.plan.controller.address) (calls_at setup.plan.station.suite.address) (Calls call) }
+        ≡ own_told identity setup.plan.controller.mac to (calls_at setup.plan.controller.address)
+        (calls_at setup.plan.station.suite.address) (Calls call) }
     // A controller hears nothing of it.
     ensures controller { (mine : Controller) (setup : Setup) (to : Mac) (call : Call) → IsSetup setup → IsMac to → CanBeCalled devices call
         → controller_hears mine (call_frame setup to call) ≡ Nothing }
@@ -64,11 +67,13 @@ pub fn responses_are_heard()
     // The controller that it goes to hears that response.
     ensures controller { (mine : Controller) (identity : Identity) (caller : Caller) (address : List ℕ) (answer : Answered)
         → IsDevice identity → IsCaller caller → IsAddress address → CanBeAnswered answer
-        → controller_hears mine (response_frame identity caller address answer) ≡ mine_told mine caller.mac caller.endpoint (Responded answer) }
+        → controller_hears mine (response_frame identity caller address answer)
+        ≡ mine_told mine caller.mac caller.endpoint (Responded answer) }
     // A device hears that response, and no call.
     ensures device { (other identity : Identity) (caller : Caller) (address : List ℕ) (answer : Answered)
         → IsDevice identity → IsCaller caller → IsAddress address → CanBeAnswered answer
-        → device_hears other (comes (response_frame identity caller address answer)) ≡ own_told other identity.mac caller.mac (calls_at address) caller.endpoint (Responds answer) }
+        → device_hears other (comes (response_frame identity caller address answer))
+        ≡ own_told other identity.mac caller.mac (calls_at address) caller.endpoint (Responds answer) }
     // One that does not fit a frame nobody hears.
     ensures long { (mine : Controller) (identity : Identity) (caller : Caller) (address : List ℕ) (answer : Answered)
         → IsDevice identity → IsCaller caller → IsAddress address → IsHeader answer.header → 1372 < length answer.blocks
@@ -86,12 +91,15 @@ pub fn responses_are_heard()
 pub fn ready_calls_are_heard()
     // The controller that it goes to hears that call, from the device.
     ensures controller { (mine : Controller) (identity : Identity) (address : List ℕ) (ready : Ready)
-        → IsDevice identity → IsMac ready.partner.mac → IsAddress ready.partner.address → IsAddress address → CanBeCalled controllers (ready_call ready)
+        → IsDevice identity → IsMac ready.partner.mac → IsAddress ready.partner.address → IsAddress address →
+        CanBeCalled controllers (ready_call ready)
         → controller_hears mine (ready_frame identity address ready)
-        ≡ mine_told mine ready.partner.mac (calls_at ready.partner.address) (Called (record { mac = identity.mac; endpoint = calls_at address }) (ready_call ready)) }
+        ≡ mine_told mine ready.partner.mac (calls_at ready.partner.address)
+        (Called (record { mac = identity.mac; endpoint = calls_at address }) (ready_call ready)) }
     // A device hears no call and no response in it.
     ensures device { (other identity : Identity) (address : List ℕ) (ready : Ready)
-        → IsDevice identity → IsMac ready.partner.mac → IsAddress ready.partner.address → IsAddress address → CanBeCalled controllers (ready_call ready)
+        → IsDevice identity → IsMac ready.partner.mac → IsAddress ready.partner.address → IsAddress address →
+        CanBeCalled controllers (ready_call ready)
         → device_hears other (comes (ready_frame identity address ready))
         ≡ own_told other identity.mac ready.partner.mac (calls_at address) (calls_at ready.partner.address) Garbled }
 {
@@ -104,11 +112,13 @@ pub fn ready_calls_are_heard()
 /// What is heard of the answer to ApplicationReady: laws of the definitions.
 pub fn ready_answers_are_heard()
     // The device that it goes to hears that response, and no call.
-    ensures device { (identity : Identity) (setup : Setup) (caller : Caller) (answer : Answered) → IsSetup setup → IsCaller caller → CanBeAnswered answer
+    ensures device { (identity : Identity) (setup : Setup) (caller : Caller) (answer : Answered) → IsSetup setup → IsCaller caller →
+        CanBeAnswered answer
         → device_hears identity (comes (answer_frame setup caller answer))
         ≡ own_told identity setup.plan.controller.mac caller.mac (calls_at setup.plan.controller.address) caller.endpoint (Responds answer) }
     // A controller that it goes to hears that response.
-    ensures controller { (mine : Controller) (setup : Setup) (caller : Caller) (answer : Answered) → IsSetup setup → IsCaller caller → CanBeAnswered answer
+    ensures controller { (mine : Controller) (setup : Setup) (caller : Caller) (answer : Answered) → IsSetup setup → IsCaller caller →
+        CanBeAnswered answer
         → controller_hears mine (answer_frame setup caller answer) ≡ mine_told mine caller.mac caller.endpoint (Responded answer) }
 {
     frames_are_read();
@@ -119,9 +129,11 @@ pub fn ready_answers_are_heard()
 /// Datagrams alone are calls and responses: laws of the definitions.
 pub fn datagrams_alone_are_calls()
     // However long real-time data is, and whatever its FrameID, no device hears a call or a response in it, and no controller does.
-    ensures device { (identity : Identity) (destination source : Mac) (tag : Option ℕ) (frame_id : ℕ) (body : List ℕ) → IsMac destination → IsMac source → IsTag tag
+    ensures device { (identity : Identity) (destination source : Mac) (tag : Option ℕ) (frame_id : ℕ) (body : List ℕ) → IsMac destination →
+        IsMac source → IsTag tag
         → IsUntold (device_hears identity (comes (frame_bytes (carrying destination source tag (RealTime frame_id body))))) }
-    ensures controller { (mine : Controller) (destination source : Mac) (tag : Option ℕ) (frame_id : ℕ) (body : List ℕ) → IsMac destination → IsMac source → IsTag tag
+    ensures controller { (mine : Controller) (destination source : Mac) (tag : Option ℕ) (frame_id : ℕ) (body : List ℕ) →
+        IsMac destination → IsMac source → IsTag tag
         → IsUncalled (controller_hears mine (frame_bytes (carrying destination source tag (RealTime frame_id body)))) }
 {
     frames_are_read();

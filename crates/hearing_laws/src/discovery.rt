@@ -30,7 +30,8 @@ use frame_laws::frames_are_read;
 pub fn requests_are_heard()
     // Each device hears the Identify by the plan's name, from the controller, and no other request in it.
     ensures identify { (identity : Identity) (setup : Setup) (to : Mac) → IsSetup setup
-        → device_hears identity (comes (controller_bytes setup (Requests to asks.Identify))) ≡ Asks setup.plan.controller.mac (identify_asked setup.plan) }
+        → device_hears identity (comes (controller_bytes setup (Requests to asks.Identify)))
+        ≡ Asks setup.plan.controller.mac (identify_asked setup.plan) }
     // The device that it goes to hears the Set of the plan's IP suite.
     ensures address { (identity : Identity) (setup : Setup) (to : Mac) → IsSetup setup → IsMac to
         → device_hears identity (comes (controller_bytes setup (Requests to asks.Address)))
@@ -72,7 +73,8 @@ pub fn packets_are_heard()
     ensures device { (other identity : Identity) (asker : Mac) (address : List ℕ) (target : Holder)
         → IsDevice identity → IsMac asker → IsAddress address → IsHolder target
         → device_hears other (comes (device_bytes identity (ArpReply asker address target)))
-        ≡ all_hears other asker (Resolves identity.mac (record { operation = Reply; sender = record { mac = identity.mac; address = address }; target = target })) }
+        ≡ all_hears other asker (Resolves identity.mac (record
+        { operation = Reply; sender = record { mac = identity.mac; address = address }; target = target })) }
 {
     frames_are_read();
 }

@@ -2,7 +2,8 @@
 ghost use Rattle.std.specs.Prelude.{◌≡◌, ◌+◌, ◌≤◌, ◌++◌, [], length};
 ghost use Rattle.arrayvec.specs.ArrayVec.{array_vec_len};
 ghost use Rattle.record_blocks.specs.FilterData.{filter_data};
-ghost use Rattle.im_records.specs.Plugged.{device_entries, device_in, device_of, all_of, filter_record, ident_in, modules_in, parts_in, submodules_in};
+ghost use Rattle.im_records.specs.Plugged.{device_entries, device_in, device_of, all_of, filter_record, ident_in, modules_in, parts_in};
+ghost use Rattle.im_records.specs.Plugged.{submodules_in};
 
 use arrayvec::ArrayVec;
 use block_codec::{Block, FilterModule, FilterModules, FilterSubmodule, ImFilterData, write_block};

@@ -2,7 +2,8 @@
 ghost use Rattle.std.specs.Prelude.{◌≡◌, ◌≤◌};
 ghost use Rattle.std.specs.Option.{option_map};
 ghost use Rattle.block_codec.specs.Block.{block_bytes, block_size};
-ghost use Rattle.im_records.specs.Records.{has_subslot, im0_record, im1_record, im2_record, im3_record, im4_record, is_device, is_real, record_of};
+ghost use Rattle.im_records.specs.Records.{has_subslot, im0_record, im1_record, im2_record, im3_record, im4_record, is_device, is_real};
+ghost use Rattle.im_records.specs.Records.{record_of};
 ghost use Rattle.im_records.specs.Writable.{is_writable};
 
 use crate::Record;

@@ -4,7 +4,9 @@ ghost use Rattle.std.specs.Prelude.{◌≡◌, ◌==◌, ◌+◌, [], drop, ◌*
 ghost use Rattle.arrayvec.specs.ArrayVec.{array_vec_len};
 ghost use Rattle.wire.specs.Codec.{Gives};
 ghost use Rattle.block_fields.specs.Fields.{body};
-ghost use Rattle.module_blocks.specs.Expected.{expected, expected_module, expected_module_alike, expected_modules, expected_submodule, expected_submodule_alike, new_slot, new_subslot, own_of, IsExpected, IsExpectedSubmoduleBlockReq, SubmoduleFits};
+ghost use Rattle.module_blocks.specs.Expected.{expected, expected_module, expected_module_alike, expected_modules, expected_submodule};
+ghost use Rattle.module_blocks.specs.Expected.{expected_submodule_alike, new_slot, new_subslot, own_of, IsExpected};
+ghost use Rattle.module_blocks.specs.Expected.{IsExpectedSubmoduleBlockReq, SubmoduleFits};
 
 use crate::submodule_data::{
     SubmoduleData, put_submodule_data, submodule_data_at, submodule_data_len,

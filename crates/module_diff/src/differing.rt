@@ -3,7 +3,8 @@ ghost use Rattle.std.specs.Prelude.{◌≡◌, ◌+◌, ◌≤◌, ◌++◌, ◌
 ghost use Rattle.std.specs.List.{filter};
 ghost use Rattle.arrayvec.specs.ArrayVec.{array_vec_len};
 ghost use Rattle.module_diff.specs.Plugged.{is_ident};
-ghost use Rattle.module_diff.specs.Diff.{diff_of, is_as_expected, module_rows, row_with, submodule_row, submodule_rows, submodule_row_with, wanted_in};
+ghost use Rattle.module_diff.specs.Diff.{diff_of, is_as_expected, module_rows, row_with, submodule_row, submodule_rows, submodule_row_with};
+ghost use Rattle.module_diff.specs.Diff.{wanted_in};
 
 use crate::plugged::{module_ident, submodule_ident};
 use crate::{DiffRows, Expected};
@@ -43,8 +44,10 @@ fn fill_rows(
 )
     requires no_modules { modules.old.items ≡ [] }
     requires no_submodules { submodules.old.items ≡ [] }
-    ensures modules { modules.new.items ≡ module_rows real.now.modules.items (wanted_in expected.now.modules.items expected.now.submodules.items) }
-    ensures submodules { submodules.new.items ≡ submodule_rows real.now.modules.items (wanted_in expected.now.modules.items expected.now.submodules.items) }
+    ensures modules { modules.new.items
+        ≡ module_rows real.now.modules.items (wanted_in expected.now.modules.items expected.now.submodules.items) }
+    ensures submodules { submodules.new.items
+        ≡ submodule_rows real.now.modules.items (wanted_in expected.now.modules.items expected.now.submodules.items) }
     ensures few_modules { length modules.new.items ≤ 64 }
     ensures few_submodules { length submodules.new.items ≤ 64 }
 {
@@ -75,8 +78,10 @@ fn push_module(
 )
     requires modules_room { array_vec_len modules.old + 1 ≤ 64 }
     requires submodules_room { array_vec_len submodules.old + length own.now ≤ 64 }
-    ensures modules { modules.new.items ≡ modules.old.items ++ module_rows real.now.modules.items (record { entry = entry.now; submodules = own.now } ∷ []) }
-    ensures submodules { submodules.new.items ≡ submodules.old.items ++ submodule_rows real.now.modules.items (record { entry = entry.now; submodules = own.now } ∷ []) }
+    ensures modules { modules.new.items ≡ modules.old.items
+        ++ module_rows real.now.modules.items (record { entry = entry.now; submodules = own.now } ∷ []) }
+    ensures submodules { submodules.new.items ≡ submodules.old.items
+        ++ submodule_rows real.now.modules.items (record { entry = entry.now; submodules = own.now } ∷ []) }
     ensures few_modules { array_vec_len modules.new ≤ array_vec_len modules.old + 1 }
     ensures few_submodules { array_vec_len submodules.new ≤ array_vec_len submodules.old + length own.now }
 {
@@ -135,7 +140,9 @@ fn push_submodules(
     proper: bool,
 ) -> u16
     requires { array_vec_len submodules.old + length own.now ≤ 64 }
-    ensures rows { submodules.new.items ≡ submodules.old.items ++ map (submodule_row real.now.modules.items slot) (filter (λ part. not (proper && is_as_expected real.now.modules.items slot part)) own.now) }
+    ensures rows { submodules.new.items ≡ submodules.old.items
+        ++ map (submodule_row real.now.modules.items slot) (filter (λ part. not (proper
+        && is_as_expected real.now.modules.items slot part)) own.now) }
     ensures count { result ≡ length (filter (λ part. not (proper && is_as_expected real.now.modules.items slot part)) own.now) }
     ensures few { array_vec_len submodules.new ≤ array_vec_len submodules.old + length own.now }
 {

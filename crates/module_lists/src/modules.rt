@@ -115,7 +115,8 @@ pub fn put_modules<const N: usize, M: Module + Put<N>, S: Put<N>>(
     copied_parts: &mut ArrayVec<S, 256>,
 )
     requires { array_vec_len out.old + (listed_modules M.format M.own S.format).size value.now ≤ N }
-    ensures items { (tail : List ℕ) → out.new.items ++ tail ≡ out.old.items ++ (listed_modules M.format M.own S.format).write value.now tail }
+    ensures items { (tail : List ℕ) → out.new.items ++ tail
+        ≡ out.old.items ++ (listed_modules M.format M.own S.format).write value.now tail }
     ensures len { array_vec_len out.new ≡ array_vec_len out.old + (listed_modules M.format M.own S.format).size value.now }
     ensures fits { FitsNested M.fits M.own S.fits value.now.modules value.now.submodules }
     ensures few_modules { length value.now.modules ≤ 256 }

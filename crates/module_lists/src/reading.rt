@@ -35,7 +35,8 @@ fn submodules_at<'a, S: Entry>(
     count: u16,
     submodules: &mut ArrayVec<S, 256>,
 ) -> Result<&'a [u8], BlockFault>
-    ensures { Gives (λ rest. (submodules.new.items, rest.now)) result (submodules_read S.format (array_vec_len submodules.old) count submodules.old.items bytes.now) }
+    ensures { Gives (λ rest. (submodules.new.items, rest.now)) result
+        (submodules_read S.format (array_vec_len submodules.old) count submodules.old.items bytes.now) }
 {
     let start = submodules.len();
     let mut rest = bytes;
@@ -55,7 +56,8 @@ fn modules_at<'a, M: Module, S: Entry>(
     modules: &mut ArrayVec<M, 256>,
     submodules: &mut ArrayVec<S, 256>,
 ) -> Result<&'a [u8], BlockFault>
-    ensures { Gives (λ rest. ((modules.new.items, submodules.new.items), rest.now)) result (modules_read M.format M.own S.format count modules.old.items submodules.old.items bytes.now) }
+    ensures { Gives (λ rest. ((modules.new.items, submodules.new.items), rest.now)) result
+        (modules_read M.format M.own S.format count modules.old.items submodules.old.items bytes.now) }
 {
     let mut rest = bytes;
     for turn in 0..count {
@@ -73,7 +75,8 @@ pub(crate) fn fill_modules<'a, M: Module, S: Entry>(
     modules: &mut ArrayVec<M, 256>,
     submodules: &mut ArrayVec<S, 256>,
 ) -> Result<&'a [u8], BlockFault>
-    ensures { Gives (λ rest. ((modules.new.items, submodules.new.items), rest.now)) result ((module_list M.format M.own S.format).read bytes.now) }
+    ensures { Gives (λ rest. ((modules.new.items, submodules.new.items), rest.now)) result
+        ((module_list M.format M.own S.format).read bytes.now) }
 {
     let (count, rest) = u16_at(bytes)?;
     modules.clear();

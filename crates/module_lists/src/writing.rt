@@ -30,7 +30,8 @@ fn put_entries<const N: usize, M: Module + Put<N>, S: Put<N>>(
     submodules: &[S],
 )
     requires { array_vec_len out.old + modules_size M.format M.own S.format modules.now submodules.now ≤ N }
-    ensures items { (tail : List ℕ) → out.new.items ++ tail ≡ out.old.items ++ modules_bytes M.format M.own S.format modules.now submodules.now tail }
+    ensures items { (tail : List ℕ) → out.new.items ++ tail
+        ≡ out.old.items ++ modules_bytes M.format M.own S.format modules.now submodules.now tail }
     ensures len { array_vec_len out.new ≡ array_vec_len out.old + modules_size M.format M.own S.format modules.now submodules.now }
     ensures fits { FitsNested M.fits M.own S.fits modules.now submodules.now }
 {
@@ -51,7 +52,8 @@ pub(crate) fn put_lists<const N: usize, M: Module + Put<N>, S: Put<N>>(
 )
     requires room { array_vec_len out.old + (module_list M.format M.own S.format).size (modules.now, submodules.now) ≤ N }
     requires few { length modules.now ≤ 256 }
-    ensures items { (tail : List ℕ) → out.new.items ++ tail ≡ out.old.items ++ (module_list M.format M.own S.format).write (modules.now, submodules.now) tail }
+    ensures items { (tail : List ℕ) → out.new.items ++ tail
+        ≡ out.old.items ++ (module_list M.format M.own S.format).write (modules.now, submodules.now) tail }
     ensures len { array_vec_len out.new ≡ array_vec_len out.old + (module_list M.format M.own S.format).size (modules.now, submodules.now) }
     ensures fits { FitsNested M.fits M.own S.fits modules.now submodules.now }
 {

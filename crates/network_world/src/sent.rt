@@ -27,7 +27,11 @@ impl Model for SentFrames {
 
     ghost Value = { Sent };
 
-    ghost view = { λ sent. record { frames = octets_of (sent.opening ∷ sent.others.items); room = vec_capacity sent.others - vec_len sent.others } };
+    ghost view = { λ sent. record {
+      frames = octets_of (sent.opening ∷ sent.others.items);
+      room = vec_capacity sent.others - vec_len
+          sent.others;
+    } };
 }
 
 /// A copy of a frame.

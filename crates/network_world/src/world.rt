@@ -2,7 +2,8 @@
 ghost use Rattle.std.specs.Prelude.{◌≡◌, ◌≤◌, ◌<◌, ◌++◌, ◌∷◌, [], ℕ, length, option_map, slice_get, take, OnErr, OnOk};
 ghost use Rattle.controller_core.specs.Machine.{opening_of, step_of};
 ghost use Rattle.device_frames.specs.Heard.{heard_of};
-ghost use Rattle.network_world.specs.World.{Comes, Delivers, Happens, IsHeard, Passes, Played, is_cyclic_frame, is_ended, is_skipped, world_of};
+ghost use Rattle.network_world.specs.World.{Comes, Delivers, Happens, IsHeard, Passes, Played, is_cyclic_frame, is_ended, is_skipped};
+ghost use Rattle.network_world.specs.World.{world_of};
 
 use crate::sent::SentFrames;
 use crate::{End, Move};
@@ -84,7 +85,8 @@ fn happen_at_device<F: Flash<S>, const S: usize>(
     event: &DeviceEvent,
 )
     requires room { 4 ≤ sent.old.room }
-    ensures { IsHeard F.image F.failures F.asked device.old sent.old.frames (heard_of device.old.station.identity event.now) device.new sent.new.frames }
+    ensures { IsHeard F.image F.failures F.asked device.old sent.old.frames (heard_of device.old.station.identity event.now) device.new
+        sent.new.frames }
 {
     let mut outbox = Outbox::new();
     let _ = device.step(event, &mut outbox);
@@ -111,7 +113,8 @@ fn come<F: Flash<S>, const S: usize>(
     bytes: Bytes,
 )
     requires room { 4 ≤ sent.old.room }
-    ensures { Comes F.image F.failures F.asked (is_skipped device.old controller.old end bytes.items) (world_of device.old controller.old sent.old) end bytes.items (world_of device.new controller.new sent.new) }
+    ensures { Comes F.image F.failures F.asked (is_skipped device.old controller.old end bytes.items)
+        (world_of device.old controller.old sent.old) end bytes.items (world_of device.new controller.new sent.new) }
 {
     if is_skipped(device, controller, end, bytes.as_slice()) {
         return;
@@ -130,7 +133,8 @@ fn pass<F: Flash<S>, const S: usize>(
     end: End,
 )
     requires room { 4 ≤ sent.old.room }
-    ensures { Passes F.image F.failures F.asked (world_of device.old controller.old sent.old) end (world_of device.new controller.new sent.new) }
+    ensures { Passes F.image F.failures F.asked (world_of device.old controller.old sent.old) end
+        (world_of device.new controller.new sent.new) }
 {
     match end {
         End::Device => happen_at_device(device, sent, &DeviceEvent::Tick),
@@ -147,7 +151,8 @@ fn deliver<F: Flash<S>, const S: usize>(
     number: usize,
 )
     requires room { 4 ≤ sent.old.room }
-    ensures { Delivers F.image F.failures F.asked (slice_get sent.old.frames number) (world_of device.old controller.old sent.old) end (world_of device.new controller.new sent.new) }
+    ensures { Delivers F.image F.failures F.asked (slice_get sent.old.frames number) (world_of device.old controller.old sent.old) end
+        (world_of device.new controller.new sent.new) }
 {
     let bytes = match sent.at(number) {
         Some(frame) => bytes_of(frame.as_slice()),
@@ -164,7 +169,8 @@ fn happen<F: Flash<S>, const S: usize>(
     one: &Move,
 )
     requires room { 4 ≤ sent.old.room }
-    ensures { Happens F.image F.failures F.asked (world_of device.old controller.old sent.old) one.now (world_of device.new controller.new sent.new) }
+    ensures { Happens F.image F.failures F.asked (world_of device.old controller.old sent.old) one.now
+        (world_of device.new controller.new sent.new) }
 {
     match one {
         Move::Deliver(end, number) => deliver(device, controller, sent, *end, *number),
@@ -226,7 +232,8 @@ impl<F: Flash<S>, const S: usize> World<F, S> {
         // Each move does what it is, one behind the other.
         ensures played { OnOk result (Played F.image F.failures F.asked self.old moves.now self.new) }
         // So do those of a front, where memory ends.
-        ensures front { OnErr result ((count : ℕ) × (count < length moves.now) × Played F.image F.failures F.asked self.old (take count moves.now) self.new) }
+        ensures front { OnErr result ((count : ℕ) × (count < length moves.now)
+            × Played F.image F.failures F.asked self.old (take count moves.now) self.new) }
     {
         for one in moves {
             self.make(one)?;

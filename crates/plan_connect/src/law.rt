@@ -19,7 +19,8 @@ pub fn requests_are_read()
     ensures read { (parts : Parts) (ar : List ℕ) → IsPlan parts → AllByRecursion IsRead (blocks_of parts ar)
         → request_of None (connect_of parts ar) ≡ Ok (request_for parts ar) }
     // Where the device has the plan's modules, none of them differs.
-    ensures same { (parts : Parts) (ar : List ℕ) → IsPlan parts → diff_of (request_for parts ar).expected parts.real.modules.items ≡ no_rows }
+    ensures same { (parts : Parts) (ar : List ℕ) → IsPlan parts →
+        diff_of (request_for parts ar).expected parts.real.modules.items ≡ no_rows }
 {
     layouts_are_taken();
     packed_places_are_asked();

@@ -9,7 +9,8 @@ ghost use Rattle.connect_blocks.specs.AlarmCr.{IsAlarmCrBlockReq};
 ghost use Rattle.module_blocks.specs.Expected.{IsExpectedSubmoduleBlockReq};
 ghost use Rattle.block_codec.specs.Block.{block_bytes, block_size};
 ghost use Rattle.plans.specs.Packed.{frame_octets};
-ghost use Rattle.plans.specs.Connect.{IsRead, alarm_block, ar_block, asked_id, bytes_of, does_connect_fit, expected_block, expected_blocks, iocr_block, left_behind, less, reference_of, size_of};
+ghost use Rattle.plans.specs.Connect.{IsRead, alarm_block, ar_block, asked_id, bytes_of, does_connect_fit, expected_block, expected_blocks};
+ghost use Rattle.plans.specs.Connect.{iocr_block, left_behind, less, reference_of, size_of};
 ghost use Rattle.plans.specs.Parts.{data_of};
 
 use crate::data::{data_of, module_of, submodules_of};
@@ -128,7 +129,8 @@ fn write_expected(out: &mut ArrayVec<u8, 1372>, entry: &RealModule)
     requires { array_vec_len out.old + block_size (Block.ExpectedSubmoduleBlockReq (expected_block entry.now)) ≤ 1372 }
     ensures exact { out.new.items ≡ out.old.items ++ block_bytes (Block.ExpectedSubmoduleBlockReq (expected_block entry.now)) }
     ensures len { array_vec_len out.new ≡ array_vec_len out.old + block_size (Block.ExpectedSubmoduleBlockReq (expected_block entry.now)) }
-    ensures read { IsExpectedSubmoduleBlockReq (expected_block entry.now) → IsRead (Block.ExpectedSubmoduleBlockReq (expected_block entry.now)) }
+    ensures read { IsExpectedSubmoduleBlockReq (expected_block entry.now) →
+        IsRead (Block.ExpectedSubmoduleBlockReq (expected_block entry.now)) }
 {
     let modules = one(module_of(entry));
     let submodules = submodules_of(entry);
@@ -163,7 +165,8 @@ fn one(entry: ExpectedModule) -> ArrayVec<ExpectedModule, 1>
 pub(crate) fn write_all_expected(out: &mut ArrayVec<u8, 1372>, modules: &[RealModule])
     requires { array_vec_len out.old + size_of (expected_blocks modules.now) ≤ 1372 }
     ensures exact { out.new.items ≡ out.old.items ++ bytes_of (expected_blocks modules.now) }
-    ensures read { AllByRecursion (λ entry. IsExpectedSubmoduleBlockReq (expected_block entry)) modules.now → AllByRecursion IsRead (expected_blocks modules.now) }
+    ensures read { AllByRecursion (λ entry. IsExpectedSubmoduleBlockReq (expected_block entry)) modules.now →
+        AllByRecursion IsRead (expected_blocks modules.now) }
 {
     for entry in modules {
         write_expected(out, entry);

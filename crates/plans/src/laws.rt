@@ -13,9 +13,11 @@ ghost use Rattle.plans.specs.Parts.{AreOrdered, data_of};
 pub fn packed_places_are_asked()
     // What the Connect asks for in a direction are the packed places,
     ensures asked { (direction : IocrType) (modules : List RealModule) → AreOrdered modules
-        → asked direction (data_of modules) (map object_of (packed direction Data 0 (data_of modules))) (map object_of (packed direction Iocs (octets_of direction Data (data_of modules)) (data_of modules)))
+        → asked direction (data_of modules) (map object_of (packed direction Data 0 (data_of modules)))
+        (map object_of (packed direction Iocs (octets_of direction Data (data_of modules)) (data_of modules)))
         ≡ packed_places direction (data_of modules) }
     // and they are a layout.
     ensures good { (direction : IocrType) (modules : List RealModule) → AreOrdered modules
-        → IsLayout (layout_in direction (data_of modules)).data_length direction (data_of modules) (packed_places direction (data_of modules)) }
+        → IsLayout (layout_in direction (data_of modules)).data_length direction (data_of modules)
+        (packed_places direction (data_of modules)) }
 {}

@@ -70,7 +70,8 @@ fn push_place(
 ) -> u16
     requires room { array_vec_len objects.old ≤ 255 }
     requires short { offset + octets_in direction kind sub.now ≤ 1440 }
-    ensures items { objects.new.items ≡ objects.old.items ++ map object_of (place_at kind offset sub.now (taken direction kind sub.now.io_data)) }
+    ensures items { objects.new.items ≡ objects.old.items
+        ++ map object_of (place_at kind offset sub.now (taken direction kind sub.now.io_data)) }
     ensures few { array_vec_len objects.new ≤ array_vec_len objects.old + 1 }
     ensures offset { result ≡ offset + octets_in direction kind sub.now }
 {

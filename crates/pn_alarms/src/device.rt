@@ -113,7 +113,11 @@ impl DeviceAlarms {
     /// Data comes. What is taken may end the alarm that stands.
     fn take(&mut self, number: u16, ack: &AlarmAck) -> Taken
         ensures taken { result ≡ taken_as self.old.seen number }
-        ensures state { self.new ≡ record { sender = sender_after self.old.sender ack.now (taken_as self.old.seen number); seen = last_behind self.old.seen number } }
+        ensures state { self.new ≡ record {
+          sender = sender_after self.old.sender ack.now (taken_as self.old.seen number);
+          seen =
+              last_behind self.old.seen number;
+        } }
     {
         // An AlarmAck that came before its ACK counts: it can only answer an alarm that arrived.
         let taken = self.receiver.take(number);

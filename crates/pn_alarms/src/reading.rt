@@ -68,7 +68,8 @@ pub fn read_pdu(bytes: &[u8]) -> Result<Pdu<'_>, AlarmFault>
     // What is spelled so is read, and as nothing else.
     ensures only { (meaning : Said) → IsPdu bytes.now meaning → Gives said result (Ok meaning) }
     // With anything behind it, too.
-    ensures behind { (first more : List ℕ) (meaning : Said) → IsPdu first meaning → bytes.now ≡ first ++ more → Gives said result (Ok meaning) }
+    ensures behind { (first more : List ℕ) (meaning : Said) → IsPdu first meaning → bytes.now ≡ first ++ more →
+        Gives said result (Ok meaning) }
     // Which fault it is.
     ensures exact { Gives said result (pdu_of bytes.now) }
 {

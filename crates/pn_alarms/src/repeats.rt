@@ -38,7 +38,8 @@ impl Model for Repeats {
 
     ghost view = { λ repeats. record { interval = repeats.interval; limit = repeats.limit; last = repeats.last; waiting = repeats.waiting } };
 
-    ghost invariant = { λ repeats. (0 < repeats.interval) × (0 < repeats.limit) × ForSome repeats.waiting (λ units. units < repeats.limit) };
+    ghost invariant = { λ repeats. (0 < repeats.interval) × (0 < repeats.limit)
+        × ForSome repeats.waiting (λ units. units < repeats.limit) };
 }
 
 impl Repeats {

@@ -130,7 +130,11 @@ impl Model for Sender {
     ghost use Rattle.std.specs.Option.{option_map};
     ghost use Rattle.pn_alarms.specs.Standing.{kept_as};
 
-    ghost view = { λ sender. record { sending = sender.repeats; specifier = sender.specifier; standing = option_map kept_as sender.standing } };
+    ghost view = { λ sender. record {
+      sending = sender.repeats;
+      specifier = sender.specifier;
+      standing = option_map kept_as sender.standing;
+    } };
 
     ghost invariant = { λ sender. sender.specifier < 2048 };
 }

@@ -89,7 +89,8 @@ pub fn write_alarm<const N: usize>(
     // The octets, each of them.
     ensures exact { out.new.items ≡ out.old.items ++ pdu_bytes (alarm_pdu header.now alarm.entry) }
     // With anything behind it, it is read as that, and what it carries as the alarm.
-    ensures behind { (more : List ℕ) → pdu_of (pdu_bytes (alarm_pdu header.now alarm.entry) ++ more) ≡ Ok (alarm_pdu header.now alarm.entry) }
+    ensures behind { (more : List ℕ) → pdu_of (pdu_bytes (alarm_pdu header.now alarm.entry) ++ more)
+        ≡ Ok (alarm_pdu header.now alarm.entry) }
     ensures carried { notification_of (alarm_pdu header.now alarm.entry).body ≡ Ok alarm.entry }
 {
     append(out, &alarm_front(header, &alarm));

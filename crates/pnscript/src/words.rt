@@ -34,8 +34,10 @@ pub(crate) fn task_of(alloc: Global, words: &[String]) -> Result<Option<Task>, R
 
 // Which command the one word behind the program's name is. Where it is one, only memory can be wanting.
 fn command_in(alloc: Global, words: &[String]) -> Result<Option<Task>, Error>
-    ensures met { IfOk result (λ task. (program word : List ℕ) → map string_bytes words.now ≡ program ∷ word ∷ [] → task ≡ task_named word) }
-    ensures passes { IfErr result (λ error. (program word : List ℕ) → is_word word ≡ true → map string_bytes words.now ≡ program ∷ word ∷ [] → kind_of error ≡ ErrorKind.OutOfMemory) }
+    ensures met { IfOk result (λ task. (program word : List ℕ) → map string_bytes words.now ≡ program ∷ word ∷ [] →
+        task ≡ task_named word) }
+    ensures passes { IfErr result (λ error. (program word : List ℕ) → is_word word ≡ true →
+        map string_bytes words.now ≡ program ∷ word ∷ [] → kind_of error ≡ ErrorKind.OutOfMemory) }
 {
     let alone = Command::new(alloc, "pnscript").subcommand(Command::new(alloc, "run"))?;
     let command = alone.subcommand(Command::new(alloc, "plan"))?;

@@ -4,7 +4,8 @@ ghost use Rattle.arrayvec.specs.ArrayVec.{array_vec_len};
 ghost use Rattle.wire.specs.Codec.{Gives};
 ghost use Rattle.block_fields.specs.Fields.{body};
 ghost use Rattle.module_lists.specs.Lists.{flat_alike};
-ghost use Rattle.record_blocks.specs.FilterData.{filter_data, filter_module, filter_modules, filter_submodule, own_of, IsCounted, IsFilterData};
+ghost use Rattle.record_blocks.specs.FilterData.{filter_data, filter_module, filter_modules, filter_submodule, own_of, IsCounted};
+ghost use Rattle.record_blocks.specs.FilterData.{IsFilterData};
 
 use arrayvec::ArrayVec;
 use block_fields::{BlockFault, len_fields, put_fields, read_body, read_fields};

@@ -21,7 +21,8 @@ pub fn read_implicit(
     // The answer,
     ensures done { IfOk result (λ _. implicit_read identity.now real.now settings.now blocks.now ≡ Ok answer.new.items) }
     // or which fault it is; then there is none.
-    ensures refused { IfErr result (λ fault. (implicit_read identity.now real.now settings.now blocks.now ≡ Err fault) × (answer.new.items ≡ [])) }
+    ensures refused { IfErr result (λ fault. (implicit_read identity.now real.now settings.now blocks.now ≡ Err fault)
+        × (answer.new.items ≡ [])) }
 {
     let request = read_request(blocks)?;
     serve(identity, real, settings, &request, answer)

@@ -25,8 +25,12 @@ pub(crate) fn serve(
     answer: &mut Blocks,
 ) -> Result<(), CallFault>
     requires empty { answer.old.items ≡ [] }
-    ensures done { IfOk result (λ _. read_of real.now request.now (record_of request.now.index request.now.slot_number request.now.subslot_number identity.now real.now settings.now) ≡ Ok answer.new.items) }
-    ensures refused { IfErr result (λ fault. (read_of real.now request.now (record_of request.now.index request.now.slot_number request.now.subslot_number identity.now real.now settings.now) ≡ Err fault) × (answer.new.items ≡ [])) }
+    ensures done { IfOk result (λ _. read_of real.now request.now
+        (record_of request.now.index request.now.slot_number request.now.subslot_number identity.now real.now settings.now)
+        ≡ Ok answer.new.items) }
+    ensures refused { IfErr result (λ fault. (read_of real.now request.now
+        (record_of request.now.index request.now.slot_number request.now.subslot_number identity.now real.now settings.now) ≡ Err fault)
+        × (answer.new.items ≡ [])) }
 {
     let (slot, subslot, index) = (request.slot_number, request.subslot_number, request.index);
     check_place(real, request.api, slot, subslot, index)?;

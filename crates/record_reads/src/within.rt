@@ -30,9 +30,11 @@ pub fn read_within(
     requires empty { answer.old.items ≡ [] }
     requires room { length differing.now ≤ 1308 }
     // The answer,
-    ensures done { IfOk result (λ _. relation_read (option_map (λ uuid. uuid.now) standing.entry) differing.now identity.now real.now settings.now blocks.now ≡ Ok answer.new.items) }
+    ensures done { IfOk result (λ _. relation_read (option_map (λ uuid. uuid.now) standing.entry) differing.now identity.now real.now
+        settings.now blocks.now ≡ Ok answer.new.items) }
     // or which fault it is; then there is none.
-    ensures refused { IfErr result (λ fault. (relation_read (option_map (λ uuid. uuid.now) standing.entry) differing.now identity.now real.now settings.now blocks.now ≡ Err fault) × (answer.new.items ≡ [])) }
+    ensures refused { IfErr result (λ fault. (relation_read (option_map (λ uuid. uuid.now) standing.entry) differing.now identity.now
+        real.now settings.now blocks.now ≡ Err fault) × (answer.new.items ≡ [])) }
 {
     let request = request_within(standing, blocks)?;
     serve_within(differing, identity, real, settings, &request, answer)
@@ -62,8 +64,10 @@ fn serve_within(
 ) -> Result<(), CallFault>
     requires empty { answer.old.items ≡ [] }
     requires room { length differing.now ≤ 1308 }
-    ensures done { IfOk result (λ _. read_of real.now request.now (record_within differing.now request.now identity.now real.now settings.now) ≡ Ok answer.new.items) }
-    ensures refused { IfErr result (λ fault. (read_of real.now request.now (record_within differing.now request.now identity.now real.now settings.now) ≡ Err fault) × (answer.new.items ≡ [])) }
+    ensures done { IfOk result (λ _. read_of real.now request.now
+        (record_within differing.now request.now identity.now real.now settings.now) ≡ Ok answer.new.items) }
+    ensures refused { IfErr result (λ fault. (read_of real.now request.now
+        (record_within differing.now request.now identity.now real.now settings.now) ≡ Err fault) × (answer.new.items ≡ [])) }
 {
     if !is_module_diff(request.index) {
         return serve(identity, real, settings, request, answer);

@@ -1,5 +1,6 @@
 // A flash in memory, whose calls are recorded.
-ghost use Rattle.std.specs.Prelude.{◌≡◌, ◌+◌, ◌<◌, ◌≤◌, ◌↔◌, Option, None, Some, true, false, [], ◌∷◌, ℕ, length, map, slice_range, IsOk, OnOk, OnErr};
+ghost use Rattle.std.specs.Prelude.{◌≡◌, ◌+◌, ◌<◌, ◌≤◌, ◌↔◌, Option, None, Some, true, false, [], ◌∷◌, ℕ, length, map, slice_range, IsOk};
+ghost use Rattle.std.specs.Prelude.{OnOk, OnErr};
 ghost use Rattle.std.proofs.Props.{props};
 ghost use Rattle.flash_model.specs.Image.{IsSectorSize, sector_of, with_sector, programmed, erased};
 ghost use Rattle.flash_model.specs.Memory.{IsReliable};
@@ -82,7 +83,8 @@ impl<const S: usize> RecordedFlash<S> {
 
 impl<const S: usize> Flash<S> for RecordedFlash<S> {
     ghost use Rattle.recorded_flash.specs.Record.{image_of, IsAsked};
-    ghost use Rattle.recorded_flash.specs.Laws.{failures_of, has_power, IsAlways, IsImage-of, IsSectorSize-of, has_power-of, asked_nothing-of, asked_more-of};
+    ghost use Rattle.recorded_flash.specs.Laws.{failures_of, has_power, IsAlways, IsImage-of, IsSectorSize-of, has_power-of};
+    ghost use Rattle.recorded_flash.specs.Laws.{asked_nothing-of, asked_more-of};
 
     ghost image = { image_of };
 

@@ -107,7 +107,8 @@ impl Relation {
         requires empty { answer.old.items ≡ [] }
         requires room { 1236 ≤ N }
         ensures done { IfOk result (λ _. connect_answer identity.now real.now self.old blocks.now ≡ Ok answer.new.items) }
-        ensures refused { IfErr result (λ fault. (connect_answer identity.now real.now self.old blocks.now ≡ Err fault) × (answer.new.items ≡ [])) }
+        ensures refused { IfErr result (λ fault. (connect_answer identity.now real.now self.old blocks.now ≡ Err fault)
+            × (answer.new.items ≡ [])) }
         ensures state { self.new ≡ moved (making real.now partner (connect_of self.old blocks.now)) self.old }
     {
         // One relation, and whoever has it keeps it: a second controller must not take a running station from the first.

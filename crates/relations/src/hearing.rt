@@ -36,7 +36,8 @@ impl Relation {
         ensures heard { result ≡ answer_of (answered response.now) self.old }
         ensures state { self.new ≡ moved (judged_by result) self.old }
         // Nothing else leads to the exchange of data, and from nowhere else.
-        ensures phase { phase_of self.new ≡ Some Exchanging → (phase_of self.old ≡ Some Exchanging) ⊎ ((phase_of self.old ≡ Some Awaiting) × (result ≡ ReadyAnswer.Confirmed)) }
+        ensures phase { phase_of self.new ≡ Some Exchanging →
+            (phase_of self.old ≡ Some Exchanging) ⊎ ((phase_of self.old ≡ Some Awaiting) × (result ≡ ReadyAnswer.Confirmed)) }
     {
         let Some(Phase::Awaiting) = self.phase else {
             return ReadyAnswer::NotWanted;

@@ -1,7 +1,9 @@
 //! What holds of relations over many events.
-ghost use Rattle.relations.specs.Runs.{StandsUntil, EndsAt, IsByPrmEnd, IsByReady, IsDueEachSecond, IsDueWhateverComes, IsGivenUp, IsHeldFor};
+ghost use Rattle.relations.specs.Runs.{StandsUntil, EndsAt, IsByPrmEnd, IsByReady, IsDueEachSecond, IsDueWhateverComes, IsGivenUp};
+ghost use Rattle.relations.specs.Runs.{IsHeldFor};
 
-/// The timers, over any number of units with nothing else between: a law of the definitions by which `Relation::elapse` is stated, and no code.
+/// The timers, over any number of units with nothing else between: a law of the definitions by which `Relation::elapse` is stated, and no
+/// code.
 pub fn time_is_kept()
     // A relation of which nothing is heard stands until the last unit of its activity timer, which ends it with ERR.
     ensures stands { StandsUntil }

@@ -55,7 +55,8 @@ impl Model for Relation {
       flow = relation.exchange;
     }) };
 
-    ghost invariant = { λ relation. (relation.quiet ≤ 209712000) × (relation.waited < 32000) × HasBegunIn relation.phase relation.exchange };
+    ghost invariant = { λ relation. (relation.quiet ≤ 209712000) × (relation.waited < 32000)
+        × HasBegunIn relation.phase relation.exchange };
 }
 
 impl Relation {

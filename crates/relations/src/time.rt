@@ -6,7 +6,8 @@ ghost use Rattle.pn_alarms.specs.declared.abort.Abort.TheVariants.{Activity, Dat
 ghost use Rattle.relations.specs.declared.phase.Phase.TheVariants.{Exchanging};
 ghost use Rattle.relations.specs.Farewells.{farewell_of};
 ghost use Rattle.relations.specs.Link.{Link, is_awaiting, phase_of, taken_of};
-ghost use Rattle.relations.specs.Timers.{EndsIn, brings_nothing, due_behind, due_of, farewell_for, is_timed, is_unheard, left_behind, nothing};
+ghost use Rattle.relations.specs.Timers.{EndsIn, brings_nothing, due_behind, due_of, farewell_for, is_timed, is_unheard, left_behind};
+ghost use Rattle.relations.specs.Timers.{nothing};
 ghost use Rattle.relations.specs.Phases.{moved, passing};
 ghost use Rattle.relations.specs.Ready.{ready_of};
 
@@ -93,7 +94,8 @@ impl Relation {
         ensures stands { phase_of self.new ≡ phase_of self.old }
         ensures records { taken_of self.new ≡ taken_of self.old }
         // Once data is exchanged data hold always ends it where it is over.
-        ensures hold { (old : Link) → self.old ≡ Some old → old.phase ≡ Exchanging → is_unheard old ≡ true → farewell_for result.tick.ending self.new ≡ Some (farewell_of DataHold old) }
+        ensures hold { (old : Link) → self.old ≡ Some old → old.phase ≡ Exchanging → is_unheard old ≡ true →
+            farewell_for result.tick.ending self.new ≡ Some (farewell_of DataHold old) }
         // ApplicationReady is sent again as it was.
         ensures same { (old new : Link) → self.old ≡ Some old → self.new ≡ Some new → ready_of new ≡ ready_of old }
     {

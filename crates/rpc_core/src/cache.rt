@@ -1,5 +1,6 @@
 //! The cache of answers: of each of the last activities, the answer to its last call (C706, 9.5.5).
-ghost use Rattle.std.specs.Prelude.{◌≡◌, ◌+◌, ◌-◌, ◌<◌, ◌≤◌, ℕ, true, false, List, [], ◌∷◌, length, take, slice_index, Some, IfSome, IfNone};
+ghost use Rattle.std.specs.Prelude.{◌≡◌, ◌+◌, ◌-◌, ◌<◌, ◌≤◌, ℕ, true, false, List, [], ◌∷◌, length, take, slice_index, Some, IfSome};
+ghost use Rattle.std.specs.Prelude.{IfNone};
 ghost use Rattle.std.specs.List.{remove};
 ghost use Rattle.arrayvec.specs.ArrayVec.{array_vec_len};
 ghost use Rattle.rpc_core.specs.Cache.{Kept, is_of, looked, kept_more, behind_call, behind_calls, answer_of, HoldsThrough, IsFaithful};
@@ -76,10 +77,12 @@ impl<const N: usize> Model for CallCache<N> {
 /// The place in the order of the answer to an activity.
 fn place_of(slots: &[Slot], order: &[usize], activity: &[u8; 16]) -> Option<usize>
     requires { (k : ℕ) → k < length order.now → slice_index order.now k < length slots.now }
-    ensures before { IfSome result (λ place. (k : ℕ) → k < place → is_of activity.now (kept_at slots.now (slice_index order.now k)) ≡ false) }
+    ensures before { IfSome result (λ place. (k : ℕ) → k < place →
+        is_of activity.now (kept_at slots.now (slice_index order.now k)) ≡ false) }
     ensures there { IfSome result (λ place. place < length order.now) }
     ensures found { IfSome result (λ place. is_of activity.now (kept_at slots.now (slice_index order.now place)) ≡ true) }
-    ensures none { IfNone result ((k : ℕ) → k < length order.now → is_of activity.now (kept_at slots.now (slice_index order.now k)) ≡ false) }
+    ensures none { IfNone result ((k : ℕ) → k < length order.now →
+        is_of activity.now (kept_at slots.now (slice_index order.now k)) ≡ false) }
 {
     for (place, index) in order.iter().enumerate() {
         if slots[*index].activity == *activity {
@@ -123,7 +126,8 @@ impl<const N: usize> CallCache<N> {
         ensures told { looked activity.now sequence self.now ≡ told result }
         // A call that was answered, and comes again behind any calls while its activity is held, is answered by the same frame or,
         // where a later call of its activity was answered, not at all.
-        ensures faithful { (cache calls : List Kept) (call : Kept) (frame : List ℕ) → call.activity ≡ activity.now → call.sequence ≡ sequence →
+        ensures faithful { (cache calls : List Kept) (call : Kept) (frame : List ℕ) → call.activity ≡ activity.now →
+            call.sequence ≡ sequence →
             answer_of call cache ≡ Some frame → HoldsThrough N call.activity calls (behind_call N call cache) →
             self.now ≡ behind_calls N calls (behind_call N call cache) → IsFaithful frame (told result) }
     {
@@ -142,8 +146,9 @@ impl<const N: usize> CallCache<N> {
         Looked::New
     }
 
-    /// Keeps the answer to a call as its frame, so that a call that is repeated is answered alike whatever has changed since. It takes the place of the answer that is kept of its activity or, where there is none and the
-    /// cache is full, of the answer that was kept longest ago.
+    /// Keeps the answer to a call as its frame, so that a call that is repeated is answered alike whatever has changed since. It takes the
+    /// place of the answer that is kept of its activity or, where there is none and the cache is full, of the answer that was kept longest
+    /// ago.
     pub fn keep(&mut self, activity: &Uuid, sequence: u32, frame: &Frame)
         requires { 0 < N }
         ensures { self.new ≡ kept_more N (record { activity = activity.now; sequence = sequence; frame = frame.now.items }) self.old }

@@ -43,7 +43,8 @@ impl Call<'_> {
 /// ArgsMaximum and the blocks.
 #[tactic(auto, unfolding(crate::specs::Body::body))]
 fn call_body_at<'a>(order: Order, bytes: &'a [u8]) -> Result<(u32, u32, Option<&'a [u8]>), RpcFault>
-    ensures { Gives (λ x. (x.0, record { maximum = x.1; blocks = option_map (λ blocks. blocks.now) x.2 })) result ((body (ordered order 4) order).read bytes.now) }
+    ensures { Gives (λ x. (x.0, record { maximum = x.1; blocks = option_map (λ blocks. blocks.now) x.2 })) result
+        ((body (ordered order 4) order).read bytes.now) }
 {
     let (args_maximum, rest) = u32_at(order, bytes)?;
     let (counts, rest) = counts_at(order, rest)?;
@@ -72,7 +73,8 @@ pub fn read_call(interface: Interface, bytes: &[u8]) -> Result<Call<'_>, RpcFaul
     // What is spelled so is read, and as nothing else.
     ensures only { (meaning : Asked) → IsCall interface bytes.now meaning → Gives asked result (Ok meaning) }
     // With anything behind it, too.
-    ensures behind { (first more : List ℕ) (meaning : Asked) → IsCall interface first meaning → bytes.now ≡ first ++ more → Gives asked result (Ok meaning) }
+    ensures behind { (first more : List ℕ) (meaning : Asked) → IsCall interface first meaning → bytes.now ≡ first ++ more →
+        Gives asked result (Ok meaning) }
     // Which fault it is.
     ensures exact { Gives asked result (call_of interface bytes.now) }
 {

@@ -76,7 +76,8 @@ fn response_body_at<'a>(
     order: Order,
     bytes: &'a [u8],
 ) -> Result<(Status, u32, Option<&'a [u8]>), RpcFault>
-    ensures { Gives (λ x. (x.0, record { maximum = x.1; blocks = option_map (λ blocks. blocks.now) x.2 })) result ((body (status order) order).read bytes.now) }
+    ensures { Gives (λ x. (x.0, record { maximum = x.1; blocks = option_map (λ blocks. blocks.now) x.2 })) result
+        ((body (status order) order).read bytes.now) }
 {
     let (status, rest) = status_at(order, bytes)?;
     let (counts, rest) = counts_at(order, rest)?;
@@ -109,7 +110,8 @@ pub fn read_response(bytes: &[u8]) -> Result<Response<'_>, RpcFault>
     // What is spelled so is read, and as nothing else.
     ensures only { (meaning : Answered) → IsResponse bytes.now meaning → Gives answered result (Ok meaning) }
     // With anything behind it, too.
-    ensures behind { (first more : List ℕ) (meaning : Answered) → IsResponse first meaning → bytes.now ≡ first ++ more → Gives answered result (Ok meaning) }
+    ensures behind { (first more : List ℕ) (meaning : Answered) → IsResponse first meaning → bytes.now ≡ first ++ more →
+        Gives answered result (Ok meaning) }
     // Which fault it is.
     ensures exact { Gives answered result (response_of bytes.now) }
 {

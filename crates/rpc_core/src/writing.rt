@@ -137,7 +137,8 @@ fn put_counts(out: &mut Datagram, value: &Counts)
 /// Appends how blocks are counted, and the blocks.
 fn put_blocks(out: &mut Datagram, maximum: u32, blocks: &[u8])
     requires room { array_vec_len out.old + length blocks.now + 16 ≤ 1472 }
-    ensures items { out.new.items ≡ (out.old.items ++ (counts Big).write (counts_of (record { maximum = maximum; blocks = Some blocks.now })) []) ++ blocks.now }
+    ensures items { out.new.items ≡ (out.old.items
+        ++ (counts Big).write (counts_of (record { maximum = maximum; blocks = Some blocks.now })) []) ++ blocks.now }
     ensures fits { (counts Big).Fits (counts_of (record { maximum = maximum; blocks = Some blocks.now })) }
 {
     let length = blocks.len() as u32;

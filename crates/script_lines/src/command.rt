@@ -5,7 +5,8 @@ ghost use Rattle.std.specs.Option.{option_map, option_copied};
 ghost use Rattle.std.specs.Str.Lines.{lines, strip_carriage_return};
 ghost use Rattle.hex.specs.Hex.{decode_of};
 ghost use Rattle.uuid.specs.Text.{parsed};
-ghost use Rattle.script_lines.specs.Line.{behind, AreWords, bytes_of, catalogue_in, command_in, command_of, meaning_of, words_of, bare, bare_of_both, with_one, with_two, with_three, ordered, start_of, ticks_of, mask_of, strike_of};
+ghost use Rattle.script_lines.specs.Line.{behind, AreWords, bytes_of, catalogue_in, command_in, command_of, meaning_of, words_of, bare};
+ghost use Rattle.script_lines.specs.Line.{bare_of_both, with_one, with_two, with_three, ordered, start_of, ticks_of, mask_of, strike_of};
 ghost use Rattle.script_lines.specs.Numbers.{number_of};
 ghost use Rattle.script_lines.specs.Read.{command_read, line_read};
 
@@ -202,7 +203,8 @@ fn asked_by<'a>(
     words: Words<'_>,
     buffer: &'a mut Vec<u8>,
 ) -> Result<Option<Command<'a>>, AllocError>
-    ensures { IfOk result (λ command. (line : List ℕ) → AreWords line words.entry → option_map command_read command ≡ command_of (words_of line)) }
+    ensures { IfOk result (λ command. (line : List ℕ) → AreWords line words.entry →
+        option_map command_read command ≡ command_of (words_of line)) }
 {
     match words {
         Words::One(word) => Ok(bare(word)),
@@ -303,7 +305,8 @@ fn ordered(
     second: &[u8],
     buffer: &mut Vec<u8>,
 ) -> Result<Option<Command<'static>>, AllocError>
-    ensures { IfOk result (λ command. option_map command_read command ≡ ordered word.now (strike_of (number_of 4294967295 first.now) (mask_of (decode_of second.now)))) }
+    ensures { IfOk result (λ command. option_map command_read command
+        ≡ ordered word.now (strike_of (number_of 4294967295 first.now) (mask_of (decode_of second.now)))) }
 {
     let Some(strike) = strike(first, second, buffer)? else {
         return Ok(None);

@@ -1,6 +1,7 @@
 //! The lines that show the settings, the relation, the lamp and what the controller is at. Each function appends one of them to a text.
 ghost use Rattle.std.specs.Prelude.{◌≡◌, ◌++◌, ◌≤◌, length, OnOk, decimal};
-ghost use Rattle.script_lines.specs.Show.{name_line, suite_line, dotted, text_line, phase_line, phase_word, lamp_line, output_line, shown, state_line, state_word};
+ghost use Rattle.script_lines.specs.Show.{name_line, suite_line, dotted, text_line, phase_line, phase_word, lamp_line, output_line, shown};
+ghost use Rattle.script_lines.specs.Show.{state_line, state_word};
 
 use crate::render::hex_digits;
 use controller_core::{Cause, State};

@@ -17,7 +17,8 @@ use std::io::Write;
 pub(crate) fn play<W: Write>(alloc: Global, input: &[u8], writer: &mut W) -> Result<(), RunFault>
     requires { length input.now ≤ 16777216 }
     ensures faults { IfErr result IsPlayFault }
-    ensures played { (plans : List ℕ → Option Parts) → ArePlansOf plans input.now → IsPlayed plans (W.contents writer.old) (W.contents writer.new) input.now result }
+    ensures played { (plans : List ℕ → Option Parts) → ArePlansOf plans input.now →
+        IsPlayed plans (W.contents writer.old) (W.contents writer.new) input.now result }
 {
     let mut flash = MemoryFlash::blank();
     let mut session = Session::new(alloc, &mut flash);

@@ -55,7 +55,8 @@ fn tick(
     text: &mut Vec<u8>,
 ) -> Result<(), AllocError>
     ensures ticked { (station : Station) → Runs station device.old →
-        OnOk result (IsTurned station (step_of [] station.device station.live event.Tick) device.new other.old other.new text.old.items text.new.items) }
+        OnOk result (IsTurned station (step_of [] station.device station.live event.Tick) device.new other.old other.new text.old.items
+        text.new.items) }
     ensures same { device.new.station ≡ device.old.station }
 {
     step(device, &Event::Tick, outbox);

@@ -48,7 +48,8 @@ pub(crate) fn hand_over(
     to_controller: &mut Vec<Frame>,
 ) -> Result<(), AllocError>
     ensures handed { (station : Station) → Runs station device.old →
-        OnOk result (IsHandedTo (device_run station (frames_for_device (octets_of frames.now))) device.new to_controller.old.items to_controller.new.items) }
+        OnOk result (IsHandedTo (device_run station (frames_for_device (octets_of frames.now))) device.new to_controller.old.items
+        to_controller.new.items) }
     ensures same { device.new.station ≡ device.old.station }
 {
     for frame in frames {

@@ -2,7 +2,8 @@
 ghost use Rattle.std.specs.Prelude.{◌≡◌, ◌++◌, OnOk, IfOk, replicate};
 ghost use Rattle.controller_core.specs.Machine.{step_of};
 ghost use Rattle.controller_core.specs.declared.event.Event.TheVariants as event;
-ghost use Rattle.script_session.specs.Ends.{IsRun, Station, controller_run, device_run, frames_for_controller, frames_for_device, octets_of};
+ghost use Rattle.script_session.specs.Ends.{IsRun, Station, controller_run, device_run, frames_for_controller, frames_for_device};
+ghost use Rattle.script_session.specs.Ends.{octets_of};
 ghost use Rattle.script_session.specs.Power.{Runs};
 ghost use Rattle.script_session.specs.Session.{IsHandedOver};
 
@@ -141,7 +142,8 @@ impl OtherEnd {
         outbox: &mut Outbox,
     ) -> Result<usize, AllocError>
         ensures handed { (station : Station) → Runs station device.old →
-            IfOk result (λ moved. IsHandedOver (device_run station (frames_for_device self.old.to_device)) device.new self.old self.new moved) }
+            IfOk result (λ moved. IsHandedOver (device_run station (frames_for_device self.old.to_device)) device.new self.old self.new
+            moved) }
         ensures same { device.new.station ≡ device.old.station }
     {
         let moved = self.to_device.len();
@@ -204,7 +206,8 @@ fn ticks(
     outbox: &mut Outbox,
     to_device: &mut Vec<Frame>,
 ) -> Result<(), AllocError>
-    ensures { OnOk result (IsRun (controller_run controller.old (replicate units event.Tick)) controller.new to_device.old.items to_device.new.items) }
+    ensures { OnOk result (IsRun (controller_run controller.old (replicate units event.Tick)) controller.new to_device.old.items
+        to_device.new.items) }
 {
     let mut left = units;
     while left > 0 {
@@ -221,7 +224,8 @@ fn hear(
     outbox: &mut Outbox,
     to_device: &mut Vec<Frame>,
 ) -> Result<(), AllocError>
-    ensures { OnOk result (IsRun (controller_run controller.old (frames_for_controller (octets_of frames.now))) controller.new to_device.old.items to_device.new.items) }
+    ensures { OnOk result (IsRun (controller_run controller.old (frames_for_controller (octets_of frames.now))) controller.new
+        to_device.old.items to_device.new.items) }
 {
     for frame in frames {
         let event = Event::Frame(copied(frame.as_slice()));

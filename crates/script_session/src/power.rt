@@ -31,9 +31,11 @@ impl<'a> Power<'a> {
 
     /// Starts the device from what a flash keeps.
     pub(crate) fn start(flash: DemoFlash<'a>) -> Power<'a>
-        ensures stored { (settings : Settings) (room : ℕ) → IsReliable flash.entry → LeftByDevice (image_of flash.entry) → StartsWith (image_of flash.entry) settings room →
+        ensures stored { (settings : Settings) (room : ℕ) → IsReliable flash.entry → LeftByDevice (image_of flash.entry) →
+            StartsWith (image_of flash.entry) settings room →
             IsRunning (demo_started settings room) result }
-        ensures blank { IsReliable flash.entry → image_of flash.entry ≡ record { first = erased 4096; second = erased 4096 } → IsRunning factory_device result }
+        ensures blank { IsReliable flash.entry → image_of flash.entry ≡ record { first = erased 4096; second = erased 4096 } →
+            IsRunning factory_device result }
         ensures back { IsOver flash.entry result }
     {
         match Device::boot(demo_station::identity(), demo_station::real(), flash) {
@@ -44,7 +46,8 @@ impl<'a> Power<'a> {
 
     /// Takes the device's power away, and gives it back.
     pub(crate) fn restart(self) -> Power<'a>
-        ensures runs { (station : Station) → IsRunning station self.entry → IsRunning (demo_started station.live.values.stored station.live.values.room) result }
+        ensures runs { (station : Station) → IsRunning station self.entry →
+            IsRunning (demo_started station.live.values.stored station.live.values.room) result }
         ensures back { IsBack self.entry result }
     {
         match self {
@@ -60,7 +63,8 @@ impl<'a> Power<'a> {
 
     /// Gives a flash its power back, and starts the device. An order that is pending stays armed.
     fn with_power(flash: DemoFlash<'a>) -> Power<'a>
-        ensures runs { (settings : Settings) (room : ℕ) → IsReliable flash.entry → LeftByDevice (image_of flash.entry) → StartsWith (image_of flash.entry) settings room →
+        ensures runs { (settings : Settings) (room : ℕ) → IsReliable flash.entry → LeftByDevice (image_of flash.entry) →
+            StartsWith (image_of flash.entry) settings room →
             IsRunning (demo_started settings room) result }
         ensures back { IsOver flash.entry result }
     {

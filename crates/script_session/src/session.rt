@@ -52,14 +52,17 @@ impl<'a> Session<'a> {
     ghost use Rattle.script_lines.specs.Read.{command_read};
     ghost use Rattle.script_lines.specs.Text.{boot_line};
     ghost use Rattle.script_session.specs.Ends.{IsRightFor, cleared, nobody};
-    ghost use Rattle.script_session.specs.Said.{arms, config_outcome, deliver_answer, deliver_outcome, event_answer, factory_device, heard_outcome, is_order, outcome_of, restart_answer, said, show_answer, start_outcome, tick_answer};
+    ghost use Rattle.script_session.specs.Said.{arms, config_outcome, deliver_answer, deliver_outcome, event_answer, factory_device};
+    ghost use Rattle.script_session.specs.Said.{heard_outcome, is_order, outcome_of, restart_answer, said, show_answer, start_outcome};
+    ghost use Rattle.script_session.specs.Said.{tick_answer};
     ghost use Rattle.script_session.specs.Power.{IsArmed, IsBack, IsDemo, IsRunning, is_off, refusal_of};
     ghost use Rattle.script_session.specs.Session.{Are, AreRightFor, Comes, IsObeyed, Obeys};
     ghost use Rattle.script_session.specs.Off.{GivesBack, TakesOff};
 
     /// The demo device over this flash, as it starts, and nobody at the other end.
     pub fn new(alloc: Global, flash: &'a mut MemoryFlash<4096>) -> Session<'a>
-        ensures runs { IsReliable flash.old → image_of flash.old ≡ record { first = erased 4096; second = erased 4096 } → IsRunning factory_device result.power }
+        ensures runs { IsReliable flash.old → image_of flash.old ≡ record { first = erased 4096; second = erased 4096 } →
+            IsRunning factory_device result.power }
         ensures other { result.other ≡ nobody }
     {
         Session {
@@ -79,7 +82,8 @@ impl<'a> Session<'a> {
         text: &mut Vec<u8>,
     ) -> Result<bool, PlanFault>
         // Both ends become what the line makes of them, and its text is printed, where the flash does not fail.
-        ensures takes { (plans : List ℕ → Option Parts) (network : Network) → AreRightFor plans (meaning_of line.now) → Are network self.old → is_order (meaning_of line.now) ≡ false →
+        ensures takes { (plans : List ℕ → Option Parts) (network : Network) → AreRightFor plans (meaning_of line.now) →
+            Are network self.old → is_order (meaning_of line.now) ≡ false →
             Obeys (outcome_of plans network (meaning_of line.now)) self.new text.old.items text.new.items result }
         // While there is no power a line does nothing but a restart.
         ensures off { is_off self.old.power ≡ true → TakesOff (meaning_of line.now) self.old self.new text.old.items text.new.items result }
@@ -101,7 +105,8 @@ impl<'a> Session<'a> {
     /// Does what a command asks for, and renders what it prints. Says whether it is one that a script may have here.
     #[tactic(auto, using(crate::proofs::Obeying::always_obeys, crate::proofs::Obeying::if_there_obeys), unfolding(crate::specs::Said::said))]
     fn answer(&mut self, command: Command<'_>, text: &mut Vec<u8>) -> Result<bool, PlanFault>
-        ensures obeys { (plans : List ℕ → Option Parts) (network : Network) → AreRightFor plans (Asks (command_read command.entry)) → Are network self.old → arms (command_read command.entry) ≡ false →
+        ensures obeys { (plans : List ℕ → Option Parts) (network : Network) → AreRightFor plans (Asks (command_read command.entry)) →
+            Are network self.old → arms (command_read command.entry) ≡ false →
             Obeys (said plans network (command_read command.entry)) self.new text.old.items text.new.items result }
         ensures back { command_read command.entry ≡ Restart → GivesBack self.old self.new text.old.items text.new.items result }
         ensures armed { (order : Order) → command_read command.entry ≡ Arm order → IsArmed order self.old.power self.new.power }
@@ -159,7 +164,8 @@ impl<'a> Session<'a> {
         text: &mut Vec<u8>,
     ) -> Result<(), AllocError>
         ensures obeys { (network : Network) → Are network self.old →
-            OnOk result (IsObeyed (event_answer network (event.Input slot subslot (handed bytes.now))) self.new text.old.items text.new.items) }
+            OnOk result (IsObeyed (event_answer network (event.Input slot subslot (handed bytes.now))) self.new text.old.items
+            text.new.items) }
         ensures demo { IsDemo self.old.power → IsDemo self.new.power }
     {
         match &mut self.power {
@@ -180,7 +186,8 @@ impl<'a> Session<'a> {
         text: &mut Vec<u8>,
     ) -> Result<(), AllocError>
         ensures obeys { (network : Network) → Are network self.old →
-            OnOk result (IsObeyed (event_answer network (event.Alarm slot subslot (handed bytes.now))) self.new text.old.items text.new.items) }
+            OnOk result (IsObeyed (event_answer network (event.Alarm slot subslot (handed bytes.now))) self.new text.old.items
+            text.new.items) }
         ensures demo { IsDemo self.old.power → IsDemo self.new.power }
     {
         match &mut self.power {

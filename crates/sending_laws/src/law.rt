@@ -24,7 +24,8 @@ use hearing_laws::{
 /// Each frame that a controller sends is a message of its machine: a law of the definitions.
 pub fn frames_are_messages()
     // The frames of a step are the octets of the messages of its turn, one for one.
-    ensures { (old : Controlling) (event : Event) → (step_of old event).frames ≡ map (bytes_of old.setup) (turn_of old.setup old.live event).sent }
+    ensures { (old : Controlling) (event : Event) → (step_of old event).frames
+        ≡ map (bytes_of old.setup) (turn_of old.setup old.live event).sent }
 {}
 
 /// Each message of a controller's machine can be sent, by the plan's limits: laws of the definitions.

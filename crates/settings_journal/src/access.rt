@@ -48,7 +48,8 @@ pub(crate) fn read_slots<F: Flash<S>, const S: usize>(
     settings: &mut Settings,
 ) -> Result<Option<usize>, FlashFault>
     requires { F.is_lost flash.old ≡ false }
-    ensures found { IfOk result (λ found. MatchOption found ((after : Settings) → ¬ After version (sector_of (F.image flash.old) sector) (slots_in S) settings.old after)
+    ensures found { IfOk result (λ found. MatchOption found ((after : Settings) →
+        ¬ After version (sector_of (F.image flash.old) sector) (slots_in S) settings.old after)
         (λ next. After version (sector_of (F.image flash.old) sector) (slots_in S) settings.old settings.new
         × (next ≡ next_slot (sector_of (F.image flash.old) sector) (slots_in S)))) }
     ensures same { F.image flash.new ≡ F.image flash.old }
@@ -98,7 +99,8 @@ pub(crate) fn write_base<F: Flash<S>, const S: usize>(
     requires { length base.now ≡ 437 }
     ensures done { OnOk result (IsBase (sector_of (F.image flash.new) sector) base.now) }
     ensures left { MayLeave (sector_of (F.image flash.old) sector) base.now (sector_of (F.image flash.new) sector) }
-    ensures calls { (calls : List Call) × F.asked flash.old calls flash.new × IsAskedFor result (F.image flash.old) (base_calls sector base.now) calls (F.image flash.new) }
+    ensures calls { (calls : List Call) × F.asked flash.old calls flash.new
+        × IsAskedFor result (F.image flash.old) (base_calls sector base.now) calls (F.image flash.new) }
     ensures bytes { AreBytes base.now }
     ensures other { sector_of (F.image flash.new) (other sector) ≡ sector_of (F.image flash.old) (other sector) }
     ensures cause { HasCause (F.failures flash.old) (F.failures flash.new) result }
@@ -125,7 +127,8 @@ pub(crate) fn write_slot<F: Flash<S>, const S: usize>(
     ensures done { OnOk result (HasEntry (slot_at (sector_of (F.image flash.new) sector) number) entry.now) }
     ensures left { MayLeaveSlot entry.now (slot_at (sector_of (F.image flash.new) sector) number) }
     ensures others { KeepsOthers number (sector_of (F.image flash.old) sector) (sector_of (F.image flash.new) sector) }
-    ensures calls { (calls : List Call) × F.asked flash.old calls flash.new × IsAskedFor result (F.image flash.old) (slot_calls sector number entry.now) calls (F.image flash.new) }
+    ensures calls { (calls : List Call) × F.asked flash.old calls flash.new
+        × IsAskedFor result (F.image flash.old) (slot_calls sector number entry.now) calls (F.image flash.new) }
     ensures bytes { AreBytes entry.now }
     ensures other { sector_of (F.image flash.new) (other sector) ≡ sector_of (F.image flash.old) (other sector) }
     ensures cause { HasCause (F.failures flash.old) (F.failures flash.new) result }

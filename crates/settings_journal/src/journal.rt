@@ -1,5 +1,6 @@
 // The journal: its start, and the commit.
-ghost use Rattle.std.specs.Prelude.{◌≡◌, ◌↔◌, ◌⊎◌, ◌+◌, ◌≤◌, ℕ, List, [], ◌∷◌, true, false, IsTrue, IsErr, IfOk, IfErr, OnOk, OnErr, IsErrOf, MatchResult};
+ghost use Rattle.std.specs.Prelude.{◌≡◌, ◌↔◌, ◌⊎◌, ◌+◌, ◌≤◌, ℕ, List, [], ◌∷◌, true, false, IsTrue, IsErr, IfOk, IfErr, OnOk, OnErr};
+ghost use Rattle.std.specs.Prelude.{IsErrOf, MatchResult};
 ghost use Rattle.pn_values.specs.Command.{apply};
 ghost use Rattle.pn_values.specs.Settings.{factory_settings};
 ghost use Rattle.pn_values.specs.declared.settings.Settings.{Settings};
@@ -74,9 +75,15 @@ impl<F: Flash<S>, const S: usize> Model for Journal<F, S> {
 
     ghost Value = { State F };
 
-    ghost view = { λ j. record { flash = j.flash; settings = j.settings; room = room_of (slots_in S) j.position.generation j.position.free; has_failed = j.has_failed } };
+    ghost view = { λ j. record {
+      flash = j.flash;
+      settings = j.settings;
+      room = room_of (slots_in S) j.position.generation j.position.free;
+      has_failed = j.has_failed;
+    } };
 
-    ghost invariant = { λ j. j.has_failed ≡ false → StartsAt (F.image j.flash) j.position.active j.settings j.position.generation j.position.free };
+    ghost invariant = { λ j. j.has_failed ≡ false →
+        StartsAt (F.image j.flash) j.position.active j.settings j.position.generation j.position.free };
 }
 
 impl<F: Flash<S>, const S: usize> Journal<F, S> {
@@ -88,7 +95,8 @@ impl<F: Flash<S>, const S: usize> Journal<F, S> {
 
         // What can be read is given, unless a read fails.
         ensures known { (settings : Settings) (room : ℕ) → StartsWith (F.image flash) settings room →
-            MatchResult result (λ journal. (journal.settings ≡ settings) × (journal.room ≡ room)) (λ refused. refused.0 ≡ BootFault.FlashFault) }
+            MatchResult result (λ journal. (journal.settings ≡ settings)
+            × (journal.room ≡ room)) (λ refused. refused.0 ≡ BootFault.FlashFault) }
         ensures left { LeftByDevice (F.image flash) → IfErr result (λ refused. refused.0 ≡ BootFault.FlashFault) }
 
         // Foreign is what cannot be read, and nothing else.
@@ -101,13 +109,16 @@ impl<F: Flash<S>, const S: usize> Journal<F, S> {
         ensures ample { IsAmple S }
 
         // Nothing is written, and FlashFault is answered where a read fails and only there.
-        ensures same { MatchResult result (λ journal. F.image journal.flash ≡ F.image flash) (λ refused. F.image refused.1 ≡ F.image flash) }
+        ensures same { MatchResult result (λ journal. F.image journal.flash ≡ F.image flash) (λ refused. F.image refused.1
+            ≡ F.image flash) }
         ensures calls { MatchResult result (λ journal. F.asked flash [] journal.flash) (λ refused. F.asked flash [] refused.1) }
         ensures cause { MatchResult result (λ journal. F.failures journal.flash ≡ F.failures flash)
             (λ refused. HasBootCause refused.0 (F.failures flash) (F.failures refused.1)) }
-        ensures lost { MatchResult result (λ journal. F.is_lost journal.flash ≡ false) (λ refused. F.is_lost flash ≡ true → F.is_lost refused.1 ≡ true) }
+        ensures lost { MatchResult result (λ journal. F.is_lost journal.flash ≡ false) (λ refused. F.is_lost flash ≡ true →
+            F.is_lost refused.1 ≡ true) }
         ensures reliable { F.is_reliable flash →
-            MatchResult result (λ journal. F.is_reliable journal.flash) (λ refused. F.is_reliable refused.1 × (refused.0 ≡ BootFault.Foreign)) }
+            MatchResult result (λ journal. F.is_reliable journal.flash) (λ refused. F.is_reliable refused.1
+            × (refused.0 ≡ BootFault.Foreign)) }
     {
         let mut journal = Journal::unstarted(flash);
         match journal.load() {
@@ -169,7 +180,8 @@ impl<F: Flash<S>, const S: usize> Journal<F, S> {
         ensures calls { F.asked self.old.flash [] self.new.flash }
         ensures cause { MatchResult result (λ _. F.failures self.new.flash ≡ F.failures self.old.flash)
             (λ fault. HasBootCause fault (F.failures self.old.flash) (F.failures self.new.flash)) }
-        ensures lost { MatchResult result (λ _. F.is_lost self.new.flash ≡ false) (λ _. F.is_lost self.old.flash ≡ true → F.is_lost self.new.flash ≡ true) }
+        ensures lost { MatchResult result (λ _. F.is_lost self.new.flash ≡ false) (λ _. F.is_lost self.old.flash ≡ true →
+            F.is_lost self.new.flash ≡ true) }
         ensures reliable { F.is_reliable self.old.flash →
             F.is_reliable self.new.flash × IfErr result (λ fault. fault ≡ BootFault.Foreign) }
     {

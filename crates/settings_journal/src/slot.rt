@@ -4,7 +4,8 @@ ghost use Rattle.pn_values.specs.Command.{apply};
 ghost use Rattle.pn_values.specs.IpSuite.{IsSuite};
 ghost use Rattle.pn_values.specs.declared.command.Command.TheVariants.{SetName, SetIp, SetIm};
 ghost use Rattle.pn_values.specs.declared.settings.Settings.{Settings};
-ghost use Rattle.settings_journal.specs.Slot.{command_in, command_of, entry as entry_with, entry_of, im4_in, left_by, next_behind, sized, suite_in, Follows, IsEntryOf, IsJudged};
+ghost use Rattle.settings_journal.specs.Slot.{command_in, command_of, entry as entry_with, entry_of, im4_in, left_by, next_behind, sized};
+ghost use Rattle.settings_journal.specs.Slot.{suite_in, Follows, IsEntryOf, IsJudged};
 
 use crate::head::{OPEN, Version};
 use arrayvec::ArrayVec;
@@ -87,7 +88,8 @@ fn octets_of(suite: &IpSuite) -> ArrayVec<u8, 12>
 /// Makes of the settings what a slot makes of them: a closed one changes nothing, and what an open one keeps is applied.
 /// None where an open one keeps no command.
 pub(crate) fn follow(version: Version, slot: &[u8; SLOT], settings: &mut Settings) -> Option<()>
-    ensures { MatchOption result ((next : Settings) → ¬ Follows version slot.now settings.old next) (λ _. Follows version slot.now settings.old settings.new) }
+    ensures { MatchOption result ((next : Settings) →
+        ¬ Follows version slot.now settings.old next) (λ _. Follows version slot.now settings.old settings.new) }
 {
     if slot[SLOT_GATE] == OPEN {
         change(settings, decode_command(version, slot)?);

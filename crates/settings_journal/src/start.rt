@@ -67,7 +67,11 @@ fn read_sector<F: Flash<S>, const S: usize>(
     requires head { head.now ≡ head_in (F.image flash.old) sector }
     ensures read { IfOk result (λ found. MatchOption found ((settings : Settings) → ¬ Reads (sector_of (F.image flash.old) sector) settings)
         (λ start. Reads (sector_of (F.image flash.old) sector) start.settings
-        × (start.position ≡ record { active = Some sector; generation = generation; free = left_in (sector_of (F.image flash.old) sector) }))) }
+        × (start.position ≡ record {
+          active = Some sector;
+          generation = generation;
+          free = left_in (sector_of (F.image flash.old) sector);
+        }))) }
     ensures same { F.image flash.new ≡ F.image flash.old }
     ensures calls { F.asked flash.old [] flash.new }
     ensures cause { HasCause (F.failures flash.old) (F.failures flash.new) result }
@@ -93,8 +97,10 @@ fn read_sector<F: Flash<S>, const S: usize>(
 
 // A start where no sector counts: as from the factory, unless a gate is open.
 fn start_closed(first: &[u8; HEAD], second: &[u8; HEAD]) -> Option<Start>
-    ensures closed { MatchOption result ((gate_of first.now ≡ 0) ⊎ (gate_of second.now ≡ 0)) (λ _. (gate_of first.now ≢ 0) × (gate_of second.now ≢ 0)) }
-    ensures factory { IfSome result (λ start. start ≡ record { position = record { active = None; generation = 0; free = 0 }; settings = factory_settings }) }
+    ensures closed { MatchOption result ((gate_of first.now ≡ 0) ⊎ (gate_of second.now ≡ 0)) (λ _. (gate_of first.now ≢ 0)
+        × (gate_of second.now ≢ 0)) }
+    ensures factory { IfSome result (λ start. start
+        ≡ record { position = record { active = None; generation = 0; free = 0 }; settings = factory_settings }) }
 {
     if is_open(first) || is_open(second) {
         return None;

@@ -30,11 +30,13 @@ pub(crate) fn store<F: Flash<S>, const S: usize>(
         Stored (F.image flash.old) (F.image flash.new) (slots_in S) position before next.now result }
     ensures calls { (before : Settings) → IsBefore (F.image flash.old) position command.now before next.now →
         (calls : List Call) × F.asked flash.old calls flash.new
-        × IsAskedFor result (F.image flash.old) (calls_of (slots_in S) position.active position.generation position.free before command.now) calls (F.image flash.new) }
+        × IsAskedFor result (F.image flash.old) (calls_of (slots_in S) position.active position.generation position.free before command.now)
+        calls (F.image flash.new) }
     ensures writes { (before : Settings) → IsBefore (F.image flash.old) position command.now before next.now →
         AreWrites (calls_of (slots_in S) position.active position.generation position.free before command.now) }
     ensures cut { (before : Settings) → IsBefore (F.image flash.old) position command.now before next.now →
-        AreSafe (F.image flash.old) (calls_of (slots_in S) position.active position.generation position.free before command.now) before next.now }
+        AreSafe (F.image flash.old) (calls_of (slots_in S) position.active position.generation position.free before command.now) before
+        next.now }
     ensures apart { IsApart (slots_in S) position.active position.free (F.image flash.old) (F.image flash.new) }
     ensures cause { HasCause (F.failures flash.old) (F.failures flash.new) result }
     ensures lost { StaysLost (F.is_lost flash.old) (F.is_lost flash.new) result }
@@ -67,7 +69,8 @@ pub(crate) fn store<F: Flash<S>, const S: usize>(
 
 // The active sector, if a slot of it is left.
 fn with_slot(position: Position) -> Option<Sector>
-    ensures { MatchOption result ((position.active ≡ None) ⊎ (position.free ≡ 0)) (λ sector. (position.active ≡ Some sector) × (position.free ≢ 0)) }
+    ensures { MatchOption result ((position.active ≡ None) ⊎ (position.free ≡ 0)) (λ sector. (position.active ≡ Some sector)
+        × (position.free ≢ 0)) }
 {
     if position.free == 0 {
         return None;

@@ -39,7 +39,8 @@ impl<F: Flash<S>, const S: usize> Model for Store<F, S> {
       };
     } };
 
-    ghost invariant = { λ store. store.journal.has_failed ≡ false → StartsWith (F.image store.journal.flash) store.journal.settings store.journal.room };
+    ghost invariant = { λ store. store.journal.has_failed ≡ false →
+        StartsWith (F.image store.journal.flash) store.journal.settings store.journal.room };
 }
 
 impl<F: Flash<S>, const S: usize> Store<F, S> {
@@ -52,7 +53,8 @@ impl<F: Flash<S>, const S: usize> Store<F, S> {
 
         // What can be read is given, unless a read fails.
         ensures known { (settings : Settings) (room : ℕ) → StartsWith (F.image flash) settings room →
-            MatchResult result (λ store. (store.values.stored ≡ settings) × (store.values.room ≡ room)) (λ refused. refused.0 ≡ BootFault.FlashFault) }
+            MatchResult result (λ store. (store.values.stored ≡ settings)
+            × (store.values.room ≡ room)) (λ refused. refused.0 ≡ BootFault.FlashFault) }
         ensures left { LeftByDevice (F.image flash) → IfErr result (λ refused. refused.0 ≡ BootFault.FlashFault) }
         ensures blank { F.image flash ≡ record { first = erased S; second = erased S } →
             LeftByDevice (F.image flash) × StartsWith (F.image flash) factory_settings (capacity S) }
@@ -108,7 +110,8 @@ impl<F: Flash<S>, const S: usize> Store<F, S> {
 
         // What can be read is given, unless a read fails.
         ensures known { (settings : Settings) (room : ℕ) → StartsWith (F.image self.old.flash) settings room →
-            MatchResult result (λ _. (self.new.values.stored ≡ settings) × (self.new.values.room ≡ room)) (λ fault. fault ≡ BootFault.FlashFault) }
+            MatchResult result (λ _. (self.new.values.stored ≡ settings)
+            × (self.new.values.room ≡ room)) (λ fault. fault ≡ BootFault.FlashFault) }
         ensures left { LeftByDevice (F.image self.old.flash) → IfErr result (λ fault. fault ≡ BootFault.FlashFault) }
         ensures blank { F.image self.old.flash ≡ record { first = erased S; second = erased S } →
             LeftByDevice (F.image self.old.flash) × StartsWith (F.image self.old.flash) factory_settings (capacity S) }
@@ -142,7 +145,8 @@ impl<F: Flash<S>, const S: usize> Store<F, S> {
     /// The settings that a restart finds, where no commit failed since the start.
     pub fn stored(&self) -> &Settings
         ensures value { result.now ≡ self.now.values.stored }
-        ensures holds { self.now.values.has_failed ≡ false → StartsWith (F.image self.now.flash) self.now.values.stored self.now.values.room }
+        ensures holds { self.now.values.has_failed ≡ false →
+            StartsWith (F.image self.now.flash) self.now.values.stored self.now.values.room }
     {
         self.journal.settings()
     }
@@ -182,7 +186,8 @@ impl<F: Flash<S>, const S: usize> Store<F, S> {
     pub fn carry_out<const N: usize>(&mut self, items: &[SetItem]) -> ArrayVec<BlockError, N>
         requires { length items.now ≤ N }
         ensures carries { Carries F.image F.failures F.asked self.old items.now result.items self.new }
-        ensures reliable { F.is_reliable self.old.flash → F.is_reliable self.new.flash × (self.new.values.has_failed ≡ self.old.values.has_failed) }
+        ensures reliable { F.is_reliable self.old.flash → F.is_reliable self.new.flash
+            × (self.new.values.has_failed ≡ self.old.values.has_failed) }
     {
         // What the journal keeps holds before the items, too.
         let _ = &self.journal;
@@ -199,7 +204,8 @@ impl<F: Flash<S>, const S: usize> Store<F, S> {
         ensures carries { CarriesItem F.image F.failures F.asked self.old item.now result self.new }
         // As a list of one.
         ensures listed { Carries F.image F.failures F.asked self.old (item.now ∷ []) (result ∷ []) self.new }
-        ensures reliable { F.is_reliable self.old.flash → F.is_reliable self.new.flash × (self.new.values.has_failed ≡ self.old.values.has_failed) }
+        ensures reliable { F.is_reliable self.old.flash → F.is_reliable self.new.flash
+            × (self.new.values.has_failed ≡ self.old.values.has_failed) }
     {
         // What the journal keeps holds before the item, too.
         let _ = &self.journal;
@@ -213,7 +219,8 @@ impl<F: Flash<S>, const S: usize> Store<F, S> {
     /// Stores what the command asks for, and shows it once it is stored.
     fn commit(&mut self, command: &Command) -> BlockError
         ensures carries { CarriesItem F.image F.failures F.asked self.old (SetItem.Ask command.now) result self.new }
-        ensures reliable { F.is_reliable self.old.flash → F.is_reliable self.new.flash × (self.new.values.has_failed ≡ self.old.values.has_failed) }
+        ensures reliable { F.is_reliable self.old.flash → F.is_reliable self.new.flash
+            × (self.new.values.has_failed ≡ self.old.values.has_failed) }
     {
         match self.journal.commit(command) {
             Ok(()) => {

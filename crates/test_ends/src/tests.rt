@@ -14,7 +14,8 @@ const SET_PUMP_1: &str =
     "frame 0200000000010200000000028892fefd0400000000020000000c02020008000170756d702d31";
 
 const SET_DONE: &str =
-    "out 0200000000020200000000018892fefd0401000000020000000805040003020200000000000000000000000000000000000000000000000000000000\nnote done\n";
+    "out 0200000000020200000000018892fefd0401000000020000000805040003020200000000000000000000000000000000000000000000000000000000\nnote do\
+        ne\n";
 
 /// The catalogue of the demo station.
 const PUMP: &str =
@@ -30,7 +31,8 @@ const START: &str =
 
 /// What is printed of the start-up: five times what waits is handed over.
 const STARTED_UP: &str =
-    "plan ok\nstate looking\nmoved 1 1\nstate addressing\nmoved 1 1\nstate connecting\nmoved 1 1\nstate ending\nmoved 1 2\nstate exchanging\nmoved 1 0\nstate exchanging\n";
+    "plan ok\nstate looking\nmoved 1 1\nstate addressing\nmoved 1 1\nstate connecting\nmoved 1 1\nstate ending\nmoved 1 2\nstate exchangin\
+        g\nmoved 1 0\nstate exchanging\n";
 
 /// I&M1 of a device that has none, as it is shown.
 const BLANK: &str =
@@ -38,7 +40,9 @@ const BLANK: &str =
 
 /// The I&M texts behind it.
 const TEXTS: &str =
-    "im2 20202020202020202020202020202020\nim3 202020202020202020202020202020202020202020202020202020202020202020202020202020202020202020202020202020202020\nim4 000000000000000000000000000000000000000000000000000000000000000000000000000000000000000000000000000000000000\n";
+    "im2 20202020202020202020202020202020\nim3 2020202020202020202020202020202020202020202020202020202020202020202020202020202020202020202\
+        02020202020202020\nim4 00000000000000000000000000000000000000000000000000000000000000000000000000000000000000000000000000000000000\
+        0\n";
 
 fn output(alloc: Global, script: &[u8]) -> (Result<(), RunFault>, Vec<u8>) {
     let mut reader = script;
@@ -80,6 +84,7 @@ fn shown(
     state: &str,
 ) -> Result<String, AllocError> {
     format!(in alloc;
-        "name {name}\nip {suite}\nstored-name {name}\nstored-ip 0.0.0.0 0.0.0.0 0.0.0.0\nim1 {im1}\n{TEXTS}phase {phase}\nlamp 0\noutput 2 1 0000\nstate {state}\n"
+        "name {name}\nip {suite}\nstored-name {name}\nstored-ip 0.0.0.0 0.0.0.0 0.0.0.0\nim1 {im1}\n{TEXTS}phase {phase}\nlamp 0\noutput 2 \
+            1 0000\nstate {state}\n"
     )
 }
