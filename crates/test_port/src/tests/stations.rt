@@ -1,9 +1,10 @@
 //! The ports that are tried.
+use demo_station::identity;
 use device_port::{Port, Refusal, Work};
 use flash_model::Sector;
 use pn_values::Real;
 use recorded_flash::Recorded;
-use test_stations::{SET, identity, plugged};
+use test_stations::{SET, plugged};
 
 /// Sets how many octets of input and output the first submodule of a module has.
 fn sized(real: &mut Real, place: usize, input: u16, output: u16) {
