@@ -2,8 +2,8 @@
 //! would do.
 #![tactic(auto)]
 
-mod identity;
-mod real;
+mod modules;
+mod station;
 
-pub use identity::identity;
-pub use real::real;
+pub use modules::real;
+pub use station::identity;
