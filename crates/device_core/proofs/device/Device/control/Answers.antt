@@ -10,7 +10,8 @@ use Rattle.relations.specs.Phases.{Parameterized, answered, moved}
 use Rattle.device_frames.specs.Relation.{ready_calls}
 use Rattle.device_frames.specs.Sendable.{AreSendable}
 use Rattle.device_frames.specs.Sent.{Sent, bytes_of}
-use Rattle.device_core.specs.Behind.{CanSend, called, frames_of, octets_in}
+use Rattle.device_core.specs.Behind.{CanSend, called, frames_of}
+use Rattle.frame_codec.specs.Outbox.{boxed}
 use Rattle.device_core.specs.Judged.{answer_from, came_with, ready_behind}
 use Rattle.device_core.proofs.device.Device.control.Goals as goal
 use Rattle.device_core.proofs.device.Device.control.Goals.{then-is_ok, else-is_ok}
@@ -50,15 +51,15 @@ returns-clause-frames g c =
     let answer = answer_from address c.args.serving.now.caller.now (asked c.args.serving.now.call.now) operation.Control (prm_end_answer link blocks) in
     let out = answer_as c.control-came.result (prm_end_answer link blocks) c.control-came.new.answer.items c.control-came.ensures.done c.control-came.ensures.refused in
     let first = rw (c.address-address.ensures.value, c.running.ensures, c.requires.operation, out) at c.give.ensures.frames in
-    subst (λ old. octets_in c.if-is_ok.outbox ≡ frames_of old (called old c.args.serving.now operation.Control)) c.self.view_is
+    subst (λ old. boxed c.if-is_ok.outbox ≡ frames_of old (called old c.args.serving.now operation.Control)) c.self.view_is
     (elim c.if-is_ok.branch [
       | then-is_ok w ↦
           let all = rw (first, c.address-address.ensures.value, c.running.ensures, c.control-came.ensures.state) at w.send_ready.ensures.frames in
           let same = follows address now link blocks c.control-came.result ended c.control-came.new.answer.items refl c.control-came.ensures.done (sym c.is_ok.ensures.value ∙ w.if-is_ok.true) in
-          behind_answer f (octets_in c.if-is_ok.outbox) answer (ready_calls address now) (ready_behind address now ended) (ap octets_in w.outbox-is ∙ all) same
+          behind_answer f (boxed c.if-is_ok.outbox) answer (ready_calls address now) (ready_behind address now ended) (ap boxed w.outbox-is ∙ all) same
       | else-is_ok w ↦
           let same = alone address now link blocks c.control-came.result ended c.control-came.new.answer.items refl c.control-came.ensures.refused (sym c.is_ok.ensures.value ∙ w.if-is_ok.false) in
-          behind_answer f (octets_in c.if-is_ok.outbox) answer [] (ready_behind address now ended) (ap octets_in w.outbox-is ∙ first) same
+          behind_answer f (boxed c.if-is_ok.outbox) answer [] (ready_behind address now ended) (ap boxed w.outbox-is ∙ first) same
     ])
 
 pub returns-clause-sendable : goal.returns-clause-sendable
