@@ -11,19 +11,33 @@ waits_on : (events : List Judged) (link now : Link) (units : ℕ) → is_awaitin
     → all_moved events (Some link) ≡ Some now → (is_awaiting now.phase ≡ true) × (now.waited ≡ (units_of events + units) % 32000)
 waits_on [] link now units waits so still e =
     let same : link ≡ now = cc in
-    subst (λ (l : Link). (is_awaiting l.phase ≡ true) × (l.waited ≡ units % 32000)) same (waits, so)
+    let count : units ≡ units_of [] + units = omega arith in
+    subst (λ (l : Link). (is_awaiting l.phase ≡ true) × (l.waited ≡ (units_of [] + units) % 32000)) same
+      (waits, so ∙ ap (λ (n : ℕ). n % 32000) count)
 waits_on (Made request partner rows ∷ more) link now units waits so still e = absurd (let no = still.0 in cc)
 waits_on (Parameterized ∷ more) link now units waits so still e = absurd (let no = still.0 in cc)
 waits_on (Confirmed ∷ more) link now units waits so still e = absurd (let no = still.0 in cc)
-waits_on (Named ∷ more) link now units waits so still e = waits_on more (restarted link) now units waits so still.1 e
-waits_on (Took taken ∷ more) link now units waits so still e = waits_on more (with_taken taken link) now units waits so still.1 e
-waits_on (Exchanged flow ∷ more) link now units waits so still e = waits_on more (with_flow flow link) now units waits so still.1 e
+waits_on (Named ∷ more) link now units waits so still e =
+    let on = waits_on more (restarted link) now units waits so still.1 e in
+    let count : units_of more + units ≡ units_of (Named ∷ more) + units = omega arith in
+    (on.0, on.1 ∙ ap (λ (n : ℕ). n % 32000) count)
+waits_on (Took taken ∷ more) link now units waits so still e =
+    let on = waits_on more (with_taken taken link) now units waits so still.1 e in
+    let count : units_of more + units ≡ units_of (Took taken ∷ more) + units = omega arith in
+    (on.0, on.1 ∙ ap (λ (n : ℕ). n % 32000) count)
+waits_on (Exchanged flow ∷ more) link now units waits so still e =
+    let on = waits_on more (with_flow flow link) now units waits so still.1 e in
+    let count : units_of more + units ≡ units_of (Exchanged flow ∷ more) + units = omega arith in
+    (on.0, on.1 ∙ ap (λ (n : ℕ). n % 32000) count)
 waits_on (Passed ∷ more) link now units waits so still e =
     let on = waits_on more (unit_later link) now (units + 1) waits (waited_next link units waits so) still.1 e in
     let count : units_of more + (units + 1) ≡ units_of (Passed ∷ more) + units = omega arith in
     (on.0, on.1 ∙ ap (λ (n : ℕ). n % 32000) count)
 waits_on (Ended ∷ more) link now units waits so still e = absurd (let no = still.0 in cc)
-waits_on (Unmoved ∷ more) link now units waits so still e = waits_on more link now units waits so still.1 e
+waits_on (Unmoved ∷ more) link now units waits so still e =
+    let on = waits_on more link now units waits so still.1 e in
+    let count : units_of more + units ≡ units_of (Unmoved ∷ more) + units = omega arith in
+    (on.0, on.1 ∙ ap (λ (n : ℕ). n % 32000) count)
 
 pub is_due_whatever_comes : IsDueWhateverComes
 is_due_whatever_comes link now events waits new still e =
