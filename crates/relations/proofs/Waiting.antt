@@ -13,7 +13,7 @@ waits_on [] link now units waits so still e =
     let same : link ≡ now = cc in
     let count : units ≡ units_of [] + units = omega arith in
     subst (λ (l : Link). (is_awaiting l.phase ≡ true) × (l.waited ≡ (units_of [] + units) % 32000)) same
-      (waits, so ∙ ap (λ (n : ℕ). n % 32000) count)
+    (waits, so ∙ ap (λ (n : ℕ). n % 32000) count)
 waits_on (Made request partner rows ∷ more) link now units waits so still e = absurd (let no = still.0 in cc)
 waits_on (Parameterized ∷ more) link now units waits so still e = absurd (let no = still.0 in cc)
 waits_on (Confirmed ∷ more) link now units waits so still e = absurd (let no = still.0 in cc)
