@@ -120,15 +120,14 @@ fn interval_of(times: Times) -> u32
     u32::from(times.send_clock_factor) * u32::from(times.reduction_ratio)
 }
 
-/// The exchange of a plan, open: nothing was given, and the device is not known. Both layouts stand on its own frame of the stack alone.
+/// Opens the exchange of a plan: nothing was given, and the device is not known. Both layouts stand on its own frame of the stack alone.
 #[inline(never)]
-fn opened(plan: &Plan) -> CyclicExchange
-    ensures { result ≡ first_cyclic plan.now }
+fn open(exchange: &mut CyclicExchange, plan: &Plan)
+    ensures { exchange.new ≡ first_cyclic plan.now }
 {
     let times = plan.times();
     let output = plan.layout(IocrType::Output);
     let input = plan.layout(IocrType::Input);
-    let mut exchange = CyclicExchange::new();
     exchange.open(
         route_of(Mac { octets: [0; 6] }, NO_ID),
         Provider::start(times.send_clock_factor, times.reduction_ratio),
@@ -137,7 +136,6 @@ fn opened(plan: &Plan) -> CyclicExchange
         &input,
         &NothingGiven,
     );
-    exchange
 }
 
 impl Controller {
@@ -149,13 +147,13 @@ impl Controller {
         Controller::of(Setup { plan, ar, activity })
     }
 
-    /// The controller of what it is set up with. A frame of its own on the stack, so that none holds two plans beside an exchange.
+    /// The controller of what it is set up with. A frame of its own on the stack, so that none holds a plan beside a
+    /// controller.
     #[inline(never)]
     fn of(setup: Setup) -> Controller
         ensures { result ≡ fresh setup.plan setup.ar setup.activity }
     {
-        let exchange = opened(&setup.plan);
-        Controller {
+        let mut controller = Controller {
             setup,
             phase: State::Looking,
             device: Mac { octets: [0; 6] },
@@ -163,10 +161,13 @@ impl Controller {
             waited: 0,
             units: 0,
             stands: false,
-            exchange,
+            exchange: CyclicExchange::new(),
             alarms: ControllerAlarms::new(TIMEOUT_FACTOR, RETRIES),
             alarm: None,
-        }
+        };
+        // The exchange is large: it is opened where it stays.
+        open(&mut controller.exchange, &controller.setup.plan);
+        controller
     }
 
     /// The Identify with which it begins.
