@@ -44,6 +44,7 @@ pub struct Port {
 
 impl Model for Port {
     ghost use Rattle.std.specs.Prelude.{◌≤◌, length, drop};
+    ghost use Rattle.frame_codec.specs.Outbox.{boxed};
     ghost use Rattle.recorded_flash.specs.Record.{record_of};
     ghost use Rattle.device_port.specs.State.{State, IsSteady};
 
