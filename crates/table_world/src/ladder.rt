@@ -1,0 +1,218 @@
+//! Schedules from a seed.
+use controller_core::{Cause, State};
+use network_world::End;
+use relations::Phase;
+use std::alloc::{AllocError, Global};
+use watched_world::{Choice, Law, Schedule, Size, Told, Watched, fresh_world};
+
+/// The world of these schedules: two records, four units between cyclic frames, whose values hold for a hundred.
+pub(crate) const SIZE: Size = Size {
+    records: 2,
+    interval: 4,
+    hold: 25,
+    fault: None,
+};
+
+fn phase_name(phase: Option<Phase>) -> &'static str {
+    match phase {
+        None => "none",
+        Some(Phase::Started) => "started",
+        Some(Phase::Awaiting) => "awaiting",
+        Some(Phase::Exchanging) => "exchanging",
+    }
+}
+
+fn state_name(state: State) -> &'static str {
+    match state {
+        State::Looking => "looking",
+        State::Addressing => "addressing",
+        State::Connecting => "connecting",
+        State::Writing => "writing",
+        State::Ending => "ending",
+        State::Waiting => "waiting",
+        State::Exchanging => "exchanging",
+        State::Ended(Cause::DataHold) => "ended by data hold",
+        State::Ended(Cause::Stopped) => "stopped",
+        State::Ended(_) => "ended",
+    }
+}
+
+fn end_name(end: End) -> &'static str {
+    match end {
+        End::Device => "device",
+        End::Controller => "controller",
+    }
+}
+
+/// How far both ends are.
+pub(crate) fn put_told(alloc: Global, told: &Told, text: &mut String) -> Result<(), AllocError> {
+    let phase = phase_name(told.phase);
+    let state = state_name(told.state);
+    let taken = told.taken;
+    let line = format!(in alloc; "device {phase}, {taken} records, controller {state}\n")?;
+    text.push_str(line.as_str())
+}
+
+/// A frame that comes to an end, and how far both are behind it.
+pub(crate) fn put_rung(
+    alloc: Global,
+    watched: &Watched,
+    number: usize,
+    end: End,
+    text: &mut String,
+) -> Result<(), AllocError> {
+    let name = watched.kind(number).name();
+    let way = end_name(end);
+    let line = format!(in alloc; "{number:>4} {name} to the {way}: ")?;
+    text.push_str(line.as_str())?;
+    put_told(alloc, &watched.told(), text)
+}
+
+/// Puts the law that does not hold behind a move.
+pub(crate) fn put_broken(
+    alloc: Global,
+    law: Law,
+    number: u64,
+    text: &mut String,
+) -> Result<(), AllocError> {
+    let name = law.name();
+    let line = format!(in alloc; "the law '{name}' does not hold behind move {number}\n")?;
+    text.push_str(line.as_str())
+}
+
+/// What became of a schedule.
+enum Ended {
+    Well(Watched),
+    NoWorld,
+    Broken(Law, u64),
+}
+
+/// Plays a schedule.
+fn play(
+    alloc: Global,
+    seed: u64,
+    moves: u64,
+    size: Size,
+    mut ladder: Option<&mut String>,
+) -> Result<Ended, AllocError> {
+    let mut watched = match fresh_world(alloc, size) {
+        Some(net) => Watched::new(alloc, net, size.records)?,
+        None => return Ok(Ended::NoWorld),
+    };
+    let mut schedule = Schedule::new(seed);
+    for number in 0..moves {
+        let before = (watched.count(), watched.told());
+        let choice = schedule.choose(watched.count(), watched.raised());
+        if let Some(law) = watched.make(choice)? {
+            return Ok(Ended::Broken(law, number));
+        }
+        if let Some(text) = &mut ladder {
+            if (watched.count(), watched.told()) != before {
+                put_choice(alloc, choice, &watched, text)?;
+            }
+        }
+    }
+    if watched.are_kept() {
+        Ok(Ended::Well(watched))
+    } else {
+        Ok(Ended::Broken(Law::Frames, moves))
+    }
+}
+
+fn put_choice(
+    alloc: Global,
+    choice: Choice,
+    watched: &Watched,
+    text: &mut String,
+) -> Result<(), AllocError> {
+    match choice {
+        Choice::Deliver(end, number) => put_rung(alloc, watched, number, end, text),
+        Choice::Alarm(_) => text.push_str("     an alarm is raised\n"),
+        _ => Ok(()),
+    }
+}
+
+/// A schedule as a ladder.
+pub fn put_ladder(
+    alloc: Global,
+    seed: u64,
+    moves: u64,
+    text: &mut String,
+) -> Result<(), AllocError> {
+    let ended = play(alloc, seed, moves, SIZE, Some(text))?;
+    put_ended(alloc, &ended, text)?;
+    if let Ended::Well(watched) = ended {
+        let tally = watched.tally();
+        let line = format!(in alloc;
+            "{} frames; both ends exchanged data behind {} moves, an output was not zeros behind {}, an alarm had been taken behind {}, {} were skipped\n",
+            watched.count(),
+            tally.exchanging,
+            tally.shown,
+            tally.alarmed,
+            tally.skipped
+        )?;
+        text.push_str(line.as_str())?;
+    }
+    Ok(())
+}
+
+/// How a schedule ends.
+fn put_ended(alloc: Global, ended: &Ended, text: &mut String) -> Result<(), AllocError> {
+    match ended {
+        Ended::Well(watched) => {
+            text.push_str(if is_full(watched) {
+                "all laws hold behind each move; data was exchanged, outputs came, alarms were taken, moves were skipped\n"
+            } else {
+                "all laws hold behind each move\n"
+            })
+        }
+        Ended::NoWorld => text.push_str("no world\n"),
+        Ended::Broken(law, number) => put_broken(alloc, *law, *number, text),
+    }
+}
+
+/// Whether each law was at stake.
+fn is_full(watched: &Watched) -> bool {
+    let tally = watched.tally();
+    tally.exchanging != 0 && tally.shown != 0 && tally.alarmed != 0 && tally.skipped != 0
+}
+
+/// A schedule, and nothing of it but how it ends.
+pub fn put_moves(
+    alloc: Global,
+    seed: u64,
+    moves: u64,
+    text: &mut String,
+) -> Result<(), AllocError> {
+    let line = format!(in alloc; "moves {seed} {moves}: ")?;
+    text.push_str(line.as_str())?;
+    let ended = play(alloc, seed, moves, SIZE, None)?;
+    put_ended(alloc, &ended, text)
+}
+
+/// The schedules of so many seeds.
+pub fn put_seeds(
+    alloc: Global,
+    count: u64,
+    moves: u64,
+    is_faulty: bool,
+    text: &mut String,
+) -> Result<(), AllocError> {
+    for seed in 0..count {
+        let size = Size {
+            fault: if is_faulty { Some(seed as u32) } else { None },
+            ..SIZE
+        };
+        let ended = play(alloc, seed, moves, size, None)?;
+        if let Ended::Well(_) = ended {
+            continue;
+        }
+        let line = format!(in alloc; "seed {seed}: ")?;
+        text.push_str(line.as_str())?;
+        return put_ended(alloc, &ended, text);
+    }
+    let line = format!(in alloc;
+        "all laws hold behind each of {moves} moves of {count} schedules\n"
+    )?;
+    text.push_str(line.as_str())
+}

@@ -1,0 +1,214 @@
+//! Single schedules: a start-up, a Connect that comes twice, every frame again, and what is skipped behind an end.
+use crate::ladder::{SIZE, put_broken, put_rung, put_told};
+use network_world::{End, Move};
+use std::alloc::{AllocError, Global};
+use watched_world::{Choice, Law, Net, Watched, fresh_world};
+
+/// The frames of a start-up with two records: Identify, the Set, the Connect, two Writes and PrmEnd with their answers, ApplicationReady
+/// with its own.
+const START_UP: usize = 14;
+
+/// The number of a frame that was never sent.
+const NEVER: usize = 1_000;
+
+/// Makes moves, one behind the other, up to the first behind which a law does not hold.
+fn make(watched: &mut Watched, choices: &[Choice]) -> Result<Option<Law>, AllocError> {
+    for choice in choices {
+        if let Some(law) = watched.make(*choice)? {
+            return Ok(Some(law));
+        }
+    }
+    Ok(None)
+}
+
+/// A frame comes to the end that did not send it.
+pub(crate) fn across(watched: &Watched, number: usize) -> Choice {
+    Choice::Deliver(watched.other_end(number), number)
+}
+
+/// Each of these frames comes to the end that did not send it.
+pub(crate) fn advance(
+    watched: &mut Watched,
+    from: usize,
+    to: usize,
+) -> Result<Option<Law>, AllocError> {
+    for number in from..to {
+        let choice = across(watched, number);
+        if let Some(law) = watched.make(choice)? {
+            return Ok(Some(law));
+        }
+    }
+    Ok(None)
+}
+
+/// So many units are over at both ends.
+fn wait(watched: &mut Watched, units: u8) -> Result<Option<Law>, AllocError> {
+    for _ in 0..units {
+        if let Some(law) = make(
+            watched,
+            &[Choice::Tick(End::Device), Choice::Tick(End::Controller)],
+        )? {
+            return Ok(Some(law));
+        }
+    }
+    Ok(None)
+}
+
+/// Both ends exchange data, and a cyclic frame went each way.
+fn exchange(watched: &mut Watched) -> Result<Option<Law>, AllocError> {
+    if let Some(law) = advance(watched, 0, START_UP)? {
+        return Ok(Some(law));
+    }
+    if let Some(law) = watched.make(Choice::Give(2, [7, 9]))? {
+        return Ok(Some(law));
+    }
+    if let Some(law) = wait(watched, SIZE.interval)? {
+        return Ok(Some(law));
+    }
+    let count = watched.count();
+    advance(watched, START_UP, count)
+}
+
+fn watch(alloc: Global, text: &mut String) -> Result<Option<Watched>, AllocError> {
+    match fresh_world(alloc, SIZE) {
+        Some(net) => Ok(Some(Watched::new(alloc, net, SIZE.records)?)),
+        None => {
+            text.push_str("no world\n")?;
+            Ok(None)
+        }
+    }
+}
+
+/// Puts how far both ends are, or the law that does not hold.
+fn put_judged(
+    alloc: Global,
+    broken: Option<Law>,
+    watched: &Watched,
+    text: &mut String,
+) -> Result<(), AllocError> {
+    match broken {
+        Some(law) => put_broken(alloc, law, watched.count() as u64, text),
+        None => put_told(alloc, &watched.told(), text),
+    }
+}
+
+/// A start-up: each frame comes to the other end as soon as it was sent.
+pub fn put_start(alloc: Global, text: &mut String) -> Result<(), AllocError> {
+    let mut watched = match watch(alloc, text)? {
+        Some(watched) => watched,
+        None => return Ok(()),
+    };
+    for number in 0..20 {
+        if number < watched.count() {
+            let choice = across(&watched, number);
+            if let Some(law) = watched.make(choice)? {
+                return put_broken(alloc, law, number as u64, text);
+            }
+            put_rung(alloc, &watched, number, choice.end(), text)?;
+        }
+    }
+    Ok(())
+}
+
+/// How many frames from this one on have its octets.
+fn alike(net: &Net, number: usize) -> u32 {
+    let mut found = 0_u32;
+    if let Some(frame) = net.sent(number) {
+        for other in number..number.saturating_add(20) {
+            if let Some(sent) = net.sent(other) {
+                if sent.as_slice() == frame.as_slice() {
+                    found = found.saturating_add(1);
+                }
+            }
+        }
+    }
+    found
+}
+
+/// A Connect that comes twice, in one call of `play`.
+pub fn put_twice(alloc: Global, text: &mut String) -> Result<(), AllocError> {
+    let mut net = match fresh_world(alloc, SIZE) {
+        Some(net) => net,
+        None => return text.push_str("no world\n"),
+    };
+    net.play(&[
+        Move::Deliver(End::Device, 0),
+        Move::Deliver(End::Controller, 1),
+        Move::Deliver(End::Device, 2),
+        Move::Deliver(End::Controller, 3),
+        Move::Deliver(End::Device, 4),
+        Move::Deliver(End::Device, 4),
+    ])?;
+    let equal = alike(&net, 5);
+    let frames = if net.sent(7).is_none() { "none" } else { "one" };
+    let line = format!(in alloc; "twice: {equal} equal answers, {frames} behind them; ")?;
+    text.push_str(line.as_str())?;
+    put_told(alloc, &watched_world::Told::by(&net), text)
+}
+
+/// Every frame comes again, the last one first.
+pub fn put_again(alloc: Global, text: &mut String) -> Result<(), AllocError> {
+    let mut watched = match watch(alloc, text)? {
+        Some(watched) => watched,
+        None => return Ok(()),
+    };
+    let broken = exchange(&mut watched)?;
+    text.push_str("once: ")?;
+    put_judged(alloc, broken, &watched, text)?;
+    let count = watched.count();
+    let mut broken = None;
+    for number in 0..count {
+        let again = count.saturating_sub(1).saturating_sub(number);
+        if broken.is_none() {
+            broken = make(
+                &mut watched,
+                &[
+                    Choice::Deliver(End::Device, again),
+                    Choice::Deliver(End::Controller, again),
+                ],
+            )?;
+        }
+    }
+    text.push_str("again: ")?;
+    put_judged(alloc, broken, &watched, text)
+}
+
+/// Behind a stop and its Release.
+pub fn put_left(alloc: Global, text: &mut String) -> Result<(), AllocError> {
+    let mut watched = match watch(alloc, text)? {
+        Some(watched) => watched,
+        None => return Ok(()),
+    };
+    let mut broken = exchange(&mut watched)?;
+    let release = watched.count();
+    if broken.is_none() {
+        broken = watched.make(Choice::Stop)?;
+    }
+    if broken.is_none() {
+        broken = watched.make(Choice::Deliver(End::Device, release))?;
+    }
+    for number in START_UP..release {
+        if broken.is_none() && watched.kind(number).is_cyclic() {
+            broken = make(
+                &mut watched,
+                &[
+                    Choice::Deliver(End::Device, number),
+                    Choice::Deliver(End::Controller, number),
+                ],
+            )?;
+        }
+    }
+    if broken.is_none() {
+        broken = make(
+            &mut watched,
+            &[
+                Choice::Deliver(End::Device, NEVER),
+                Choice::Deliver(End::Controller, NEVER),
+            ],
+        )?;
+    }
+    let skipped = watched.tally().skipped;
+    let line = format!(in alloc; "left: {skipped} moves skipped; ")?;
+    text.push_str(line.as_str())?;
+    put_judged(alloc, broken, &watched, text)
+}

@@ -1,0 +1,260 @@
+//! Every schedule of a small world.
+use crate::rows::{across, advance};
+use network_world::End;
+use std::alloc::{AllocError, Global};
+use watched_world::{Choice, Law, Size, Watched, fresh_world};
+
+/// The most moves of a schedule.
+const MOST: usize = 8;
+
+/// More schedules than there are.
+const ENOUGH: u64 = 10_000_000;
+
+/// How many frames a start-up without records has.
+const START_UP: usize = 10;
+
+/// The choices of a schedule, by their numbers among those that there are.
+type Digits = [usize; MOST];
+
+/// What may happen at a point.
+#[derive(Clone, Copy)]
+enum Game {
+    /// From the Connect on: a frame from the Connect on comes to the other end, or the controller is stopped.
+    Starts,
+    /// While data is exchanged: everything.
+    Exchanges,
+    /// While data is exchanged: outputs are given, sent and come.
+    Outputs,
+    /// While data is exchanged: alarms are raised, and their frames come.
+    Alarms,
+}
+
+/// What was found of all schedules.
+struct Found {
+    schedules: u64,
+    exchanging: u64,
+    broken: Option<Law>,
+}
+
+/// How a schedule went: to its end, up to a choice that there is not, or to a law that does not hold.
+enum Went {
+    Whole(bool),
+    Short(usize),
+    Broken(Law),
+}
+
+/// One of the last frames comes to the end that did not send it: 1 is the last.
+fn back(watched: &Watched, place: usize) -> Choice {
+    across(watched, watched.count().saturating_sub(place))
+}
+
+/// What is given: another value each time.
+fn give(watched: &Watched) -> Choice {
+    Choice::Give(2, [7, watched.count() as u8])
+}
+
+fn alarm(watched: &Watched) -> Choice {
+    Choice::Alarm(watched.raised().to_be_bytes())
+}
+
+impl Game {
+    /// The point from which the schedules begin: the Connect was sent, or both ends exchange data.
+    fn begin(self, alloc: Global, records: u8) -> Result<Option<Watched>, AllocError> {
+        let size = Size {
+            records,
+            interval: 1,
+            hold: 100,
+            fault: None,
+        };
+        let net = match fresh_world(alloc, size) {
+            Some(net) => net,
+            None => return Ok(None),
+        };
+        let mut watched = Watched::new(alloc, net, records)?;
+        let to = match self {
+            Game::Starts => 4,
+            _ => START_UP,
+        };
+        match advance(&mut watched, 0, to)? {
+            Some(_) => Ok(None),
+            None => Ok(Some(watched)),
+        }
+    }
+
+    /// How many choices there are.
+    fn count(self, watched: &Watched) -> usize {
+        match self {
+            Game::Starts => watched.count().saturating_sub(3),
+            Game::Exchanges => 8,
+            Game::Outputs => 4,
+            Game::Alarms => 4,
+        }
+    }
+
+    /// The choice of this number.
+    fn choice(self, watched: &Watched, digit: usize) -> Choice {
+        match self {
+            Game::Starts => start(watched, digit.saturating_add(4)),
+            Game::Exchanges => exchange(watched, digit),
+            Game::Outputs => match digit {
+                0 => give(watched),
+                1 => Choice::Tick(End::Controller),
+                _ => back(watched, digit.saturating_sub(1)),
+            },
+            Game::Alarms => match digit {
+                0 => alarm(watched),
+                _ => back(watched, digit),
+            },
+        }
+    }
+}
+
+/// The last choice is to stop.
+fn start(watched: &Watched, number: usize) -> Choice {
+    if number < watched.count() {
+        across(watched, number)
+    } else {
+        Choice::Stop
+    }
+}
+
+fn exchange(watched: &Watched, digit: usize) -> Choice {
+    match digit {
+        0 => Choice::Tick(End::Device),
+        1 => Choice::Tick(End::Controller),
+        2 => give(watched),
+        3 => alarm(watched),
+        4 => Choice::Stop,
+        _ => back(watched, digit.saturating_sub(4)),
+    }
+}
+
+/// Plays one schedule.
+fn play(
+    game: Game,
+    watched: &mut Watched,
+    digits: &Digits,
+    moves: usize,
+) -> Result<Went, AllocError> {
+    for (place, digit) in digits.iter().enumerate() {
+        if place < moves {
+            if *digit >= game.count(watched) {
+                return Ok(Went::Short(place));
+            }
+            let choice = game.choice(watched, *digit);
+            if let Some(law) = watched.make(choice)? {
+                return Ok(Went::Broken(law));
+            }
+        }
+    }
+    if watched.are_kept() {
+        Ok(Went::Whole(watched.told().is_exchanging()))
+    } else {
+        Ok(Went::Broken(Law::Frames))
+    }
+}
+
+/// The schedule behind those that begin with so many choices. False where there is none.
+fn step(digits: &mut Digits, place: usize) -> bool {
+    for (there, digit) in digits.iter_mut().enumerate() {
+        if there >= place {
+            *digit = 0;
+        } else if there.saturating_add(1) == place {
+            *digit = digit.saturating_add(1);
+        }
+    }
+    place != 0
+}
+
+/// Plays all schedules of so many moves.
+fn search(alloc: Global, game: Game, records: u8, moves: usize) -> Result<Found, AllocError> {
+    let mut digits = [0; MOST];
+    let mut found = Found {
+        schedules: 0,
+        exchanging: 0,
+        broken: None,
+    };
+    for _ in 0..ENOUGH {
+        let mut watched = match game.begin(alloc, records)? {
+            Some(watched) => watched,
+            None => return Ok(found),
+        };
+        let next = match play(game, &mut watched, &digits, moves)? {
+            Went::Whole(is_exchanging) => {
+                found.schedules = found.schedules.saturating_add(1);
+                if is_exchanging {
+                    found.exchanging = found.exchanging.saturating_add(1);
+                }
+                moves
+            }
+            Went::Short(place) => place,
+            Went::Broken(law) => {
+                found.broken = Some(law);
+                return Ok(found);
+            }
+        };
+        if !step(&mut digits, next) {
+            return Ok(found);
+        }
+    }
+    Ok(found)
+}
+
+fn put_found(
+    alloc: Global,
+    name: &str,
+    moves: usize,
+    found: &Found,
+    text: &mut String,
+) -> Result<(), AllocError> {
+    let line = match found.broken {
+        Some(law) => {
+            let law = law.name();
+            format!(in alloc; "{name}: the law '{law}' does not hold\n")?
+        }
+        None => format!(in alloc;
+            "{name}: all laws hold at each point of {} schedules of {moves} moves; {} of them end with both exchanging\n",
+            found.schedules, found.exchanging
+        )?,
+    };
+    text.push_str(line.as_str())
+}
+
+/// Plays all schedules of a game, and says what was found.
+fn put_game(
+    alloc: Global,
+    name: &str,
+    game: Game,
+    records: u8,
+    moves: u64,
+    text: &mut String,
+) -> Result<(), AllocError> {
+    let moves = (moves as usize).min(MOST);
+    let found = search(alloc, game, records, moves)?;
+    put_found(alloc, name, moves, &found, text)
+}
+
+/// Every schedule from the Connect on, of a plan with so many records.
+pub fn put_starts(
+    alloc: Global,
+    records: u64,
+    moves: u64,
+    text: &mut String,
+) -> Result<(), AllocError> {
+    put_game(alloc, "starts", Game::Starts, records as u8, moves, text)
+}
+
+/// Every schedule while data is exchanged.
+pub fn put_exchanges(alloc: Global, moves: u64, text: &mut String) -> Result<(), AllocError> {
+    put_game(alloc, "exchanges", Game::Exchanges, 0, moves, text)
+}
+
+/// Every schedule of outputs.
+pub fn put_outputs(alloc: Global, moves: u64, text: &mut String) -> Result<(), AllocError> {
+    put_game(alloc, "outputs", Game::Outputs, 0, moves, text)
+}
+
+/// Every schedule of alarms.
+pub fn put_alarms(alloc: Global, moves: u64, text: &mut String) -> Result<(), AllocError> {
+    put_game(alloc, "alarms", Game::Alarms, 0, moves, text)
+}

@@ -1,0 +1,186 @@
+//! What a frame is, by its octets alone.
+
+/// The kinds of frames that either end sends.
+#[derive(Clone, Copy, Debug, PartialEq, Eq)]
+pub enum Kind {
+    /// Identify.
+    Identify,
+    /// The answer to it.
+    Found,
+    /// A Set, or the answer to one.
+    Set,
+    /// A Connect.
+    Connect,
+    /// A Release.
+    Release,
+    /// A Write.
+    Write,
+    /// A PrmEnd.
+    PrmEnd,
+    /// The positive answer to a call of the controller.
+    Positive,
+    /// The negative answer to one.
+    Negative,
+    /// ApplicationReady.
+    Ready,
+    /// The answer to it.
+    Confirm,
+    /// A cyclic frame of the device: inputs.
+    Inputs,
+    /// A cyclic frame of the controller: outputs.
+    Outputs,
+    /// An alarm, or an AlarmAck.
+    Data,
+    /// The ACK of one.
+    Ack,
+    /// The NACK of one.
+    Nack,
+    /// The end of a relation.
+    Err,
+    /// Anything else.
+    Other,
+}
+
+fn octet_at(octets: &[u8], place: usize) -> u8 {
+    octets.get(place).copied().unwrap_or(0)
+}
+
+/// The number of two octets at a place, 0 where they are not there.
+fn number_at(octets: &[u8], place: usize) -> u16 {
+    let high = octet_at(octets, place);
+    let low = octet_at(octets, place.saturating_add(1));
+    u16::from_be_bytes([high, low])
+}
+
+/// Where the EtherType is: behind the tag, if there is one.
+fn type_place(octets: &[u8]) -> usize {
+    if number_at(octets, 12) == 0x8100 {
+        16
+    } else {
+        12
+    }
+}
+
+/// A PDU of alarms, by the low bits of its PDUType.
+fn alarm_kind(pdu_type: u8) -> Kind {
+    match pdu_type & 0x0f {
+        1 => Kind::Data,
+        2 => Kind::Nack,
+        3 => Kind::Ack,
+        4 => Kind::Err,
+        _ => Kind::Other,
+    }
+}
+
+/// A frame of EtherType 0x8892, by its FrameID and the octet at which an alarm has its PDUType.
+fn real_time_kind(frame_id: u16, pdu_type: u8) -> Kind {
+    match frame_id {
+        0xfefe => Kind::Identify,
+        0xfeff => Kind::Found,
+        0xfefd => Kind::Set,
+        0xc001 => Kind::Inputs,
+        0xc000 => Kind::Outputs,
+        0xfc01 => alarm_kind(pdu_type),
+        0xfe01 => alarm_kind(pdu_type),
+        _ => Kind::Other,
+    }
+}
+
+/// A call to the device, by its operation.
+fn call_kind(operation: u16) -> Kind {
+    match operation {
+        0 => Kind::Connect,
+        1 => Kind::Release,
+        3 => Kind::Write,
+        4 => Kind::PrmEnd,
+        _ => Kind::Other,
+    }
+}
+
+/// A response to a call of the controller, by PNIOStatus.
+fn answer_kind(high: u16, low: u16) -> Kind {
+    if high == 0 && low == 0 {
+        Kind::Positive
+    } else {
+        Kind::Negative
+    }
+}
+
+/// A datagram with a call (0) or a response (2), by the interface that it goes to, of the device (1) or of the controller (2).
+fn datagram_kind(octets: &[u8]) -> Kind {
+    match (octet_at(octets, 43), octet_at(octets, 69)) {
+        (0, 1) => call_kind(number_at(octets, 110)),
+        (0, 2) => Kind::Ready,
+        (2, 1) => answer_kind(number_at(octets, 122), number_at(octets, 124)),
+        (2, 2) => Kind::Confirm,
+        _ => Kind::Other,
+    }
+}
+
+impl Kind {
+    /// What these octets are.
+    pub fn of(octets: &[u8]) -> Kind {
+        let place = type_place(octets);
+        match number_at(octets, place) {
+            0x8892 => real_time_kind(
+                number_at(octets, place.saturating_add(2)),
+                octet_at(octets, place.saturating_add(8)),
+            ),
+            0x0800 => datagram_kind(octets),
+            _ => Kind::Other,
+        }
+    }
+
+    /// Whether it is a cyclic frame.
+    pub fn is_cyclic(self) -> bool {
+        self == Kind::Inputs || self == Kind::Outputs
+    }
+
+    /// Its name.
+    pub fn name(self) -> &'static str {
+        match self {
+            Kind::Identify => "Identify",
+            Kind::Found => "answer to Identify",
+            Kind::Set => "Set or its answer",
+            Kind::Connect => "Connect",
+            Kind::Release => "Release",
+            Kind::Write => "Write",
+            Kind::PrmEnd => "PrmEnd",
+            Kind::Positive => "positive answer",
+            Kind::Negative => "negative answer",
+            Kind::Ready => "ApplicationReady",
+            Kind::Confirm => "its answer",
+            Kind::Inputs => "inputs",
+            Kind::Outputs => "outputs",
+            Kind::Data => "alarm data",
+            Kind::Ack => "ACK",
+            Kind::Nack => "NACK",
+            Kind::Err => "ERR",
+            Kind::Other => "other",
+        }
+    }
+}
+
+/// The CycleCounter of a cyclic frame: it stands in front of the last two octets.
+pub(crate) fn counter_of(octets: &[u8]) -> u16 {
+    number_at(octets, octets.len().saturating_sub(4))
+}
+
+/// The two octets of an output that stand at a place of a cyclic frame, which has a tag; zeros where the IOPS behind them is not good.
+pub(crate) fn output_at(octets: &[u8], place: usize) -> [u8; 2] {
+    let place = place.saturating_add(20);
+    if octet_at(octets, place.saturating_add(2)) == 0x80 {
+        number_at(octets, place).to_be_bytes()
+    } else {
+        [0; 2]
+    }
+}
+
+/// A sum over octets by which a changed frame is seen (FNV-1a, 32 bits).
+pub(crate) fn sum_of(octets: &[u8]) -> u32 {
+    let mut sum = 0x811c_9dc5_u32;
+    for octet in octets {
+        sum = (sum ^ u32::from(*octet)).wrapping_mul(0x0100_0193);
+    }
+    sum
+}

@@ -1,0 +1,112 @@
+//! What may happen next, and schedules from a seed.
+use network_world::{End, Move};
+use test_stations::octets;
+
+/// A move, without what it is made of.
+#[derive(Clone, Copy, Debug, PartialEq, Eq)]
+pub enum Choice {
+    /// The frame of this number comes to this end.
+    Deliver(End, usize),
+    /// A unit of time is over at this end.
+    Tick(End),
+    /// The input of slot 1 is given.
+    Input([u8; 2]),
+    /// An alarm of slot 1 is raised, with these octets.
+    Alarm([u8; 2]),
+    /// The output of slot 2 or 3 is given.
+    Give(u16, [u8; 2]),
+    /// The controller is stopped.
+    Stop,
+}
+
+impl Choice {
+    /// The move.
+    pub fn to_move(self) -> Move {
+        match self {
+            Choice::Deliver(end, number) => Move::Deliver(end, number),
+            Choice::Tick(end) => Move::Tick(end),
+            Choice::Input(value) => Move::Input(1, 1, octets(&value)),
+            Choice::Alarm(data) => Move::Alarm(1, 1, octets(&data)),
+            Choice::Give(slot, value) => Move::Give(slot, 1, octets(&value)),
+            Choice::Stop => Move::Stop,
+        }
+    }
+
+    /// At which end it is.
+    pub fn end(self) -> End {
+        match self {
+            Choice::Deliver(end, _) => end,
+            Choice::Tick(end) => end,
+            Choice::Input(_) => End::Device,
+            Choice::Alarm(_) => End::Device,
+            Choice::Give(_, _) => End::Controller,
+            Choice::Stop => End::Controller,
+        }
+    }
+}
+
+/// Numbers from a seed (xorshift, by Marsaglia).
+#[derive(Drop)]
+pub struct Schedule {
+    state: u64,
+}
+
+impl Schedule {
+    /// The numbers of a seed.
+    pub fn new(seed: u64) -> Schedule {
+        Schedule {
+            state: seed.wrapping_mul(0x9e37_79b9_7f4a_7c15) | 1,
+        }
+    }
+
+    fn next(&mut self) -> u64 {
+        let mut state = self.state;
+        state ^= state << 13;
+        state ^= state >> 7;
+        state ^= state << 17;
+        self.state = state;
+        state
+    }
+
+    /// A number below this one, or 0.
+    fn below(&mut self, limit: u64) -> u64 {
+        (self.next() >> 16).checked_rem(limit).unwrap_or(0)
+    }
+
+    fn value(&mut self) -> [u8; 2] {
+        let drawn = self.next().to_be_bytes();
+        [drawn[1], drawn[2]]
+    }
+
+    fn end(&mut self) -> End {
+        if self.below(2) == 0 {
+            End::Device
+        } else {
+            End::Controller
+        }
+    }
+
+    /// A frame comes: most often one of the last, to either end.
+    fn deliver(&mut self, count: usize) -> Choice {
+        let count = count as u64;
+        let back = if self.below(10) < 8 {
+            self.below(6)
+        } else {
+            self.below(count)
+        };
+        let number = count.saturating_sub(1).saturating_sub(back);
+        Choice::Deliver(self.end(), number as usize)
+    }
+
+    /// What happens next, where so many frames were sent and so many alarms raised.
+    pub fn choose(&mut self, count: usize, raised: u16) -> Choice {
+        match self.below(100) {
+            0..50 => Choice::Tick(self.end()),
+            50..92 => self.deliver(count),
+            92..95 => Choice::Give(2, self.value()),
+            95..97 => Choice::Give(3, self.value()),
+            97..98 => Choice::Input(self.value()),
+            _ => Choice::Alarm(raised.to_be_bytes()),
+        }
+    }
+}
