@@ -5,8 +5,13 @@ The answer has to be `pnscript: out of memory`, status 4 and a front of the outp
 are the program's stored run and the examples; the catalogues are those of the examples, of which want of memory has to leave no
 output. Needs a C compiler (cc) and the GNU C library.
 
+Of `World::play` it is the run of a schedule by `table_world`, in calls of four moves beside a world that makes them one by one: where a
+growth of either is refused, its world has to be that of a front of the moves, and all goes on with memory; where it is another
+allocation of the program, this ends and prints nothing.
+
 Use: bench/gate/allocations.py [PROGRAM]   (the proved one if left out). Prints a line for each of them, with how many allocations
 were refused in turn; its status is 1 if an answer is wrong.
+     bench/gate/allocations.py --worlds [PROGRAM]   the same of a schedule alone, by the program that `rt run` in crates/table_world makes
 """
 
 import glob
@@ -15,11 +20,13 @@ import subprocess
 import sys
 import tempfile
 
-from program import answer_help, need, proved, refuse
+from program import answer_help, name, need, proved, refuse
 
 HERE = os.path.dirname(os.path.realpath(__file__))
 TOP = os.path.dirname(os.path.dirname(HERE))
 CRATE = os.path.join(TOP, "crates", "pnscript")
+WORLDS = os.path.join(TOP, "crates", "table_world", "out", "table_world")
+SCHEDULE = b"growths 1 2000\n"
 
 
 def read(path):
@@ -54,11 +61,48 @@ def fail_each(program, shim, mark, word, text, whole):
         short += answer.returncode == 4
 
 
+def make_shim(folder):
+    """What refuses an allocation, and the file that it then writes."""
+    shim, mark = os.path.join(folder, "fail_alloc.so"), os.path.join(folder, "mark")
+    subprocess.run(["cc", "-O2", "-shared", "-fPIC", "-o", shim, os.path.join(HERE, "fail_alloc.c")], check=True)
+    return shim, mark
+
+
+def fail_worlds(program):
+    """Each allocation of a schedule. Status 1 if an answer is wrong, or no growth of a world was refused."""
+    if not os.access(program, os.X_OK):
+        raise SystemExit(f"{name()}: there is no {program}: `rt run` in crates/table_world makes it")
+    whole = subprocess.run([program], input=SCHEDULE, stdout=subprocess.PIPE).stdout
+    refused = growths = ended = wrong = 0
+    with tempfile.TemporaryDirectory() as folder:
+        shim, mark = make_shim(folder)
+        while True:
+            environment = {"LD_PRELOAD": shim, "FAIL_ALLOC": str(refused + 1), "FAIL_MARK": mark}
+            answer = subprocess.run([program], input=SCHEDULE, capture_output=True, env=environment)
+            if not os.path.exists(mark):
+                break
+            os.remove(mark)
+            refused += 1
+            if answer.returncode == 0 and answer.stdout == whole:
+                growths += answer.stderr == b"table_world: 1 growths refused\n"
+            elif answer.returncode == 1 and answer.stdout == b"":
+                ended += 1
+            else:
+                print(f"allocation {refused}: status {answer.returncode}, {answer.stderr!r}, {answer.stdout[-80:]!r}")
+                wrong += 1
+    print(f"a schedule of both ends: {refused} allocations failed in turn: {growths} growths of a world, with the world of a front of the "
+          f"moves, {ended} of the program itself, {wrong} wrong")
+    return int(wrong != 0 or growths == 0 or b"make one world" not in whole)
+
+
 def main(words):
     answer_help(__doc__, words)
-    if len(words) > 1:
+    is_worlds = words[:1] == ["--worlds"]
+    if len(words) > 1 + is_worlds or (words and words[0].startswith("--") and not is_worlds):
         return refuse(words)
     need("cc")
+    if is_worlds:
+        return fail_worlds(words[1] if words[1:] else WORLDS)
     program = words[0] if words else proved()
     stored = read(os.path.join(CRATE, "stdin"))
     texts = [("the stored run", "run", stored, read(os.path.join(CRATE, "stdout")))]
@@ -68,12 +112,11 @@ def main(words):
         texts.append((os.path.basename(path), "plan", read(path), read(path[:-len("json")] + "layouts")))
     all_wrong = 0
     with tempfile.TemporaryDirectory() as folder:
-        shim, mark = os.path.join(folder, "fail_alloc.so"), os.path.join(folder, "mark")
-        subprocess.run(["cc", "-O2", "-shared", "-fPIC", "-o", shim, os.path.join(HERE, "fail_alloc.c")], check=True)
-        for name, word, text, whole in texts:
+        shim, mark = make_shim(folder)
+        for title, word, text, whole in texts:
             refused, short, wrong = fail_each(program, shim, mark, word, text, whole)
             all_wrong += wrong
-            print(f"{name}: {refused} allocations failed in turn: {short} out of memory, "
+            print(f"{title}: {refused} allocations failed in turn: {short} out of memory, "
                   f"{refused - short - wrong} with the output unchanged, {wrong} wrong")
     return 1 if all_wrong else 0
 

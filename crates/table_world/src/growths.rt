@@ -2,7 +2,7 @@
 //! leaves a world of the moves before.
 use crate::ladder::SIZE;
 use std::alloc::{AllocError, Global};
-use watched_world::{Choice, Net, Schedule, Told, fresh_world};
+use test_worlds::{Choice, Net, Schedule, Told, fresh_world};
 
 /// Both worlds, and what was found.
 #[derive(Drop)]

@@ -3,7 +3,7 @@ use controller_core::{Cause, State};
 use network_world::End;
 use relations::Phase;
 use std::alloc::{AllocError, Global};
-use watched_world::{Choice, Law, Schedule, Size, Told, Watched, fresh_world};
+use test_worlds::{Choice, Law, Schedule, Size, Told, Watched, fresh_world};
 
 /// The world of these schedules: two records, four units between cyclic frames, whose values hold for a hundred.
 pub(crate) const SIZE: Size = Size {
@@ -81,6 +81,7 @@ pub(crate) fn put_broken(
 }
 
 /// What became of a schedule.
+#[derive(Drop)]
 enum Ended {
     Well(Watched),
     NoWorld,
@@ -93,7 +94,8 @@ fn play(
     seed: u64,
     moves: u64,
     size: Size,
-    mut ladder: Option<&mut String>,
+    is_ladder: bool,
+    text: &mut String,
 ) -> Result<Ended, AllocError> {
     let mut watched = match fresh_world(alloc, size) {
         Some(net) => Watched::new(alloc, net, size.records)?,
@@ -101,15 +103,14 @@ fn play(
     };
     let mut schedule = Schedule::new(seed);
     for number in 0..moves {
-        let before = (watched.count(), watched.told());
-        let choice = schedule.choose(watched.count(), watched.raised());
+        let count = watched.count();
+        let before = watched.told();
+        let choice = schedule.choose(count, watched.raised());
         if let Some(law) = watched.make(choice)? {
             return Ok(Ended::Broken(law, number));
         }
-        if let Some(text) = &mut ladder {
-            if (watched.count(), watched.told()) != before {
-                put_choice(alloc, choice, &watched, text)?;
-            }
+        if is_ladder && (watched.count() != count || watched.told() != before) {
+            put_choice(alloc, choice, &watched, text)?;
         }
     }
     if watched.are_kept() {
@@ -139,7 +140,7 @@ pub fn put_ladder(
     moves: u64,
     text: &mut String,
 ) -> Result<(), AllocError> {
-    let ended = play(alloc, seed, moves, SIZE, Some(text))?;
+    let ended = play(alloc, seed, moves, SIZE, true, text)?;
     put_ended(alloc, &ended, text)?;
     if let Ended::Well(watched) = ended {
         let tally = watched.tally();
@@ -186,8 +187,17 @@ pub fn put_moves(
 ) -> Result<(), AllocError> {
     let line = format!(in alloc; "moves {seed} {moves}: ")?;
     text.push_str(line.as_str())?;
-    let ended = play(alloc, seed, moves, SIZE, None)?;
+    let ended = play(alloc, seed, moves, SIZE, false, text)?;
     put_ended(alloc, &ended, text)
+}
+
+/// Behind how many calls of the flash one fails, if one does.
+fn fault_of(seed: u64, is_faulty: bool) -> Option<u32> {
+    if is_faulty {
+        u32::try_from(seed).ok()
+    } else {
+        None
+    }
 }
 
 /// The schedules of so many seeds.
@@ -200,10 +210,10 @@ pub fn put_seeds(
 ) -> Result<(), AllocError> {
     for seed in 0..count {
         let size = Size {
-            fault: if is_faulty { Some(seed as u32) } else { None },
+            fault: fault_of(seed, is_faulty),
             ..SIZE
         };
-        let ended = play(alloc, seed, moves, size, None)?;
+        let ended = play(alloc, seed, moves, size, false, text)?;
         if let Ended::Well(_) = ended {
             continue;
         }

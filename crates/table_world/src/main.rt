@@ -19,7 +19,7 @@
 //! alarms MOVES           the same: an alarm is raised, or one of the last three comes
 //! ```
 //!
-//! Behind each move all laws of both ends are reckoned anew (`watched_world`), and at the end of a schedule that each frame is as it was
+//! Behind each move all laws of both ends are reckoned anew (`test_worlds`), and at the end of a schedule that each frame is as it was
 //! when it was sent. The first law that does not hold is printed with the number of the move.
 //!
 //! `growths` is for a run in which an allocation fails: where `play` has no memory, its world has to be that of a front of the moves, and

@@ -2,7 +2,7 @@
 use crate::ladder::{SIZE, put_broken, put_rung, put_told};
 use network_world::{End, Move};
 use std::alloc::{AllocError, Global};
-use watched_world::{Choice, Law, Net, Watched, fresh_world};
+use test_worlds::{Choice, Law, Net, Told, Watched, fresh_world};
 
 /// The frames of a start-up with two records: Identify, the Set, the Connect, two Writes and PrmEnd with their answers, ApplicationReady
 /// with its own.
@@ -143,7 +143,7 @@ pub fn put_twice(alloc: Global, text: &mut String) -> Result<(), AllocError> {
     let frames = if net.sent(7).is_none() { "none" } else { "one" };
     let line = format!(in alloc; "twice: {equal} equal answers, {frames} behind them; ")?;
     text.push_str(line.as_str())?;
-    put_told(alloc, &watched_world::Told::by(&net), text)
+    put_told(alloc, &Told::by(&net), text)
 }
 
 /// Every frame comes again, the last one first.

@@ -2,7 +2,7 @@
 use crate::rows::{across, advance};
 use network_world::End;
 use std::alloc::{AllocError, Global};
-use watched_world::{Choice, Law, Size, Watched, fresh_world};
+use test_worlds::{Choice, Law, Size, Watched, fresh_world};
 
 /// The most moves of a schedule.
 const MOST: usize = 8;
@@ -30,6 +30,7 @@ enum Game {
 }
 
 /// What was found of all schedules.
+#[derive(Clone, Copy)]
 struct Found {
     schedules: u64,
     exchanging: u64,
@@ -37,6 +38,7 @@ struct Found {
 }
 
 /// How a schedule went: to its end, up to a choice that there is not, or to a law that does not hold.
+#[derive(Clone, Copy)]
 enum Went {
     Whole(bool),
     Short(usize),
@@ -50,7 +52,7 @@ fn back(watched: &Watched, place: usize) -> Choice {
 
 /// What is given: another value each time.
 fn give(watched: &Watched) -> Choice {
-    Choice::Give(2, [7, watched.count() as u8])
+    Choice::Give(2, [7, u8::try_from(watched.count()).unwrap_or(0)])
 }
 
 fn alarm(watched: &Watched) -> Choice {
@@ -229,7 +231,7 @@ fn put_game(
     moves: u64,
     text: &mut String,
 ) -> Result<(), AllocError> {
-    let moves = (moves as usize).min(MOST);
+    let moves = usize::try_from(moves).unwrap_or(0).min(MOST);
     let found = search(alloc, game, records, moves)?;
     put_found(alloc, name, moves, &found, text)
 }
@@ -241,7 +243,8 @@ pub fn put_starts(
     moves: u64,
     text: &mut String,
 ) -> Result<(), AllocError> {
-    put_game(alloc, "starts", Game::Starts, records as u8, moves, text)
+    let records = u8::try_from(records).unwrap_or(0);
+    put_game(alloc, "starts", Game::Starts, records, moves, text)
 }
 
 /// Every schedule while data is exchanged.

@@ -3,7 +3,7 @@ use crate::kind::{Kind, counter_of, output_at, sum_of};
 use crate::law::{Law, is_newer, is_row_of_controller, is_row_of_device};
 use crate::schedule::Choice;
 use crate::station::Net;
-use crate::told::{Outputs, Told};
+use crate::told::{Outputs, Told, ZEROS};
 use controller_core::State;
 use network_world::End;
 use relations::Phase;
@@ -101,7 +101,7 @@ impl Watched {
             records,
             told,
             seen: Vec::new(alloc),
-            given: Outputs::ZEROS,
+            given: ZEROS,
             last: None,
             was_handed: false,
             was_exchanging: false,
@@ -272,29 +272,31 @@ impl Watched {
 
     /// A cyclic frame of the controller comes to the device in its relation, which takes it where its counter is newer.
     fn note_outputs(&mut self, number: usize, before: &Told) {
-        if !before.is_own {
-            return;
-        }
-        if let Some(seen) = self.seen.get(number) {
-            if seen.from == End::Controller
-                && seen.kind == Kind::Outputs
-                && is_behind(self.last.as_ref(), seen.counter)
-            {
-                self.last = Some(*seen);
-            }
+        let seen = match self.seen.get(number) {
+            Some(seen) => *seen,
+            None => return,
+        };
+        if before.is_own
+            && seen.from == End::Controller
+            && seen.kind == Kind::Outputs
+            && is_behind(self.last, seen.counter)
+        {
+            self.last = Some(seen);
         }
     }
 
     /// An ApplicationReady that the device sent while it waited for its answer came to the controller, which exchanges data now.
     fn note_handed(&mut self, number: usize) {
-        if let Some(seen) = self.seen.get(number) {
-            if seen.from == End::Device
-                && seen.kind == Kind::Ready
-                && seen.is_ready
-                && self.told.state == State::Exchanging
-            {
-                self.was_handed = true;
-            }
+        let seen = match self.seen.get(number) {
+            Some(seen) => *seen,
+            None => return,
+        };
+        if seen.from == End::Device
+            && seen.kind == Kind::Ready
+            && seen.is_ready
+            && self.told.state == State::Exchanging
+        {
+            self.was_handed = true;
         }
     }
 
@@ -312,7 +314,7 @@ impl Watched {
         if self.told.is_exchanging() {
             self.tally.exchanging = self.tally.exchanging.saturating_add(1);
         }
-        if self.told.outputs != Outputs::ZEROS {
+        if self.told.outputs != ZEROS {
             self.tally.shown = self.tally.shown.saturating_add(1);
         }
         if self.told.alarm.is_some() {
@@ -371,7 +373,7 @@ impl Watched {
                     && is_given(last.brings.second, last.given.second)
                     && is_given(last.brings.third, last.given.third)
             }
-            None => self.told.outputs == Outputs::ZEROS,
+            None => self.told.outputs == ZEROS,
         }
     }
 
@@ -387,7 +389,7 @@ impl Watched {
 }
 
 /// Whether a frame with this counter is newer than the last one, if there was one.
-fn is_behind(last: Option<&Seen>, counter: u16) -> bool {
+fn is_behind(last: Option<Seen>, counter: u16) -> bool {
     match last {
         Some(last) => is_newer(last.counter, counter),
         None => true,

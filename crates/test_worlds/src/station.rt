@@ -1,6 +1,6 @@
 //! The station "pump-1" over the smallest flash, and the plan of its controller.
-ghost use Rattle.std.specs.Prelude.{◌≡◌, ◌∷◌, [], ℕ, map};
-ghost use Rattle.plans.specs.Parts.{AreOrdered};
+ghost use Rattle.std.specs.Prelude.{◌≡◌, ◌≤◌, length};
+ghost use Rattle.plans.specs.Parts.{AreOrdered, IsRising, subslots_of};
 
 use arrayvec::ArrayVec;
 use controller_core::Controller;
@@ -39,7 +39,7 @@ fn submodule(
 /// A module with one submodule.
 fn single(slot: u16, ident: u32, only: RealSubmodule) -> RealModule
     ensures slot { result.slot ≡ slot }
-    ensures only { result.submodules.items ≡ only ∷ [] }
+    ensures rising { IsRising (subslots_of result) }
 {
     let mut submodules = ArrayVec::new();
     submodules.push(only);
@@ -53,7 +53,7 @@ fn single(slot: u16, ident: u32, only: RealSubmodule) -> RealModule
 /// The access point with two ports.
 fn access_point() -> RealModule
     ensures slot { result.slot ≡ 0 }
-    ensures subslots { map (λ part. part.subslot) result.submodules.items ≡ 1 ∷ 0x8000 ∷ 0x8001 ∷ [] }
+    ensures rising { IsRising (subslots_of result) }
 {
     let mut submodules = ArrayVec::new();
     submodules.push(submodule(1, 1, 0, 0, ArrayVec::new()));
@@ -83,6 +83,7 @@ fn inputs() -> RealSubmodule {
 /// Two octets of outputs in a slot.
 fn outputs(slot: u16) -> RealModule
     ensures slot { result.slot ≡ slot }
+    ensures rising { IsRising (subslots_of result) }
 {
     single(slot, 32, submodule(1, 32, 0, 2, ArrayVec::new()))
 }

@@ -11,13 +11,11 @@ pub struct Outputs {
     pub third: [u8; 2],
 }
 
-impl Outputs {
-    /// Nothing was given yet.
-    pub const ZEROS: Outputs = Outputs {
-        second: [0; 2],
-        third: [0; 2],
-    };
-}
+/// Nothing was given yet.
+pub(crate) const ZEROS: Outputs = Outputs {
+    second: [0; 2],
+    third: [0; 2],
+};
 
 /// What both ends tell, but for octets of frames.
 #[derive(Clone, Copy, PartialEq, Eq)]
