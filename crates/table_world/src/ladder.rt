@@ -5,11 +5,11 @@ use relations::Phase;
 use std::alloc::{AllocError, Global};
 use test_worlds::{Choice, Law, Schedule, Size, Told, Watched, fresh_world};
 
-/// The world of these schedules: two records, four units between cyclic frames, whose values hold for a hundred.
+/// The world of these schedules: two records, a cyclic frame each millisecond, whose values hold for three.
 pub(crate) const SIZE: Size = Size {
     records: 2,
-    interval: 4,
-    hold: 25,
+    interval: 32,
+    hold: 3,
     fault: None,
 };
 

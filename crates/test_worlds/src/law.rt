@@ -73,6 +73,8 @@ pub(crate) fn is_row_of_controller(before: State, now: State, came: Option<Kind>
         (State::Looking, State::Connecting) => came == Some(Kind::Found),
         (State::Addressing, State::Connecting) => came == Some(Kind::Set),
         (State::Connecting, State::Writing) => came == Some(Kind::Positive),
+        // Of a plan without records.
+        (State::Connecting, State::Ending) => came == Some(Kind::Positive),
         (State::Writing, State::Ending) => came == Some(Kind::Positive),
         (State::Ending, State::Waiting) => came == Some(Kind::Positive),
         (State::Ending, State::Exchanging) => came == Some(Kind::Ready),

@@ -86,23 +86,22 @@ impl Schedule {
         }
     }
 
-    /// A frame comes: most often one of the last, to either end.
+    /// A frame comes: most often one of the last, to either end, and now and then one that was never sent.
     fn deliver(&mut self, count: usize) -> Choice {
         let count = count as u64;
-        let back = if self.below(10) < 8 {
-            self.below(6)
-        } else {
-            self.below(count)
+        let number = match self.below(50) {
+            0 => count.saturating_add(self.below(4)),
+            1..40 => count.saturating_sub(1).saturating_sub(self.below(6)),
+            _ => self.below(count),
         };
-        let number = count.saturating_sub(1).saturating_sub(back);
         Choice::Deliver(self.end(), number as usize)
     }
 
     /// What happens next, where so many frames were sent and so many alarms raised.
     pub fn choose(&mut self, count: usize, raised: u16) -> Choice {
         match self.below(100) {
-            0..50 => Choice::Tick(self.end()),
-            50..92 => self.deliver(count),
+            0..30 => Choice::Tick(self.end()),
+            30..92 => self.deliver(count),
             92..95 => Choice::Give(2, self.value()),
             95..97 => Choice::Give(3, self.value()),
             97..98 => Choice::Input(self.value()),

@@ -5,7 +5,7 @@ ghost use Rattle.plans.specs.Parts.{AreOrdered, IsRising, subslots_of};
 use arrayvec::ArrayVec;
 use controller_core::Controller;
 use device_core::Device;
-use flash_model::{Flash, MemoryFlash, Order};
+use flash_model::{MemoryFlash, Order};
 use frame_codec::Outbox;
 use network_world::World;
 use plans::{Controller as Ours, Parts, Plan, PlanRecord, Station as Theirs, Times};
