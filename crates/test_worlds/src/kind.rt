@@ -7,8 +7,10 @@ pub enum Kind {
     Identify,
     /// The answer to it.
     Found,
-    /// A Set, or the answer to one.
+    /// A Set.
     Set,
+    /// The answer to one.
+    SetDone,
     /// A Connect.
     Connect,
     /// A Release.
@@ -29,8 +31,10 @@ pub enum Kind {
     Inputs,
     /// A cyclic frame of the controller: outputs.
     Outputs,
-    /// An alarm, or an AlarmAck.
-    Data,
+    /// An alarm.
+    Alarm,
+    /// The AlarmAck of one.
+    AlarmAck,
     /// The ACK of one.
     Ack,
     /// The NACK of one.
@@ -61,10 +65,19 @@ fn type_place(octets: &[u8]) -> usize {
     }
 }
 
+/// What data of alarms is, by the type of its block.
+fn data_kind(block_type: u16) -> Kind {
+    match block_type {
+        0x0001 => Kind::Alarm,
+        0x8001 => Kind::AlarmAck,
+        _ => Kind::Other,
+    }
+}
+
 /// A PDU of alarms, by the low bits of its PDUType.
-fn alarm_kind(pdu_type: u8) -> Kind {
+fn alarm_kind(pdu_type: u8, block_type: u16) -> Kind {
     match pdu_type & 0x0f {
-        1 => Kind::Data,
+        1 => data_kind(block_type),
         2 => Kind::Nack,
         3 => Kind::Ack,
         4 => Kind::Err,
@@ -72,16 +85,27 @@ fn alarm_kind(pdu_type: u8) -> Kind {
     }
 }
 
-/// A frame of EtherType 0x8892, by its FrameID and the octet at which an alarm has its PDUType.
-fn real_time_kind(frame_id: u16, pdu_type: u8) -> Kind {
-    match frame_id {
+/// A Set, or the answer to one, by its ServiceType.
+fn set_kind(service_type: u8) -> Kind {
+    if service_type == 0 {
+        Kind::Set
+    } else {
+        Kind::SetDone
+    }
+}
+
+/// A frame of EtherType 0x8892, whose FrameID stands at a place.
+fn real_time_kind(octets: &[u8], place: usize) -> Kind {
+    let pdu_type = octet_at(octets, place.saturating_add(6));
+    let block_type = number_at(octets, place.saturating_add(14));
+    match number_at(octets, place) {
         0xfefe => Kind::Identify,
         0xfeff => Kind::Found,
-        0xfefd => Kind::Set,
+        0xfefd => set_kind(octet_at(octets, place.saturating_add(3))),
         0xc001 => Kind::Inputs,
         0xc000 => Kind::Outputs,
-        0xfc01 => alarm_kind(pdu_type),
-        0xfe01 => alarm_kind(pdu_type),
+        0xfc01 => alarm_kind(pdu_type, block_type),
+        0xfe01 => alarm_kind(pdu_type, block_type),
         _ => Kind::Other,
     }
 }
@@ -122,10 +146,7 @@ impl Kind {
     pub fn of(octets: &[u8]) -> Kind {
         let place = type_place(octets);
         match number_at(octets, place) {
-            0x8892 => real_time_kind(
-                number_at(octets, place.saturating_add(2)),
-                octet_at(octets, place.saturating_add(8)),
-            ),
+            0x8892 => real_time_kind(octets, place.saturating_add(2)),
             0x0800 => datagram_kind(octets),
             _ => Kind::Other,
         }
@@ -141,7 +162,8 @@ impl Kind {
         match self {
             Kind::Identify => "Identify",
             Kind::Found => "answer to Identify",
-            Kind::Set => "Set or its answer",
+            Kind::Set => "Set",
+            Kind::SetDone => "answer to Set",
             Kind::Connect => "Connect",
             Kind::Release => "Release",
             Kind::Write => "Write",
@@ -152,7 +174,8 @@ impl Kind {
             Kind::Confirm => "its answer",
             Kind::Inputs => "inputs",
             Kind::Outputs => "outputs",
-            Kind::Data => "alarm data",
+            Kind::Alarm => "alarm",
+            Kind::AlarmAck => "AlarmAck",
             Kind::Ack => "ACK",
             Kind::Nack => "NACK",
             Kind::Err => "ERR",

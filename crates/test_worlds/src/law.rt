@@ -71,7 +71,7 @@ pub(crate) fn is_row_of_controller(before: State, now: State, came: Option<Kind>
     match (before, now) {
         (State::Looking, State::Addressing) => came == Some(Kind::Found),
         (State::Looking, State::Connecting) => came == Some(Kind::Found),
-        (State::Addressing, State::Connecting) => came == Some(Kind::Set),
+        (State::Addressing, State::Connecting) => came == Some(Kind::SetDone),
         (State::Connecting, State::Writing) => came == Some(Kind::Positive),
         // Of a plan without records.
         (State::Connecting, State::Ending) => came == Some(Kind::Positive),
