@@ -26,7 +26,6 @@ HERE = os.path.dirname(os.path.realpath(__file__))
 TOP = os.path.dirname(os.path.dirname(HERE))
 CRATE = os.path.join(TOP, "crates", "pnscript")
 WORLDS = os.path.join(TOP, "crates", "table_world", "out", "table_world")
-SCHEDULE = b"growths 1 2000\n"
 
 
 def read(path):
@@ -72,20 +71,22 @@ def fail_worlds(program):
     """Each allocation of a schedule. Status 1 if an answer is wrong, or no growth of a world was refused."""
     if not os.access(program, os.X_OK):
         raise SystemExit(f"{name()}: there is no {program}: `rt run` in crates/table_world makes it")
-    whole = subprocess.run([program], input=SCHEDULE, stdout=subprocess.PIPE).stdout
+    plan = read(os.path.join(TOP, "crates", "table_world", "stdin")).splitlines()[0]
+    schedule = plan + b"\ngrowths 1 2000\n"
+    whole = subprocess.run([program], input=schedule, stdout=subprocess.PIPE).stdout
     refused = growths = ended = wrong = 0
     with tempfile.TemporaryDirectory() as folder:
         shim, mark = make_shim(folder)
         while True:
             environment = {"LD_PRELOAD": shim, "FAIL_ALLOC": str(refused + 1), "FAIL_MARK": mark}
-            answer = subprocess.run([program], input=SCHEDULE, capture_output=True, env=environment)
+            answer = subprocess.run([program], input=schedule, capture_output=True, env=environment)
             if not os.path.exists(mark):
                 break
             os.remove(mark)
             refused += 1
             if answer.returncode == 0 and answer.stdout == whole:
                 growths += answer.stderr == b"table_world: 1 growths refused\n"
-            elif answer.returncode == 1 and answer.stdout == b"":
+            elif answer.returncode == 1 and answer.stdout == b"" or answer.stdout == b"no world\n":
                 ended += 1
             else:
                 print(f"allocation {refused}: status {answer.returncode}, {answer.stderr!r}, {answer.stdout[-80:]!r}")

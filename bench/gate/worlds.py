@@ -7,12 +7,14 @@ octets, and shares no line with the program.
     bench/gate/worlds.py --check       compares them with what stands in crates/table_world/stdout
 """
 
+import json
 import os
 import sys
 
 from program import TOP, answer_help, refuse
 
 TABLE = os.path.join(TOP, "crates", "table_world")
+SEARCHES = ("starts", "exchanges", "outputs", "alarms")
 CONNECT = 0
 
 
@@ -106,24 +108,27 @@ def starts(records, moves, device=None, controller=None, sent=(("call", CONNECT,
     return schedules, exchanging
 
 
-def counts(words):
-    """How many schedules a line asks for, of how many moves, and how many of them end with both exchanging."""
-    moves = int(words[-1])
-    if words[0] == "starts":
-        return (*starts(int(words[1]), moves), moves)
-    if words[0] == "exchanges":
+def counts(word, moves, records):
+    """How many schedules a line asks for, and how many of them end with both exchanging."""
+    if word == "starts":
+        return starts(records, moves)
+    if word == "exchanges":
         # Of eight choices one is a stop; else nothing ends an exchange in so few units.
-        return 8 ** moves, 7 ** moves, moves
-    return 4 ** moves, 4 ** moves, moves
+        return 8 ** moves, 7 ** moves
+    return 4 ** moves, 4 ** moves
 
 
 def lines():
+    """The lines that have to be printed of the searches of stdin, each of the plan before it."""
+    records = 0
     with open(os.path.join(TABLE, "stdin"), encoding="ascii") as file:
         for line in file:
-            words = line.split()
-            if words[0] in ("starts", "exchanges", "outputs", "alarms"):
-                schedules, exchanging, moves = counts(words)
-                yield (f"{words[0]}: all laws hold at each point of {schedules} schedules of {moves} moves; "
+            word, _, rest = line.strip().partition(" ")
+            if word == "plan":
+                records = sum(len(slot.get("Records", [])) for slot in json.loads(rest)["Project"]["Slots"])
+            elif word in SEARCHES:
+                schedules, exchanging = counts(word, int(rest), records)
+                yield (f"{word}: all laws hold at each point of {schedules} schedules of {rest} moves; "
                        f"{exchanging} of them end with both exchanging")
 
 
@@ -135,7 +140,7 @@ def main(words):
     if words != ["--check"]:
         return refuse(words or ["no words"])
     with open(os.path.join(TABLE, "stdout"), encoding="ascii") as file:
-        printed = [line for line in file.read().splitlines() if line.split(":")[0] in ("starts", "exchanges", "outputs", "alarms")]
+        printed = [line for line in file.read().splitlines() if line.split(":")[0] in SEARCHES]
     wanted = list(lines())
     print(f"{len(wanted)} searches of small worlds, {'as reckoned' if printed == wanted else 'not as reckoned'}")
     return int(printed != wanted)

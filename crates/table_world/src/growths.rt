@@ -1,6 +1,6 @@
 //! Two worlds beside each other: one plays four moves in a call, the other the same moves one by one. Where an allocation fails, a call
 //! leaves a world of the moves before.
-use crate::ladder::SIZE;
+use crate::ladder::Play;
 use std::alloc::{AllocError, Global};
 use test_worlds::{Choice, Net, Schedule, Told, fresh_world};
 
@@ -121,15 +121,18 @@ fn four(schedule: &mut Schedule, count: usize) -> [Choice; 4] {
 /// Plays a schedule at both worlds.
 pub fn put_growths(
     alloc: Global,
-    seed: u64,
-    moves: u64,
+    play: Play<'_>,
     text: &mut String,
     refused: &mut u64,
 ) -> Result<(), AllocError> {
-    let mut pair = match (fresh_world(alloc, SIZE), fresh_world(alloc, SIZE)) {
+    let seed = play.seed;
+    let moves = play.moves;
+    let whole = fresh_world(alloc, play.catalogue, play.fault);
+    let single = fresh_world(alloc, play.catalogue, play.fault);
+    let mut pair = match (whole, single) {
         (Some(whole), Some(single)) => Pair {
-            whole,
-            single,
+            whole: whole.net,
+            single: single.net,
             count: 1,
             refused: 0,
             is_broken: false,

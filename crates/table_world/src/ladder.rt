@@ -3,15 +3,7 @@ use controller_core::{Cause, State};
 use network_world::End;
 use relations::Phase;
 use std::alloc::{AllocError, Global};
-use test_worlds::{Choice, Law, Schedule, Size, Told, Watched, fresh_world};
-
-/// The world of these schedules: two records, a cyclic frame each millisecond, whose values hold for three.
-pub(crate) const SIZE: Size = Size {
-    records: 2,
-    interval: 32,
-    hold: 3,
-    fault: None,
-};
+use test_worlds::{Choice, Law, Schedule, Told, Watched, fresh_world};
 
 fn phase_name(phase: Option<Phase>) -> &'static str {
     match phase {
@@ -88,21 +80,29 @@ enum Ended {
     Broken(Law, u64),
 }
 
+/// A schedule over the station of a catalogue.
+#[derive(Clone, Copy)]
+pub struct Play<'a> {
+    pub catalogue: &'a str,
+    pub seed: u64,
+    pub moves: u64,
+    /// Behind how many calls of the flash one fails, if one does.
+    pub fault: Option<u32>,
+}
+
 /// Plays a schedule.
-fn play(
+fn play_out(
     alloc: Global,
-    seed: u64,
-    moves: u64,
-    size: Size,
+    play: Play<'_>,
     is_ladder: bool,
     text: &mut String,
 ) -> Result<Ended, AllocError> {
-    let mut watched = match fresh_world(alloc, size) {
-        Some(net) => Watched::new(alloc, net, size.records)?,
+    let mut watched = match fresh_world(alloc, play.catalogue, play.fault) {
+        Some(fresh) => Watched::new(alloc, fresh)?,
         None => return Ok(Ended::NoWorld),
     };
-    let mut schedule = Schedule::new(seed);
-    for number in 0..moves {
+    let mut schedule = Schedule::new(play.seed);
+    for number in 0..play.moves {
         let count = watched.count();
         let before = watched.told();
         let choice = schedule.choose(count, watched.raised());
@@ -116,7 +116,7 @@ fn play(
     if watched.are_kept() {
         Ok(Ended::Well(watched))
     } else {
-        Ok(Ended::Broken(Law::Frames, moves))
+        Ok(Ended::Broken(Law::Frames, play.moves))
     }
 }
 
@@ -134,13 +134,8 @@ fn put_choice(
 }
 
 /// A schedule as a ladder.
-pub fn put_ladder(
-    alloc: Global,
-    seed: u64,
-    moves: u64,
-    text: &mut String,
-) -> Result<(), AllocError> {
-    let ended = play(alloc, seed, moves, SIZE, true, text)?;
+pub fn put_ladder(alloc: Global, play: Play<'_>, text: &mut String) -> Result<(), AllocError> {
+    let ended = play_out(alloc, play, true, text)?;
     put_ended(alloc, &ended, text)?;
     if let Ended::Well(watched) = ended {
         let tally = watched.tally();
@@ -179,47 +174,41 @@ fn is_full(watched: &Watched) -> bool {
 }
 
 /// A schedule, and nothing of it but how it ends.
-pub fn put_moves(
-    alloc: Global,
-    seed: u64,
-    moves: u64,
-    text: &mut String,
-) -> Result<(), AllocError> {
-    let line = format!(in alloc; "moves {seed} {moves}: ")?;
+pub fn put_moves(alloc: Global, play: Play<'_>, text: &mut String) -> Result<(), AllocError> {
+    let line = format!(in alloc; "moves {} {}: ", play.seed, play.moves)?;
     text.push_str(line.as_str())?;
-    let ended = play(alloc, seed, moves, SIZE, false, text)?;
+    let ended = play_out(alloc, play, false, text)?;
     put_ended(alloc, &ended, text)
 }
 
-/// Behind how many calls of the flash one fails, if one does.
-fn fault_of(seed: u64, is_faulty: bool) -> Option<u32> {
-    if is_faulty {
-        u32::try_from(seed).ok()
-    } else {
-        None
-    }
-}
-
-/// The schedules of so many seeds.
+/// The schedules of so many seeds, as many as the one that is given, which is not played itself. If it is asked for, each over a flash of
+/// which a later call fails than with the seed before it.
 pub fn put_seeds(
     alloc: Global,
-    count: u64,
-    moves: u64,
+    play: Play<'_>,
     is_faulty: bool,
     text: &mut String,
 ) -> Result<(), AllocError> {
+    let count = play.seed;
+    let moves = play.moves;
     for seed in 0..count {
-        let size = Size {
-            fault: fault_of(seed, is_faulty),
-            ..SIZE
+        let fault = if is_faulty {
+            u32::try_from(seed).ok()
+        } else {
+            None
         };
-        let ended = play(alloc, seed, moves, size, false, text)?;
-        if let Ended::Well(_) = ended {
-            continue;
+        let one = Play {
+            catalogue: play.catalogue,
+            seed,
+            moves,
+            fault,
+        };
+        let ended = play_out(alloc, one, false, text)?;
+        if !matches!(&ended, Ended::Well(_)) {
+            let line = format!(in alloc; "seed {seed}: ")?;
+            text.push_str(line.as_str())?;
+            return put_ended(alloc, &ended, text);
         }
-        let line = format!(in alloc; "seed {seed}: ")?;
-        text.push_str(line.as_str())?;
-        return put_ended(alloc, &ended, text);
     }
     let line = format!(in alloc;
         "all laws hold behind each of {moves} moves of {count} schedules\n"

@@ -1,6 +1,7 @@
 //! Both ends over schedules. Each line of standard input is one of
 //!
 //! ```text
+//! plan JSON              the lines that follow are of the station of this catalogue
 //! start                  each frame comes to the other end as soon as it was sent: a start-up, as a ladder of messages
 //! twice                  a Connect that comes twice
 //! again                  behind a start-up each frame comes again to both ends, the last one first
@@ -11,7 +12,7 @@
 //! seeds COUNT MOVES      the schedules of so many seeds
 //! faults COUNT MOVES     the same over a flash of which one call fails, a later one with each seed
 //! growths SEED MOVES     the same schedule in calls of four moves, beside a world that makes them one by one (below)
-//! starts RECORDS MOVES   every schedule of so many moves from the Connect on: a frame from the Connect on comes to the end that did not
+//! starts MOVES           every schedule of so many moves from the Connect on: a frame from the Connect on comes to the end that did not
 //!                        send it, or the controller is stopped
 //! exchanges MOVES        every schedule of so many moves while data is exchanged: one of the last three frames comes to the end that did
 //!                        not send it, an interval is over at one end, an output is given, an alarm raised, or the controller stopped
@@ -34,15 +35,21 @@ mod ladder;
 mod rows;
 mod worlds;
 
+use ladder::Play;
 use std::alloc::Global;
 use std::io::{self, Write};
 
 fn main(rt: HostRuntime) -> io::Result<()> {
     let lines = io::read_to_string(rt.alloc(), rt.reader())?;
     let mut text = String::new(rt.alloc());
+    let mut catalogue = "";
     let mut refused = 0;
     for line in lines.lines() {
-        put_line(rt.alloc(), line, &mut text, &mut refused)?;
+        if let Some(json) = line.strip_prefix("plan ") {
+            catalogue = json;
+        } else {
+            put_line(rt.alloc(), catalogue, line, &mut text, &mut refused)?;
+        }
     }
     if refused != 0 {
         eprintln!(rt; "table_world: {refused} growths refused")?;
@@ -58,25 +65,36 @@ fn number_of(word: Option<&str>) -> u64 {
     }
 }
 
-fn put_line(alloc: Global, line: &str, text: &mut String, refused: &mut u64) -> io::Result<()> {
+fn put_line(
+    alloc: Global,
+    catalogue: &str,
+    line: &str,
+    text: &mut String,
+    refused: &mut u64,
+) -> io::Result<()> {
     let mut words = line.split(' ');
     let word = words.next();
     let first = number_of(words.next());
-    let second = number_of(words.next());
+    let play = Play {
+        catalogue,
+        seed: first,
+        moves: number_of(words.next()),
+        fault: None,
+    };
     match word {
-        Some("start") => rows::put_start(alloc, text)?,
-        Some("twice") => rows::put_twice(alloc, text)?,
-        Some("again") => rows::put_again(alloc, text)?,
-        Some("left") => rows::put_left(alloc, text)?,
-        Some("ladder") => ladder::put_ladder(alloc, first, second, text)?,
-        Some("moves") => ladder::put_moves(alloc, first, second, text)?,
-        Some("seeds") => ladder::put_seeds(alloc, first, second, false, text)?,
-        Some("faults") => ladder::put_seeds(alloc, first, second, true, text)?,
-        Some("growths") => growths::put_growths(alloc, first, second, text, refused)?,
-        Some("starts") => worlds::put_starts(alloc, first, second, text)?,
-        Some("exchanges") => worlds::put_exchanges(alloc, first, text)?,
-        Some("outputs") => worlds::put_outputs(alloc, first, text)?,
-        Some("alarms") => worlds::put_alarms(alloc, first, text)?,
+        Some("start") => rows::put_start(alloc, catalogue, text)?,
+        Some("twice") => rows::put_twice(alloc, catalogue, text)?,
+        Some("again") => rows::put_again(alloc, catalogue, text)?,
+        Some("left") => rows::put_left(alloc, catalogue, text)?,
+        Some("ladder") => ladder::put_ladder(alloc, play, text)?,
+        Some("moves") => ladder::put_moves(alloc, play, text)?,
+        Some("seeds") => ladder::put_seeds(alloc, play, false, text)?,
+        Some("faults") => ladder::put_seeds(alloc, play, true, text)?,
+        Some("growths") => growths::put_growths(alloc, play, text, refused)?,
+        Some("starts") => worlds::put_starts(alloc, catalogue, first, text)?,
+        Some("exchanges") => worlds::put_exchanges(alloc, catalogue, first, text)?,
+        Some("outputs") => worlds::put_outputs(alloc, catalogue, first, text)?,
+        Some("alarms") => worlds::put_alarms(alloc, catalogue, first, text)?,
         _ => text.push_str("what?\n")?,
     }
     Ok(())

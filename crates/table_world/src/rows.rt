@@ -1,12 +1,11 @@
 //! Single schedules: a start-up, a Connect that comes twice, every frame again, and what is skipped behind an end.
-use crate::ladder::{SIZE, put_broken, put_rung, put_told};
+use crate::ladder::{put_broken, put_rung, put_told};
 use network_world::{End, Move};
 use std::alloc::{AllocError, Global};
 use test_worlds::{Choice, Law, Net, Told, Watched, fresh_world};
 
-/// The frames of a start-up with two records: Identify, the Set, the Connect, two Writes and PrmEnd with their answers, ApplicationReady
-/// with its own.
-const START_UP: usize = 14;
+/// Longer than the interval of any plan that is played.
+const INTERVAL: u8 = 32;
 
 /// The number of a frame that was never sent.
 const NEVER: usize = 1_000;
@@ -19,6 +18,12 @@ fn make(watched: &mut Watched, choices: &[Choice]) -> Result<Option<Law>, AllocE
         }
     }
     Ok(None)
+}
+
+/// How many frames a start-up has: Identify, the Set, the Connect, PrmEnd and a Write for each record with their answers, ApplicationReady
+/// with its own.
+pub(crate) fn start_up(watched: &Watched) -> usize {
+    watched.records().saturating_mul(2).saturating_add(10)
 }
 
 /// A frame comes to the end that did not send it.
@@ -56,22 +61,24 @@ fn wait(watched: &mut Watched, units: u8) -> Result<Option<Law>, AllocError> {
 
 /// Both ends exchange data, and a cyclic frame went each way.
 fn exchange(watched: &mut Watched) -> Result<Option<Law>, AllocError> {
-    if let Some(law) = advance(watched, 0, START_UP)? {
+    let begun = start_up(watched);
+    if let Some(law) = advance(watched, 0, begun)? {
         return Ok(Some(law));
     }
     if let Some(law) = watched.make(Choice::Give(2, [7, 9]))? {
         return Ok(Some(law));
     }
-    if let Some(law) = wait(watched, SIZE.interval)? {
+    if let Some(law) = wait(watched, INTERVAL)? {
         return Ok(Some(law));
     }
     let count = watched.count();
-    advance(watched, START_UP, count)
+    advance(watched, begun, count)
 }
 
-fn watch(alloc: Global, text: &mut String) -> Result<Option<Watched>, AllocError> {
-    match fresh_world(alloc, SIZE) {
-        Some(net) => Ok(Some(Watched::new(alloc, net, SIZE.records)?)),
+/// A world in which nothing happened yet.
+fn watch(alloc: Global, catalogue: &str, text: &mut String) -> Result<Option<Watched>, AllocError> {
+    match fresh_world(alloc, catalogue, None) {
+        Some(fresh) => Ok(Some(Watched::new(alloc, fresh)?)),
         None => {
             text.push_str("no world\n")?;
             Ok(None)
@@ -93,8 +100,8 @@ fn put_judged(
 }
 
 /// A start-up: each frame comes to the other end as soon as it was sent.
-pub fn put_start(alloc: Global, text: &mut String) -> Result<(), AllocError> {
-    let mut watched = match watch(alloc, text)? {
+pub fn put_start(alloc: Global, catalogue: &str, text: &mut String) -> Result<(), AllocError> {
+    let mut watched = match watch(alloc, catalogue, text)? {
         Some(watched) => watched,
         None => return Ok(()),
     };
@@ -126,9 +133,9 @@ fn alike(net: &Net, number: usize) -> u32 {
 }
 
 /// A Connect that comes twice, in one call of `play`.
-pub fn put_twice(alloc: Global, text: &mut String) -> Result<(), AllocError> {
-    let mut net = match fresh_world(alloc, SIZE) {
-        Some(net) => net,
+pub fn put_twice(alloc: Global, catalogue: &str, text: &mut String) -> Result<(), AllocError> {
+    let mut net = match fresh_world(alloc, catalogue, None) {
+        Some(fresh) => fresh.net,
         None => return text.push_str("no world\n"),
     };
     net.play(&[
@@ -147,8 +154,8 @@ pub fn put_twice(alloc: Global, text: &mut String) -> Result<(), AllocError> {
 }
 
 /// Every frame comes again, the last one first.
-pub fn put_again(alloc: Global, text: &mut String) -> Result<(), AllocError> {
-    let mut watched = match watch(alloc, text)? {
+pub fn put_again(alloc: Global, catalogue: &str, text: &mut String) -> Result<(), AllocError> {
+    let mut watched = match watch(alloc, catalogue, text)? {
         Some(watched) => watched,
         None => return Ok(()),
     };
@@ -174,8 +181,8 @@ pub fn put_again(alloc: Global, text: &mut String) -> Result<(), AllocError> {
 }
 
 /// Behind a stop and its Release.
-pub fn put_left(alloc: Global, text: &mut String) -> Result<(), AllocError> {
-    let mut watched = match watch(alloc, text)? {
+pub fn put_left(alloc: Global, catalogue: &str, text: &mut String) -> Result<(), AllocError> {
+    let mut watched = match watch(alloc, catalogue, text)? {
         Some(watched) => watched,
         None => return Ok(()),
     };
@@ -187,7 +194,7 @@ pub fn put_left(alloc: Global, text: &mut String) -> Result<(), AllocError> {
     if broken.is_none() {
         broken = watched.make(Choice::Deliver(End::Device, release))?;
     }
-    for number in START_UP..release {
+    for number in 0..release {
         if broken.is_none() && watched.kind(number).is_cyclic() {
             broken = make(
                 &mut watched,

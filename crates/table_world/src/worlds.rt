@@ -1,17 +1,14 @@
 //! Every schedule of a small world.
-use crate::rows::{across, advance};
+use crate::rows::{across, advance, start_up};
 use network_world::End;
 use std::alloc::{AllocError, Global};
-use test_worlds::{Choice, Law, Size, Watched, fresh_world};
+use test_worlds::{Choice, Law, Watched, fresh_world};
 
 /// The most moves of a schedule.
 const MOST: usize = 8;
 
 /// More schedules than there are.
 const ENOUGH: u64 = 10_000_000;
-
-/// How many frames a start-up without records has.
-const START_UP: usize = 10;
 
 /// The choices of a schedule, by their numbers among those that there are.
 type Digits = [usize; MOST];
@@ -60,22 +57,24 @@ fn alarm(watched: &Watched) -> Choice {
 }
 
 impl Game {
+    fn name(self) -> &'static str {
+        match self {
+            Game::Starts => "starts",
+            Game::Exchanges => "exchanges",
+            Game::Outputs => "outputs",
+            Game::Alarms => "alarms",
+        }
+    }
+
     /// The point from which the schedules begin: the Connect was sent, or both ends exchange data.
-    fn begin(self, alloc: Global, records: u8) -> Result<Option<Watched>, AllocError> {
-        let size = Size {
-            records,
-            interval: 1,
-            hold: 100,
-            fault: None,
-        };
-        let net = match fresh_world(alloc, size) {
-            Some(net) => net,
+    fn begin(self, alloc: Global, catalogue: &str) -> Result<Option<Watched>, AllocError> {
+        let mut watched = match fresh_world(alloc, catalogue, None) {
+            Some(fresh) => Watched::new(alloc, fresh)?,
             None => return Ok(None),
         };
-        let mut watched = Watched::new(alloc, net, records)?;
         let to = match self {
             Game::Starts => 4,
-            _ => START_UP,
+            _ => start_up(&watched),
         };
         match advance(&mut watched, 0, to)? {
             Some(_) => Ok(None),
@@ -169,7 +168,7 @@ fn step(digits: &mut Digits, place: usize) -> bool {
 }
 
 /// Plays all schedules of so many moves.
-fn search(alloc: Global, game: Game, records: u8, moves: usize) -> Result<Found, AllocError> {
+fn search(alloc: Global, game: Game, catalogue: &str, moves: usize) -> Result<Found, AllocError> {
     let mut digits = [0; MOST];
     let mut found = Found {
         schedules: 0,
@@ -177,7 +176,7 @@ fn search(alloc: Global, game: Game, records: u8, moves: usize) -> Result<Found,
         broken: None,
     };
     for _ in 0..ENOUGH {
-        let mut watched = match game.begin(alloc, records)? {
+        let mut watched = match game.begin(alloc, catalogue)? {
             Some(watched) => watched,
             None => return Ok(found),
         };
@@ -225,39 +224,52 @@ fn put_found(
 /// Plays all schedules of a game, and says what was found.
 fn put_game(
     alloc: Global,
-    name: &str,
     game: Game,
-    records: u8,
+    catalogue: &str,
     moves: u64,
     text: &mut String,
 ) -> Result<(), AllocError> {
     let moves = usize::try_from(moves).unwrap_or(0).min(MOST);
-    let found = search(alloc, game, records, moves)?;
-    put_found(alloc, name, moves, &found, text)
+    let found = search(alloc, game, catalogue, moves)?;
+    put_found(alloc, game.name(), moves, &found, text)
 }
 
-/// Every schedule from the Connect on, of a plan with so many records.
+/// Every schedule from the Connect on.
 pub fn put_starts(
     alloc: Global,
-    records: u64,
+    catalogue: &str,
     moves: u64,
     text: &mut String,
 ) -> Result<(), AllocError> {
-    let records = u8::try_from(records).unwrap_or(0);
-    put_game(alloc, "starts", Game::Starts, records, moves, text)
+    put_game(alloc, Game::Starts, catalogue, moves, text)
 }
 
 /// Every schedule while data is exchanged.
-pub fn put_exchanges(alloc: Global, moves: u64, text: &mut String) -> Result<(), AllocError> {
-    put_game(alloc, "exchanges", Game::Exchanges, 0, moves, text)
+pub fn put_exchanges(
+    alloc: Global,
+    catalogue: &str,
+    moves: u64,
+    text: &mut String,
+) -> Result<(), AllocError> {
+    put_game(alloc, Game::Exchanges, catalogue, moves, text)
 }
 
 /// Every schedule of outputs.
-pub fn put_outputs(alloc: Global, moves: u64, text: &mut String) -> Result<(), AllocError> {
-    put_game(alloc, "outputs", Game::Outputs, 0, moves, text)
+pub fn put_outputs(
+    alloc: Global,
+    catalogue: &str,
+    moves: u64,
+    text: &mut String,
+) -> Result<(), AllocError> {
+    put_game(alloc, Game::Outputs, catalogue, moves, text)
 }
 
 /// Every schedule of alarms.
-pub fn put_alarms(alloc: Global, moves: u64, text: &mut String) -> Result<(), AllocError> {
-    put_game(alloc, "alarms", Game::Alarms, 0, moves, text)
+pub fn put_alarms(
+    alloc: Global,
+    catalogue: &str,
+    moves: u64,
+    text: &mut String,
+) -> Result<(), AllocError> {
+    put_game(alloc, Game::Alarms, catalogue, moves, text)
 }

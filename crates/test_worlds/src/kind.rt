@@ -184,6 +184,11 @@ impl Kind {
     }
 }
 
+/// The SendSeqNum of a PDU of alarms: 8 octets behind the place of its FrameID.
+pub(crate) fn send_number_of(octets: &[u8]) -> u16 {
+    number_at(octets, type_place(octets).saturating_add(10))
+}
+
 /// The CycleCounter of a cyclic frame: it stands in front of the last two octets.
 pub(crate) fn counter_of(octets: &[u8]) -> u16 {
     number_at(octets, octets.len().saturating_sub(4))

@@ -20,7 +20,8 @@ pub enum Law {
     /// All outputs are zeros, or those of the last frame that the device took in its relation: the controller sent it, and it brings what
     /// had been given last then.
     Outputs,
-    /// Of n alarms that were raised the controller's last is the n-th or the one before it, and none before the first.
+    /// Of n alarms that were raised the controller's last is the n-th or the one before it, none before the first, and it sent an AlarmAck
+    /// for each that it took, once.
     Alarms,
     /// A frame that there is not, and a cyclic frame to an end that has left, changes nothing.
     Skipped,

@@ -12,6 +12,6 @@ mod watch;
 pub use kind::Kind;
 pub use law::Law;
 pub use schedule::{Choice, Schedule};
-pub use station::{Net, Size, fresh_world};
+pub use station::{Fresh, Net, fresh_world};
 pub use told::{Outputs, Told};
 pub use watch::{Tally, Watched};

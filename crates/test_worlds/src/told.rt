@@ -104,11 +104,8 @@ impl Told {
 
     /// Whether the device waits for the answer to ApplicationReady, in the relation of this controller, with so many records taken in
     /// their order, each once.
-    pub fn is_ready(&self, records: u8) -> bool {
-        self.phase == Some(Phase::Awaiting)
-            && self.is_own
-            && self.taken == usize::from(records)
-            && self.is_front
+    pub fn is_ready(&self, records: usize) -> bool {
+        self.phase == Some(Phase::Awaiting) && self.is_own && self.taken == records && self.is_front
     }
 
     /// Whether both ends exchange data.

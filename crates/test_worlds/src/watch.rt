@@ -1,8 +1,8 @@
 //! The watch: what was seen of each frame as it was sent, and the laws behind each move.
-use crate::kind::{Kind, counter_of, output_at, sum_of};
+use crate::kind::{Kind, counter_of, output_at, send_number_of, sum_of};
 use crate::law::{Law, is_newer, is_row_of_controller, is_row_of_device};
 use crate::schedule::Choice;
-use crate::station::Net;
+use crate::station::{Fresh, Net};
 use crate::told::{Outputs, Told, ZEROS};
 use controller_core::State;
 use network_world::End;
@@ -23,6 +23,8 @@ struct Seen {
     brings: Outputs,
     /// Its CycleCounter, if it is one.
     counter: u16,
+    /// Its SendSeqNum, if it is a PDU of alarms.
+    send_number: u16,
     /// A sum over its octets.
     sum: u32,
 }
@@ -45,7 +47,7 @@ pub struct Tally {
 pub struct Watched {
     net: Net,
     /// How many records the controller writes.
-    records: u8,
+    records: usize,
     told: Told,
     seen: Vec<Seen>,
     given: Outputs,
@@ -55,6 +57,9 @@ pub struct Watched {
     was_exchanging: bool,
     relations: u32,
     raised: u16,
+    /// How many AlarmAcks the controller sent, repeats apart, and the number of the last.
+    acknowledged: u16,
+    last_ack: Option<u16>,
     tally: Tally,
 }
 
@@ -70,6 +75,7 @@ fn seen_of(octets: &[u8], from: End, is_ready: bool, given: Outputs) -> Seen {
             third: output_at(octets, 3),
         },
         counter: counter_of(octets),
+        send_number: send_number_of(octets),
         sum: sum_of(octets),
     }
 }
@@ -93,8 +99,9 @@ fn is_given(shown: [u8; 2], given: [u8; 2]) -> bool {
 }
 
 impl Watched {
-    /// A world in which nothing happened yet, whose controller writes so many records.
-    pub fn new(alloc: Global, net: Net, records: u8) -> Result<Watched, AllocError> {
+    /// A world in which nothing happened yet.
+    pub fn new(alloc: Global, fresh: Fresh) -> Result<Watched, AllocError> {
+        let Fresh { net, records } = fresh;
         let told = Told::by(&net);
         let mut watched = Watched {
             net,
@@ -107,6 +114,8 @@ impl Watched {
             was_exchanging: false,
             relations: 0,
             raised: 0,
+            acknowledged: 0,
+            last_ack: None,
             tally: Tally {
                 exchanging: 0,
                 shown: 0,
@@ -136,6 +145,11 @@ impl Watched {
     /// How many alarms were raised.
     pub fn raised(&self) -> u16 {
         self.raised
+    }
+
+    /// How many records the controller writes.
+    pub fn records(&self) -> usize {
+        self.records
     }
 
     /// How many relations the device made.
@@ -215,6 +229,7 @@ impl Watched {
                 Some(frame) => seen_of(frame.as_slice(), from, is_ready, self.given),
                 None => return Ok(()),
             };
+            self.note_ack(&seen);
             self.seen.push(seen)?;
         }
         Ok(())
@@ -300,6 +315,17 @@ impl Watched {
         }
     }
 
+    /// An AlarmAck that is not a repeat has another number than the last.
+    fn note_ack(&mut self, seen: &Seen) {
+        if seen.from == End::Controller
+            && seen.kind == Kind::AlarmAck
+            && self.last_ack != Some(seen.send_number)
+        {
+            self.acknowledged = self.acknowledged.saturating_add(1);
+            self.last_ack = Some(seen.send_number);
+        }
+    }
+
     /// An alarm that is raised is sent.
     fn note_raised(&mut self, choice: Choice, count: usize) {
         if let Choice::Alarm(_) = choice {
@@ -377,14 +403,15 @@ impl Watched {
         }
     }
 
-    /// Whether the last alarm of the controller is the last that was raised, or the one before it.
+    /// Whether the last alarm of the controller is the last that was raised, or the one before it, and an AlarmAck was sent for each that
+    /// was taken, once.
     fn is_last(&self) -> bool {
-        match self.told.alarm {
-            Some(number) => {
-                number.saturating_add(1) == self.raised || number.saturating_add(2) == self.raised
-            }
-            None => self.raised < 2,
-        }
+        let taken = match self.told.alarm {
+            Some(number) => number.saturating_add(1),
+            None => 0,
+        };
+        self.acknowledged == taken
+            && (taken == self.raised || taken.saturating_add(1) == self.raised)
     }
 }
 
