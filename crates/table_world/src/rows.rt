@@ -105,6 +105,8 @@ pub fn put_start(alloc: Global, catalogue: &str, text: &mut String) -> Result<()
         Some(watched) => watched,
         None => return Ok(()),
     };
+    text.push_str("begin: ")?;
+    put_told(alloc, &watched.told(), text)?;
     for number in 0..20 {
         if number < watched.count() {
             let choice = across(&watched, number);

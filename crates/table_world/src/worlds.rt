@@ -49,7 +49,11 @@ fn back(watched: &Watched, place: usize) -> Choice {
 
 /// What is given: another value each time.
 fn give(watched: &Watched) -> Choice {
-    Choice::Give(2, [7, u8::try_from(watched.count()).unwrap_or(0)])
+    let low = match u8::try_from(watched.count()) {
+        Ok(low) => low,
+        Err(_) => 0,
+    };
+    Choice::Give(2, [7, low])
 }
 
 fn alarm(watched: &Watched) -> Choice {
@@ -229,7 +233,10 @@ fn put_game(
     moves: u64,
     text: &mut String,
 ) -> Result<(), AllocError> {
-    let moves = usize::try_from(moves).unwrap_or(0).min(MOST);
+    let moves = match usize::try_from(moves) {
+        Ok(moves) => moves.min(MOST),
+        Err(_) => MOST,
+    };
     let found = search(alloc, game, catalogue, moves)?;
     put_found(alloc, game.name(), moves, &found, text)
 }
