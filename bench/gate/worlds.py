@@ -1,16 +1,20 @@
 #!/usr/bin/env python3
-"""What `table_world` has to print of every schedule of a small world: how many schedules there are, and at the end of how many of them both
-ends exchange data. It is reckoned from the rules of a start-up alone: calls by their numbers, kept answers, phases and states; it has no
-octets, and shares no line with the program.
+"""What `table_world` has to print of schedules of both ends. Of every schedule of a small world: how many there are, and at the end of how
+many of them both ends exchange data, from the rules of a start-up alone: calls by their numbers, kept answers, phases and states. Of a
+schedule from a seed: each frame that comes to something, and how far both ends are behind it, by `world_model.py`. Neither has octets, nor
+shares a line with the program.
 
     bench/gate/worlds.py --lines       prints these lines, for the lines of crates/table_world/stdin that ask for them
     bench/gate/worlds.py --check       compares them with what stands in crates/table_world/stdout
+    bench/gate/worlds.py --seeds PROGRAM FIRST LAST MOVES      compares the ladders of these seeds with those that a built program prints
 """
 
 import json
 import os
+import subprocess
 import sys
 
+import world_model
 from program import TOP, answer_help, refuse
 
 TABLE = os.path.join(TOP, "crates", "table_world")
@@ -118,32 +122,67 @@ def counts(word, moves, records):
     return 4 ** moves, 4 ** moves
 
 
-def lines():
-    """The lines that have to be printed of the searches of stdin, each of the plan before it."""
-    records = 0
+def reckoned():
+    """The lines that have to be printed, one list for each line of stdin that is reckoned, each of the plan before it."""
+    plan = None
     with open(os.path.join(TABLE, "stdin"), encoding="ascii") as file:
         for line in file:
             word, _, rest = line.strip().partition(" ")
             if word == "plan":
-                records = sum(len(slot.get("Records", [])) for slot in json.loads(rest)["Project"]["Slots"])
+                plan = world_model.Plan.of(json.loads(rest)["Project"])
+            elif word == "ladder":
+                yield list(world_model.ladder(plan, *map(int, rest.split())))
+            elif word == "moves":
+                yield [f"moves {rest}: " + list(world_model.ladder(plan, *map(int, rest.split())))[-2]]
             elif word in SEARCHES:
-                schedules, exchanging = counts(word, int(rest), records)
-                yield (f"{word}: all laws hold at each point of {schedules} schedules of {rest} moves; "
-                       f"{exchanging} of them end with both exchanging")
+                schedules, exchanging = counts(word, int(rest), plan.records)
+                yield [f"{word}: all laws hold at each point of {schedules} schedules of {rest} moves; "
+                       f"{exchanging} of them end with both exchanging"]
+
+
+def check():
+    """Whether all of them stand in stdout, each behind the one before it."""
+    with open(os.path.join(TABLE, "stdout"), encoding="ascii") as file:
+        printed = file.read().splitlines()
+    place, wrong, lists = 0, 0, list(reckoned())
+    for wanted in lists:
+        at = next((at for at in range(place, len(printed)) if printed[at:at + len(wanted)] == wanted), None)
+        if at is None:
+            wrong += 1
+            print(f"not as reckoned: {wanted[0]} .. {wanted[-1]}")
+        else:
+            place = at + len(wanted)
+    print(f"{len(lists)} lines of schedules of both ends, {sum(map(len, lists))} lines of output, {wrong} not as reckoned")
+    return int(wrong != 0 or not lists)
+
+
+def compare(program, first, last, moves):
+    """The same of a program's ladders: for each of these seeds what it prints is what is reckoned."""
+    with open(os.path.join(TABLE, "stdin"), encoding="ascii") as file:
+        line = file.readline()
+    plan, wrong, rungs = world_model.Plan.of(json.loads(line.partition(" ")[2])["Project"]), 0, 0
+    for seed in range(first, last + 1):
+        text = f"{line}ladder {seed} {moves}\n"
+        printed = subprocess.run([program], input=text, stdout=subprocess.PIPE, text=True).stdout.splitlines()
+        wanted = list(world_model.ladder(plan, seed, moves))
+        rungs += len(wanted)
+        if printed != wanted:
+            wrong += 1
+            print(f"seed {seed}: not as reckoned")
+    print(f"{last + 1 - first} schedules of {moves} moves, {rungs} lines, {wrong} schedules not as reckoned")
+    return int(wrong != 0)
 
 
 def main(words):
     answer_help(__doc__, words)
     if words == ["--lines"]:
-        print("\n".join(lines()))
+        print("\n".join(line for lines in reckoned() for line in lines))
         return 0
+    if words[:1] == ["--seeds"] and len(words) == 5 and all(word.isdigit() for word in words[2:]):
+        return compare(words[1], *map(int, words[2:]))
     if words != ["--check"]:
         return refuse(words or ["no words"])
-    with open(os.path.join(TABLE, "stdout"), encoding="ascii") as file:
-        printed = [line for line in file.read().splitlines() if line.split(":")[0] in SEARCHES]
-    wanted = list(lines())
-    print(f"{len(wanted)} searches of small worlds, {'as reckoned' if printed == wanted else 'not as reckoned'}")
-    return int(printed != wanted)
+    return check()
 
 
 if __name__ == "__main__":

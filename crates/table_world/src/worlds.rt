@@ -31,7 +31,25 @@ enum Game {
 struct Found {
     schedules: u64,
     exchanging: u64,
-    broken: Option<Law>,
+    fault: Option<Fault>,
+}
+
+/// Why a search ends in front of its last schedule.
+#[derive(Clone, Copy)]
+enum Fault {
+    /// The catalogue has no plan.
+    NoWorld,
+    /// A law does not hold.
+    Broken(Law),
+    /// There are more schedules than are played.
+    TooMany,
+}
+
+/// Where the schedules of a game begin.
+#[derive(Drop)]
+enum Begun {
+    Well(Watched),
+    Fault(Fault),
 }
 
 /// How a schedule went: to its end, up to a choice that there is not, or to a law that does not hold.
@@ -71,18 +89,18 @@ impl Game {
     }
 
     /// The point from which the schedules begin: the Connect was sent, or both ends exchange data.
-    fn begin(self, alloc: Global, catalogue: &str) -> Result<Option<Watched>, AllocError> {
+    fn begin(self, alloc: Global, catalogue: &str) -> Result<Begun, AllocError> {
         let mut watched = match fresh_world(alloc, catalogue, None) {
             Some(fresh) => Watched::new(alloc, fresh)?,
-            None => return Ok(None),
+            None => return Ok(Begun::Fault(Fault::NoWorld)),
         };
         let to = match self {
             Game::Starts => 4,
             _ => start_up(&watched),
         };
         match advance(&mut watched, 0, to)? {
-            Some(_) => Ok(None),
-            None => Ok(Some(watched)),
+            Some(law) => Ok(Begun::Fault(Fault::Broken(law))),
+            None => Ok(Begun::Well(watched)),
         }
     }
 
@@ -177,12 +195,15 @@ fn search(alloc: Global, game: Game, catalogue: &str, moves: usize) -> Result<Fo
     let mut found = Found {
         schedules: 0,
         exchanging: 0,
-        broken: None,
+        fault: None,
     };
     for _ in 0..ENOUGH {
         let mut watched = match game.begin(alloc, catalogue)? {
-            Some(watched) => watched,
-            None => return Ok(found),
+            Begun::Well(watched) => watched,
+            Begun::Fault(fault) => {
+                found.fault = Some(fault);
+                return Ok(found);
+            }
         };
         let next = match play(game, &mut watched, &digits, moves)? {
             Went::Whole(is_exchanging) => {
@@ -194,7 +215,7 @@ fn search(alloc: Global, game: Game, catalogue: &str, moves: usize) -> Result<Fo
             }
             Went::Short(place) => place,
             Went::Broken(law) => {
-                found.broken = Some(law);
+                found.fault = Some(Fault::Broken(law));
                 return Ok(found);
             }
         };
@@ -202,6 +223,7 @@ fn search(alloc: Global, game: Game, catalogue: &str, moves: usize) -> Result<Fo
             return Ok(found);
         }
     }
+    found.fault = Some(Fault::TooMany);
     Ok(found)
 }
 
@@ -212,8 +234,10 @@ fn put_found(
     found: &Found,
     text: &mut String,
 ) -> Result<(), AllocError> {
-    let line = match found.broken {
-        Some(law) => {
+    let line = match found.fault {
+        Some(Fault::NoWorld) => format!(in alloc; "{name}: no world\n")?,
+        Some(Fault::TooMany) => format!(in alloc; "{name}: too many schedules\n")?,
+        Some(Fault::Broken(law)) => {
             let law = law.name();
             format!(in alloc; "{name}: the law '{law}' does not hold\n")?
         }

@@ -6,6 +6,8 @@ mod kind;
 mod law;
 mod schedule;
 mod station;
+#[cfg(test)]
+mod tests;
 mod told;
 mod watch;
 

@@ -1,0 +1,182 @@
+//! Rows of moves that were worked out by hand, each frame by its number, and that a world begins as the laws of both ends ask.
+use crate::{Kind, Net, Told, fresh_world};
+use controller_core::{Cause, State};
+use network_world::{End, Move};
+use relations::Phase;
+use std::alloc::Global;
+use std::test::Fail;
+use test_stations::{identity, octets};
+
+/// The catalogue of the demo station, with no records.
+const PUMP: &str =
+    r#"{"DeviceIdentity":{"VendorID":291,"DeviceID":1110},"DeviceAccessPointItem":{"ModuleIdentNumber":1,"PhysicalSlots":[0,1,2,3],"DNS_CompatibleName":"pn-demo","MinDeviceInterval":32,"VirtualSubmoduleItem":[{"Subslot":1,"SubmoduleIdentNumber":1},{"Subslot":32768,"SubmoduleIdentNumber":2},{"Subslot":32769,"SubmoduleIdentNumber":3}],"ModuleItemRef":[{"ModuleItemTarget":"IN2","AllowedInSlots":[1,2,3]},{"ModuleItemTarget":"OUT2","AllowedInSlots":[1,2,3]}]},"ModuleItem":[{"ID":"IN2","ModuleIdentNumber":16,"VirtualSubmoduleItem":[{"Subslot":1,"SubmoduleIdentNumber":16,"IOData":{"Input":[{"DataType":"Unsigned16"}]}}]},{"ID":"OUT2","ModuleIdentNumber":32,"VirtualSubmoduleItem":[{"Subslot":1,"SubmoduleIdentNumber":32,"IOData":{"Output":[{"DataType":"Unsigned16"}]}}]}],"Project":{"NameOfStation":"pump-1","IPAddress":"192.168.0.2","SubnetMask":"255.255.255.0","Gateway":"0.0.0.0","Controller":{"NameOfStation":"plc","MAC":"02-00-00-00-00-02","IPAddress":"192.168.0.1"},"SendClockFactor":32,"ReductionRatio":1,"DataHoldFactor":3,"Slots":[{"Slot":1,"ModuleItemTarget":"IN2"},{"Slot":2,"ModuleItemTarget":"OUT2"}]}}"#;
+
+/// A Connect was sent, behind Identify and the Set of the address, and is frame 4.
+const ASKED: [Move; 4] = [
+    Move::Deliver(End::Device, 0),
+    Move::Deliver(End::Controller, 1),
+    Move::Deliver(End::Device, 2),
+    Move::Deliver(End::Controller, 3),
+];
+
+/// The start-up behind it: its answer is frame 5, PrmEnd 6, with 7 as its answer, ApplicationReady 8, with 9 as its own.
+const STARTED: [Move; 6] = [
+    Move::Deliver(End::Device, 4),
+    Move::Deliver(End::Controller, 5),
+    Move::Deliver(End::Device, 6),
+    Move::Deliver(End::Controller, 7),
+    Move::Deliver(End::Controller, 8),
+    Move::Deliver(End::Device, 9),
+];
+
+fn world(alloc: Global) -> Result<Net, Fail> {
+    let fresh = fresh_world(alloc, PUMP, None).ok_or("there is a world")?;
+    Ok(fresh.net)
+}
+
+/// Both ends exchange data.
+fn exchanging(alloc: Global) -> Result<Net, Fail> {
+    let mut net = world(alloc)?;
+    net.play(&ASKED)?;
+    net.play(&STARTED)?;
+    Ok(net)
+}
+
+/// What the frame of this number is, if there is one.
+fn kind_of(net: &Net, number: usize) -> Option<Kind> {
+    match net.sent(number) {
+        Some(frame) => Some(Kind::of(frame.as_slice())),
+        None => None,
+    }
+}
+
+/// Whether so many frames were sent.
+fn are_sent(net: &Net, count: usize) -> bool {
+    count != 0 && net.sent(count - 1).is_some() && net.sent(count).is_none()
+}
+
+/// Whether frames of two numbers are there, and are the same.
+fn are_equal(net: &Net, one: usize, other: usize) -> bool {
+    match (net.sent(one), net.sent(other)) {
+        (Some(one), Some(other)) => one.as_slice() == other.as_slice(),
+        _ => false,
+    }
+}
+
+// What the laws ask of a world in which nothing happened: the controller was just made, of an ARUUID that is not zero, and nothing but its
+// Identify was sent, from another address than that of the device; the device has no relation.
+#[test]
+fn a_world_begins_as_the_laws_ask(rt: HostRuntime) -> Result<(), Fail> {
+    let net = world(rt.alloc())?;
+    assert_eq!(rt; net.controller().state(), State::Looking);
+    assert!(rt; net.controller().alarm().is_none());
+    assert!(rt; *net.controller().ar().as_bytes() != [0; 16]);
+    assert!(rt; are_sent(&net, 1));
+    assert_eq!(rt; kind_of(&net, 0), Some(Kind::Identify));
+    match net.sent(0) {
+        Some(frame) => {
+            assert!(rt; frame.as_slice() == net.controller().opening().as_slice());
+            assert_eq!(rt;
+                frame.as_slice().get(6..12),
+                Some([2, 0, 0, 0, 0, 2].as_slice())
+            );
+        }
+        None => panic!(&rt; "a frame"),
+    }
+    assert_eq!(rt; identity().mac.octets, [2, 0, 0, 0, 0, 1]);
+    assert_eq!(rt; net.device().phase(), None);
+    assert!(rt; net.device().ar().is_none());
+    assert_eq!(rt; net.device().taken().len(), 0);
+    Ok(())
+}
+
+// How far both are behind each part of a start-up, and what was sent.
+#[test]
+fn a_start_up_as_moves(rt: HostRuntime) -> Result<(), Fail> {
+    let mut net = world(rt.alloc())?;
+    net.play(&ASKED)?;
+    assert_eq!(rt; net.controller().state(), State::Connecting);
+    assert_eq!(rt; kind_of(&net, 4), Some(Kind::Connect));
+    assert!(rt; are_sent(&net, 5));
+    net.play(&STARTED[..2])?;
+    assert_eq!(rt; net.controller().state(), State::Ending);
+    assert_eq!(rt; net.device().phase(), Some(Phase::Started));
+    net.play(&STARTED[2..5])?;
+    assert_eq!(rt; net.controller().state(), State::Exchanging);
+    assert_eq!(rt; net.device().phase(), Some(Phase::Awaiting));
+    net.play(&STARTED[5..])?;
+    assert_eq!(rt; net.controller().state(), State::Exchanging);
+    assert_eq!(rt; net.device().phase(), Some(Phase::Exchanging));
+    assert!(rt; are_sent(&net, 10));
+    Ok(())
+}
+
+// A Connect that comes twice makes one relation, and is answered twice alike.
+#[test]
+fn a_connect_that_comes_twice(rt: HostRuntime) -> Result<(), Fail> {
+    let mut net = world(rt.alloc())?;
+    net.play(&ASKED)?;
+    net.play(&[Move::Deliver(End::Device, 4), Move::Deliver(End::Device, 4)])?;
+    assert!(rt; are_sent(&net, 7));
+    assert_eq!(rt; kind_of(&net, 5), Some(Kind::Positive));
+    assert!(rt; are_equal(&net, 5, 6));
+    assert_eq!(rt; net.device().phase(), Some(Phase::Started));
+    assert!(rt; Told::by(&net).is_own);
+    Ok(())
+}
+
+// Each frame of a start-up comes again to both ends, the last one first.
+#[test]
+fn every_frame_comes_again(rt: HostRuntime) -> Result<(), Fail> {
+    let mut net = exchanging(rt.alloc())?;
+    let taken = net.device().taken().len();
+    for number in [9, 8, 7, 6, 5, 4, 3, 2, 1, 0] {
+        net.play(&[
+            Move::Deliver(End::Device, number),
+            Move::Deliver(End::Controller, number),
+        ])?;
+    }
+    assert_eq!(rt; net.controller().state(), State::Exchanging);
+    assert_eq!(rt; net.device().phase(), Some(Phase::Exchanging));
+    assert_eq!(rt; net.device().taken().len(), taken);
+    Ok(())
+}
+
+/// An interval is over at both ends: the outputs are frame 10, the inputs 11.
+fn cycle(net: &mut Net) -> Result<(), Fail> {
+    net.play(&[Move::Give(2, 1, octets(&[7, 9]))])?;
+    for _ in 0..32 {
+        net.play(&[Move::Tick(End::Controller)])?;
+    }
+    for _ in 0..32 {
+        net.play(&[Move::Tick(End::Device)])?;
+    }
+    Ok(())
+}
+
+// A cyclic frame comes to nothing at an end that has left, and one that was never sent at any; before that it brought what was given.
+#[test]
+fn what_comes_to_an_end_that_left(rt: HostRuntime) -> Result<(), Fail> {
+    let mut net = exchanging(rt.alloc())?;
+    cycle(&mut net)?;
+    assert!(rt; are_sent(&net, 12));
+    assert_eq!(rt; kind_of(&net, 10), Some(Kind::Outputs));
+    assert_eq!(rt; kind_of(&net, 11), Some(Kind::Inputs));
+    net.play(&[Move::Deliver(End::Device, 10)])?;
+    assert_eq!(rt; net.device().output(2, 1), Some([7, 9].as_slice()));
+    net.play(&[Move::Stop, Move::Deliver(End::Device, 12)])?;
+    assert_eq!(rt; kind_of(&net, 12), Some(Kind::Release));
+    assert_eq!(rt; net.controller().state(), State::Ended(Cause::Stopped));
+    assert_eq!(rt; net.device().phase(), None);
+    assert!(rt; are_sent(&net, 14));
+    let told = Told::by(&net);
+    net.play(&[
+        Move::Deliver(End::Device, 10),
+        Move::Deliver(End::Controller, 11),
+        Move::Deliver(End::Device, 14),
+        Move::Deliver(End::Controller, 1_000),
+    ])?;
+    assert!(rt; Told::by(&net) == told);
+    assert!(rt; are_sent(&net, 14));
+    Ok(())
+}
