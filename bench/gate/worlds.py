@@ -133,7 +133,8 @@ def reckoned():
             elif word == "ladder":
                 yield list(world_model.ladder(plan, *map(int, rest.split())))
             elif word == "moves":
-                yield [f"moves {rest}: " + list(world_model.ladder(plan, *map(int, rest.split())))[-2]]
+                how, tally = list(world_model.ladder(plan, *map(int, rest.split())))[-2:]
+                yield [f"moves {rest}: {how}", tally]
             elif word in SEARCHES:
                 schedules, exchanging = counts(word, int(rest), plan.records)
                 yield [f"{word}: all laws hold at each point of {schedules} schedules of {rest} moves; "

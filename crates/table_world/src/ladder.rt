@@ -137,19 +137,25 @@ fn put_choice(
 pub fn put_ladder(alloc: Global, play: Play<'_>, text: &mut String) -> Result<(), AllocError> {
     let ended = play_out(alloc, play, true, text)?;
     put_ended(alloc, &ended, text)?;
-    if let Ended::Well(watched) = ended {
-        let tally = watched.tally();
-        let line = format!(in alloc;
-            "{} frames; both ends exchanged data behind {} moves, an output was not zeros behind {}, an alarm had been taken behind {}, {} were skipped\n",
-            watched.count(),
-            tally.exchanging,
-            tally.shown,
-            tally.alarmed,
-            tally.skipped
-        )?;
-        text.push_str(line.as_str())?;
-    }
-    Ok(())
+    put_tally(alloc, &ended, text)
+}
+
+/// How often something was at stake.
+fn put_tally(alloc: Global, ended: &Ended, text: &mut String) -> Result<(), AllocError> {
+    let watched = match ended {
+        Ended::Well(watched) => watched,
+        _ => return Ok(()),
+    };
+    let tally = watched.tally();
+    let line = format!(in alloc;
+        "{} frames; both ends exchanged data behind {} moves, an output was not zeros behind {}, an alarm had been taken behind {}, {} were skipped\n",
+        watched.count(),
+        tally.exchanging,
+        tally.shown,
+        tally.alarmed,
+        tally.skipped
+    )?;
+    text.push_str(line.as_str())
 }
 
 /// How a schedule ends.
@@ -173,12 +179,13 @@ fn is_full(watched: &Watched) -> bool {
     tally.exchanging != 0 && tally.shown != 0 && tally.alarmed != 0 && tally.skipped != 0
 }
 
-/// A schedule, and nothing of it but how it ends.
+/// A schedule, and nothing of it but how it ends, and how often something was at stake.
 pub fn put_moves(alloc: Global, play: Play<'_>, text: &mut String) -> Result<(), AllocError> {
     let line = format!(in alloc; "moves {} {}: ", play.seed, play.moves)?;
     text.push_str(line.as_str())?;
     let ended = play_out(alloc, play, false, text)?;
-    put_ended(alloc, &ended, text)
+    put_ended(alloc, &ended, text)?;
+    put_tally(alloc, &ended, text)
 }
 
 /// The schedules of so many seeds, as many as the one that is given, which is not played itself. If it is asked for, each over a flash of

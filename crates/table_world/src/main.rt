@@ -8,7 +8,7 @@
 //! left                   behind a stop and its Release: cyclic frames to an end that has left, and frames that were never sent
 //! ladder SEED MOVES      a schedule from a seed, as a ladder: each frame that comes to the end for which it is and changes something
 //!                        there or is answered, and how far both ends are behind it
-//! moves SEED MOVES       the same schedule, and nothing of it but how it ends
+//! moves SEED MOVES       the same schedule, and nothing of it but how it ends, and how often something was at stake
 //! seeds COUNT MOVES      the schedules of so many seeds
 //! faults COUNT MOVES     the same over a flash of which one call fails, a later one with each seed
 //! growths SEED MOVES     the same schedule in calls of four moves, beside a world that makes them one by one (below)
@@ -26,8 +26,9 @@
 //! `growths` is for a run in which an allocation fails: where `play` has no memory, its world has to be that of a front of the moves, and
 //! at the end both worlds are the same, as without. How many were refused goes to standard error.
 //!
-//! `stdout` has no text of this program that was not judged: the rows are those that the standard's start-up has, and the counts of
-//! schedules are reckoned by `bench/gate/worlds.py` from the rules of a start-up alone.
+//! `stdout` has no text of this program that was not judged: the rows are those that the standard's start-up has, the ladders and the
+//! counts behind `moves` are those of a reference model (`bench/gate/world_model.py`), and how many schedules there are is reckoned by
+//! `bench/gate/worlds.py` from the rules of a start-up alone.
 #![tactic(auto)]
 
 mod growths;

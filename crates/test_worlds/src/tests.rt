@@ -3,7 +3,7 @@ use crate::{Kind, Net, Told, fresh_world};
 use controller_core::{Cause, State};
 use network_world::{End, Move};
 use relations::Phase;
-use std::alloc::Global;
+use std::alloc::{AllocError, Global};
 use std::test::Fail;
 use test_stations::{identity, octets};
 
@@ -11,23 +11,37 @@ use test_stations::{identity, octets};
 const PUMP: &str =
     r#"{"DeviceIdentity":{"VendorID":291,"DeviceID":1110},"DeviceAccessPointItem":{"ModuleIdentNumber":1,"PhysicalSlots":[0,1,2,3],"DNS_CompatibleName":"pn-demo","MinDeviceInterval":32,"VirtualSubmoduleItem":[{"Subslot":1,"SubmoduleIdentNumber":1},{"Subslot":32768,"SubmoduleIdentNumber":2},{"Subslot":32769,"SubmoduleIdentNumber":3}],"ModuleItemRef":[{"ModuleItemTarget":"IN2","AllowedInSlots":[1,2,3]},{"ModuleItemTarget":"OUT2","AllowedInSlots":[1,2,3]}]},"ModuleItem":[{"ID":"IN2","ModuleIdentNumber":16,"VirtualSubmoduleItem":[{"Subslot":1,"SubmoduleIdentNumber":16,"IOData":{"Input":[{"DataType":"Unsigned16"}]}}]},{"ID":"OUT2","ModuleIdentNumber":32,"VirtualSubmoduleItem":[{"Subslot":1,"SubmoduleIdentNumber":32,"IOData":{"Output":[{"DataType":"Unsigned16"}]}}]}],"Project":{"NameOfStation":"pump-1","IPAddress":"192.168.0.2","SubnetMask":"255.255.255.0","Gateway":"0.0.0.0","Controller":{"NameOfStation":"plc","MAC":"02-00-00-00-00-02","IPAddress":"192.168.0.1"},"SendClockFactor":32,"ReductionRatio":1,"DataHoldFactor":3,"Slots":[{"Slot":1,"ModuleItemTarget":"IN2"},{"Slot":2,"ModuleItemTarget":"OUT2"}]}}"#;
 
-/// A Connect was sent, behind Identify and the Set of the address, and is frame 4.
-const ASKED: [Move; 4] = [
-    Move::Deliver(End::Device, 0),
-    Move::Deliver(End::Controller, 1),
-    Move::Deliver(End::Device, 2),
-    Move::Deliver(End::Controller, 3),
-];
+/// Up to the Connect, frame 4: Identify and the Set of the address are answered.
+fn ask(net: &mut Net) -> Result<(), AllocError> {
+    net.play(&[
+        Move::Deliver(End::Device, 0),
+        Move::Deliver(End::Controller, 1),
+        Move::Deliver(End::Device, 2),
+        Move::Deliver(End::Controller, 3),
+    ])
+}
 
-/// The start-up behind it: its answer is frame 5, PrmEnd 6, with 7 as its answer, ApplicationReady 8, with 9 as its own.
-const STARTED: [Move; 6] = [
-    Move::Deliver(End::Device, 4),
-    Move::Deliver(End::Controller, 5),
-    Move::Deliver(End::Device, 6),
-    Move::Deliver(End::Controller, 7),
-    Move::Deliver(End::Controller, 8),
-    Move::Deliver(End::Device, 9),
-];
+/// The Connect is answered, by frame 5, and PrmEnd sent, frame 6.
+fn connect(net: &mut Net) -> Result<(), AllocError> {
+    net.play(&[
+        Move::Deliver(End::Device, 4),
+        Move::Deliver(End::Controller, 5),
+    ])
+}
+
+/// PrmEnd is answered, by frame 7; ApplicationReady, frame 8, comes, and is answered by frame 9.
+fn end_parameters(net: &mut Net) -> Result<(), AllocError> {
+    net.play(&[
+        Move::Deliver(End::Device, 6),
+        Move::Deliver(End::Controller, 7),
+        Move::Deliver(End::Controller, 8),
+    ])
+}
+
+/// The answer to ApplicationReady comes.
+fn confirm(net: &mut Net) -> Result<(), AllocError> {
+    net.play(&[Move::Deliver(End::Device, 9)])
+}
 
 fn world(alloc: Global) -> Result<Net, Fail> {
     let fresh = fresh_world(alloc, PUMP, None).ok_or("there is a world")?;
@@ -37,8 +51,10 @@ fn world(alloc: Global) -> Result<Net, Fail> {
 /// Both ends exchange data.
 fn exchanging(alloc: Global) -> Result<Net, Fail> {
     let mut net = world(alloc)?;
-    net.play(&ASKED)?;
-    net.play(&STARTED)?;
+    ask(&mut net)?;
+    connect(&mut net)?;
+    end_parameters(&mut net)?;
+    confirm(&mut net)?;
     Ok(net)
 }
 
@@ -94,17 +110,17 @@ fn a_world_begins_as_the_laws_ask(rt: HostRuntime) -> Result<(), Fail> {
 #[test]
 fn a_start_up_as_moves(rt: HostRuntime) -> Result<(), Fail> {
     let mut net = world(rt.alloc())?;
-    net.play(&ASKED)?;
+    ask(&mut net)?;
     assert_eq!(rt; net.controller().state(), State::Connecting);
     assert_eq!(rt; kind_of(&net, 4), Some(Kind::Connect));
     assert!(rt; are_sent(&net, 5));
-    net.play(&STARTED[..2])?;
+    connect(&mut net)?;
     assert_eq!(rt; net.controller().state(), State::Ending);
     assert_eq!(rt; net.device().phase(), Some(Phase::Started));
-    net.play(&STARTED[2..5])?;
+    end_parameters(&mut net)?;
     assert_eq!(rt; net.controller().state(), State::Exchanging);
     assert_eq!(rt; net.device().phase(), Some(Phase::Awaiting));
-    net.play(&STARTED[5..])?;
+    confirm(&mut net)?;
     assert_eq!(rt; net.controller().state(), State::Exchanging);
     assert_eq!(rt; net.device().phase(), Some(Phase::Exchanging));
     assert!(rt; are_sent(&net, 10));
@@ -115,7 +131,7 @@ fn a_start_up_as_moves(rt: HostRuntime) -> Result<(), Fail> {
 #[test]
 fn a_connect_that_comes_twice(rt: HostRuntime) -> Result<(), Fail> {
     let mut net = world(rt.alloc())?;
-    net.play(&ASKED)?;
+    ask(&mut net)?;
     net.play(&[Move::Deliver(End::Device, 4), Move::Deliver(End::Device, 4)])?;
     assert!(rt; are_sent(&net, 7));
     assert_eq!(rt; kind_of(&net, 5), Some(Kind::Positive));
@@ -143,7 +159,7 @@ fn every_frame_comes_again(rt: HostRuntime) -> Result<(), Fail> {
 }
 
 /// An interval is over at both ends: the outputs are frame 10, the inputs 11.
-fn cycle(net: &mut Net) -> Result<(), Fail> {
+fn cycle(net: &mut Net) -> Result<(), AllocError> {
     net.play(&[Move::Give(2, 1, octets(&[7, 9]))])?;
     for _ in 0..32 {
         net.play(&[Move::Tick(End::Controller)])?;
