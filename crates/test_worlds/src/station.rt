@@ -2,13 +2,14 @@
 use arrayvec::ArrayVec;
 use configurator::plan_from_json;
 use controller_core::Controller;
+use demo_station::identity;
 use device_core::Device;
 use flash_model::{MemoryFlash, Order};
 use frame_codec::Outbox;
 use network_world::World;
 use pn_values::{ParameterRecord, Real, RealModule, RealSubmodule};
 use std::alloc::Global;
-use test_stations::{Station, identity, set_pump};
+use test_stations::{Station, set_pump};
 use uuid::Uuid;
 
 /// The world: over the smallest flash.

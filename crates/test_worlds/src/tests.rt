@@ -1,11 +1,12 @@
 //! Rows of moves that were worked out by hand, each frame by its number, and that a world begins as the laws of both ends ask.
 use crate::{Kind, Net, Told, fresh_world};
 use controller_core::{Cause, State};
+use demo_station::identity;
 use network_world::{End, Move};
 use relations::Phase;
 use std::alloc::{AllocError, Global};
 use std::test::Fail;
-use test_stations::{identity, octets};
+use test_stations::octets;
 
 /// The catalogue of the demo station, with no records.
 const PUMP: &str =

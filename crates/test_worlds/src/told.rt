@@ -1,7 +1,7 @@
 //! What both ends tell.
 use crate::station::Net;
 use controller_core::State;
-use record_writes::Taken;
+use record_writes::TakenRecord;
 use relations::Phase;
 
 /// The outputs of the slots 2 and 3.
@@ -68,7 +68,7 @@ fn is_own(net: &Net) -> bool {
 }
 
 /// Whether this is the record of this index of slot 1, with this as the last of its four octets.
-fn is_record(taken: &Taken, index: u16, last: u8) -> bool {
+fn is_record(taken: &TakenRecord, index: u16, last: u8) -> bool {
     taken.slot == 1
         && taken.subslot == 1
         && taken.index == index
@@ -76,7 +76,7 @@ fn is_record(taken: &Taken, index: u16, last: u8) -> bool {
 }
 
 /// Whether the records that the device took are a front of the plan's.
-fn are_front(taken: &[Taken]) -> bool {
+fn are_front(taken: &[TakenRecord]) -> bool {
     match taken {
         [] => true,
         [first] => is_record(first, 1, 100),
