@@ -31,7 +31,7 @@ use Rattle.connect_requests.specs.Request.{Request as Asked_for}
 use Rattle.pnio_status.specs.Operation.{operation_of}
 use Rattle.pn_alarms.specs.declared.fault.AlarmFault.{AlarmFault}
 use Rattle.pn_alarms.specs.declared.pdu.Header.{Header}
-use Rattle.pn_alarms.specs.Message.{ToController, alarm_of}
+use Rattle.pn_alarms.specs.Message.{ToController as AlarmTold, alarm_of}
 use Rattle.plans.specs.declared.parts.Controller.{Controller}
 use Rattle.plans.specs.declared.parts.Parts.{Parts}
 use Rattle.plans.specs.Connect.{alarm_block}
@@ -128,7 +128,7 @@ six_answer : (source : Mac) (read : Result Answered DcpFault) → IsMac source �
 six_answer source (Ok answer) six = six
 six_answer source (Err fault) six = tt
 
-six_alarm : (source : Mac) (read : Result (Header × ToController) AlarmFault) → IsSix (heard_alarm source read)
+six_alarm : (source : Mac) (read : Result (Header × AlarmTold) AlarmFault) → IsSix (heard_alarm source read)
 six_alarm source (Ok x) = tt
 six_alarm source (Err fault) = tt
 
