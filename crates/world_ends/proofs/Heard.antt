@@ -9,6 +9,7 @@ use Rattle.pn_values.specs.declared.identity.Identity.{Identity}
 use Rattle.pn_values.specs.declared.mac.Mac.{Mac}
 use Rattle.frame_codec.specs.declared.fault.FrameFault.{FrameFault}
 use Rattle.frame_codec.specs.declared.fault.FrameFault.TheVariants.{TooLong}
+use Rattle.frame_codec.specs.declared.arp.Arp.{Arp}
 use Rattle.frame_codec.specs.declared.arp.ArpOperation.TheVariants.{Reply}
 use Rattle.frame_codec.specs.declared.arp.Holder.{Holder}
 use Rattle.frame_codec.specs.declared.udp.Caller.{Caller}
@@ -238,13 +239,13 @@ untold_idle (device.Alarms source header told) un = refl
 untold_idle (device.Given slot subslot value) un = refl
 untold_idle (device.Raised slot subslot octets) un = refl
 
-uncalled_from : (mac : Mac) (heard : controller.Heard) → IsSix heard → IsUncalled heard → IsHeardFrom mac heard
-uncalled_from mac (controller.Answers source answer) six un = six
-uncalled_from mac controller.Nothing six un = tt
-uncalled_from mac (controller.Responds response) six un = tt
-uncalled_from mac (controller.Calls caller call) six un = absurd un
-uncalled_from mac (controller.Cyclic source frame_id body) six un = tt
-uncalled_from mac (controller.Alarms source header told) six un = tt
+uncalled_from : (own : Mac) (heard : controller.Heard) → IsSix heard → IsUncalled heard → IsHeardFrom own heard
+uncalled_from own (controller.Answers source answer) six un = six
+uncalled_from own controller.Nothing six un = tt
+uncalled_from own (controller.Responds response) six un = tt
+uncalled_from own (controller.Calls caller call) six un = absurd un
+uncalled_from own (controller.Cyclic source frame_id body) six un = tt
+uncalled_from own (controller.Alarms source header told) six un = tt
 
 uncalled_nothing : (setup : Setup) (heard : controller.Heard) → IsUncalled heard → said_to setup heard ≡ small.Nothing
 uncalled_nothing setup (controller.Answers source answer) un = refl
@@ -318,7 +319,7 @@ module _ (so : HeardSo) (setup : Setup) (station : Station) (good : IsSetup setu
 
   packet_met : (asker : Mac) (address : List ℕ) (target : Holder) → IsMac asker → IsAddress address → IsHolder target → IsMet (bytes_of identity (ArpReply asker address target)) small.Nothing
   packet_met asker address target one four held =
-      let packet = record { operation = Reply; sender = record { mac = identity.mac; address = address }; target = target } in
+      let packet : Arp = record { operation = Reply; sender = record { mac = identity.mac; address = address }; target = target } in
       met_by (bytes_of identity (ArpReply asker address target)) small.Nothing (all_hears identity asker (device.Resolves identity.mac packet)) controller.Nothing
       (so.packet_at_device identity identity asker address target real one four held) (so.packet_at_controller mine identity asker address target real one four held)
       (holds_if (λ (h : Heard). IsKnownHeard setup h) (is_own identity asker || pointwise nat_eq asker.octets device.broadcast) (device.Resolves identity.mac packet) device.Elsewhere tt tt)

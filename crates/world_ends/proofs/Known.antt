@@ -259,10 +259,10 @@ module _ (so : HeardSo) (goes : GoesSo) where
 
   -- ---- any list of moves
 
-  steps_more : (rules : Rules TakenRecord Request) (from : small.World TakenRecord Request) (run : List (small.Move × small.World TakenRecord Request)) (one : small.Move) (to : small.World TakenRecord Request)
-      → IsRun rules from run → Steps rules (last_of from run) one to → IsRun rules from (run ++ (one, to) ∷ [])
-  steps_more rules from [] one to steps last = (last, tt)
-  steps_more rules from (first ∷ run) one to steps last = (steps.0, steps_more rules first.1 run one to steps.1 last)
+  steps_more : (own : Rules TakenRecord Request) (from : small.World TakenRecord Request) (run : List (small.Move × small.World TakenRecord Request)) (one : small.Move) (to : small.World TakenRecord Request)
+      → IsRun own from run → Steps own (last_of from run) one to → IsRun own from (run ++ (one, to) ∷ [])
+  steps_more own from [] one to steps last = (last, tt)
+  steps_more own from (first ∷ run) one to steps last = (steps.0, steps_more own first.1 run one to steps.1 last)
 
   module _ {F : Type 0} (image : F → Image) (failures : F → ℕ) (asked : F → List Call → F → Type 0) (first : World F) (rules : Rules TakenRecord Request) (begins : BeginsSmall rules (view_of first)) where
     viewed_more : (run others : List (Move × World F)) → viewed (run ++ others) ≡ viewed run ++ viewed others

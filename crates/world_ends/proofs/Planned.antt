@@ -68,11 +68,11 @@ bind_ok (Err why) next y e = absurd cc
 -- where no judgement strikes, the rest decides
 judged_ok : {A : Type 0} (judgements : List (Bool × CallFault)) (otherwise : Result A CallFault) (value : A) → in_order judgements otherwise ≡ Ok value → otherwise ≡ Ok value
 judged_ok [] otherwise value e = e
-judged_ok {A} (judgement ∷ others) otherwise value e = by_test judgement.0 e
+judged_ok {A} (judgement ∷ others) otherwise value e = by_test judgement.0 (λ f. judged_ok others otherwise value f) e
   where
-    by_test : (b : Bool) → cond b (Err judgement.1) (in_order others otherwise) ≡ Ok value → otherwise ≡ Ok value
-    by_test true f = absurd cc
-    by_test false f = judged_ok others otherwise value f
+    by_test : (b : Bool) → (in_order others otherwise ≡ Ok value → otherwise ≡ Ok value) → cond b (Err judgement.1) (in_order others otherwise) ≡ Ok value → otherwise ≡ Ok value
+    by_test true rest f = absurd cc
+    by_test false rest f = rest f
 
 fault_ok : {A : Type 0} (why : CallFault) (value : Option A) (x : A) → or_fault why value ≡ Ok x → value ≡ Some x
 fault_ok why (Some value) x e = ap (λ y. Some y) (ok_is value x e)

@@ -11,7 +11,7 @@ use Rattle.world_ends.proofs.Runs.{exchanges_small, is_run, related_small}
 use Rattle.world_ends.proofs.start_up.worlds_start_up.Goals as goal
 
 -- the laws below
-heard_so : (g : goal.Given) → goal.After-start_up_is_kept g → HeardSo
+heard_so : (g : _) → goal.After-start_up_is_kept g → HeardSo
 heard_so g c = record {
   sound = c.formats_are_sound.ensures.layers;
   untold = c.datagrams_alone_are_calls.ensures.device;
@@ -33,7 +33,7 @@ heard_so g c = record {
   block_read = c.blocks_are_read.ensures.read;
 }
 
-goes_so : (g : goal.Given) → goal.After-start_up_is_kept g → GoesSo
+goes_so : (g : _) → goal.After-start_up_is_kept g → GoesSo
 goes_so g c = record {
   aimed_first = c.messages_are_addressed.ensures.first;
   aimed = c.messages_are_addressed.ensures.next;
