@@ -5,6 +5,7 @@
 mod fault;
 mod image;
 mod judge;
+mod laid_out;
 mod layout;
 mod octets;
 mod place;
