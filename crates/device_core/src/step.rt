@@ -2,8 +2,8 @@
 ghost use Rattle.std.specs.Prelude.{◌≡◌, ◌≢◌, ◌<◌, ◌-◌, ◌^◌, [], true, false, List, ℕ, Option, map, option_map};
 ghost use Rattle.settings_store.specs.Carries.{Holds};
 ghost use Rattle.dcp_core.specs.Request.{Asked};
-ghost use Rattle.device_frames.specs.Heard.{Asks, heard_alarm, heard_content, heard_of};
-ghost use Rattle.frame_codec.specs.Meaning.{ArpPacket, RealTime, UdpDatagram, content_of};
+ghost use Rattle.device_frames.specs.Heard.{Asks, heard_alarm, heard_by, heard_of};
+ghost use Rattle.frame_codec.specs.Frame.{arp, datagram, real_time};
 ghost use Rattle.pn_alarms.specs.Message.{message_of};
 ghost use Rattle.device_frames.specs.declared.event.Event.TheVariants.{Frame};
 ghost use Rattle.relations.specs.Farewells.{farewell_of};
@@ -25,11 +25,11 @@ ghost use Rattle.frame_codec.specs.Outbox.{boxed};
 use crate::{Device, Event, Note};
 use dcp_core::Service;
 use device_frames::{
-    Caller, RealTimeKind, is_asked, is_called, kind_of, read_layers, real_time_in, send_alarm,
-    send_alarm_again, send_alarm_reply, send_farewell, send_inputs, send_ready_again,
+    Caller, RealTimeKind, is_asked, is_called, kind_of, open_frame, send_alarm, send_alarm_again,
+    send_alarm_reply, send_farewell, send_inputs, send_ready_again,
 };
 use flash_model::Flash;
-use frame_codec::{Arp, Bytes, Layered, Outbox, Payload, Udp};
+use frame_codec::{Bytes, ContentKind, Outbox, datagram_at, frame_id_at, packet_at};
 use pn_alarms::{Abort, Header, Message, PduFate, read_message};
 use pn_values::Mac;
 use relations::Received;
@@ -84,8 +84,7 @@ impl<F: Flash<S>, const S: usize> Device<F, S> {
         }
     }
 
-    // A frame: it is read first, and then its destination is looked at. Real-time frames are read by themselves, since they come each
-    // interval.
+    // A frame: it is read first, and then its destination is looked at. Real-time frames come first, since they come each interval.
     #[inline(never)]
     fn hear(&mut self, bytes: &Bytes, outbox: &mut Outbox) -> Note
         requires empty { outbox.old.items ≡ [] }
@@ -96,53 +95,14 @@ impl<F: Flash<S>, const S: usize> Device<F, S> {
     {
         // The invariant is known where a field is used.
         let _ = &self.identity;
-        match real_time_in(bytes) {
-            Some(frame) => self.hear_real_time(
-                frame.destination,
-                frame.source,
-                frame.frame_id,
-                frame.body,
-                outbox,
-            ),
-            None => self.hear_other(bytes, outbox),
-        }
-    }
-
-    // A frame that is no real-time frame, or none.
-    #[inline(never)]
-    fn hear_other(&mut self, bytes: &Bytes, outbox: &mut Outbox) -> Note
-        requires empty { outbox.old.items ≡ [] }
-        ensures steps { Steps F.image F.failures F.asked self.old (heard_of self.old.station.identity (Frame bytes.now)) (boxed outbox.new)
-            result self.new }
-        ensures reliable { F.is_reliable self.old.flash → F.is_reliable self.new.flash
-            × (self.new.live.values.has_failed ≡ self.old.live.values.has_failed) }
-    {
-        // The invariant is known where a field is used.
-        let _ = &self.identity;
-        match read_layers(bytes) {
-            Some(layered) => self.hear_layers(&layered, outbox),
-            None => Note::Fault,
-        }
-    }
-
-    // A frame by its layers.
-    #[inline(always)]
-    fn hear_layers(&mut self, layered: &Layered, outbox: &mut Outbox) -> Note
-        requires stored { Holds (F.image self.old.flash) self.old.live.values }
-        requires empty { outbox.old.items ≡ [] }
-        ensures steps { Steps F.image F.failures F.asked self.old
-            (heard_content self.old.station.identity layered.now.destination layered.now.source (content_of layered.now.payload))
-            (boxed outbox.new) result self.new }
-        ensures reliable { F.is_reliable self.old.flash → F.is_reliable self.new.flash
-            × (self.new.live.values.has_failed ≡ self.old.live.values.has_failed) }
-    {
-        let (destination, source) = (layered.destination, layered.source);
-        match &layered.payload {
-            Payload::RealTime { frame_id, body } => {
-                self.hear_real_time(destination, source, *frame_id, body, outbox)
-            }
-            Payload::Arp(packet) => self.hear_packet(destination, source, packet, outbox),
-            Payload::Udp(datagram) => self.hear_udp(destination, source, datagram, outbox),
+        let Some(frame) = open_frame(bytes) else {
+            return Note::Fault;
+        };
+        let (destination, source, content) = (frame.destination, frame.source, frame.content);
+        match frame.kind {
+            ContentKind::RealTime => self.hear_real_time(destination, source, content, outbox),
+            ContentKind::Arp => self.hear_packet(destination, source, content, outbox),
+            ContentKind::Internet => self.hear_udp(destination, source, content, outbox),
         }
     }
 
@@ -152,17 +112,19 @@ impl<F: Flash<S>, const S: usize> Device<F, S> {
         &mut self,
         destination: Mac,
         source: Mac,
-        frame_id: u16,
-        body: &[u8],
+        content: &[u8],
         outbox: &mut Outbox,
     ) -> Note
         requires stored { Holds (F.image self.old.flash) self.old.live.values }
         requires empty { outbox.old.items ≡ [] }
         ensures steps { Steps F.image F.failures F.asked self.old
-            (heard_content self.old.station.identity destination source (RealTime frame_id body.now)) (boxed outbox.new) result self.new }
+            (heard_by self.old.station.identity destination source (real_time.read content.now)) (boxed outbox.new) result self.new }
         ensures reliable { F.is_reliable self.old.flash → F.is_reliable self.new.flash
             × (self.new.live.values.has_failed ≡ self.old.live.values.has_failed) }
     {
+        let Ok((frame_id, body)) = frame_id_at(content) else {
+            return Note::Fault;
+        };
         match kind_of(&self.identity, destination, frame_id) {
             RealTimeKind::Cyclic => self.hear_cyclic(source, frame_id, body),
             RealTimeKind::Alarm => self.read_alarm(source, body, outbox),
@@ -177,20 +139,23 @@ impl<F: Flash<S>, const S: usize> Device<F, S> {
         &mut self,
         destination: Mac,
         asker: Mac,
-        packet: &Arp,
+        content: &[u8],
         outbox: &mut Outbox,
     ) -> Note
         requires stored { Holds (F.image self.old.flash) self.old.live.values }
         requires empty { outbox.old.items ≡ [] }
         ensures steps { Steps F.image F.failures F.asked self.old
-            (heard_content self.old.station.identity destination asker (ArpPacket packet.now)) (boxed outbox.new) result self.new }
+            (heard_by self.old.station.identity destination asker (arp.read content.now)) (boxed outbox.new) result self.new }
         ensures reliable { F.is_reliable self.old.flash → F.is_reliable self.new.flash
             × (self.new.live.values.has_failed ≡ self.old.live.values.has_failed) }
     {
+        let Ok(packet) = packet_at(content) else {
+            return Note::Fault;
+        };
         if !is_asked(&self.identity, destination) {
             return Note::NotMine;
         }
-        self.resolve(asker, packet, outbox)
+        self.resolve(asker, &packet, outbox)
     }
 
     // A datagram, to whatever IP address.
@@ -199,17 +164,19 @@ impl<F: Flash<S>, const S: usize> Device<F, S> {
         &mut self,
         destination: Mac,
         source: Mac,
-        datagram: &Udp,
+        content: &[u8],
         outbox: &mut Outbox,
     ) -> Note
         requires stored { Holds (F.image self.old.flash) self.old.live.values }
         requires empty { outbox.old.items ≡ [] }
         ensures steps { Steps F.image F.failures F.asked self.old
-            (heard_content self.old.station.identity destination source
-            (UdpDatagram datagram.now.source datagram.now.destination datagram.now.body.now)) (boxed outbox.new) result self.new }
+            (heard_by self.old.station.identity destination source (datagram.read content.now)) (boxed outbox.new) result self.new }
         ensures reliable { F.is_reliable self.old.flash → F.is_reliable self.new.flash
             × (self.new.live.values.has_failed ≡ self.old.live.values.has_failed) }
     {
+        let Ok(datagram) = datagram_at(content) else {
+            return Note::Fault;
+        };
         if !is_called(&self.identity, destination, datagram.destination.port) {
             return Note::NotMine;
         }

@@ -1,15 +1,13 @@
 //! What a frame is to a device.
-ghost use Rattle.std.specs.Prelude.{◌≡◌, ◌==◌, ◌&&◌, ◌||◌, IfNone, IfSome, List, ℕ, nat_eq, option_map};
+ghost use Rattle.std.specs.Prelude.{◌≡◌, ◌==◌, ◌&&◌, ◌||◌, List, ℕ, nat_eq};
 ghost use Rattle.std.specs.Cmp.Lexicographic.{pointwise};
 ghost use Rattle.device_frames.specs.Heard.{broadcast, heard_content, heard_of, is_own as is_own_by, is_taken as is_taken_by};
 ghost use Rattle.device_frames.specs.Hearing.{heard_as, heard_in};
 ghost use Rattle.device_frames.specs.declared.event.Event.TheVariants.{Frame};
-ghost use Rattle.frame_codec.specs.Frame.{frame_of};
-ghost use Rattle.frame_codec.specs.Meaning.{IsNoRealTime, RealTime, meaning_of};
+ghost use Rattle.frame_codec.specs.Meaning.{RealTime};
 
 use frame_codec::{
-    Bytes, DCP_GET_SET, DCP_IDENTIFY_REQUEST, Layered, RPC_PORT, RealTimeFrame, is_alarm,
-    is_cyclic, read, read_real_time,
+    Bytes, DCP_GET_SET, DCP_IDENTIFY_REQUEST, OpenFrame, RPC_PORT, is_alarm, is_cyclic, open,
 };
 use pn_values::{Identity, Mac};
 
@@ -21,25 +19,13 @@ const IDENTIFY_MULTICAST: Mac = Mac {
 /// The address of all stations (IEEE 802, 8.2.2).
 const BROADCAST: Mac = Mac { octets: [0xFF; 6] };
 
-/// Reads a frame of EtherType 0x8892, if it is one.
+/// Reads the link header of a frame, if it can be read.
 #[inline(always)]
 #[tactic(auto, unfolding(crate::specs::Heard::heard_of))]
-pub fn real_time_in(bytes: &Bytes) -> Option<RealTimeFrame<'_>>
-    ensures found { IfSome result (λ frame. (identity : Identity) →
-        heard_of identity (Frame bytes.now)
-        ≡ heard_content identity frame.destination frame.source (RealTime frame.frame_id frame.body.now)) }
-    // One that is there is found.
-    ensures none { IfNone result (IsNoRealTime (frame_of bytes.now.items)) }
+pub fn open_frame(bytes: &Bytes) -> Option<OpenFrame<'_>>
+    ensures { (identity : Identity) → heard_of identity (Frame bytes.now) ≡ heard_in identity result }
 {
-    read_real_time(bytes.as_slice())
-}
-
-/// Reads a frame, if it can be read.
-#[tactic(auto, unfolding(crate::specs::Heard::heard_of))]
-pub fn read_layers(bytes: &Bytes) -> Option<Layered<'_>>
-    ensures { (identity : Identity) → heard_of identity (Frame bytes.now) ≡ heard_in identity (option_map meaning_of result) }
-{
-    read(bytes.as_slice()).ok()
+    open(bytes.as_slice()).ok()
 }
 
 /// What a frame of EtherType 0x8892 is to a device.

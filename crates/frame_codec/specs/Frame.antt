@@ -5,7 +5,10 @@ use Rattle.wire.specs.Codec.{Codec, Whole, ◌>>=◌}
 use Rattle.wire.specs.Formats.{raw, number, then_by, ◌⨾◌, seen, when}
 use Rattle.wire.specs.Whole.{everything, refused, ends_by, seen_whole, pick, loose}
 use Rattle.wire.specs.Checks.{variant}
+use Rattle.frame_codec.specs.declared.link.ContentKind.{ContentKind}
+use Rattle.frame_codec.specs.declared.link.ContentKind.TheVariants as kind
 use Rattle.frame_codec.specs.declared.link.LinkHeader.{LinkHeader}
+use Rattle.frame_codec.specs.declared.layered.OpenFrame.{OpenFrame}
 use Rattle.frame_codec.specs.declared.fault.FrameFault.{FrameFault}
 use Rattle.frame_codec.specs.declared.fault.FrameFault.TheVariants.{TooShort, TooLong, Tag, EtherType}
 use Rattle.frame_codec.specs.declared.arp.Arp.{Arp}
@@ -113,6 +116,21 @@ content_under ether_type =
     pick (ether_type == vlan) (refused Tag) (pick (ether_type == profinet) real_time
     (pick (ether_type == address_resolution) arp (pick (ether_type == internet) datagram (refused EtherType))))
 
+-- what follows the link header behind an EtherType, or why nothing that is read does
+abbrev pub kind_of : ℕ → Result ContentKind FrameFault
+kind_of ether_type =
+    if ether_type == vlan then Err Tag
+    else if ether_type == profinet then Ok kind.RealTime
+    else if ether_type == address_resolution then Ok kind.Arp
+    else if ether_type == internet then Ok kind.Internet
+    else Err EtherType
+
+-- the content of a kind
+abbrev pub content_as : ContentKind → Whole FrameFault Content
+content_as kind.RealTime = real_time
+content_as kind.Arp = arp
+content_as kind.Internet = datagram
+
 -- the EtherType of a content
 abbrev pub type_of : Content → ℕ
 type_of (RealTime frame_id body) = profinet
@@ -145,6 +163,11 @@ pub record IsFrame (bytes : List ℕ) (meaning : Meaning) : Type 0 where
 unfoldable pub frame_of : List ℕ → Result Meaning FrameFault
 frame_of bytes = link.read bytes >>= λ header.
     if nat_lt (longest header.0.tag) (length bytes) then Err TooLong else layers.read bytes
+
+-- what a frame means whose content is still to be read, or why its content cannot be
+abbrev pub opened_as : OpenFrame → Result Meaning FrameFault
+opened_as frame = (content_as frame.kind).read frame.content.now >>= λ content.
+    Ok (record { destination = frame.destination; source = frame.source; tag = frame.tag; content = content })
 
 -- ---- what is written
 

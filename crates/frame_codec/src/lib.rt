@@ -26,10 +26,11 @@ pub use frame_id::{
     is_cyclic,
 };
 pub use law::{fitting_frames_are_read, formats_are_sound};
-pub use layered::{Layered, Payload, Pieces, RealTimeFrame};
+pub use layered::{Layered, OpenFrame, Payload, Pieces, RealTimeFrame};
 pub use limits::Bytes;
+pub use link::ContentKind;
 pub use outbox::Outbox;
-pub use reading::{read, read_real_time};
+pub use reading::{datagram_at, frame_id_at, open, packet_at, read, read_real_time};
 pub use sum::ones_sum;
 pub use udp::{Caller, Endpoint, RPC_PORT, Udp};
 pub use writing::write;

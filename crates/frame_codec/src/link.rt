@@ -1,9 +1,11 @@
 //! What stands in front of the content.
 ghost use Rattle.std.specs.Prelude.{◌≡◌};
 ghost use Rattle.wire.specs.Codec.{Gives};
-ghost use Rattle.frame_codec.specs.Frame.{mac, tag_and_type, link, longest};
+ghost use Rattle.frame_codec.specs.Frame.{kind_of, mac, tag_and_type, link, longest};
 
 use crate::FrameFault;
+use crate::arp::ADDRESS_RESOLUTION;
+use crate::internet::INTERNET;
 use pn_values::Mac;
 use wire::{octets_at, u16_at};
 
@@ -20,6 +22,32 @@ pub(crate) struct LinkHeader {
     pub(crate) source: Mac,
     pub(crate) tag: Option<u16>,
     pub(crate) ether_type: u16,
+}
+
+/// What follows the link header, by its EtherType.
+#[derive(Clone, Copy, Debug, PartialEq, Eq)]
+pub enum ContentKind {
+    /// 0x8892: a FrameID, and what it says of the octets behind it.
+    RealTime,
+    /// 0x0806: a packet of ARP.
+    Arp,
+    /// 0x0800: a packet of IPv4.
+    Internet,
+}
+
+/// What follows the link header behind this EtherType.
+#[inline(always)]
+pub(crate) fn content_kind(ether_type: u16) -> Result<ContentKind, FrameFault>
+    ensures { result ≡ kind_of ether_type }
+{
+    match ether_type {
+        PROFINET => Ok(ContentKind::RealTime),
+        ADDRESS_RESOLUTION => Ok(ContentKind::Arp),
+        INTERNET => Ok(ContentKind::Internet),
+        // A second tag is told as such, though its frame may be of an EtherType that is read.
+        VLAN => Err(FrameFault::Tag),
+        _ => Err(FrameFault::EtherType),
+    }
 }
 
 /// How many octets a frame may have.
