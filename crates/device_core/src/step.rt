@@ -221,12 +221,12 @@ impl<F: Flash<S>, const S: usize> Device<F, S> {
         if elapsed.is_nothing() {
             return Note::Done;
         }
-        match elapsed.tick.ending {
+        match elapsed.tick.ending() {
             Some(reason) => self.end(reason, outbox),
             None => self.send_due(
-                elapsed.tick.is_alarm,
+                elapsed.tick.is_alarm(),
                 elapsed.is_ready,
-                elapsed.tick.is_cyclic,
+                elapsed.tick.is_cyclic(),
                 outbox,
             ),
         }
