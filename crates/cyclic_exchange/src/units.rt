@@ -7,13 +7,13 @@ use pn_alarms::{Abort, Due};
 use std::marker::Model;
 
 /// What a unit of time brings. It is one octet, so that most units, which bring nothing, cost little.
-#[derive(Clone, Copy, Drop)]
+#[derive(Clone, Copy)]
 pub struct Tick {
     brings: Brings,
 }
 
 // What is sent, or why the relation ends.
-#[derive(Clone, Copy, Drop)]
+#[derive(Clone, Copy)]
 enum Brings {
     Nothing,
     Cyclic,

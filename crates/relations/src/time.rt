@@ -22,7 +22,7 @@ const TENTH_OF_A_SECOND: u32 = 3_200;
 const SECOND: u32 = 32_000;
 
 /// What a unit of time brings, before it is sent.
-#[derive(Clone, Copy, Drop)]
+#[derive(Clone, Copy)]
 pub struct Elapsed {
     /// What it brings to the exchange: the alarm that stands is sent again, a frame of inputs is sent. Or the relation is to end, for the
     /// activity timer's sake too, and nothing else is sent.
