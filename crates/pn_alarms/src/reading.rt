@@ -23,9 +23,32 @@ fn kind_at(bytes: &[u8]) -> Result<(PduType, &[u8]), AlarmFault>
     }
 }
 
-/// From AlarmDstEndpoint to AckSeqNum, and what is behind them. AddFlags is not looked at.
-#[tactic(auto, unfolding(crate::specs::Format::header))]
+/// From AlarmDstEndpoint to AckSeqNum, and what is behind them. AddFlags is not looked at: one window size is all there is, and data is
+/// always acknowledged. The octets are counted once and not field by field.
+#[tactic(auto, unfolding(crate::specs::Format::header, crate::specs::Format::kind))]
 fn header_at(bytes: &[u8]) -> Result<(Header, &[u8]), AlarmFault>
+    ensures { Gives (λ x. (x.0, x.1.now)) result (header.read bytes.now) }
+{
+    let [d0, d1, s0, s1, octet, _, n0, n1, a0, a1, rest @ ..] = bytes else {
+        return short_header_at(bytes);
+    };
+    let Some(kind) = PduType::of(*octet) else {
+        return Err(AlarmFault::Type);
+    };
+    let header = Header {
+        destination: u16::from_be_bytes([*d0, *d1]),
+        source: u16::from_be_bytes([*s0, *s1]),
+        kind,
+        send_number: u16::from_be_bytes([*n0, *n1]),
+        ack_number: u16::from_be_bytes([*a0, *a1]),
+    };
+    Ok((header, rest))
+}
+
+/// The same of any octets, field by field: which fault it is where some are missing.
+#[inline(never)]
+#[tactic(auto, unfolding(crate::specs::Format::header))]
+fn short_header_at(bytes: &[u8]) -> Result<(Header, &[u8]), AlarmFault>
     ensures { Gives (λ x. (x.0, x.1.now)) result (header.read bytes.now) }
 {
     let (destination, rest) = u16_at(bytes, AlarmFault::Short)?;

@@ -38,9 +38,29 @@ macro_rules! alarm_ack_fields {
     };
 }
 
-/// What BlockLength counts of an AlarmAck, to the last octet.
+/// What BlockLength counts of an AlarmAck, to the last octet. Each alarm brings one, so its octets are counted once and not field by
+/// field.
 #[tactic(auto, unfolding(block_fields::specs::Fields::body, crate::specs::AlarmAck::alarm_ack))]
 pub fn alarm_ack_at(bytes: &[u8]) -> Result<AlarmAck, BlockFault>
+    ensures { Gives (λ x. x) result ((body alarm_ack).read bytes.now) }
+{
+    match bytes {
+        [1, 0, k0, k1, a0, a1, a2, a3, s0, s1, u0, u1, n0, n1, p0, p1, p2, p3] => Ok(AlarmAck {
+            alarm_type: u16::from_be_bytes([*k0, *k1]),
+            api: u32::from_be_bytes([*a0, *a1, *a2, *a3]),
+            slot_number: u16::from_be_bytes([*s0, *s1]),
+            subslot_number: u16::from_be_bytes([*u0, *u1]),
+            alarm_specifier: u16::from_be_bytes([*n0, *n1]),
+            pnio_status: u32::from_be_bytes([*p0, *p1, *p2, *p3]),
+        }),
+        _ => other_ack_at(bytes),
+    }
+}
+
+/// The same of what has another version or another length: which fault it is.
+#[inline(never)]
+#[tactic(auto, unfolding(block_fields::specs::Fields::body, crate::specs::AlarmAck::alarm_ack))]
+fn other_ack_at(bytes: &[u8]) -> Result<AlarmAck, BlockFault>
     ensures { Gives (λ x. x) result ((body alarm_ack).read bytes.now) }
 {
     alarm_ack_fields!(read_body[bytes])
