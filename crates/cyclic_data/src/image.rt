@@ -55,7 +55,12 @@ impl Image {
         ensures done { result ≡ has_size (length value.now) (cell_at Data slot subslot self.old.cells) }
         ensures state { self.new ≡ (if result then changed Data slot subslot (with_value value.now) self.old else self.old) }
     {
-        let Some(place) = place_at(self.laid_out.places.as_slice(), PlaceKind::Data, slot, subslot) else {
+        let Some(place) = place_at(
+            self.laid_out.places.as_slice(),
+            PlaceKind::Data,
+            slot,
+            subslot,
+        ) else {
             return false;
         };
         // The IOPS stands behind the data, at the same place.

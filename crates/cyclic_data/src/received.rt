@@ -77,7 +77,11 @@ impl ReceivedImage {
         requires { self.old.data_length ≤ length octets.now }
         ensures { self.new ≡ with_frame octets.now self.old }
     {
-        write_at(&mut self.laid_out.octets, 0, &octets[..self.laid_out.data_length as usize]);
+        write_at(
+            &mut self.laid_out.octets,
+            0,
+            &octets[..self.laid_out.data_length as usize],
+        );
     }
 
     /// The data of a submodule, if it has data in these frames, whatever its IOPS.

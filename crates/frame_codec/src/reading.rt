@@ -12,7 +12,9 @@ use crate::internet::internet_header_at;
 use crate::link::{content_kind, link_at, longest_of};
 use crate::sum::ones_sum;
 use crate::udp::segment_at;
-use crate::{Arp, ContentKind, Endpoint, FrameFault, Layered, OpenFrame, Payload, RealTimeFrame, Udp};
+use crate::{
+    Arp, ContentKind, Endpoint, FrameFault, Layered, OpenFrame, Payload, RealTimeFrame, Udp,
+};
 use wire::{front, split, u16_at};
 
 /// The FrameID, and all that is behind it.

@@ -45,7 +45,26 @@ pub fn alarm_ack_at(bytes: &[u8]) -> Result<AlarmAck, BlockFault>
     ensures { Gives (λ x. x) result ((body alarm_ack).read bytes.now) }
 {
     match bytes {
-        [1, 0, k0, k1, a0, a1, a2, a3, s0, s1, u0, u1, n0, n1, p0, p1, p2, p3] => Ok(AlarmAck {
+        [
+            1,
+            0,
+            k0,
+            k1,
+            a0,
+            a1,
+            a2,
+            a3,
+            s0,
+            s1,
+            u0,
+            u1,
+            n0,
+            n1,
+            p0,
+            p1,
+            p2,
+            p3,
+        ] => Ok(AlarmAck {
             alarm_type: u16::from_be_bytes([*k0, *k1]),
             api: u32::from_be_bytes([*a0, *a1, *a2, *a3]),
             slot_number: u16::from_be_bytes([*s0, *s1]),

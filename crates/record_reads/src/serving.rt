@@ -32,7 +32,11 @@ pub(crate) fn serve(
         (record_of request.now.header.index request.now.header.slot_number request.now.header.subslot_number identity.now real.now settings.now) ≡ Err fault)
         × (answer.new.items ≡ [])) }
 {
-    let (slot, subslot, index) = (request.header.slot_number, request.header.subslot_number, request.header.index);
+    let (slot, subslot, index) = (
+        request.header.slot_number,
+        request.header.subslot_number,
+        request.header.index,
+    );
     check_place(real, request.header.api, slot, subslot, index)?;
     match read_record(index, slot, subslot, identity, real, settings) {
         Some(record) => {

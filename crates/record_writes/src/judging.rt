@@ -92,7 +92,11 @@ fn check_record(real: &Real, request: &IodWriteReq, behind: &[u8]) -> Result<Eff
 fn is_known(real: &Real, request: &IodWriteReq) -> bool
     ensures { result ≡ is_known real.now request.now }
 {
-    let (slot, subslot, index) = (request.header.slot_number, request.header.subslot_number, request.header.index);
+    let (slot, subslot, index) = (
+        request.header.slot_number,
+        request.header.subslot_number,
+        request.header.index,
+    );
     is_read_only(index)
         || is_writable(index, slot, subslot)
         || parameter_length(real, slot, subslot, index).is_some()
@@ -102,7 +106,11 @@ fn is_known(real: &Real, request: &IodWriteReq) -> bool
 fn effect_of(real: &Real, request: &IodWriteReq, octets: &[u8]) -> Option<Effect>
     ensures { result ≡ effect_of real.now request.now octets.now }
 {
-    if is_writable(request.header.index, request.header.slot_number, request.header.subslot_number) {
+    if is_writable(
+        request.header.index,
+        request.header.slot_number,
+        request.header.subslot_number,
+    ) {
         stored(request.header.index, octets)
     } else {
         kept(real, request, octets)
@@ -123,7 +131,11 @@ fn stored(index: u16, octets: &[u8]) -> Option<Effect>
 fn kept(real: &Real, request: &IodWriteReq, octets: &[u8]) -> Option<Effect>
     ensures { result ≡ kept real.now request.now octets.now }
 {
-    let (slot, subslot, index) = (request.header.slot_number, request.header.subslot_number, request.header.index);
+    let (slot, subslot, index) = (
+        request.header.slot_number,
+        request.header.subslot_number,
+        request.header.index,
+    );
     let length = parameter_length(real, slot, subslot, index)?;
     if octets.len() != length as usize {
         return None;
