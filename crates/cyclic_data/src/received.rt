@@ -77,11 +77,8 @@ impl ReceivedImage {
         requires { self.old.data_length ≤ length octets.now }
         ensures { self.new ≡ with_frame octets.now self.old }
     {
-        write_at(
-            &mut self.laid_out.octets,
-            0,
-            &octets[..self.laid_out.data_length as usize],
-        );
+        let size = self.laid_out.data_length as usize;
+        write_at(&mut self.laid_out.octets, 0, &octets[..size]);
     }
 
     /// The data of a submodule, if it has data in these frames, whatever its IOPS.

@@ -106,11 +106,8 @@ fn is_known(real: &Real, request: &IodWriteReq) -> bool
 fn effect_of(real: &Real, request: &IodWriteReq, octets: &[u8]) -> Option<Effect>
     ensures { result ≡ effect_of real.now request.now octets.now }
 {
-    if is_writable(
-        request.header.index,
-        request.header.slot_number,
-        request.header.subslot_number,
-    ) {
+    let header = &request.header;
+    if is_writable(header.index, header.slot_number, header.subslot_number) {
         stored(request.header.index, octets)
     } else {
         kept(real, request, octets)
