@@ -6,7 +6,7 @@ use device_core::Note;
 use device_port::{Port, Refusal, Work};
 use flash_model::Sector;
 use pn_values::Settings;
-use record_writes::Taken;
+use record_writes::TakenRecord;
 use recorded_flash::Recorded;
 use relations::Phase;
 
@@ -311,7 +311,7 @@ fn tell_taken(port: &Port, op: &mut Op) -> u32 {
 }
 
 // One of these records.
-fn tell_record(records: &[Taken], op: &mut Op) -> u32 {
+fn tell_record(records: &[TakenRecord], op: &mut Op) -> u32 {
     match records.get(op.place as usize) {
         Some(entry) => {
             op.slot = u32::from(entry.slot);
