@@ -92,6 +92,9 @@ impl<'a> Session<'a> {
         let Ok(meaning) = meaning(line, buffer) else {
             return Err(PlanFault::OutOfMemory);
         };
+        if let Line::Skipped = meaning {
+            return Ok(true);
+        }
         if self.power.is_off() && !is_heard_without_power(&meaning) {
             return always(text.extend_from_slice(b"off\n"));
         }
@@ -102,7 +105,9 @@ impl<'a> Session<'a> {
         }
     }
 
-    /// Does what a command asks for, and renders what it prints. Says whether it is one that a script may have here.
+    /// Does what a command asks for, and renders what it prints. Says whether it is one that a script may have here. What the commands
+    /// keep on the stack, a plan among it, is more than a page, and a line that asks for nothing pays nothing for it.
+    #[inline(never)]
     #[tactic(auto, using(crate::proofs::Obeying::always_obeys, crate::proofs::Obeying::if_there_obeys), unfolding(crate::specs::Said::said))]
     fn answer(&mut self, command: Command<'_>, text: &mut Vec<u8>) -> Result<bool, PlanFault>
         ensures obeys { (plans : List ℕ → Option Parts) (network : Network) → AreRightFor plans (Asks (command_read command.entry)) →
