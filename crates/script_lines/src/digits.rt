@@ -40,6 +40,7 @@ fn join(digits: &[u8], bytes: &mut [u8])
 }
 
 /// Reads hex digits, two for each of the bytes. Says whether they are hex digits, and as many.
+#[tactic(auto, using(crate::proofs::Hex::refused))]
 pub(crate) fn read(digits: &[u8], bytes: &mut [u8]) -> bool
     requires { length bytes.old ≡ length digits.now / 2 }
     ensures decoded { result ≡ true → decode_of digits.now ≡ Ok bytes.new }
