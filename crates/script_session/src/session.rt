@@ -57,7 +57,7 @@ impl<'a> Session<'a> {
     ghost use Rattle.script_session.specs.Said.{tick_answer};
     ghost use Rattle.script_session.specs.Power.{IsArmed, IsBack, IsDemo, IsRunning, is_off, refusal_of};
     ghost use Rattle.script_session.specs.Session.{Are, AreRightFor, Comes, IsObeyed, Obeys};
-    ghost use Rattle.script_session.specs.Off.{GivesBack, TakesOff};
+    ghost use Rattle.script_session.specs.Off.{GivesBack, TakesOff, TellsLoss, hands, is_handed};
 
     /// The demo device over this flash, as it starts, and nobody at the other end.
     pub fn new(alloc: Global, flash: &'a mut MemoryFlash<4096>) -> Session<'a>
@@ -87,6 +87,8 @@ impl<'a> Session<'a> {
             Obeys (outcome_of plans network (meaning_of line.now)) self.new text.old.items text.new.items result }
         // While there is no power a line does nothing but a restart.
         ensures off { is_off self.old.power ≡ true → TakesOff (meaning_of line.now) self.old self.new text.old.items text.new.items result }
+        // Where power is lost as something is handed to the device, that alone is printed.
+        ensures lost { is_handed (meaning_of line.now) ≡ true → TellsLoss self.old.power self.new.power text.old.items text.new.items result }
         ensures demo { IsDemo self.old.power → IsDemo self.new.power }
     {
         let Ok(meaning) = meaning(line, buffer) else {
@@ -103,13 +105,15 @@ impl<'a> Session<'a> {
     }
 
     /// Does what a command asks for, and renders what it prints. Says whether it is one that a script may have here.
-    #[tactic(auto, using(crate::proofs::Obeying::always_obeys, crate::proofs::Obeying::if_there_obeys), unfolding(crate::specs::Said::said))]
+    #[tactic(auto, using(crate::proofs::Obeying::always_obeys, crate::proofs::Obeying::if_there_obeys, crate::proofs::Obeying::always_tells, crate::proofs::Obeying::if_there_tells), unfolding(crate::specs::Said::said))]
     fn answer(&mut self, command: Command<'_>, text: &mut Vec<u8>) -> Result<bool, PlanFault>
         ensures obeys { (plans : List ℕ → Option Parts) (network : Network) → AreRightFor plans (Asks (command_read command.entry)) →
             Are network self.old → arms (command_read command.entry) ≡ false →
             Obeys (said plans network (command_read command.entry)) self.new text.old.items text.new.items result }
         ensures back { command_read command.entry ≡ Restart → GivesBack self.old self.new text.old.items text.new.items result }
         ensures armed { (order : Order) → command_read command.entry ≡ Arm order → IsArmed order self.old.power self.new.power }
+        ensures lost { hands (command_read command.entry) ≡ true →
+            TellsLoss self.old.power self.new.power text.old.items text.new.items result }
         ensures demo { IsDemo self.old.power → IsDemo self.new.power }
     {
         match command {
@@ -139,6 +143,7 @@ impl<'a> Session<'a> {
         ensures obeys { (network : Network) → Are network self.old →
             OnOk result (IsObeyed (event_answer network (event.Frame (handed bytes.now))) self.new text.old.items text.new.items) }
         ensures demo { IsDemo self.old.power → IsDemo self.new.power }
+        ensures lost { TellsLoss self.old.power self.new.power text.old.items text.new.items result }
     {
         match &mut self.power {
             Power::On(device) => {
@@ -167,6 +172,7 @@ impl<'a> Session<'a> {
             OnOk result (IsObeyed (event_answer network (event.Input slot subslot (handed bytes.now))) self.new text.old.items
             text.new.items) }
         ensures demo { IsDemo self.old.power → IsDemo self.new.power }
+        ensures lost { TellsLoss self.old.power self.new.power text.old.items text.new.items result }
     {
         match &mut self.power {
             Power::On(device) => {
@@ -189,6 +195,7 @@ impl<'a> Session<'a> {
             OnOk result (IsObeyed (event_answer network (event.Alarm slot subslot (handed bytes.now))) self.new text.old.items
             text.new.items) }
         ensures demo { IsDemo self.old.power → IsDemo self.new.power }
+        ensures lost { TellsLoss self.old.power self.new.power text.old.items text.new.items result }
     {
         match &mut self.power {
             Power::On(device) => {
@@ -299,6 +306,7 @@ impl<'a> Session<'a> {
         ensures obeys { (network : Network) → Are network self.old →
             IfOk result (Comes (deliver_outcome network network.other.controller) self.new text.old.items text.new.items) }
         ensures demo { IsDemo self.old.power → IsDemo self.new.power }
+        ensures lost { TellsLoss self.old.power self.new.power text.old.items text.new.items result }
     {
         if !self.other.is_started() {
             return Ok(false);
@@ -312,6 +320,7 @@ impl<'a> Session<'a> {
         ensures obeys { (network : Network) → Are network self.old →
             OnOk result (IsObeyed (deliver_answer network) self.new text.old.items text.new.items) }
         ensures demo { IsDemo self.old.power → IsDemo self.new.power }
+        ensures lost { TellsLoss self.old.power self.new.power text.old.items text.new.items result }
     {
         match &mut self.power {
             Power::On(device) => exchange(device, &mut self.outbox, &mut self.other, text),
