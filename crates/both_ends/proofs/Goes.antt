@@ -1,6 +1,7 @@
 -- What is true of a frame goes on to be true of it: what was taken stays taken, and what was true of an earlier point still is.
 use Rattle.std.proofs.Common.{◌≡◌, inl, inr, ℕ, zero, suc, true, false, List, Option, Some, None, sym, subst}
 use Rattle.both_ends.specs.Small.{Ask, ToDevice, Call, Confirms, Idle, ToController, Answers, Readies, Nothing, Rules, Link, Kept, Controller, Seeking, Asking, Waiting, Exchanges, Ended}
+use Rattle.both_ends.specs.Steps.{SaysAtMost}
 use Rattle.both_ends.proofs.Each.{each_so}
 use Rattle.both_ends.proofs.Holds.{Took, Behind, IsCall, TellsDevice, TellsController, IsFine, AreFine, KeepsFine, AsksBehind}
 
@@ -61,3 +62,9 @@ module _ {T Q : Type 0} where
     device = subst (λ (heard : ToDevice). TellsDevice rules Was kept link heard) (sym e) device;
     controller = subst (λ (heard : ToController). TellsController rules Good kept link frame heard) (sym f) controller;
   }
+
+  -- so is one of which the controller hears this at most
+  pub fine_at_most : (rules : Rules T Q) (Was : Type 0) (Good : List ℕ → Type 0) (kept : Option Kept) (link : Option (Link T Q)) (frame : List ℕ) (heard : ToController)
+      → rules.to_device frame ≡ Idle → SaysAtMost rules heard frame → TellsController rules Good kept link frame heard → IsFine rules Was Good kept link frame
+  fine_at_most rules Was Good kept link frame heard idle (inl nothing) tells = fine_as rules Was Good kept link frame Idle Nothing idle nothing tt tt
+  fine_at_most rules Was Good kept link frame heard idle (inr says) tells = fine_as rules Was Good kept link frame Idle heard idle says tt tells

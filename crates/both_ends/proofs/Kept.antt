@@ -5,7 +5,7 @@ use Rattle.std.specs.Prelude.{slice_get}
 use Rattle.both_ends.specs.Small.{Ask, Connects, Writes, Parameterized, Releases, ToDevice, Call, Confirms, Idle, Answers, Readies, Nothing, Rules, Started, Awaiting, Exchanging, Link, Kept, Device}
 use Rattle.both_ends.specs.Steps.{IsNew, made, TakesRecord, IsParameterized, Comes, IsReady, IsDull, IsAnswered, IsAgain, Rests, IsConfirmed, GoesBy, DeviceSteps}
 use Rattle.both_ends.proofs.Holds.{IsSomeKept, TookIn, Took, IsHeld, IsHeldIn, HoldsAt, Behind, IsCall, TellsDevice, TellsController, IsFine, AreFine, KeepsFine, ConfirmedIn}
-use Rattle.both_ends.proofs.Goes.{Grows, are_fine_on, keeps_on, same_grows, fine_as}
+use Rattle.both_ends.proofs.Goes.{Grows, are_fine_on, keeps_on, same_grows, fine_as, fine_at_most}
 
 -- ---- lists
 
@@ -175,6 +175,10 @@ module _ {T Q : Type 0} (rules : Rules T Q) where
       let held = is_held kept link there is holds in
       (held.2.made, past_ready held.0.sequence there awaits held.2.past)
 
+  -- a relation is what the Connect asks for
+  pub made_is : (kept : Option Kept) (link : Option (Link T Q)) (there : Link T Q) → link ≡ Some there → HoldsAt rules kept link → there.request ≡ rules.request
+  made_is kept link there is holds = (is_held kept link there is holds).2.made
+
   -- ---- steps
 
   module _ (Was WasNow : Type 0) (Good GoodNow : List ℕ → Type 0) (was_on : Was → WasNow) (good_on : (frame : List ℕ) → Good frame → GoodNow frame) where
@@ -194,7 +198,7 @@ module _ {T Q : Type 0} (rules : Rules T Q) where
     good_behind after frame frames good number other there ready = good (suc number) other there ready
 
     ready_fine : (after : Device T Q) (frame : List ℕ) → GoodNow frame → IsReady rules after frame → IsFine rules WasNow GoodNow after.kept after.link frame
-    ready_fine after frame good ready = fine_as rules WasNow GoodNow after.kept after.link frame Idle Readies ready.to_device ready.to_controller tt good
+    ready_fine after frame good ready = fine_at_most rules WasNow GoodNow after.kept after.link frame Readies ready.to_device ready.to_controller good
 
     readies_fine : (after : Device T Q) (frames : List (List ℕ)) → AreGood after frames → AllByRecursion (IsReady rules after) frames → AreFine rules WasNow GoodNow after.kept after.link frames
     readies_fine after [] good all = tt
@@ -254,7 +258,7 @@ module _ {T Q : Type 0} (rules : Rules T Q) where
           let answer : Kept = record { sequence = sequence; frame = answered.frame } in
           let does = does_by sequence ask answered.positive before.kept before.link after.link answered.new call answered.does held in
           let fine : IsFine rules WasNow GoodNow (Some answer) after.link answered.frame =
-          fine_as rules WasNow GoodNow (Some answer) after.link answered.frame Idle (Answers sequence answered.positive) answered.to_device answered.to_controller tt
+          fine_at_most rules WasNow GoodNow (Some answer) after.link answered.frame (Answers sequence answered.positive) answered.to_device answered.to_controller
           (answer_tells sequence ask answered.positive before.kept before.link answer after.link answered.frame call does) in
           let behind : AreGood after (answered.frame ∷ answered.others) = subst (λ (fs : List (List ℕ)). AreGood after fs) answered.sent good in
           record {

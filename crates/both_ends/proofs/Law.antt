@@ -9,7 +9,7 @@ use Rattle.both_ends.proofs.Holds.{HoldsAt, Behind, IsCall, TellsDevice, TellsCo
 use Rattle.both_ends.proofs.Runs.{holds_behind_run, later_on}
 use Rattle.both_ends.proofs.Each.{each_at, each_behind, each_so}
 use Rattle.both_ends.proofs.Goes.{asks_on, are_fine_on, keeps_on, same_grows, fine_as}
-use Rattle.both_ends.proofs.Kept.{device_leaves, ready_is}
+use Rattle.both_ends.proofs.Kept.{device_leaves, made_is, ready_is}
 
 module _ {T Q : Type 0} (rules : Rules T Q) where
   -- ---- the controller
@@ -316,3 +316,7 @@ module _ {T Q : Type 0} (rules : Rules T Q) where
         → (link : Link T Q) → (last_of first run).device.link ≡ Some link → link.phase ≡ Exchanging → WasExchanging run
     was_exchanging run begins steps link is exchanges =
         was_confirmed (WasExchanging run) (last_of first run).device.link link is exchanges (holds_at run begins steps).confirmed
+
+    pub is_made : (run : List (Move × World T Q)) → Begins rules first → IsRun rules first run
+        → (link : Link T Q) → (last_of first run).device.link ≡ Some link → link.request ≡ rules.request
+    is_made run begins steps link is = made_is rules (last_of first run).device.kept (last_of first run).device.link link is (holds_at run begins steps).held

@@ -73,10 +73,14 @@ module _ {T Q : Type 0} where
   Comes rules true ask before after = Carries rules ask before after
   Comes rules false ask before after = after ≡ before
 
+  -- The controller hears this in a frame, or nothing: a frame may go to another station, or be too long to be read.
+  abbrev pub SaysAtMost : Rules T Q → ToController → List ℕ → Type 0
+  SaysAtMost rules heard frame = (rules.to_controller frame ≡ Nothing) ⊎ (rules.to_controller frame ≡ heard)
+
   -- ApplicationReady, while the relation waits for its answer
   pub record IsReady (rules : Rules T Q) (after : Device T Q) (frame : List ℕ) : Type 0 where
     pub to_device : rules.to_device frame ≡ Idle
-    pub to_controller : rules.to_controller frame ≡ Readies
+    pub to_controller : SaysAtMost rules Readies frame
     pub link : Link T Q
     pub has : after.link ≡ Some link
     pub awaits : link.phase ≡ Awaiting
@@ -93,7 +97,7 @@ module _ {T Q : Type 0} where
     pub keeps : after.kept ≡ Some (record { sequence = sequence; frame = frame })
     pub does : Comes rules positive ask before.link after.link
     pub to_device : rules.to_device frame ≡ Idle
-    pub to_controller : rules.to_controller frame ≡ Answers sequence positive
+    pub to_controller : SaysAtMost rules (Answers sequence positive) frame
     pub others : List (List ℕ)
     pub sent : frames ≡ frame ∷ others
     pub readies : AllByRecursion (IsReady rules after) others

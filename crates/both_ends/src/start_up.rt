@@ -13,4 +13,7 @@ pub fn start_up_is_kept<T, Q>()
     // Where a device exchanges data, its controller did so at an earlier point.
     ensures device { (rules : Rules T Q) (first : World T Q) (run : List (Move × World T Q)) → Begins rules first → IsRun rules first run
         → (link : Link T Q) → (last_of first run).device.link ≡ Some link → link.phase ≡ Exchanging → WasExchanging run }
+    // A relation that a device has is what the Connect asks for.
+    ensures relation { (rules : Rules T Q) (first : World T Q) (run : List (Move × World T Q)) → Begins rules first → IsRun rules first run
+        → (link : Link T Q) → (last_of first run).device.link ≡ Some link → link.request ≡ rules.request }
 {}

@@ -1,4 +1,4 @@
-use Rattle.both_ends.proofs.Law.{was_handed, was_exchanging}
+use Rattle.both_ends.proofs.Law.{was_handed, was_exchanging, is_made}
 use Rattle.both_ends.proofs.start_up.start_up_is_kept.Goals as goal
 
 pub returns-clause-controller : goal.returns-clause-controller
@@ -6,3 +6,6 @@ returns-clause-controller g c = λ rules first run begins steps exchanges. was_h
 
 pub returns-clause-device : goal.returns-clause-device
 returns-clause-device g c = λ rules first run begins steps link is exchanges. was_exchanging rules first run begins steps link is exchanges
+
+pub returns-clause-relation : goal.returns-clause-relation
+returns-clause-relation g c = λ rules first run begins steps link is. is_made rules first run begins steps link is
