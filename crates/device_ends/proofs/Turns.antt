@@ -76,7 +76,7 @@ use Rattle.device_core.specs.Judged.{Judged, Refuses, Sets, Writes, Moves, is_ru
 use Rattle.device_core.specs.Machine.{resets, link_after, farewells_at, finished, items_in, judged_step, heard_step}
 use Rattle.both_ends.specs.Small as small
 use Rattle.both_ends.specs.Small.{Rules, ToDevice, ToController}
-use Rattle.both_ends.specs.Steps.{IsNew, TakesRecord, IsParameterized, Comes, IsReady, IsDull, IsAnswered, IsAgain, Rests, IsConfirmed, GoesBy, DeviceSteps}
+use Rattle.both_ends.specs.Steps.{IsNew, TakesRecord, IsParameterized, Comes, SaysAtMost, IsReady, IsDull, IsAnswered, IsAgain, Rests, IsConfirmed, GoesBy, DeviceSteps}
 use Rattle.device_ends.specs.Small.{phase_in, link_of, kept_in, small_of, asked_by, names_own, confirms, said_to, heard_as, IsPlannedWrite, IsPlannedAs, IsPlannedCall, IsPlannedIn, IsPlanned, said_by, IsHeardBy, IsHeardAs}
 
 -- ---- tests
@@ -95,7 +95,7 @@ pointwise_same xs ys same = decided (pointwise nat_eq xs ys) refl
     decided true e = sym e
     decided false e = absurd (other_text xs ys e same)
 
-bind_ok : {A B : Type 0} (r : Result A CallFault) (f : A → Result B CallFault) (y : B) → (r >>= f) ≡ Ok y → (x : A) × (r ≡ Ok x) × (f x ≡ Ok y)
+pub bind_ok : {A B : Type 0} (r : Result A CallFault) (f : A → Result B CallFault) (y : B) → (r >>= f) ≡ Ok y → (x : A) × (r ≡ Ok x) × (f x ≡ Ok y)
 bind_ok (Ok x) f y e = (x, refl, e)
 bind_ok (Err why) f y e = absurd cc
 
@@ -309,7 +309,7 @@ new_is sequence (Some kept) e = by_same (sequence == kept.sequence) refl e
     by_same true f g = absurd cc
     by_same false f g = by_order (nat_lt sequence kept.sequence) refl f g
 
-again_is : (sequence : ℕ) (kept : Option Answer) (frame : List ℕ) → told_by sequence kept ≡ again frame
+pub again_is : (sequence : ℕ) (kept : Option Answer) (frame : List ℕ) → told_by sequence kept ≡ again frame
     → (answer : Answer) × (kept ≡ Some answer) × (answer.sequence ≡ sequence) × (answer.frame ≡ frame)
 again_is sequence None frame e = absurd cc
 again_is sequence (Some kept) frame e = by_same (sequence == kept.sequence) refl e
@@ -368,17 +368,25 @@ module _ (refusals_are_not_done : RefusalsAreNotDone) (rules : Rules TakenRecord
   one_ready later (Ends farewell) ready heard = absurd ready
   one_ready later (Exchanges route frame) ready heard = absurd ready
 
+  -- where it hears nothing at most, it hears nothing
+  hears_nothing : (frame : List ℕ) → SaysAtMost rules small.Nothing frame → rules.to_controller frame ≡ small.Nothing
+  hears_nothing frame (inl nothing) = nothing
+  hears_nothing frame (inr nothing) = nothing
+
+  dull_is : (frame : List ℕ) → IsHeardBy rules frame small.Nothing → IsDull rules frame
+  dull_is frame heard = (heard.0, hears_nothing frame heard.1)
+
   one_other : (later : Rest) (message : Sent) → IsOther later.link message → IsHeardAs rules station.identity message
       → IsDull rules (bytes_of station.identity message) ⊎ IsReady rules (small_in later) (bytes_of station.identity message)
-  one_other later (IdentifyAnswer asker running xid) other heard = inl heard
-  one_other later (GetAnswer asker running request) other heard = inl heard
-  one_other later (SetAnswer asker request answers) other heard = inl heard
-  one_other later (ArpReply asker address target) other heard = inl heard
+  one_other later (IdentifyAnswer asker running xid) other heard = inl (dull_is (bytes_of station.identity (IdentifyAnswer asker running xid)) heard)
+  one_other later (GetAnswer asker running request) other heard = inl (dull_is (bytes_of station.identity (GetAnswer asker running request)) heard)
+  one_other later (SetAnswer asker request answers) other heard = inl (dull_is (bytes_of station.identity (SetAnswer asker request answers)) heard)
+  one_other later (ArpReply asker address target) other heard = inl (dull_is (bytes_of station.identity (ArpReply asker address target)) heard)
   one_other later (CallAnswer caller address answer) other heard = absurd other
   one_other later (Again frame) other heard = absurd other
   one_other later (ReadyCall address ready) other heard = inr (one_ready later (ReadyCall address ready) other heard)
-  one_other later (Ends farewell) other heard = inl heard
-  one_other later (Exchanges route frame) other heard = inl heard
+  one_other later (Ends farewell) other heard = inl (dull_is (bytes_of station.identity (Ends farewell)) heard)
+  one_other later (Exchanges route frame) other heard = inl (dull_is (bytes_of station.identity (Exchanges route frame)) heard)
 
   all_other : (later : Rest) (sent : List Sent) → AreOther later.link sent → AreHeard sent
       → AllByRecursion (λ frame. IsDull rules frame ⊎ IsReady rules (small_in later) frame) (frames_of sent)
@@ -602,7 +610,7 @@ module _ (refusals_are_not_done : RefusalsAreNotDone) (rules : Rules TakenRecord
               keeps = ap (λ (k : Option Answer). option_map kept_in k) (keeps_answer answer);
               does = comes;
               to_device = heard.0.0;
-              to_controller = heard.0.1 ∙ ap (λ (b : Bool). small.Answers call.header.sequence b) (says_done which outcome);
+              to_controller = subst (λ (b : Bool). SaysAtMost rules (small.Answers call.header.sequence b) (bytes_of station.identity answer)) (says_done which outcome) heard.0.1;
               others = frames_of behind;
               sent = refl;
               readies = all_ready later behind ready heard.1;

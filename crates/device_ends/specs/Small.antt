@@ -29,6 +29,7 @@ use Rattle.device_frames.specs.Sent.{Sent, IdentifyAnswer, GetAnswer, SetAnswer,
 use Rattle.device_core.specs.State.{Live}
 use Rattle.both_ends.specs.Small as small
 use Rattle.both_ends.specs.Small.{Rules, ToDevice, ToController}
+use Rattle.both_ends.specs.Steps.{SaysAtMost}
 
 -- ---- what it is
 
@@ -147,9 +148,9 @@ said_by (Again frame) = small.Nothing
 said_by (Ends farewell) = small.Nothing
 said_by (Exchanges route frame) = small.Nothing
 
--- both ends hear that of its octets: the device nothing, and the controller what it says
+-- both ends hear that of its octets: the device nothing, and the controller what it says, or nothing
 abbrev pub IsHeardBy : Rules TakenRecord Request → List ℕ → ToController → Type 0
-IsHeardBy rules frame says = (rules.to_device frame ≡ small.Idle) × (rules.to_controller frame ≡ says)
+IsHeardBy rules frame says = (rules.to_device frame ≡ small.Idle) × SaysAtMost rules says frame
 
 abbrev pub IsHeardAs : Rules TakenRecord Request → Identity → Sent → Type 0
 IsHeardAs rules identity (Again frame) = Unit {0}

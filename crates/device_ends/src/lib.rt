@@ -1,6 +1,8 @@
-//! A device's end of a start-up: its machine refines the small one of `both_ends`. Laws, and no code.
+//! The machine of a device refines the small one of a start-up. Laws, and no code.
 #![tactic(auto)]
 
 mod goes_on;
+mod owed;
 
 pub use goes_on::device_goes_on;
+pub use owed::device_sends_what_it_owes;

@@ -1,0 +1,51 @@
+-- Whence what a device sends comes: an answer from a call that it heard, ApplicationReady from its relation.
+use Rattle.std.specs.Prelude.{◌≡◌, List, ℕ, Option, Some}
+use Rattle.frame_codec.specs.declared.udp.Caller.{Caller}
+use Rattle.rpc_core.specs.Cache.{Kept, kept_of}
+use Rattle.rpc_core.specs.Call.{Asked as Call}
+use Rattle.rpc_core.specs.Response.{Answered as Response}
+use Rattle.rpc_core.specs.Sendable.{IsStatus}
+use Rattle.relations.specs.declared.ready.Ready.{Ready}
+use Rattle.relations.specs.Link.{Link}
+use Rattle.relations.specs.Ready.{ready_of}
+use Rattle.device_frames.specs.Heard.{Heard, Told, Calls}
+use Rattle.device_frames.specs.Sent.{Sent, IdentifyAnswer, GetAnswer, SetAnswer, ArpReply, CallAnswer, Again, ReadyCall, Ends, Exchanges}
+use Rattle.device_core.specs.State.{Live}
+
+-- an answer to this caller: to a call that it made, whose header it repeats, with a status of four octets
+pub record IsAnswering (heard : Heard) (caller : Caller) (answer : Response) : Type 0 where
+  pub address : List ℕ
+  pub call : Call
+  pub is : heard ≡ Told caller address (Calls call)
+  pub header : answer.header ≡ call.header
+  pub maximum : answer.maximum_count ≡ call.args_maximum
+  pub status : IsStatus answer.status
+
+-- the frame of the answer that is kept of the activity of a call that was heard
+pub record IsOfKept (heard : Heard) (live : Live) (frame : List ℕ) : Type 0 where
+  pub caller : Caller
+  pub address : List ℕ
+  pub call : Call
+  pub is : heard ≡ Told caller address (Calls call)
+  pub kept : Kept
+  pub there : kept_of call.header.activity live.rest.calls ≡ Some kept
+  pub same : kept.frame ≡ frame
+
+-- ApplicationReady of this relation, to whomever
+pub record IsOfRelation (relation : Option Link) (ready : Ready) : Type 0 where
+  pub link : Link
+  pub is : relation ≡ Some link
+  pub header : ready.header ≡ (ready_of link).header
+  pub block : ready.block ≡ (ready_of link).block
+
+-- whence a message comes, where it is one of a start-up
+abbrev pub IsOwed : Heard → Live → Sent → Type 0
+IsOwed heard live (CallAnswer caller address answer) = IsAnswering heard caller answer
+IsOwed heard live (Again frame) = IsOfKept heard live frame
+IsOwed heard live (ReadyCall address ready) = IsOfRelation live.rest.link ready
+IsOwed heard live (IdentifyAnswer asker running xid) = Unit {0}
+IsOwed heard live (GetAnswer asker running request) = Unit {0}
+IsOwed heard live (SetAnswer asker request answers) = Unit {0}
+IsOwed heard live (ArpReply asker address target) = Unit {0}
+IsOwed heard live (Ends farewell) = Unit {0}
+IsOwed heard live (Exchanges route frame) = Unit {0}
