@@ -1,3 +1,4 @@
 pub mod Sizes
 pub mod Turns
 pub mod Heard
+pub mod Aimed

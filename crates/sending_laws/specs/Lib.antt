@@ -1,3 +1,4 @@
 pub mod Messages
 pub mod Sized
 pub mod Devices
+pub mod Addressed
