@@ -37,7 +37,7 @@ use Rattle.controller_ends.specs.Small.{GoesOn, IsInStep, said_by, said_in, said
 use Rattle.device_ends.specs.Small.{IsHeardAs, IsPlanned, heard_as, kept_in, link_of, phase_in}
 use Rattle.device_ends.specs.Small as device
 use Rattle.world_ends.specs.View.{IsMeant, IsMeantAtController, IsMeantAtDevice, IsSaidAs, move_of, rules_of, taken_for, view_of}
-use Rattle.world_ends.specs.Played.{AreMade, AreMeant, Begins, IsRunOf, last_world, moves_of, viewed}
+use Rattle.world_ends.specs.Played.{IsRunOf, last_world, viewed}
 
 -- ---- the laws below
 
@@ -67,26 +67,26 @@ module _ {F : Type 0} (image : F → Image) (failures : F → ℕ) (asked : F �
 
 -- ---- a step of the controller
 
-controller_is : (old : Controlling) (event : Event) → (step_of old event).controller ≡ with_live old (turn_of old.setup old.live event).live
+pub controller_is : (old : Controlling) (event : Event) → (step_of old event).controller ≡ with_live old (turn_of old.setup old.live event).live
 unfolding step_of
 controller_is old event = refl
 
-frames_are : (old : Controlling) (event : Event) → (step_of old event).frames ≡ map (bytes_of old.setup) (turn_of old.setup old.live event).sent
+pub frames_are : (old : Controlling) (event : Event) → (step_of old event).frames ≡ map (bytes_of old.setup) (turn_of old.setup old.live event).sent
 unfolding step_of
 frames_are old event = refl
 
 module _ {F : Type 0} where
-  abbrev rules_at : World F → Rules TakenRecord Request
+  abbrev pub rules_at : World F → Rules TakenRecord Request
   rules_at w = rules_of w.controller.setup w.device.station
 
   -- what a move leaves of the world, and that it is a step
-  record Refines (before after : World F) (steps : Type 0) : Type 0 where
-    is : steps
-    setup : after.controller.setup ≡ before.controller.setup
-    station : after.device.station ≡ before.device.station
-    in_step : IsInStep after.controller.setup.plan after.controller.live.phase after.controller.live.asked
+  pub record Refines (before after : World F) (steps : Type 0) : Type 0 where
+    pub is : steps
+    pub setup : after.controller.setup ≡ before.controller.setup
+    pub station : after.device.station ≡ before.device.station
+    pub in_step : IsInStep after.controller.setup.plan after.controller.live.phase after.controller.live.asked
 
-  abbrev InStep : World F → Type 0
+  abbrev pub InStep : World F → Type 0
   InStep w = IsInStep w.controller.setup.plan w.controller.live.phase w.controller.live.asked
 
   count_is : (w : World F) → length (rules_at w).records ≡ length w.controller.setup.plan.records.items
@@ -95,11 +95,14 @@ module _ {F : Type 0} where
   said_is : (w : World F) (now : small.Controller) (message : Sent) → IsSaidAs w.controller.setup w.device.station message
       → SaysToDevice (length w.controller.setup.plan.records.items) now (said_by w.controller.setup.plan message)
       → IsSaid (rules_at w) now (bytes_of w.controller.setup message)
-  said_is w now message heard says = (
-    heard.0,
-    subst (λ (said : ToDevice). SaysToDevice (length (rules_at w).records) now said) (sym heard.1)
-        (subst (λ (count : ℕ). SaysToDevice count now (said_by w.controller.setup.plan message)) (sym (count_is w)) says),
-  )
+  said_is w now message heard says = (heard.0, as_said heard.1)
+    where
+      as_said : ((rules_at w).to_device (bytes_of w.controller.setup message) ≡ said_by w.controller.setup.plan message)
+          ⊎ ((rules_at w).to_device (bytes_of w.controller.setup message) ≡ small.Idle)
+          → SaysToDevice (length (rules_at w).records) now ((rules_at w).to_device (bytes_of w.controller.setup message))
+      as_said (inl same) = subst (λ (said : ToDevice). SaysToDevice (length (rules_at w).records) now said) (sym same)
+          (subst (λ (count : ℕ). SaysToDevice count now (said_by w.controller.setup.plan message)) (sym (count_is w)) says)
+      as_said (inr idle) = subst (λ (said : ToDevice). SaysToDevice (length (rules_at w).records) now said) (sym idle) tt
 
   all_said : (w : World F) (now : small.Controller) (sent : List Sent) → AllByRecursion (IsSaidAs w.controller.setup w.device.station) sent
       → AllByRecursion (λ message. SaysToDevice (length w.controller.setup.plan.records.items) now (said_by w.controller.setup.plan message)) sent
@@ -154,7 +157,7 @@ module _ {F : Type 0} where
         let station = before.device.station in
         let step = heard_step hears.steps.outcomes station before.device.live heard in
         let rules = rules_at before in
-        let on = goes rules activity hears.steps.outcomes station before.device.live heard meant.planned (meant.sent hears.steps.outcomes) in
+        let on = goes rules activity hears.steps.outcomes station before.device.live heard meant.planned (meant.sent hears.steps.outcomes hears.steps.sendable) in
         let steps : DeviceSteps rules (heard_as heard) (device.small_of activity before.device.live) (device.small_of after.controller.setup.activity after.device.live) hears.frames =
         subst (λ (c : Controlling). DeviceSteps rules (heard_as heard) (device.small_of activity before.device.live) (device.small_of c.setup.activity after.device.live) hears.frames) (sym made.controller)
         (subst (λ (l : Live). DeviceSteps rules (heard_as heard) (device.small_of activity before.device.live) (device.small_of activity l) hears.frames) (sym hears.steps.live)
@@ -216,7 +219,7 @@ module _ {F : Type 0} where
       delivered_to_controller number (Some octets) there meant comes =
           comes_to_controller number octets (is_skipped before.device before.controller Controller octets) there (meant octets refl) comes
 
-      happens_steps : (one : Move) → IsMeant before one → Happens image failures asked before one after
+      pub happens_steps : (one : Move) → IsMeant before one → Happens image failures asked before one after
           → Refines before after (Steps (rules_at before) (view_of before) (move_of one) (view_of after))
       happens_steps (move.Deliver Device number) meant happens = delivered_to_device number (slice_get before.sent number) refl meant happens
       happens_steps (move.Deliver Controller number) meant happens = delivered_to_controller number (slice_get before.sent number) refl meant happens
@@ -228,34 +231,9 @@ module _ {F : Type 0} where
           does before after _ _ _ (λ steps. steps) (at_controller_steps on before after (controller.Give slot subslot value) in_step meant happens)
       happens_steps move.Stop meant happens = does before after _ _ _ (λ steps. steps) (at_controller_steps on before after controller.Stop in_step meant happens)
 
-    -- ---- runs
-
-    pub runs : (on : ControllerGoesOn) (rules : Rules TakenRecord Request) (before : World F) (run : List (Move × World F)) → rules_at before ≡ rules → InStep before
-        → AreMade image failures asked before run → AreMeant before run → IsRun rules (view_of before) (viewed run)
-    runs on rules before [] same in_step made meant = tt
-    runs on rules before (one ∷ run) same in_step made meant =
-        let step = happens_steps on before one.1 in_step one.0 meant.0 made.0 in
-        let still : rules_at one.1 ≡ rules_at before =
-        ap (λ (s : Setup). rules_of s one.1.device.station) step.setup ∙ ap (λ (s : Station). rules_of before.controller.setup s) step.station in (
-          subst (λ (r : Rules TakenRecord Request). Steps r (view_of before) (move_of one.0) (view_of one.1)) same step.is,
-          runs on rules one.1 run (still ∙ same) step.in_step made.1 meant.1,
-        )
-
 -- ---- the law
 
 module _ {F : Type 0} where
-  pub begins_small : (first : World F) → Begins first → BeginsSmall (rules_of first.controller.setup first.device.station) (view_of first)
-  begins_small first begins = record {
-    uncalled = ap (λ (calls : List Answer). option_map kept_in (kept_of first.controller.setup.activity calls)) begins.uncalled;
-    unrelated = ap (λ (l : Option Link). option_map link_of l) begins.unrelated;
-    seeking = ap (λ (l : ControllerLive). small_of first.controller.setup.plan l) begins.made;
-    dull = begins.dull;
-  }
-
-  pub first_in_step : (first : World F) → Begins first → IsInStep first.controller.setup.plan (first_live first.controller.setup.plan).phase (first_live first.controller.setup.plan).asked
-      → IsInStep first.controller.setup.plan first.controller.live.phase first.controller.live.asked
-  first_in_step first begins in_step = subst (λ (l : ControllerLive). IsInStep first.controller.setup.plan l.phase l.asked) (sym begins.made) in_step
-
   pub last_viewed : (first : World F) (run : List (Move × World F)) → last_of (view_of first) (viewed run) ≡ view_of (last_world first run)
   last_viewed first [] = refl
   last_viewed first (one ∷ run) = last_viewed one.1 run

@@ -1,19 +1,22 @@
 -- Moves that were played, with the world behind each of them.
-use Rattle.std.specs.Prelude.{◌≡◌, ℕ, List, [], ◌∷◌, map, Option, None}
+use Rattle.std.specs.Prelude.{◌≡◌, ◌<◌, ℕ, true, List, [], ◌∷◌, map, None}
 use Rattle.std.specs.List.{AllByRecursion}
+use Rattle.pn_values.specs.declared.identity.Identity.{Identity}
 use Rattle.flash_model.specs.Calls.{Call}
 use Rattle.flash_model.specs.Image.{Image}
-use Rattle.controller_core.specs.Machine.{first as first_live}
+use Rattle.controller_core.specs.Machine.{first as first_live, opening_of}
+use Rattle.connect_blocks.specs.ArBlock.{is_some_uuid}
+use Rattle.plans.specs.declared.parts.PlanRecord.{PlanRecord}
+use Rattle.controller_frames.specs.declared.setup.Setup.{Setup}
 use Rattle.network_world.specs.declared.moves.Move.{Move}
-use Rattle.network_world.specs.World.{World, Happens, Played}
+use Rattle.network_world.specs.World.{World, Happens}
 use Rattle.both_ends.specs.Small as small
-use Rattle.both_ends.specs.Steps.{IsDull}
 use Rattle.connect_requests.specs.Request.{Request}
 use Rattle.record_writes.specs.declared.taken.TakenRecord.{TakenRecord}
-use Rattle.world_ends.specs.View.{IsMeant, move_of, rules_of, view_of}
+use Rattle.world_ends.specs.View.{IsMeant, move_of, view_of}
 
 module _ {F : Type 0} where
-  -- moves and the worlds behind them: each one happens in the world behind the one before it, and is meant as it is heard
+  -- what comes and what is sent with each move of a run is heard as it is meant
   abbrev pub AreMeant : World F → List (Move × World F) → Type 0
   AreMeant before [] = Unit {0}
   AreMeant before (one ∷ run) = IsMeant before one.0 × AreMeant one.1 run
@@ -26,13 +29,33 @@ module _ {F : Type 0} where
   abbrev pub viewed : List (Move × World F) → List (small.Move × small.World TakenRecord Request)
   viewed run = map (λ one. (move_of one.0, view_of one.1)) run
 
-  -- A world at the beginning: the device answered no call since its start and has no relation, the controller was just made, and of the
-  -- frames so far a start-up knows nothing.
-  pub record Begins (world : World F) : Type 0 where
-    pub uncalled : world.device.live.rest.calls ≡ []
-    pub unrelated : world.device.live.rest.link ≡ None
-    pub made : world.controller.live ≡ first_live world.controller.setup.plan
-    pub dull : AllByRecursion (IsDull (rules_of world.controller.setup world.device.station)) world.sent
+-- the index of a parameter record is one of a manufacturer's (IEC 61158-6-10, 5.2.3.22)
+abbrev pub IsParameter : PlanRecord → Type 0
+IsParameter entry = entry.index < 0x8000
+
+-- a record's slot and subslot have 16 bits
+abbrev pub IsPlaced : PlanRecord → Type 0
+IsPlaced entry = (entry.slot < 65536) × (entry.subslot < 65536)
+
+abbrev pub ArePlaced : List PlanRecord → Type 0
+ArePlaced records = AllByRecursion IsPlaced records
+
+-- A world at the beginning: the controller of this set-up was just made, and sent nothing but its opening frame; the device of this identity
+-- answered no call since its start and has no relation.
+pub record Begins {F : Type 0} (setup : Setup) (identity : Identity) (world : World F) : Type 0 where
+  pub of_setup : world.controller.setup ≡ setup
+  pub of_device : world.device.station.identity ≡ identity
+  pub made : world.controller.live ≡ first_live setup.plan
+  pub opened : world.sent ≡ opening_of world.controller ∷ []
+  pub uncalled : world.device.live.rest.calls ≡ []
+  pub unrelated : world.device.live.rest.link ≡ None
+
+-- What is asked of a set-up and of a device: their addresses of Ethernet differ, the ARUUID is not zero, and the plan's records are
+-- parameter records.
+pub record CanMeet (setup : Setup) (identity : Identity) : Type 0 where
+  pub apart : identity.mac ≡ setup.plan.controller.mac → ⊥
+  pub named : is_some_uuid setup.ar ≡ true
+  pub records : AllByRecursion IsParameter setup.plan.records.items
 
 -- each move happens
 abbrev pub AreMade : {F : Type 0} → (F → Image) → (F → ℕ) → (F → List Call → F → Type 0) → World F → List (Move × World F) → Type 0

@@ -1,5 +1,5 @@
 -- What both ends of a network are of a start-up.
-use Rattle.std.specs.Prelude.{◌≡◌, ℕ, List, map, slice_get, Option, Some}
+use Rattle.std.specs.Prelude.{◌≡◌, ◌⊎◌, ℕ, List, map, slice_get, Option, Some}
 use Rattle.std.specs.List.{AllByRecursion}
 use Rattle.flash_model.specs.Calls.{Call}
 use Rattle.settings_store.specs.Machine.{Outcome}
@@ -9,6 +9,7 @@ use Rattle.plans.specs.declared.parts.PlanRecord.{PlanRecord}
 use Rattle.plan_connect.specs.Request.{request_for}
 use Rattle.device_frames.specs.declared.event.Event.TheVariants.{Frame}
 use Rattle.device_frames.specs.Heard.{Heard, Ticks, Given, Raised, heard_of}
+use Rattle.device_frames.specs.Sendable.{AreSendable}
 use Rattle.device_core.specs.State.{Station}
 use Rattle.device_core.specs.Machine.{heard_step}
 use Rattle.controller_frames.specs.declared.setup.Setup.{Setup}
@@ -64,18 +65,20 @@ move_of move.Stop = small.AtController
 
 -- ---- what is heard as it is meant
 
--- The device hears this: if it is a call it is one of the plan, and each message that the device then sends is heard as it is meant, whatever
--- its flash does.
+-- The device hears this: if it is a call it is one of the plan, and each message that the device then sends is heard as it is meant, where
+-- it can be sent, whatever its flash does.
 pub record IsMeantAtDevice {F : Type 0} (world : World F) (heard : Heard) : Type 0 where
   pub planned : IsPlanned (rules_of world.controller.setup world.device.station) world.controller.setup.activity world.device.station.real heard
-  pub sent : (outcomes : List Outcome) → AllByRecursion (IsHeardAs (rules_of world.controller.setup world.device.station) world.device.station.identity)
+  pub sent : (outcomes : List Outcome) → AreSendable world.device.station.identity (heard_step outcomes world.device.station world.device.live heard).sent
+      → AllByRecursion (IsHeardAs (rules_of world.controller.setup world.device.station) world.device.station.identity)
       (heard_step outcomes world.device.station world.device.live heard).sent
 
--- a message of the controller: itself hears nothing of a start-up in it, and the device what it says
+-- a message of the controller: itself hears nothing of a start-up in it, and the device what it says, or nothing
 abbrev pub IsSaidAs : Setup → Station → Sent → Type 0
 IsSaidAs setup station message =
     ((rules_of setup station).to_controller (bytes_of setup message) ≡ small.Nothing)
-    × ((rules_of setup station).to_device (bytes_of setup message) ≡ said_by setup.plan message)
+    × (((rules_of setup station).to_device (bytes_of setup message) ≡ said_by setup.plan message)
+    ⊎ ((rules_of setup station).to_device (bytes_of setup message) ≡ small.Idle))
 
 -- the controller takes this event: each message that it then sends is heard as it is meant
 abbrev pub IsMeantAtController : {F : Type 0} → World F → Event → Type 0

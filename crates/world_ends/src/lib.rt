@@ -2,5 +2,7 @@
 #![tactic(auto)]
 
 mod start_up;
+mod texts;
 
 pub use start_up::worlds_start_up;
+pub use texts::plans_have_parameters;

@@ -1,5 +1,6 @@
 //! The law of a start-up, of the worlds that moves make.
-ghost use Rattle.std.specs.Prelude.{◌≡◌, List, Some};
+ghost use Rattle.std.specs.Prelude.{◌≡◌, ◌<◌, List, Some};
+ghost use Rattle.plan_connect.specs.Request.{request_for};
 ghost use Rattle.relations.specs.Link.{Link};
 ghost use Rattle.relations.specs.declared.phase.Phase.TheVariants.{Exchanging as in_exchange};
 ghost use Rattle.controller_core.specs.declared.state.State.TheVariants.{Exchanging};
@@ -7,33 +8,94 @@ ghost use Rattle.network_world.specs.declared.moves.Move.{Move};
 ghost use Rattle.network_world.specs.World.{World, Played};
 ghost use Rattle.both_ends.specs.StartUp.{WasExchanging, WasHanded};
 ghost use Rattle.world_ends.specs.View.{rules_of, view_of};
-ghost use Rattle.world_ends.specs.Played.{AreMade, AreMeant, Begins, IsRunOf, last_world, viewed};
+ghost use Rattle.world_ends.specs.Played.{AreMade, AreMeant, ArePlaced, Begins, CanMeet, IsRunOf, last_world, viewed};
 
+use block_laws::blocks_are_read;
 use both_ends::start_up_is_kept;
 use connect_requests::ConnectRequest;
 use controller_ends::controller_goes_on;
-use device_ends::device_goes_on;
+use controller_frames::Setup;
+use device_ends::{device_goes_on, device_sends_what_it_owes};
 use flash_model::Flash;
+use frame_codec::formats_are_sound;
+use hearing_laws::{
+    calls_are_heard, calls_can_be_sent, datagrams_alone_are_calls, packets_are_heard,
+    ready_answers_are_heard, ready_calls_are_heard, responses_are_heard, stations_are_real,
+};
+use plan_connect::connect_is_taken;
+use plans::{Plan, PlanRecord};
+use pn_values::Identity;
 use record_writes::TakenRecord;
+use sending_laws::messages_are_addressed;
 
-/// A start-up over the worlds of any moves, whatever the flash of the device does, where all that comes and is sent is heard as it is
-/// meant.
-pub fn worlds_start_up<F: Flash<S>, const S: usize>()
+/// A number of 16 bits is one.
+fn has_16_bits(number: u16)
+    ensures { number < 65536 }
+{
+    let _number = number;
+}
+
+/// The slot and the subslot of each record have 16 bits.
+fn are_placed(records: &[PlanRecord])
+    ensures { ArePlaced records.now }
+{
+    for entry in records {
+        has_16_bits(entry.slot);
+        has_16_bits(entry.subslot);
+    }
+}
+
+/// So have those of a plan's records.
+fn plan_is_placed(plan: &Plan)
+    ensures { ArePlaced plan.now.records.items }
+{
+    are_placed(plan.records());
+}
+
+/// A start-up of this set-up with this device, over the worlds of any moves, whatever the flash of the device does.
+pub fn worlds_start_up<F: Flash<S>, const S: usize>(setup: &Setup, identity: &Identity)
     // Moves that were played are a run: each one happens in the world behind the one before it.
     ensures run { (before after : World F) (moves : List Move) → Played F.image F.failures F.asked before moves after
         → IsRunOf F.image F.failures F.asked before moves after }
+    // Whatever comes and is sent with each move is heard as it is meant: the device hears no calls but those of the plan, in octets that
+    // say so, and either end hears what the other says, or nothing.
+    ensures meant { CanMeet setup.now identity.now →
+        (first : World F) (run : List (Move × World F)) → Begins setup.now identity.now first
+        → AreMade F.image F.failures F.asked first run → AreMeant first run }
     // A controller that exchanges data was handed an ApplicationReady, which the device had sent at an earlier point: at that point it had
     // accepted the plan's Connect, and had taken the plan's records, in their order, each once.
-    ensures controller { (first : World F) (run : List (Move × World F)) → Begins first → AreMade F.image F.failures F.asked first run →
-        AreMeant first run
-        → (last_world first run).controller.live.phase ≡ Exchanging
+    ensures controller { CanMeet setup.now identity.now →
+        (first : World F) (run : List (Move × World F)) → Begins setup.now identity.now first
+        → AreMade F.image F.failures F.asked first run → (last_world first run).controller.live.phase ≡ Exchanging
         → WasHanded (rules_of first.controller.setup first.device.station) (view_of first) (viewed run) }
     // Where a device exchanges data, its controller did so at an earlier point.
-    ensures device { (first : World F) (run : List (Move × World F)) → Begins first → AreMade F.image F.failures F.asked first run →
-        AreMeant first run
-        → (link : Link) → (last_world first run).device.live.rest.link ≡ Some link → link.phase ≡ in_exchange → WasExchanging (viewed run) }
+    ensures device { CanMeet setup.now identity.now →
+        (first : World F) (run : List (Move × World F)) → Begins setup.now identity.now first
+        → AreMade F.image F.failures F.asked first run
+        → (link : Link) → (last_world first run).device.live.rest.link ≡ Some link → link.phase ≡ in_exchange
+        → WasExchanging (viewed run) }
+    // A relation that a device has is the plan's.
+    ensures relation { CanMeet setup.now identity.now →
+        (first : World F) (run : List (Move × World F)) → Begins setup.now identity.now first
+        → AreMade F.image F.failures F.asked first run
+        → (link : Link) → (last_world first run).device.live.rest.link ≡ Some link
+        → link.request ≡ request_for setup.now.plan setup.now.ar }
 {
-    start_up_is_kept::<TakenRecord, ConnectRequest>();
+    connect_is_taken(&setup.plan, &setup.ar);
+    stations_are_real(setup, identity);
+    plan_is_placed(&setup.plan);
+    formats_are_sound();
+    datagrams_alone_are_calls();
+    packets_are_heard();
+    calls_can_be_sent();
+    calls_are_heard();
+    responses_are_heard();
+    ready_calls_are_heard();
+    ready_answers_are_heard();
+    blocks_are_read();
+    messages_are_addressed();
     controller_goes_on();
     device_goes_on();
+    device_sends_what_it_owes();
+    start_up_is_kept::<TakenRecord, ConnectRequest>();
 }

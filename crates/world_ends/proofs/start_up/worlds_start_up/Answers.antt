@@ -1,26 +1,99 @@
-use Rattle.std.proofs.Common.{refl, ap}
+use Rattle.std.proofs.Common.{ap, ◌∙◌}
 use Rattle.relations.specs.declared.phase.Phase.{Phase}
+use Rattle.plan_connect.specs.Request.{request_for}
+use Rattle.controller_frames.specs.declared.setup.Setup.{Setup}
 use Rattle.device_ends.specs.Small.{link_of, phase_in}
 use Rattle.world_ends.specs.View.{rules_of, view_of}
 use Rattle.world_ends.specs.Played.{viewed}
-use Rattle.world_ends.proofs.Runs.{begins_small, exchanges_small, first_in_step, is_run, related_small, runs}
+use Rattle.world_ends.proofs.Given.{GoesSo, HeardSo}
+use Rattle.world_ends.proofs.Known.{meant_is, run_is, starts_small}
+use Rattle.world_ends.proofs.Runs.{exchanges_small, is_run, related_small}
 use Rattle.world_ends.proofs.start_up.worlds_start_up.Goals as goal
+
+-- the laws below
+heard_so : (g : _) → goal.After-start_up_is_kept g → HeardSo
+heard_so g c = record {
+  sound = c.formats_are_sound.ensures.layers;
+  untold = c.datagrams_alone_are_calls.ensures.device;
+  uncalled = c.datagrams_alone_are_calls.ensures.controller;
+  packet_at_controller = c.packets_are_heard.ensures.controller;
+  packet_at_device = c.packets_are_heard.ensures.device;
+  call_can = c.calls_can_be_sent.ensures.call;
+  ready_can = c.calls_can_be_sent.ensures.ready;
+  call_at_device = c.calls_are_heard.ensures.device;
+  call_at_controller = c.calls_are_heard.ensures.controller;
+  response_at_controller = c.responses_are_heard.ensures.controller;
+  response_at_device = c.responses_are_heard.ensures.device;
+  long_at_controller = c.responses_are_heard.ensures.long;
+  long_at_device = c.responses_are_heard.ensures.unread;
+  ready_at_controller = c.ready_calls_are_heard.ensures.controller;
+  ready_at_device = c.ready_calls_are_heard.ensures.device;
+  agreed_at_device = c.ready_answers_are_heard.ensures.device;
+  agreed_at_controller = c.ready_answers_are_heard.ensures.controller;
+  block_read = c.blocks_are_read.ensures.read;
+}
+
+goes_so : (g : _) → goal.After-start_up_is_kept g → GoesSo
+goes_so g c = record {
+  aimed_first = c.messages_are_addressed.ensures.first;
+  aimed = c.messages_are_addressed.ensures.next;
+  begins = c.controller_goes_on.ensures.begins;
+  controller_on = c.controller_goes_on.ensures.goes_on;
+  device_on = c.device_goes_on.ensures;
+  owed = c.device_sends_what_it_owes.ensures;
+  relation = c.start_up_is_kept.ensures.relation;
+}
 
 pub returns-clause-run : goal.returns-clause-run
 returns-clause-run g c = λ before after moves played. is_run g.F.Flash.image g.F.Flash.failures g.F.Flash.asked before moves after played
 
+pub returns-clause-meant : goal.returns-clause-meant
+returns-clause-meant g c = λ can first run begins made.
+    meant_is (heard_so g c) (goes_so g c) c.args.setup.now c.args.identity.now c.stations_are_real.ensures.setup c.stations_are_real.ensures.device can
+    c.plan_is_placed.ensures (c.connect_is_taken.ensures.read can.named) first begins g.F.Flash.image g.F.Flash.failures g.F.Flash.asked run made
+
 pub returns-clause-controller : goal.returns-clause-controller
-returns-clause-controller g c = λ first run begins made meant exchanges.
-    let rules = rules_of first.controller.setup first.device.station in
-    let in_step = first_in_step first begins (c.controller_goes_on.ensures.begins first.controller.setup.plan).0 in
-    c.start_up_is_kept.ensures.controller rules (view_of first) (viewed run) (begins_small first begins)
-    (runs g.F.Flash.image g.F.Flash.failures g.F.Flash.asked c.device_goes_on.ensures c.controller_goes_on.ensures.goes_on rules first run refl in_step made meant)
+returns-clause-controller g c = λ can first run begins made exchanges.
+    let so = heard_so g c in
+    let goes = goes_so g c in
+    let setup = c.args.setup.now in
+    let identity = c.args.identity.now in
+    let good = c.stations_are_real.ensures.setup in
+    let real = c.stations_are_real.ensures.device in
+    let placed = c.plan_is_placed.ensures in
+    let connect = c.connect_is_taken.ensures.read can.named in
+    c.start_up_is_kept.ensures.controller (rules_of first.controller.setup first.device.station) (view_of first) (viewed run)
+    (starts_small so goes setup identity good real can placed connect first begins)
+    (run_is so goes setup identity good real can placed connect first begins g.F.Flash.image g.F.Flash.failures g.F.Flash.asked run made)
     (exchanges_small first run exchanges)
 
 pub returns-clause-device : goal.returns-clause-device
-returns-clause-device g c = λ first run begins made meant link is exchanges.
-    let rules = rules_of first.controller.setup first.device.station in
-    let in_step = first_in_step first begins (c.controller_goes_on.ensures.begins first.controller.setup.plan).0 in
-    c.start_up_is_kept.ensures.device rules (view_of first) (viewed run) (begins_small first begins)
-    (runs g.F.Flash.image g.F.Flash.failures g.F.Flash.asked c.device_goes_on.ensures c.controller_goes_on.ensures.goes_on rules first run refl in_step made meant)
+returns-clause-device g c = λ can first run begins made link is exchanges.
+    let so = heard_so g c in
+    let goes = goes_so g c in
+    let setup = c.args.setup.now in
+    let identity = c.args.identity.now in
+    let good = c.stations_are_real.ensures.setup in
+    let real = c.stations_are_real.ensures.device in
+    let placed = c.plan_is_placed.ensures in
+    let connect = c.connect_is_taken.ensures.read can.named in
+    c.start_up_is_kept.ensures.device (rules_of first.controller.setup first.device.station) (view_of first) (viewed run)
+    (starts_small so goes setup identity good real can placed connect first begins)
+    (run_is so goes setup identity good real can placed connect first begins g.F.Flash.image g.F.Flash.failures g.F.Flash.asked run made)
     (link_of link) (related_small first run link is) (ap (λ (p : Phase). phase_in p) exchanges)
+
+pub returns-clause-relation : goal.returns-clause-relation
+returns-clause-relation g c = λ can first run begins made link is.
+    let so = heard_so g c in
+    let goes = goes_so g c in
+    let setup = c.args.setup.now in
+    let identity = c.args.identity.now in
+    let good = c.stations_are_real.ensures.setup in
+    let real = c.stations_are_real.ensures.device in
+    let placed = c.plan_is_placed.ensures in
+    let connect = c.connect_is_taken.ensures.read can.named in
+    c.start_up_is_kept.ensures.relation (rules_of first.controller.setup first.device.station) (view_of first) (viewed run)
+    (starts_small so goes setup identity good real can placed connect first begins)
+    (run_is so goes setup identity good real can placed connect first begins g.F.Flash.image g.F.Flash.failures g.F.Flash.asked run made)
+    (link_of link) (related_small first run link is)
+    ∙ ap (λ (s : Setup). request_for s.plan s.ar) begins.of_setup
