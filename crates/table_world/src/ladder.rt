@@ -148,12 +148,15 @@ fn put_tally(alloc: Global, ended: &Ended, text: &mut String) -> Result<(), Allo
     };
     let tally = watched.tally();
     let line = format!(in alloc;
-        "{} frames; both ends exchanged data behind {} moves, an output was not zeros behind {}, an alarm had been taken behind {}, {} were skipped\n",
+        "{} frames; both ends exchanged data behind {} moves, an output was not zeros behind {}, ",
         watched.count(),
         tally.exchanging,
-        tally.shown,
-        tally.alarmed,
-        tally.skipped
+        tally.shown
+    )?;
+    text.push_str(line.as_str())?;
+    let line = format!(in alloc;
+        "an alarm had been taken behind {}, {} were skipped\n",
+        tally.alarmed, tally.skipped
     )?;
     text.push_str(line.as_str())
 }
