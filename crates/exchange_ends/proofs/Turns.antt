@@ -1,0 +1,258 @@
+-- Each turn of a controller, as far as outputs go: it goes on as the controller of a plan, and its messages go to stations.
+use Rattle.std.proofs.Common.{◌≡◌, ◌⊎◌, inl, ◌&&◌, ℕ, Bool, true, false, cond, List, [], ◌∷◌, ◌++◌, Option, Some, None, Result, Ok, Err, refl, subst, ap, ◌∙◌, sym, ◌≤◌, ◌<◌, length, unwrap_or, arith}
+use Rattle.std.specs.Prelude.{if◌then◌else◌}
+use Rattle.std.specs.List.{AllByRecursion}
+use Rattle.pn_values.specs.declared.mac.Mac.{Mac}
+use Rattle.dcp_core.specs.Answered.{is_agreed}
+use Rattle.dcp_core.specs.Response.{Answered}
+use Rattle.rpc_core.specs.Call.{Asked as Call}
+use Rattle.rpc_core.specs.Response.{Answered as Response, is_done}
+use Rattle.frame_codec.specs.declared.udp.Caller.{Caller}
+use Rattle.connect_blocks.specs.declared.control.ControlBlock.{ControlBlock}
+use Rattle.record_blocks.specs.declared.alarm_ack.AlarmAck.{AlarmAck}
+use Rattle.record_blocks.specs.declared.alarm_notification.AlarmNotification.{AlarmNotification}
+use Rattle.cyclic_data.specs.declared.place.PlaceKind.TheVariants.{Data}
+use Rattle.cyclic_data.specs.Image.{Shown as Image, cell_at, changed, has_size}
+use Rattle.cyclic_exchange.specs.Cyclic.{Cyclic}
+use Rattle.cyclic_exchange.specs.Process.{with_good}
+use Rattle.frame_laws.specs.Sendable.{IsMac}
+use Rattle.pn_alarms.specs.declared.abort.Abort.{Abort}
+use Rattle.pn_alarms.specs.declared.message.Notice.TheVariants as notice
+use Rattle.pn_alarms.specs.declared.receiver.Taken.{Taken}
+use Rattle.pn_alarms.specs.declared.receiver.Taken.TheVariants.{New, Again, Refused}
+use Rattle.pn_alarms.specs.Message.{ToController}
+use Rattle.pn_alarms.specs.Receiver.{taken_as}
+use Rattle.cyclic_data.specs.declared.tail.CyclicTail.{CyclicTail}
+use Rattle.cyclic_data.specs.declared.tail.ShortFrame.{ShortFrame}
+use Rattle.cyclic_data.specs.Tail.{cyclic_of}
+use Rattle.cyclic_exchange.specs.declared.route.Route.{Route}
+use Rattle.cyclic_exchange.specs.declared.units.Tick.{Tick}
+use Rattle.cyclic_exchange.specs.Received.{behind_frame, behind_read, is_new, is_of_partner, taken_from}
+use Rattle.controller_frames.specs.declared.request.Request.{Request}
+use Rattle.controller_frames.specs.declared.request.Request.TheVariants as asks
+use Rattle.controller_frames.specs.declared.setup.Setup.{Setup}
+use Rattle.controller_frames.specs.Heard.{Alarms, Answers, Calls, Heard, Nothing, Responds, heard_of}
+use Rattle.controller_frames.specs.Heard.{Cyclic as Comes}
+use Rattle.controller_frames.specs.Sent.{Sent, Requests, Agrees, Cycles, Confirms, Replies, Ends}
+use Rattle.controller_core.specs.declared.connect.Found.{Found}
+use Rattle.controller_core.specs.declared.event.Event.{Event}
+use Rattle.controller_core.specs.declared.event.Event.TheVariants.{Frame, Give, Stop, Tick as Ticks}
+use Rattle.controller_core.specs.declared.state.State.{State}
+use Rattle.controller_core.specs.declared.state.State.TheVariants.{Looking, Addressing, Connecting, Writing, Ending, Waiting, Exchanging, Ended}
+use Rattle.controller_core.specs.Alarms.{is_alarm}
+use Rattle.controller_core.specs.Answers.{is_addressed, is_answer, is_found, is_ready, is_right, is_set_answer}
+use Rattle.controller_core.specs.Connect.{found_in, is_whole, nothing}
+use Rattle.controller_core.specs.Machine.{Turn, first, given, acks_in, answered, behind_data, brought, called, come, connected, decided, done, flow_later, flowed, is_again, judged, noticed, readied, ready_in, related_by, requests_of, responded, stopped, taken, ticked, turn_of, turned, where_due}
+use Rattle.controller_core.specs.State.{Live}
+use Rattle.exchange_ends.proofs.Brings.{IsAddressed, IsNow, IsWay}
+
+-- a controller that sends to stations, with an image of so many octets
+pub record IsKept (size : ℕ) (live : Live) : Type 0 where
+  pub device : IsMac live.device
+  pub way : IsWay live.cyclic.route
+  pub size : live.cyclic.shown.data_length ≡ size
+
+-- a message of it
+abbrev pub IsSaid : Image → Sent → Type 0
+IsSaid shown message = IsNow shown message × IsAddressed message
+
+-- who is heard has an address of six octets
+abbrev pub IsSix : Heard → Type 0
+IsSix Nothing = Unit {0}
+IsSix (Answers source answer) = IsMac source
+IsSix (Responds response) = Unit {0}
+IsSix (Calls caller call) = IsMac caller.mac
+IsSix (Comes source frame_id body) = Unit {0}
+IsSix (Alarms source header told) = Unit {0}
+
+abbrev pub IsSixAt : Setup → Event → Type 0
+IsSixAt setup (Frame bytes) = IsSix (heard_of setup.plan.controller bytes.items)
+IsSixAt setup Ticks = Unit {0}
+IsSixAt setup (Give slot subslot value) = Unit {0}
+IsSixAt setup Stop = Unit {0}
+
+module _ (size : ℕ) where
+  -- a turn of it, behind which it goes on so
+  pub record Tells (turn : Turn) : Type 0 where
+    pub told : AllByRecursion (IsSaid turn.live.cyclic.shown) turn.sent
+    pub kept : IsKept size turn.live
+
+  either : (test : Bool) (one other : Turn) → Tells one → Tells other → Tells (if test then one else other)
+  either true one other first second = first
+  either false one other first second = second
+
+  stopped_tells : (setup : Setup) (live : Live) (phase : State) → IsKept size live → Tells (stopped setup live phase)
+  stopped_tells setup live Looking k = record { told = tt; kept = record { device = k.device; way = k.way; size = k.size } }
+  stopped_tells setup live Addressing k = record { told = tt; kept = record { device = k.device; way = k.way; size = k.size } }
+  stopped_tells setup live Connecting k = record { told = ((tt, k.device), tt); kept = record { device = k.device; way = k.way; size = k.size } }
+  stopped_tells setup live Writing k = record { told = ((tt, k.device), tt); kept = record { device = k.device; way = k.way; size = k.size } }
+  stopped_tells setup live Ending k = record { told = ((tt, k.device), tt); kept = record { device = k.device; way = k.way; size = k.size } }
+  stopped_tells setup live Waiting k = record { told = ((tt, k.device), tt); kept = record { device = k.device; way = k.way; size = k.size } }
+  stopped_tells setup live Exchanging k = record { told = ((tt, k.device), tt); kept = record { device = k.device; way = k.way; size = k.size } }
+  stopped_tells setup live (Ended why) k = record { told = tt; kept = record { device = k.device; way = k.way; size = k.size } }
+
+  answered_tells : (setup : Setup) (live : Live) (source : Mac) (answer : Answered) (phase : State) → IsMac source → IsKept size live → Tells (answered setup live source answer phase)
+  answered_tells setup live source answer Looking six k =
+      either (is_found setup.plan answer) _ _ (either (is_right setup.plan answer) _ _ (either (is_addressed setup.plan answer) _ _ (record { told = ((tt, six), tt); kept = record { device = six; way = k.way; size = k.size } }) (record { told = ((tt, six), tt); kept = record { device = six; way = k.way; size = k.size } })) (record { told = tt; kept = record { device = k.device; way = k.way; size = k.size } })) (record { told = tt; kept = record { device = k.device; way = k.way; size = k.size } })
+  answered_tells setup live source answer Addressing six k = either (is_set_answer answer) _ _ (either (is_agreed answer) _ _ (record { told = ((tt, k.device), tt); kept = record { device = k.device; way = k.way; size = k.size } }) (record { told = tt; kept = record { device = k.device; way = k.way; size = k.size } })) (record { told = tt; kept = record { device = k.device; way = k.way; size = k.size } })
+  answered_tells setup live source answer Connecting six k = record { told = tt; kept = record { device = k.device; way = k.way; size = k.size } }
+  answered_tells setup live source answer Writing six k = record { told = tt; kept = record { device = k.device; way = k.way; size = k.size } }
+  answered_tells setup live source answer Ending six k = record { told = tt; kept = record { device = k.device; way = k.way; size = k.size } }
+  answered_tells setup live source answer Waiting six k = record { told = tt; kept = record { device = k.device; way = k.way; size = k.size } }
+  answered_tells setup live source answer Exchanging six k = record { told = tt; kept = record { device = k.device; way = k.way; size = k.size } }
+  answered_tells setup live source answer (Ended why) six k = record { told = tt; kept = record { device = k.device; way = k.way; size = k.size } }
+
+  related_tells : (setup : Setup) (live : Live) (output : Option ℕ) → IsKept size live → Tells (related_by setup live output)
+  related_tells setup live (Some frame_id) k = record {
+    told = ((tt, k.device), tt);
+    kept = record { device = k.device; way = record { partner = k.device; sent_tag = omega arith; alarm_tag = omega arith }; size = k.size };
+  }
+  related_tells setup live None k = record { told = tt; kept = record { device = k.device; way = k.way; size = k.size } }
+
+  connected_tells : (setup : Setup) (live : Live) (read : Option Found) → IsKept size live → Tells (connected setup live read)
+  connected_tells setup live (Some found_is) k =
+      either (is_whole found_is) _ _ (either found_is.differs _ _ (record { told = ((tt, k.device), tt); kept = record { device = k.device; way = k.way; size = k.size } }) (related_tells setup live found_is.output k)) (record { told = tt; kept = record { device = k.device; way = k.way; size = k.size } })
+  connected_tells setup live None k = record { told = tt; kept = record { device = k.device; way = k.way; size = k.size } }
+
+  done_tells : (setup : Setup) (live : Live) (blocks : List ℕ) (request : Request) → IsKept size live → Tells (done setup live blocks request)
+  done_tells setup live blocks asks.Identify k = record { told = tt; kept = record { device = k.device; way = k.way; size = k.size } }
+  done_tells setup live blocks asks.Address k = record { told = tt; kept = record { device = k.device; way = k.way; size = k.size } }
+  done_tells setup live blocks asks.Connect k = connected_tells setup live (found_in 400 blocks nothing) k
+  done_tells setup live blocks (asks.Write number) k = record { told = ((tt, k.device), tt); kept = record { device = k.device; way = k.way; size = k.size } }
+  done_tells setup live blocks asks.PrmEnd k = record { told = tt; kept = record { device = k.device; way = k.way; size = k.size } }
+  done_tells setup live blocks (asks.Release sequence) k = record { told = tt; kept = record { device = k.device; way = k.way; size = k.size } }
+
+  judged_tells : (setup : Setup) (live : Live) (response : Response) (request : Request) → IsKept size live → Tells (judged setup live response request)
+  judged_tells setup live response request k = either (is_done response.status) _ _ (done_tells setup live response.blocks request k) (record { told = tt; kept = record { device = k.device; way = k.way; size = k.size } })
+
+  decided_tells : (setup : Setup) (live : Live) (response : Response) (request : Request) → IsKept size live → Tells (decided setup live response request)
+  decided_tells setup live response asks.Identify k = judged_tells setup live response asks.Identify k
+  decided_tells setup live response asks.Address k = judged_tells setup live response asks.Address k
+  decided_tells setup live response asks.Connect k = judged_tells setup live response asks.Connect k
+  decided_tells setup live response (asks.Write number) k = judged_tells setup live response (asks.Write number) k
+  decided_tells setup live response asks.PrmEnd k = judged_tells setup live response asks.PrmEnd k
+  decided_tells setup live response (asks.Release sequence) k = record { told = tt; kept = record { device = k.device; way = k.way; size = k.size } }
+
+  responded_tells : (setup : Setup) (live : Live) (response : Response) (asked : Option Request) → IsKept size live → Tells (responded setup live response asked)
+  responded_tells setup live response (Some request) k = either (is_answer setup request response.header) _ _ (decided_tells setup live response request k) (record { told = tt; kept = record { device = k.device; way = k.way; size = k.size } })
+  responded_tells setup live response None k = record { told = tt; kept = record { device = k.device; way = k.way; size = k.size } }
+
+  readied_tells : (live : Live) (caller : Caller) (call : Call) (block : ControlBlock) (phase : State) → IsMac caller.mac → IsKept size live → Tells (readied live caller call block phase)
+  readied_tells live caller call block Looking from k = record { told = tt; kept = record { device = k.device; way = k.way; size = k.size } }
+  readied_tells live caller call block Addressing from k = record { told = tt; kept = record { device = k.device; way = k.way; size = k.size } }
+  readied_tells live caller call block Connecting from k = record { told = tt; kept = record { device = k.device; way = k.way; size = k.size } }
+  readied_tells live caller call block Writing from k = record { told = tt; kept = record { device = k.device; way = k.way; size = k.size } }
+  readied_tells live caller call block Ending from k = record { told = ((tt, from), tt); kept = record { device = k.device; way = k.way; size = k.size } }
+  readied_tells live caller call block Waiting from k = record { told = ((tt, from), tt); kept = record { device = k.device; way = k.way; size = k.size } }
+  readied_tells live caller call block Exchanging from k = record { told = ((tt, from), tt); kept = record { device = k.device; way = k.way; size = k.size } }
+  readied_tells live caller call block (Ended why) from k = record { told = tt; kept = record { device = k.device; way = k.way; size = k.size } }
+
+  called_tells : (setup : Setup) (live : Live) (caller : Caller) (call : Call) (block : Option ControlBlock) → IsMac caller.mac → IsKept size live → Tells (called setup live caller call block)
+  called_tells setup live caller call (Some block) from k = either (is_ready setup block) _ _ (readied_tells live caller call block live.phase from k) (record { told = tt; kept = record { device = k.device; way = k.way; size = k.size } })
+  called_tells setup live caller call None from k = record { told = tt; kept = record { device = k.device; way = k.way; size = k.size } }
+
+  taken_tells : (live : Live) (alarm : AlarmNotification) (as_is : Taken) → IsKept size live → Tells (taken live alarm as_is)
+  taken_tells live alarm New k = record { told = ((tt, k.way), ((tt, k.way), tt)); kept = record { device = k.device; way = k.way; size = k.size } }
+  taken_tells live alarm Again k = record { told = ((tt, k.way), tt); kept = record { device = k.device; way = k.way; size = k.size } }
+  taken_tells live alarm Refused k = record { told = ((tt, k.way), tt); kept = record { device = k.device; way = k.way; size = k.size } }
+
+  noticed_tells : (live : Live) (told : ToController) → IsKept size live → Tells (noticed live told)
+  noticed_tells live (notice.Data number alarm) k = taken_tells (behind_data live number) alarm (taken_as live.alarms.seen number) (record { device = k.device; way = k.way; size = k.size })
+  noticed_tells live (notice.Ack number) k = record { told = tt; kept = record { device = k.device; way = k.way; size = k.size } }
+  noticed_tells live notice.Nack k = record { told = tt; kept = record { device = k.device; way = k.way; size = k.size } }
+  noticed_tells live notice.Abort k = record { told = tt; kept = record { device = k.device; way = k.way; size = k.size } }
+
+  -- a cyclic frame changes neither the route nor what is sent
+  read_keeps : (cyclic : Cyclic) (read : Result (List ℕ × CyclicTail) ShortFrame)
+      → ((behind_read cyclic read).route ≡ cyclic.route) × ((behind_read cyclic read).shown ≡ cyclic.shown)
+  read_keeps cyclic (Ok x) = by_news (is_new cyclic x.1)
+    where
+      by_news : (b : Bool) → ((cond b (taken_from cyclic x.0 x.1) cyclic).route ≡ cyclic.route) × ((cond b (taken_from cyclic x.0 x.1) cyclic).shown ≡ cyclic.shown)
+      by_news true = (refl, refl)
+      by_news false = (refl, refl)
+  read_keeps cyclic (Err fault) = (refl, refl)
+
+  frame_keeps : (cyclic : Cyclic) (source : Mac) (frame_id : ℕ) (bytes : List ℕ)
+      → ((behind_frame cyclic source frame_id bytes).route ≡ cyclic.route) × ((behind_frame cyclic source frame_id bytes).shown ≡ cyclic.shown)
+  frame_keeps cyclic source frame_id bytes = by_partner (is_of_partner cyclic.route source frame_id)
+    where
+      by_partner : (b : Bool) → ((cond b (behind_read cyclic (cyclic_of cyclic.taken.data_length bytes)) cyclic).route ≡ cyclic.route)
+          × ((cond b (behind_read cyclic (cyclic_of cyclic.taken.data_length bytes)) cyclic).shown ≡ cyclic.shown)
+      by_partner true = read_keeps cyclic (cyclic_of cyclic.taken.data_length bytes)
+      by_partner false = (refl, refl)
+
+  with_cyclic : (live : Live) (cyclic : Cyclic) → cyclic.route ≡ live.cyclic.route → cyclic.shown.data_length ≡ live.cyclic.shown.data_length → IsKept size live
+      → IsKept size (record live { cyclic = cyclic })
+  with_cyclic live cyclic route shown k = record {
+    device = k.device;
+    way = subst (λ (r : Route). IsWay r) (sym route) k.way;
+    size = shown ∙ k.size;
+  }
+
+  come_keeps : (live : Live) (source : Mac) (frame_id : ℕ) (bytes : List ℕ) → IsKept size live → IsKept size (come live source frame_id bytes)
+  come_keeps live source frame_id bytes k = by_standing live.stands
+    where
+      by_standing : (b : Bool) → IsKept size (cond b (record live { cyclic = behind_frame live.cyclic source frame_id bytes }) live)
+      by_standing true =
+          let keeps = frame_keeps live.cyclic source frame_id bytes in
+          with_cyclic live (behind_frame live.cyclic source frame_id bytes) keeps.0 (ap (λ (image : Image). image.data_length) keeps.1) k
+      by_standing false = k
+
+  turned_tells : (setup : Setup) (live : Live) (heard : Heard) → IsSix heard → IsKept size live → Tells (turned setup live heard)
+  turned_tells setup live Nothing six k = record { told = tt; kept = record { device = k.device; way = k.way; size = k.size } }
+  turned_tells setup live (Answers source answer) six k = answered_tells setup live source answer live.phase six k
+  turned_tells setup live (Responds response) six k = responded_tells setup live response live.asked k
+  turned_tells setup live (Calls caller call) six k = called_tells setup live caller call (ready_in call) six k
+  turned_tells setup live (Comes source frame_id body) six k = record { told = tt; kept = come_keeps live source frame_id body k }
+  turned_tells setup live (Alarms source header told) six k = either (live.stands && is_alarm live.cyclic.route source header) _ _ (noticed_tells live told k) (record { told = tt; kept = record { device = k.device; way = k.way; size = k.size } })
+
+  -- ---- units
+
+  all_append : {A : Type 0} (P : A → Type 0) (xs ys : List A) → AllByRecursion P xs → AllByRecursion P ys → AllByRecursion P (xs ++ ys)
+  all_append P [] ys one other = other
+  all_append P (x ∷ xs) ys one other = (one.0, all_append P xs ys one.1 other)
+
+  due_tells : (shown : Image) (test : Bool) (sent : List Sent) → AllByRecursion (IsSaid shown) sent → AllByRecursion (IsSaid shown) (where_due test sent)
+  due_tells shown true sent all = all
+  due_tells shown false sent all = tt
+
+  request_tells : (shown : Image) (device : Mac) (asked : Option Request) → IsMac device → AllByRecursion (IsSaid shown) (requests_of device asked)
+  request_tells shown device (Some request) one = ((tt, one), tt)
+  request_tells shown device None one = tt
+
+  acks_tell : (shown : Image) (live : Live) (ack : Option AlarmAck) → IsWay live.cyclic.route → AllByRecursion (IsSaid shown) (acks_in live ack)
+  acks_tell shown live (Some ack) way = ((tt, way), tt)
+  acks_tell shown live None way = tt
+
+  flowed_tells : (live : Live) (is_request : Bool) (tick : Tick) (ending : Option Abort) → IsKept size live → Tells (flowed live is_request tick ending)
+  flowed_tells live is_request tick (Some reason) k = record { told = ((tt, k.way), tt); kept = record { device = k.device; way = k.way; size = k.size } }
+  flowed_tells live is_request tick None k =
+      let shown = live.cyclic.shown in
+      record {
+        told = all_append (IsSaid shown) (where_due tick.is_alarm (acks_in live live.alarms.confirming)) _
+            (due_tells shown tick.is_alarm _ (acks_tell shown live live.alarms.confirming k.way))
+            (all_append (IsSaid shown) (where_due is_request (requests_of live.device live.asked)) _
+            (due_tells shown is_request _ (request_tells shown live.device live.asked k.device))
+            (due_tells shown tick.is_cyclic _ ((refl, k.way), tt)));
+        kept = k;
+      }
+
+  ticked_tells : (live : Live) → IsKept size live → Tells (ticked live)
+  ticked_tells live k =
+      either live.stands _ _ (flowed_tells (flow_later live) (is_again live) (brought live) (brought live).ending (record { device = k.device; way = k.way; size = k.size }))
+      (record { told = due_tells live.cyclic.shown (is_again live) (requests_of live.device live.asked) (request_tells live.cyclic.shown live.device live.asked k.device); kept = record { device = k.device; way = k.way; size = k.size } })
+
+  given_keeps : (live : Live) (slot subslot : ℕ) (value : List ℕ) → IsKept size live → IsKept size (given live slot subslot value)
+  given_keeps live slot subslot value k = by_size (has_size (length value) (cell_at Data slot subslot live.cyclic.shown.cells))
+    where
+      by_size : (b : Bool) → IsKept size (record live {
+        cyclic = unwrap_or (cond b (Some (record live.cyclic { shown = changed Data slot subslot (with_good value) live.cyclic.shown })) None) live.cyclic;
+      })
+      by_size true = record { device = k.device; way = k.way; size = k.size }
+      by_size false = record { device = k.device; way = k.way; size = k.size }
+
+  pub turn_tells : (setup : Setup) (live : Live) (event : Event) → IsSixAt setup event → IsKept size live → Tells (turn_of setup live event)
+  turn_tells setup live (Frame bytes) six k = turned_tells setup live (heard_of setup.plan.controller bytes.items) six k
+  turn_tells setup live Ticks six k = ticked_tells live k
+  turn_tells setup live (Give slot subslot value) six k = record { told = tt; kept = given_keeps live slot subslot value.items k }
+  turn_tells setup live Stop six k = stopped_tells setup live live.phase k
