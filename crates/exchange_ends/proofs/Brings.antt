@@ -47,7 +47,7 @@ use Rattle.controller_frames.specs.declared.request.Request.{Request}
 use Rattle.controller_frames.specs.declared.request.Request.TheVariants as asks
 use Rattle.controller_frames.specs.Requests.{address_asked, call_for, identify_asked}
 use Rattle.controller_frames.specs.Sent.{Sent as Message, Requests, Agrees, Cycles, Confirms, Replies, Ends as Leaves, ack_pdu, alarm_frame, bytes_of as bytes_said, call_frame, calls_at, end_frame, end_pdu, identify_multicast, reply_pdu, request_frame}
-use Rattle.device_frames.specs.Heard.{Heard, Cyclic, Elsewhere, Unreadable, broadcast, heard_alarm, heard_content, heard_frame, heard_of, heard_request, is_own, is_taken}
+use Rattle.device_frames.specs.Heard.{Heard, Cyclic, Elsewhere, Resolves, Told, Unreadable, broadcast, heard_alarm, heard_content, heard_frame, heard_of, heard_request, is_own, is_taken, said_by}
 use Rattle.controller_frames.specs.declared.setup.Setup.{Setup}
 use Rattle.both_ends.specs.Outputs.{BringsNone, Outputs}
 use Rattle.exchange_ends.specs.Shown.{brought_in, octets_in, outputs_of, route_for, zeros_for}
@@ -159,20 +159,27 @@ module _ (setup : Setup) (identity : Identity) where
   abbrev IsAtMost : Mac → ℕ → List ℕ → Heard → Type 0
   IsAtMost source frame_id body heard = IsNone heard ⊎ (brought_in setup heard ≡ brought_in setup (Cyclic source frame_id body))
 
+  cyclic_of_own : Mac → Mac → ℕ → List ℕ → Heard
+  cyclic_of_own destination source frame_id body = cond (is_own identity destination && is_cyclic frame_id) (Cyclic source frame_id body) Elsewhere
+
+  alarm_of_own : Mac → Mac → ℕ → List ℕ → Heard
+  alarm_of_own destination source frame_id body =
+      cond (is_own identity destination && is_alarm frame_id) (heard_alarm source (message_of body)) (cyclic_of_own destination source frame_id body)
+
   real_time_at_most : (destination source : Mac) (frame_id : ℕ) (body : List ℕ) → IsAtMost source frame_id body (heard_content identity destination source (RealTime frame_id body))
   real_time_at_most destination source frame_id body =
-      holds_if (IsAtMost source frame_id body) (is_taken identity destination frame_id) (heard_request source (request_of frame_id body)) _
+      holds_if (IsAtMost source frame_id body) (is_taken identity destination frame_id) (heard_request source (request_of frame_id body)) (alarm_of_own destination source frame_id body)
       (inl (request_none source (request_of frame_id body)))
-      (holds_if (IsAtMost source frame_id body) (is_own identity destination && is_alarm frame_id) (heard_alarm source (message_of body)) _
+      (holds_if (IsAtMost source frame_id body) (is_own identity destination && is_alarm frame_id) (heard_alarm source (message_of body)) (cyclic_of_own destination source frame_id body)
       (inl (alarm_none source (message_of body)))
       (holds_if (IsAtMost source frame_id body) (is_own identity destination && is_cyclic frame_id) (Cyclic source frame_id body) Elsewhere (inr refl) (inl refl)))
 
   other_none : (destination source : Mac) (content : Content) → IsOther content → IsNone (heard_content identity destination source content)
   other_none destination source (RealTime frame_id body) is = absurd is
   other_none destination source (ArpPacket packet) is =
-      holds_if IsNone (is_own identity destination || pointwise nat_eq destination.octets broadcast) _ Elsewhere refl refl
+      holds_if IsNone (is_own identity destination || pointwise nat_eq destination.octets broadcast) (Resolves source packet) Elsewhere refl refl
   other_none destination source (UdpDatagram from to body) is =
-      holds_if IsNone (is_own identity destination && to.port == 34964) _ Elsewhere refl refl
+      holds_if IsNone (is_own identity destination && to.port == 34964) (Told (record { mac = source; endpoint = from }) to.address (said_by body)) Elsewhere refl refl
 
   -- ---- what is heard of a frame that was written
 
@@ -180,7 +187,7 @@ module _ (setup : Setup) (identity : Identity) where
   Brings P meaning = P (heard_of identity (Frame (record { items = frame_bytes meaning })))
 
   -- by what is read of it
-  by_read : (P : Heard → Type 0) (meaning : Meaning) (read : Result Meaning FrameFault) → IsReadAs meaning read → P Unreadable
+  by_read : (P : Heard → Type 0) (meaning : Meaning) (read : Result Meaning FrameFault) → IsReadAs meaning (rest_of meaning) read → P Unreadable
       → ((content : Content) → (content_under (type_of meaning.content)).read (rest_of meaning) ≡ Ok content → P (heard_content identity meaning.destination meaning.source content))
       → P (heard_frame identity read)
   by_read P meaning (Ok found) is unreadable each =

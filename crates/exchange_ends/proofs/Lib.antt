@@ -4,4 +4,8 @@ pub mod Turns
 pub mod Six
 pub mod Walk
 pub mod Shows
+pub mod Held
+pub mod Values
+pub mod Moves
 pub mod Worlds
+pub mod OneFrame

@@ -1,5 +1,5 @@
 -- What is read of a frame that was written, whatever it carries: it is between the same stations, and carries the same kind of content.
-use Rattle.std.proofs.Common.{◌≡◌, ◌+◌, ◌==◌, ◌<◌, ◌^◌, ℕ, Bool, true, false, cond, nat_lt, List, [], ◌∷◌, ◌++◌, length, drop, Option, Some, None, Result, Ok, Err, refl, sym, ap, subst, ◌∙◌, append_assoc, arith}
+use Rattle.std.proofs.Common.{◌≡◌, ◌+◌, ◌==◌, ◌<◌, ◌^◌, ℕ, Bool, true, false, cond, nat_lt, List, [], ◌∷◌, ◌++◌, length, drop, Option, Some, None, Result, Ok, Err, if◌then◌else◌, refl, sym, ap, subst, ◌∙◌, append_assoc, arith}
 use Rattle.wire.specs.Codec.{IsSound, ◌>>=◌}
 use Rattle.wire.specs.Formats.{big_bytes, big_number}
 use Rattle.frame_codec.specs.declared.fault.FrameFault.{FrameFault}
@@ -51,28 +51,32 @@ link_read sound meaning one other tagged =
 -- ---- the frame
 
 -- what was read is between these stations, and its content is what stands behind the link header
-abbrev pub IsReadAs : Meaning → Result Meaning FrameFault → Type 0
-IsReadAs meaning (Ok found) =
-    (found.destination ≡ meaning.destination) × (found.source ≡ meaning.source) × ((content_under (type_of meaning.content)).read (rest_of meaning) ≡ Ok found.content)
-IsReadAs meaning (Err fault) = Unit {0}
+abbrev pub IsReadAs : Meaning → List ℕ → Result Meaning FrameFault → Type 0
+IsReadAs meaning rest (Ok found) =
+    (found.destination ≡ meaning.destination) × (found.source ≡ meaning.source) × ((content_under (type_of meaning.content)).read rest ≡ Ok found.content)
+IsReadAs meaning rest (Err fault) = Unit {0}
 
 headed : LinkHeader → Result Content FrameFault → Result (LinkHeader × Content) FrameFault
 headed header r = r >>= λ y. Ok (header, y)
 
-made : (meaning : Meaning) (r : Result Content FrameFault) → (content_under (type_of meaning.content)).read (rest_of meaning) ≡ r
-    → IsReadAs meaning (headed (link_of meaning) r >>= λ x. Ok (record { destination = x.0.destination; source = x.0.source; tag = x.0.tag; content = x.1 }))
-made meaning (Ok content) e = (refl, refl, e)
-made meaning (Err fault) e = tt
+made : (meaning : Meaning) (rest : List ℕ) (r : Result Content FrameFault) → (content_under (type_of meaning.content)).read rest ≡ r
+    → IsReadAs meaning rest (headed (link_of meaning) r >>= λ x. Ok (record { destination = x.0.destination; source = x.0.source; tag = x.0.tag; content = x.1 }))
+made meaning rest (Ok content) e = (refl, refl, e)
+made meaning rest (Err fault) e = tt
 
-judged : (meaning : Meaning) (long : Bool) (r : Result Meaning FrameFault) → IsReadAs meaning r → IsReadAs meaning (cond long (Err TooLong) r)
-judged meaning true r is = tt
-judged meaning false r is = is
+judged : (meaning : Meaning) (rest : List ℕ) (long : Bool) (r : Result Meaning FrameFault) → IsReadAs meaning rest r → IsReadAs meaning rest (if long then Err TooLong else r)
+judged meaning rest true r is = tt
+judged meaning rest false r is = is
 
-pub reads_as : IsSound link → (meaning : Meaning) → IsMac meaning.destination → IsMac meaning.source → IsTag meaning.tag → IsReadAs meaning (frame_of (frame_bytes meaning))
+-- the link header in front decides
+under : (meaning : Meaning) (bytes rest : List ℕ) → link.read bytes ≡ Ok (link_of meaning, rest) → IsReadAs meaning rest (frame_of bytes)
 unfolding frame_of layers
-reads_as sound meaning one other tagged =
-    rw (link_read sound meaning one other tagged) (judged meaning (nat_lt (longest meaning.tag) (length (frame_bytes meaning))) _
-    (made meaning ((content_under (type_of meaning.content)).read (rest_of meaning)) refl))
+under meaning bytes rest e =
+    rw e (judged meaning rest (nat_lt (longest meaning.tag) (length bytes)) _ (made meaning rest ((content_under (type_of meaning.content)).read rest) refl))
+
+pub reads_as : IsSound link → (meaning : Meaning) → IsMac meaning.destination → IsMac meaning.source → IsTag meaning.tag
+    → IsReadAs meaning (rest_of meaning) (frame_of (frame_bytes meaning))
+reads_as sound meaning one other tagged = under meaning (frame_bytes meaning) (rest_of meaning) (link_read sound meaning one other tagged)
 
 -- ---- the contents
 

@@ -64,13 +64,24 @@ six_alarm : (source : Mac) (read : Result (Header × ToController) AlarmFault) �
 six_alarm source (Ok x) = tt
 six_alarm source (Err fault) = tt
 
+six_dcp : (source : Mac) (frame_id : ℕ) (body : List ℕ) → IsMac source
+    → IsSix (cond (frame_id == 0xFEFD) (heard_answer source (answer_of frame_id body)) (cond (frame_id == 0xFEFF) (heard_answer source (answer_of frame_id body)) Nothing))
+six_dcp source frame_id body six = by_first (frame_id == 0xFEFD) (frame_id == 0xFEFF)
+  where
+    by_first : (b c : Bool) → IsSix (cond b (heard_answer source (answer_of frame_id body)) (cond c (heard_answer source (answer_of frame_id body)) Nothing))
+    by_first true c = six_answer source (answer_of frame_id body) six
+    by_first false true = six_answer source (answer_of frame_id body) six
+    by_first false false = tt
+
 six_real_time : (source : Mac) (frame_id : ℕ) (body : List ℕ) → IsMac source → IsSix (heard_real_time source frame_id body)
 unfolding heard_real_time
-six_real_time source frame_id body six =
-    holds_if IsSix (is_cyclic frame_id) (Cyclic source frame_id body) _ tt
-    (holds_if IsSix (is_alarm frame_id) (heard_alarm source (alarm_of body)) _ (six_alarm source (alarm_of body))
-    (holds_if IsSix (frame_id == 0xFEFD) (heard_answer source (answer_of frame_id body)) _ (six_answer source (answer_of frame_id body) six)
-    (holds_if IsSix (frame_id == 0xFEFF) (heard_answer source (answer_of frame_id body)) Nothing (six_answer source (answer_of frame_id body) six) tt)))
+six_real_time source frame_id body six = by_kind (is_cyclic frame_id) (is_alarm frame_id)
+  where
+    by_kind : (b c : Bool) → IsSix (cond b (Cyclic source frame_id body) (cond c (heard_alarm source (alarm_of body))
+        (cond (frame_id == 0xFEFD) (heard_answer source (answer_of frame_id body)) (cond (frame_id == 0xFEFF) (heard_answer source (answer_of frame_id body)) Nothing))))
+    by_kind true c = tt
+    by_kind false true = six_alarm source (alarm_of body)
+    by_kind false false = six_dcp source frame_id body six
 
 six_call : (caller : Caller) (call : Call) (blocks : Option (List ℕ)) → IsMac caller.mac → IsSix (heard_call caller call blocks)
 six_call caller call (Some blocks) six = six

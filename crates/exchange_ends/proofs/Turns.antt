@@ -71,96 +71,104 @@ IsSixAt setup Ticks = Unit {0}
 IsSixAt setup (Give slot subslot value) = Unit {0}
 IsSixAt setup Stop = Unit {0}
 
+-- what is sent of outputs behind an event: a value that is given is
+abbrev pub shown_behind : Live → Event → Image
+shown_behind live (Frame bytes) = live.cyclic.shown
+shown_behind live Ticks = live.cyclic.shown
+shown_behind live (Give slot subslot value) = (given live slot subslot value.items).cyclic.shown
+shown_behind live Stop = live.cyclic.shown
+
 module _ (size : ℕ) where
-  -- a turn of it, behind which it goes on so
-  pub record Tells (turn : Turn) : Type 0 where
+  -- a turn of it, behind which it goes on so, and this is what it sends of its outputs
+  pub record Tells (shown : Image) (turn : Turn) : Type 0 where
     pub told : AllByRecursion (IsSaid turn.live.cyclic.shown) turn.sent
     pub kept : IsKept size turn.live
+    pub same : turn.live.cyclic.shown ≡ shown
 
-  either : (test : Bool) (one other : Turn) → Tells one → Tells other → Tells (if test then one else other)
-  either true one other first second = first
-  either false one other first second = second
+  either : (shown : Image) (test : Bool) (one other : Turn) → Tells shown one → Tells shown other → Tells shown (if test then one else other)
+  either shown true one other first second = first
+  either shown false one other first second = second
 
-  stopped_tells : (setup : Setup) (live : Live) (phase : State) → IsKept size live → Tells (stopped setup live phase)
-  stopped_tells setup live Looking k = record { told = tt; kept = record { device = k.device; way = k.way; size = k.size } }
-  stopped_tells setup live Addressing k = record { told = tt; kept = record { device = k.device; way = k.way; size = k.size } }
-  stopped_tells setup live Connecting k = record { told = ((tt, k.device), tt); kept = record { device = k.device; way = k.way; size = k.size } }
-  stopped_tells setup live Writing k = record { told = ((tt, k.device), tt); kept = record { device = k.device; way = k.way; size = k.size } }
-  stopped_tells setup live Ending k = record { told = ((tt, k.device), tt); kept = record { device = k.device; way = k.way; size = k.size } }
-  stopped_tells setup live Waiting k = record { told = ((tt, k.device), tt); kept = record { device = k.device; way = k.way; size = k.size } }
-  stopped_tells setup live Exchanging k = record { told = ((tt, k.device), tt); kept = record { device = k.device; way = k.way; size = k.size } }
-  stopped_tells setup live (Ended why) k = record { told = tt; kept = record { device = k.device; way = k.way; size = k.size } }
+  stopped_tells : (setup : Setup) (live : Live) (phase : State) → IsKept size live → Tells live.cyclic.shown (stopped setup live phase)
+  stopped_tells setup live Looking k = record { told = tt; same = refl; kept = record { device = k.device; way = k.way; size = k.size } }
+  stopped_tells setup live Addressing k = record { told = tt; same = refl; kept = record { device = k.device; way = k.way; size = k.size } }
+  stopped_tells setup live Connecting k = record { told = ((tt, k.device), tt); same = refl; kept = record { device = k.device; way = k.way; size = k.size } }
+  stopped_tells setup live Writing k = record { told = ((tt, k.device), tt); same = refl; kept = record { device = k.device; way = k.way; size = k.size } }
+  stopped_tells setup live Ending k = record { told = ((tt, k.device), tt); same = refl; kept = record { device = k.device; way = k.way; size = k.size } }
+  stopped_tells setup live Waiting k = record { told = ((tt, k.device), tt); same = refl; kept = record { device = k.device; way = k.way; size = k.size } }
+  stopped_tells setup live Exchanging k = record { told = ((tt, k.device), tt); same = refl; kept = record { device = k.device; way = k.way; size = k.size } }
+  stopped_tells setup live (Ended why) k = record { told = tt; same = refl; kept = record { device = k.device; way = k.way; size = k.size } }
 
-  answered_tells : (setup : Setup) (live : Live) (source : Mac) (answer : Answered) (phase : State) → IsMac source → IsKept size live → Tells (answered setup live source answer phase)
+  answered_tells : (setup : Setup) (live : Live) (source : Mac) (answer : Answered) (phase : State) → IsMac source → IsKept size live → Tells live.cyclic.shown (answered setup live source answer phase)
   answered_tells setup live source answer Looking six k =
-      either (is_found setup.plan answer) _ _ (either (is_right setup.plan answer) _ _ (either (is_addressed setup.plan answer) _ _ (record { told = ((tt, six), tt); kept = record { device = six; way = k.way; size = k.size } }) (record { told = ((tt, six), tt); kept = record { device = six; way = k.way; size = k.size } })) (record { told = tt; kept = record { device = k.device; way = k.way; size = k.size } })) (record { told = tt; kept = record { device = k.device; way = k.way; size = k.size } })
-  answered_tells setup live source answer Addressing six k = either (is_set_answer answer) _ _ (either (is_agreed answer) _ _ (record { told = ((tt, k.device), tt); kept = record { device = k.device; way = k.way; size = k.size } }) (record { told = tt; kept = record { device = k.device; way = k.way; size = k.size } })) (record { told = tt; kept = record { device = k.device; way = k.way; size = k.size } })
-  answered_tells setup live source answer Connecting six k = record { told = tt; kept = record { device = k.device; way = k.way; size = k.size } }
-  answered_tells setup live source answer Writing six k = record { told = tt; kept = record { device = k.device; way = k.way; size = k.size } }
-  answered_tells setup live source answer Ending six k = record { told = tt; kept = record { device = k.device; way = k.way; size = k.size } }
-  answered_tells setup live source answer Waiting six k = record { told = tt; kept = record { device = k.device; way = k.way; size = k.size } }
-  answered_tells setup live source answer Exchanging six k = record { told = tt; kept = record { device = k.device; way = k.way; size = k.size } }
-  answered_tells setup live source answer (Ended why) six k = record { told = tt; kept = record { device = k.device; way = k.way; size = k.size } }
+      either live.cyclic.shown (is_found setup.plan answer) _ _ (either live.cyclic.shown (is_right setup.plan answer) _ _ (either live.cyclic.shown (is_addressed setup.plan answer) _ _ (record { told = ((tt, six), tt); same = refl; kept = record { device = six; way = k.way; size = k.size } }) (record { told = ((tt, six), tt); same = refl; kept = record { device = six; way = k.way; size = k.size } })) (record { told = tt; same = refl; kept = record { device = k.device; way = k.way; size = k.size } })) (record { told = tt; same = refl; kept = record { device = k.device; way = k.way; size = k.size } })
+  answered_tells setup live source answer Addressing six k = either live.cyclic.shown (is_set_answer answer) _ _ (either live.cyclic.shown (is_agreed answer) _ _ (record { told = ((tt, k.device), tt); same = refl; kept = record { device = k.device; way = k.way; size = k.size } }) (record { told = tt; same = refl; kept = record { device = k.device; way = k.way; size = k.size } })) (record { told = tt; same = refl; kept = record { device = k.device; way = k.way; size = k.size } })
+  answered_tells setup live source answer Connecting six k = record { told = tt; same = refl; kept = record { device = k.device; way = k.way; size = k.size } }
+  answered_tells setup live source answer Writing six k = record { told = tt; same = refl; kept = record { device = k.device; way = k.way; size = k.size } }
+  answered_tells setup live source answer Ending six k = record { told = tt; same = refl; kept = record { device = k.device; way = k.way; size = k.size } }
+  answered_tells setup live source answer Waiting six k = record { told = tt; same = refl; kept = record { device = k.device; way = k.way; size = k.size } }
+  answered_tells setup live source answer Exchanging six k = record { told = tt; same = refl; kept = record { device = k.device; way = k.way; size = k.size } }
+  answered_tells setup live source answer (Ended why) six k = record { told = tt; same = refl; kept = record { device = k.device; way = k.way; size = k.size } }
 
-  related_tells : (setup : Setup) (live : Live) (output : Option ℕ) → IsKept size live → Tells (related_by setup live output)
+  related_tells : (setup : Setup) (live : Live) (output : Option ℕ) → IsKept size live → Tells live.cyclic.shown (related_by setup live output)
   related_tells setup live (Some frame_id) k = record {
     told = ((tt, k.device), tt);
-    kept = record { device = k.device; way = record { partner = k.device; sent_tag = omega arith; alarm_tag = omega arith }; size = k.size };
+    same = refl; kept = record { device = k.device; way = record { partner = k.device; sent_tag = omega arith; alarm_tag = omega arith }; size = k.size };
   }
-  related_tells setup live None k = record { told = tt; kept = record { device = k.device; way = k.way; size = k.size } }
+  related_tells setup live None k = record { told = tt; same = refl; kept = record { device = k.device; way = k.way; size = k.size } }
 
-  connected_tells : (setup : Setup) (live : Live) (read : Option Found) → IsKept size live → Tells (connected setup live read)
+  connected_tells : (setup : Setup) (live : Live) (read : Option Found) → IsKept size live → Tells live.cyclic.shown (connected setup live read)
   connected_tells setup live (Some found_is) k =
-      either (is_whole found_is) _ _ (either found_is.differs _ _ (record { told = ((tt, k.device), tt); kept = record { device = k.device; way = k.way; size = k.size } }) (related_tells setup live found_is.output k)) (record { told = tt; kept = record { device = k.device; way = k.way; size = k.size } })
-  connected_tells setup live None k = record { told = tt; kept = record { device = k.device; way = k.way; size = k.size } }
+      either live.cyclic.shown (is_whole found_is) _ _ (either live.cyclic.shown found_is.differs _ _ (record { told = ((tt, k.device), tt); same = refl; kept = record { device = k.device; way = k.way; size = k.size } }) (related_tells setup live found_is.output k)) (record { told = tt; same = refl; kept = record { device = k.device; way = k.way; size = k.size } })
+  connected_tells setup live None k = record { told = tt; same = refl; kept = record { device = k.device; way = k.way; size = k.size } }
 
-  done_tells : (setup : Setup) (live : Live) (blocks : List ℕ) (request : Request) → IsKept size live → Tells (done setup live blocks request)
-  done_tells setup live blocks asks.Identify k = record { told = tt; kept = record { device = k.device; way = k.way; size = k.size } }
-  done_tells setup live blocks asks.Address k = record { told = tt; kept = record { device = k.device; way = k.way; size = k.size } }
+  done_tells : (setup : Setup) (live : Live) (blocks : List ℕ) (request : Request) → IsKept size live → Tells live.cyclic.shown (done setup live blocks request)
+  done_tells setup live blocks asks.Identify k = record { told = tt; same = refl; kept = record { device = k.device; way = k.way; size = k.size } }
+  done_tells setup live blocks asks.Address k = record { told = tt; same = refl; kept = record { device = k.device; way = k.way; size = k.size } }
   done_tells setup live blocks asks.Connect k = connected_tells setup live (found_in 400 blocks nothing) k
-  done_tells setup live blocks (asks.Write number) k = record { told = ((tt, k.device), tt); kept = record { device = k.device; way = k.way; size = k.size } }
-  done_tells setup live blocks asks.PrmEnd k = record { told = tt; kept = record { device = k.device; way = k.way; size = k.size } }
-  done_tells setup live blocks (asks.Release sequence) k = record { told = tt; kept = record { device = k.device; way = k.way; size = k.size } }
+  done_tells setup live blocks (asks.Write number) k = record { told = ((tt, k.device), tt); same = refl; kept = record { device = k.device; way = k.way; size = k.size } }
+  done_tells setup live blocks asks.PrmEnd k = record { told = tt; same = refl; kept = record { device = k.device; way = k.way; size = k.size } }
+  done_tells setup live blocks (asks.Release sequence) k = record { told = tt; same = refl; kept = record { device = k.device; way = k.way; size = k.size } }
 
-  judged_tells : (setup : Setup) (live : Live) (response : Response) (request : Request) → IsKept size live → Tells (judged setup live response request)
-  judged_tells setup live response request k = either (is_done response.status) _ _ (done_tells setup live response.blocks request k) (record { told = tt; kept = record { device = k.device; way = k.way; size = k.size } })
+  judged_tells : (setup : Setup) (live : Live) (response : Response) (request : Request) → IsKept size live → Tells live.cyclic.shown (judged setup live response request)
+  judged_tells setup live response request k = either live.cyclic.shown (is_done response.status) _ _ (done_tells setup live response.blocks request k) (record { told = tt; same = refl; kept = record { device = k.device; way = k.way; size = k.size } })
 
-  decided_tells : (setup : Setup) (live : Live) (response : Response) (request : Request) → IsKept size live → Tells (decided setup live response request)
+  decided_tells : (setup : Setup) (live : Live) (response : Response) (request : Request) → IsKept size live → Tells live.cyclic.shown (decided setup live response request)
   decided_tells setup live response asks.Identify k = judged_tells setup live response asks.Identify k
   decided_tells setup live response asks.Address k = judged_tells setup live response asks.Address k
   decided_tells setup live response asks.Connect k = judged_tells setup live response asks.Connect k
   decided_tells setup live response (asks.Write number) k = judged_tells setup live response (asks.Write number) k
   decided_tells setup live response asks.PrmEnd k = judged_tells setup live response asks.PrmEnd k
-  decided_tells setup live response (asks.Release sequence) k = record { told = tt; kept = record { device = k.device; way = k.way; size = k.size } }
+  decided_tells setup live response (asks.Release sequence) k = record { told = tt; same = refl; kept = record { device = k.device; way = k.way; size = k.size } }
 
-  responded_tells : (setup : Setup) (live : Live) (response : Response) (asked : Option Request) → IsKept size live → Tells (responded setup live response asked)
-  responded_tells setup live response (Some request) k = either (is_answer setup request response.header) _ _ (decided_tells setup live response request k) (record { told = tt; kept = record { device = k.device; way = k.way; size = k.size } })
-  responded_tells setup live response None k = record { told = tt; kept = record { device = k.device; way = k.way; size = k.size } }
+  responded_tells : (setup : Setup) (live : Live) (response : Response) (asked : Option Request) → IsKept size live → Tells live.cyclic.shown (responded setup live response asked)
+  responded_tells setup live response (Some request) k = either live.cyclic.shown (is_answer setup request response.header) _ _ (decided_tells setup live response request k) (record { told = tt; same = refl; kept = record { device = k.device; way = k.way; size = k.size } })
+  responded_tells setup live response None k = record { told = tt; same = refl; kept = record { device = k.device; way = k.way; size = k.size } }
 
-  readied_tells : (live : Live) (caller : Caller) (call : Call) (block : ControlBlock) (phase : State) → IsMac caller.mac → IsKept size live → Tells (readied live caller call block phase)
-  readied_tells live caller call block Looking from k = record { told = tt; kept = record { device = k.device; way = k.way; size = k.size } }
-  readied_tells live caller call block Addressing from k = record { told = tt; kept = record { device = k.device; way = k.way; size = k.size } }
-  readied_tells live caller call block Connecting from k = record { told = tt; kept = record { device = k.device; way = k.way; size = k.size } }
-  readied_tells live caller call block Writing from k = record { told = tt; kept = record { device = k.device; way = k.way; size = k.size } }
-  readied_tells live caller call block Ending from k = record { told = ((tt, from), tt); kept = record { device = k.device; way = k.way; size = k.size } }
-  readied_tells live caller call block Waiting from k = record { told = ((tt, from), tt); kept = record { device = k.device; way = k.way; size = k.size } }
-  readied_tells live caller call block Exchanging from k = record { told = ((tt, from), tt); kept = record { device = k.device; way = k.way; size = k.size } }
-  readied_tells live caller call block (Ended why) from k = record { told = tt; kept = record { device = k.device; way = k.way; size = k.size } }
+  readied_tells : (live : Live) (caller : Caller) (call : Call) (block : ControlBlock) (phase : State) → IsMac caller.mac → IsKept size live → Tells live.cyclic.shown (readied live caller call block phase)
+  readied_tells live caller call block Looking from k = record { told = tt; same = refl; kept = record { device = k.device; way = k.way; size = k.size } }
+  readied_tells live caller call block Addressing from k = record { told = tt; same = refl; kept = record { device = k.device; way = k.way; size = k.size } }
+  readied_tells live caller call block Connecting from k = record { told = tt; same = refl; kept = record { device = k.device; way = k.way; size = k.size } }
+  readied_tells live caller call block Writing from k = record { told = tt; same = refl; kept = record { device = k.device; way = k.way; size = k.size } }
+  readied_tells live caller call block Ending from k = record { told = ((tt, from), tt); same = refl; kept = record { device = k.device; way = k.way; size = k.size } }
+  readied_tells live caller call block Waiting from k = record { told = ((tt, from), tt); same = refl; kept = record { device = k.device; way = k.way; size = k.size } }
+  readied_tells live caller call block Exchanging from k = record { told = ((tt, from), tt); same = refl; kept = record { device = k.device; way = k.way; size = k.size } }
+  readied_tells live caller call block (Ended why) from k = record { told = tt; same = refl; kept = record { device = k.device; way = k.way; size = k.size } }
 
-  called_tells : (setup : Setup) (live : Live) (caller : Caller) (call : Call) (block : Option ControlBlock) → IsMac caller.mac → IsKept size live → Tells (called setup live caller call block)
-  called_tells setup live caller call (Some block) from k = either (is_ready setup block) _ _ (readied_tells live caller call block live.phase from k) (record { told = tt; kept = record { device = k.device; way = k.way; size = k.size } })
-  called_tells setup live caller call None from k = record { told = tt; kept = record { device = k.device; way = k.way; size = k.size } }
+  called_tells : (setup : Setup) (live : Live) (caller : Caller) (call : Call) (block : Option ControlBlock) → IsMac caller.mac → IsKept size live → Tells live.cyclic.shown (called setup live caller call block)
+  called_tells setup live caller call (Some block) from k = either live.cyclic.shown (is_ready setup block) _ _ (readied_tells live caller call block live.phase from k) (record { told = tt; same = refl; kept = record { device = k.device; way = k.way; size = k.size } })
+  called_tells setup live caller call None from k = record { told = tt; same = refl; kept = record { device = k.device; way = k.way; size = k.size } }
 
-  taken_tells : (live : Live) (alarm : AlarmNotification) (as_is : Taken) → IsKept size live → Tells (taken live alarm as_is)
-  taken_tells live alarm New k = record { told = ((tt, k.way), ((tt, k.way), tt)); kept = record { device = k.device; way = k.way; size = k.size } }
-  taken_tells live alarm Again k = record { told = ((tt, k.way), tt); kept = record { device = k.device; way = k.way; size = k.size } }
-  taken_tells live alarm Refused k = record { told = ((tt, k.way), tt); kept = record { device = k.device; way = k.way; size = k.size } }
+  taken_tells : (live : Live) (alarm : AlarmNotification) (as_is : Taken) → IsKept size live → Tells live.cyclic.shown (taken live alarm as_is)
+  taken_tells live alarm New k = record { told = ((tt, k.way), ((tt, k.way), tt)); same = refl; kept = record { device = k.device; way = k.way; size = k.size } }
+  taken_tells live alarm Again k = record { told = ((tt, k.way), tt); same = refl; kept = record { device = k.device; way = k.way; size = k.size } }
+  taken_tells live alarm Refused k = record { told = ((tt, k.way), tt); same = refl; kept = record { device = k.device; way = k.way; size = k.size } }
 
-  noticed_tells : (live : Live) (told : ToController) → IsKept size live → Tells (noticed live told)
+  noticed_tells : (live : Live) (told : ToController) → IsKept size live → Tells live.cyclic.shown (noticed live told)
   noticed_tells live (notice.Data number alarm) k = taken_tells (behind_data live number) alarm (taken_as live.alarms.seen number) (record { device = k.device; way = k.way; size = k.size })
-  noticed_tells live (notice.Ack number) k = record { told = tt; kept = record { device = k.device; way = k.way; size = k.size } }
-  noticed_tells live notice.Nack k = record { told = tt; kept = record { device = k.device; way = k.way; size = k.size } }
-  noticed_tells live notice.Abort k = record { told = tt; kept = record { device = k.device; way = k.way; size = k.size } }
+  noticed_tells live (notice.Ack number) k = record { told = tt; same = refl; kept = record { device = k.device; way = k.way; size = k.size } }
+  noticed_tells live notice.Nack k = record { told = tt; same = refl; kept = record { device = k.device; way = k.way; size = k.size } }
+  noticed_tells live notice.Abort k = record { told = tt; same = refl; kept = record { device = k.device; way = k.way; size = k.size } }
 
   -- a cyclic frame changes neither the route nor what is sent
   read_keeps : (cyclic : Cyclic) (read : Result (List ℕ × CyclicTail) ShortFrame)
@@ -198,13 +206,20 @@ module _ (size : ℕ) where
           with_cyclic live (behind_frame live.cyclic source frame_id bytes) keeps.0 (ap (λ (image : Image). image.data_length) keeps.1) k
       by_standing false = k
 
-  turned_tells : (setup : Setup) (live : Live) (heard : Heard) → IsSix heard → IsKept size live → Tells (turned setup live heard)
-  turned_tells setup live Nothing six k = record { told = tt; kept = record { device = k.device; way = k.way; size = k.size } }
+  come_same : (live : Live) (source : Mac) (frame_id : ℕ) (bytes : List ℕ) → (come live source frame_id bytes).cyclic.shown ≡ live.cyclic.shown
+  come_same live source frame_id bytes = by_standing live.stands
+    where
+      by_standing : (b : Bool) → (cond b (record live { cyclic = behind_frame live.cyclic source frame_id bytes }) live).cyclic.shown ≡ live.cyclic.shown
+      by_standing true = (frame_keeps live.cyclic source frame_id bytes).1
+      by_standing false = refl
+
+  turned_tells : (setup : Setup) (live : Live) (heard : Heard) → IsSix heard → IsKept size live → Tells live.cyclic.shown (turned setup live heard)
+  turned_tells setup live Nothing six k = record { told = tt; same = refl; kept = record { device = k.device; way = k.way; size = k.size } }
   turned_tells setup live (Answers source answer) six k = answered_tells setup live source answer live.phase six k
   turned_tells setup live (Responds response) six k = responded_tells setup live response live.asked k
   turned_tells setup live (Calls caller call) six k = called_tells setup live caller call (ready_in call) six k
-  turned_tells setup live (Comes source frame_id body) six k = record { told = tt; kept = come_keeps live source frame_id body k }
-  turned_tells setup live (Alarms source header told) six k = either (live.stands && is_alarm live.cyclic.route source header) _ _ (noticed_tells live told k) (record { told = tt; kept = record { device = k.device; way = k.way; size = k.size } })
+  turned_tells setup live (Comes source frame_id body) six k = record { told = tt; same = come_same live source frame_id body; kept = come_keeps live source frame_id body k }
+  turned_tells setup live (Alarms source header told) six k = either live.cyclic.shown (live.stands && is_alarm live.cyclic.route source header) _ _ (noticed_tells live told k) (record { told = tt; same = refl; kept = record { device = k.device; way = k.way; size = k.size } })
 
   -- ---- units
 
@@ -224,8 +239,8 @@ module _ (size : ℕ) where
   acks_tell shown live (Some ack) way = ((tt, way), tt)
   acks_tell shown live None way = tt
 
-  flowed_tells : (live : Live) (is_request : Bool) (tick : Tick) (ending : Option Abort) → IsKept size live → Tells (flowed live is_request tick ending)
-  flowed_tells live is_request tick (Some reason) k = record { told = ((tt, k.way), tt); kept = record { device = k.device; way = k.way; size = k.size } }
+  flowed_tells : (live : Live) (is_request : Bool) (tick : Tick) (ending : Option Abort) → IsKept size live → Tells live.cyclic.shown (flowed live is_request tick ending)
+  flowed_tells live is_request tick (Some reason) k = record { told = ((tt, k.way), tt); same = refl; kept = record { device = k.device; way = k.way; size = k.size } }
   flowed_tells live is_request tick None k =
       let shown = live.cyclic.shown in
       record {
@@ -234,13 +249,14 @@ module _ (size : ℕ) where
             (all_append (IsSaid shown) (where_due is_request (requests_of live.device live.asked)) _
             (due_tells shown is_request _ (request_tells shown live.device live.asked k.device))
             (due_tells shown tick.is_cyclic _ ((refl, k.way), tt)));
+        same = refl;
         kept = k;
       }
 
-  ticked_tells : (live : Live) → IsKept size live → Tells (ticked live)
+  ticked_tells : (live : Live) → IsKept size live → Tells live.cyclic.shown (ticked live)
   ticked_tells live k =
-      either live.stands _ _ (flowed_tells (flow_later live) (is_again live) (brought live) (brought live).ending (record { device = k.device; way = k.way; size = k.size }))
-      (record { told = due_tells live.cyclic.shown (is_again live) (requests_of live.device live.asked) (request_tells live.cyclic.shown live.device live.asked k.device); kept = record { device = k.device; way = k.way; size = k.size } })
+      either live.cyclic.shown live.stands _ _ (flowed_tells (flow_later live) (is_again live) (brought live) (brought live).ending (record { device = k.device; way = k.way; size = k.size }))
+      (record { told = due_tells live.cyclic.shown (is_again live) (requests_of live.device live.asked) (request_tells live.cyclic.shown live.device live.asked k.device); same = refl; kept = record { device = k.device; way = k.way; size = k.size } })
 
   given_keeps : (live : Live) (slot subslot : ℕ) (value : List ℕ) → IsKept size live → IsKept size (given live slot subslot value)
   given_keeps live slot subslot value k = by_size (has_size (length value) (cell_at Data slot subslot live.cyclic.shown.cells))
@@ -251,8 +267,8 @@ module _ (size : ℕ) where
       by_size true = record { device = k.device; way = k.way; size = k.size }
       by_size false = record { device = k.device; way = k.way; size = k.size }
 
-  pub turn_tells : (setup : Setup) (live : Live) (event : Event) → IsSixAt setup event → IsKept size live → Tells (turn_of setup live event)
+  pub turn_tells : (setup : Setup) (live : Live) (event : Event) → IsSixAt setup event → IsKept size live → Tells (shown_behind live event) (turn_of setup live event)
   turn_tells setup live (Frame bytes) six k = turned_tells setup live (heard_of setup.plan.controller bytes.items) six k
   turn_tells setup live Ticks six k = ticked_tells live k
-  turn_tells setup live (Give slot subslot value) six k = record { told = tt; kept = given_keeps live slot subslot value.items k }
+  turn_tells setup live (Give slot subslot value) six k = record { told = tt; same = refl; kept = given_keeps live slot subslot value.items k }
   turn_tells setup live Stop six k = stopped_tells setup live live.phase k

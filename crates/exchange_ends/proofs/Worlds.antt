@@ -1,5 +1,5 @@
 -- Each move of a world shows and gives outputs as the small machines do.
-use Rattle.std.proofs.Common.{◌≡◌, ◌⊎◌, inl, inr, ℕ, Bool, true, false, List, [], ◌∷◌, ◌++◌, map, Option, Some, None, refl, sym, ap, subst, ◌∙◌}
+use Rattle.std.proofs.Common.{◌≡◌, ◌⊎◌, inl, inr, ℕ, Bool, true, false, List, [], ◌∷◌, ◌++◌, map, Option, Some, None, refl, sym, ap, subst, ◌∙◌, append_assoc}
 use Rattle.std.specs.Prelude.{slice_get, nat_eq}
 use Rattle.std.specs.Cmp.Lexicographic.{pointwise}
 use Rattle.std.specs.List.{AllByRecursion}
@@ -29,11 +29,13 @@ use Rattle.network_world.specs.declared.moves.Move.TheVariants as move
 use Rattle.network_world.specs.World.{World, AtDevice, Comes, Delivers, Happens, at_controller, is_skipped}
 use Rattle.both_ends.specs.Small as small
 use Rattle.both_ends.specs.Outputs.{BringsNone, GivesAtController, IsShownRun, Outputs, Shown, Shows, ShowsAtDevice, ShowsBehind, ShowsNone, shown_last}
-use Rattle.world_ends.specs.Played.{AreMade, AreMeant, last_world}
+use Rattle.world_ends.specs.Played.{AreMade, AreMeant, last_world, moves_of}
 use Rattle.world_ends.specs.View.{IsMeant, IsMeantAtDevice, move_of}
 use Rattle.exchange_ends.specs.Shown.{Opens, accepted_in, brought_in, image_in, outputs_of, shown_of, shown_run, zeros_for}
+use Rattle.exchange_ends.specs.Given.{image_given}
+use Rattle.exchange_ends.proofs.Moves.{ArePlacedOnce, first_image, given_more, shown_with}
 use Rattle.exchange_ends.proofs.Brings.{BringsNow, IsAddressed, IsNow, all_bring, request_silent}
-use Rattle.exchange_ends.proofs.Turns.{IsKept, IsSaid, turn_tells}
+use Rattle.exchange_ends.proofs.Turns.{IsKept, IsSaid, shown_behind, turn_tells}
 use Rattle.exchange_ends.proofs.Six.{six_event}
 use Rattle.exchange_ends.proofs.Shows.{AreKeptSilent, IsOursIn, ShowsIn, frames_silent, step_shows}
 
@@ -63,6 +65,12 @@ shows_as setup station brought before after given now sent all (inr (inl none)) 
 shows_as setup station brought before after given now sent all (inr (inr accepts)) =
     inr (inr (record { octets = accepts.octets; brings = accepts.brings; accepted = accepts.accepted; shown = accepts.shown }))
 
+first_same : {A : Type 0} (x y : A) (xs ys : List A) → x ∷ xs ≡ y ∷ ys → x ≡ y
+first_same x y xs ys e = cc
+
+rest_same : {A : Type 0} (x y : A) (xs ys : List A) → x ∷ xs ≡ y ∷ ys → xs ≡ ys
+rest_same x y xs ys e = cc
+
 opening_is : (controlling : Controlling) → opening_of controlling ≡ bytes_of controlling.setup (Requests controlling.live.device asks.Identify)
 unfolding opening_of
 opening_is controlling = refl
@@ -83,9 +91,10 @@ module _ (sound : IsSound link) (whole : IsSoundWhole layers) {F : Type 0} where
   abbrev Holds : World F → Type 0
   Holds w = HoldsBy w.controller.setup w.device.station w.device.live.rest.link w.device.live.rest.calls w.controller.live
 
-  -- what a move leaves of the world, and that it is a step
-  record Refines (before after : World F) (steps : Type 0) : Type 0 where
+  -- what a move leaves of the world, that it is a step, and what the controller sends of its outputs then
+  record Refines (before after : World F) (shown : Image) (steps : Type 0) : Type 0 where
     is : steps
+    shown_is : after.controller.live.cyclic.shown ≡ shown
     setup : after.controller.setup ≡ before.controller.setup
     station : after.device.station ≡ before.device.station
     holds : Holds after
@@ -93,7 +102,7 @@ module _ (sound : IsSound link) (whole : IsSoundWhole layers) {F : Type 0} where
   -- ---- a step of the controller
 
   at_controller_gives : (before after : World F) (event : Event) → Holds before → after ≡ at_controller before event
-      → Refines before after (GivesAtController (rules_at before) (shown_of before) (shown_of after))
+      → Refines before after (shown_behind before.controller.live event) (GivesAtController (rules_at before) (shown_of before) (shown_of after))
   at_controller_gives before after event holds is =
       let setup = before.controller.setup in
       let size = (zeros_for setup).data_length in
@@ -104,7 +113,7 @@ module _ (sound : IsSound link) (whole : IsSoundWhole layers) {F : Type 0} where
       ∙ ap (λ (frames : List (List ℕ)). record { device = before.device; controller = with_live before.controller turn.live; sent = before.sent ++ frames }) (frames_are before.controller event)) in
       let tells = turn_tells size setup before.controller.live event (six_event whole setup event) holds.kept in
       let shown = turn.live.cyclic.shown in
-      subst (λ (w : World F). Refines before w (GivesAtController (rules_at before) (shown_of before) (shown_of w))) (sym there) (record {
+      subst (λ (w : World F). Refines before w (shown_behind before.controller.live event) (GivesAtController (rules_at before) (shown_of before) (shown_of w))) (sym there) (record {
         is = record {
           accepted = refl;
           outputs = refl;
@@ -112,6 +121,7 @@ module _ (sound : IsSound link) (whole : IsSoundWhole layers) {F : Type 0} where
           brings = all_bring setup before.device.station.identity sound holds.six shown tells.kept.size turn.sent (all_now shown turn.sent tells.told) (all_addressed shown turn.sent tells.told);
           behind = refl;
         };
+        shown_is = tells.same;
         setup = refl;
         station = refl;
         holds = record { ours = holds.ours; calls_silent = holds.calls_silent; kept = tells.kept; apart = holds.apart; six = holds.six };
@@ -121,7 +131,7 @@ module _ (sound : IsSound link) (whole : IsSoundWhole layers) {F : Type 0} where
 
   module _ (image : F → FlashImage) (failures : F → ℕ) (asked : F → List Call → F → Type 0) where
     at_device_shows : (before after : World F) (heard : Heard) → Holds before → IsMeantAtDevice before heard → AtDevice image failures asked before heard after
-        → Refines before after (ShowsAtDevice (rules_at before) (brought_in before.controller.setup heard) (shown_of before) (shown_of after))
+        → Refines before after before.controller.live.cyclic.shown (ShowsAtDevice (rules_at before) (brought_in before.controller.setup heard) (shown_of before) (shown_of after))
     at_device_shows before after heard holds meant made =
         let hears = made.hears in
         let setup = before.controller.setup in
@@ -145,6 +155,7 @@ module _ (sound : IsSound link) (whole : IsSoundWhole layers) {F : Type 0} where
                 (frames_silent setup station sound holds.apart outcomes live heard hears.steps.sendable goes.known);
             behind = hears.behind;
           };
+          shown_is = ap (λ (c : Controlling). c.live.cyclic.shown) made.controller;
           setup = ap (λ (c : Controlling). c.setup) made.controller;
           station = hears.steps.same;
           holds = subst (λ (c : Controlling). HoldsBy c.setup after.device.station after.device.live.rest.link after.device.live.rest.calls c.live) (sym made.controller)
@@ -153,59 +164,60 @@ module _ (sound : IsSound link) (whole : IsSoundWhole layers) {F : Type 0} where
               (record { ours = goes.ours; calls_silent = goes.calls hears.steps.sendable; kept = holds.kept; apart = holds.apart; six = holds.six })));
         }
 
-    rests : (before after : World F) (Does : Type 0) → Holds before → after ≡ before → Refines before after ((shown_of after ≡ shown_of before) ⊎ Does)
+    rests : (before after : World F) (Does : Type 0) → Holds before → after ≡ before → Refines before after before.controller.live.cyclic.shown ((shown_of after ≡ shown_of before) ⊎ Does)
     rests before after Does holds same = record {
       is = inl (ap shown_of same);
+      shown_is = ap (λ (w : World F). w.controller.live.cyclic.shown) same;
       setup = ap (λ (w : World F). w.controller.setup) same;
       station = ap (λ (w : World F). w.device.station) same;
       holds = subst (λ (w : World F). Holds w) (sym same) holds;
     }
 
-    does : (before after : World F) (Same Does More : Type 0) → (Does → More) → Refines before after Does → Refines before after (Same ⊎ More)
-    does before after Same Does More more refines = record { is = inr (more refines.is); setup = refines.setup; station = refines.station; holds = refines.holds }
+    does : (before after : World F) (shown : Image) (Same Does More : Type 0) → (Does → More) → Refines before after shown Does → Refines before after shown (Same ⊎ More)
+    does before after shown Same Does More more refines = record { is = inr (more refines.is); shown_is = refines.shown_is; setup = refines.setup; station = refines.station; holds = refines.holds }
 
     module _ (before after : World F) (holds : Holds before) where
       comes_to_device : (number : ℕ) (octets : List ℕ) (skipped : Bool) → slice_get before.sent number ≡ Some octets
           → IsMeantAtDevice before (heard_of before.device.station.identity (Frame (record { items = octets })))
           → Comes image failures asked skipped before Device octets after
-          → Refines before after (ShowsBehind (rules_at before) (shown_of before) (small.ComesToDevice number) (shown_of after))
+          → Refines before after before.controller.live.cyclic.shown (ShowsBehind (rules_at before) (shown_of before) (small.ComesToDevice number) (shown_of after))
       comes_to_device number octets true there meant comes = rests before after _ holds comes
       comes_to_device number octets false there meant comes =
-          does before after _ _ _ (λ steps. record { frame = octets; there = there; steps = steps }) (at_device_shows before after _ holds meant comes)
+          does before after _ _ _ _ (λ steps. record { frame = octets; there = there; steps = steps }) (at_device_shows before after _ holds meant comes)
 
       comes_to_controller : (number : ℕ) (octets : List ℕ) (skipped : Bool)
           → Comes image failures asked skipped before Controller octets after
-          → Refines before after (ShowsBehind (rules_at before) (shown_of before) (small.ComesToController number) (shown_of after))
+          → Refines before after before.controller.live.cyclic.shown (ShowsBehind (rules_at before) (shown_of before) (small.ComesToController number) (shown_of after))
       comes_to_controller number octets true comes = rests before after _ holds comes
       comes_to_controller number octets false comes =
-          does before after _ _ _ (λ steps. steps) (at_controller_gives before after (controller.Frame (record { items = octets })) holds comes)
+          does before after _ _ _ _ (λ steps. steps) (at_controller_gives before after (controller.Frame (record { items = octets })) holds comes)
 
       delivered_to_device : (number : ℕ) (octets : Option (List ℕ)) → slice_get before.sent number ≡ octets
           → ((frame : List ℕ) → octets ≡ Some frame → IsMeantAtDevice before (heard_of before.device.station.identity (Frame (record { items = frame }))))
           → Delivers image failures asked octets before Device after
-          → Refines before after (ShowsBehind (rules_at before) (shown_of before) (small.ComesToDevice number) (shown_of after))
+          → Refines before after before.controller.live.cyclic.shown (ShowsBehind (rules_at before) (shown_of before) (small.ComesToDevice number) (shown_of after))
       delivered_to_device number None there meant comes = rests before after _ holds comes
       delivered_to_device number (Some octets) there meant comes =
           comes_to_device number octets (is_skipped before.device before.controller Device octets) there (meant octets refl) comes
 
       delivered_to_controller : (number : ℕ) (octets : Option (List ℕ))
           → Delivers image failures asked octets before Controller after
-          → Refines before after (ShowsBehind (rules_at before) (shown_of before) (small.ComesToController number) (shown_of after))
+          → Refines before after before.controller.live.cyclic.shown (ShowsBehind (rules_at before) (shown_of before) (small.ComesToController number) (shown_of after))
       delivered_to_controller number None comes = rests before after _ holds comes
       delivered_to_controller number (Some octets) comes =
           comes_to_controller number octets (is_skipped before.device before.controller Controller octets) comes
 
       happens_shows : (one : Move) → IsMeant before one → Happens image failures asked before one after
-          → Refines before after (ShowsBehind (rules_at before) (shown_of before) (move_of one) (shown_of after))
+          → Refines before after (shown_with before.controller.live one) (ShowsBehind (rules_at before) (shown_of before) (move_of one) (shown_of after))
       happens_shows (move.Deliver Device number) meant happens = delivered_to_device number (slice_get before.sent number) refl meant happens
       happens_shows (move.Deliver Controller number) meant happens = delivered_to_controller number (slice_get before.sent number) happens
-      happens_shows (move.Tick Device) meant happens = does before after _ _ _ (λ steps. steps) (at_device_shows before after Ticks holds meant happens)
-      happens_shows (move.Tick Controller) meant happens = does before after _ _ _ (λ steps. steps) (at_controller_gives before after controller.Tick holds happens)
-      happens_shows (move.Input slot subslot value) meant happens = does before after _ _ _ (λ steps. steps) (at_device_shows before after (Given slot subslot value.items) holds meant happens)
-      happens_shows (move.Alarm slot subslot octets) meant happens = does before after _ _ _ (λ steps. steps) (at_device_shows before after (Raised slot subslot octets.items) holds meant happens)
+      happens_shows (move.Tick Device) meant happens = does before after _ _ _ _ (λ steps. steps) (at_device_shows before after Ticks holds meant happens)
+      happens_shows (move.Tick Controller) meant happens = does before after _ _ _ _ (λ steps. steps) (at_controller_gives before after controller.Tick holds happens)
+      happens_shows (move.Input slot subslot value) meant happens = does before after _ _ _ _ (λ steps. steps) (at_device_shows before after (Given slot subslot value.items) holds meant happens)
+      happens_shows (move.Alarm slot subslot octets) meant happens = does before after _ _ _ _ (λ steps. steps) (at_device_shows before after (Raised slot subslot octets.items) holds meant happens)
       happens_shows (move.Give slot subslot value) meant happens =
-          does before after _ _ _ (λ steps. steps) (at_controller_gives before after (controller.Give slot subslot value) holds happens)
-      happens_shows move.Stop meant happens = does before after _ _ _ (λ steps. steps) (at_controller_gives before after controller.Stop holds happens)
+          does before after _ _ _ _ (λ steps. steps) (at_controller_gives before after (controller.Give slot subslot value) holds happens)
+      happens_shows move.Stop meant happens = does before after _ _ _ _ (λ steps. steps) (at_controller_gives before after controller.Stop holds happens)
 
     -- ---- runs
 
@@ -219,6 +231,25 @@ module _ (sound : IsSound link) (whole : IsSoundWhole layers) {F : Type 0} where
           subst (λ (r : Outputs Image Image). ShowsBehind r (shown_of before) (move_of one.0) (shown_of one.1)) same step.is,
           runs rules one.1 run (still ∙ same) step.holds made.1 meant.1,
         )
+
+    -- what the controller sends of its outputs at each point of a run: what was given until then
+    given_at : (setup : Setup) (places_once : ArePlacedOnce setup) (so_far : List Move) (before : World F) (run : List (Move × World F)) → Holds before → before.controller.live.cyclic.shown ≡ image_given setup so_far
+        → AreMade image failures asked before run → AreMeant before run
+        → (front : List (Move × World F)) (one : Move × World F) (later : List (Move × World F)) → run ≡ front ++ one ∷ later
+        → one.1.controller.live.cyclic.shown ≡ image_given setup (so_far ++ moves_of (front ++ one ∷ []))
+    given_at setup once so_far before [] holds was made meant [] one later e = absurd cc
+    given_at setup once so_far before [] holds was made meant (other ∷ front) one later e = absurd cc
+    given_at setup once so_far before (next ∷ run) holds was made meant [] one later e =
+        let step = happens_shows before next.1 holds next.0 meant.0 made.0 in
+        subst (λ (x : Move × World F). x.1.controller.live.cyclic.shown ≡ image_given setup (so_far ++ x.0 ∷ [])) (first_same next one run later e)
+        (step.shown_is ∙ given_more setup once so_far before.controller.live was next.0)
+    given_at setup once so_far before (next ∷ run) holds was made meant (other ∷ front) one later e =
+        let step = happens_shows before next.1 holds next.0 meant.0 made.0 in
+        let same = first_same next other run (front ++ one ∷ later) e in
+        given_at setup once (so_far ++ next.0 ∷ []) next.1 run step.holds (step.shown_is ∙ given_more setup once so_far before.controller.live was next.0) made.1 meant.1 front one later (rest_same next other run (front ++ one ∷ later) e)
+        ∙ ap (λ (moves : List Move). image_given setup moves)
+        (append_assoc so_far (next.0 ∷ []) (moves_of (front ++ one ∷ []))
+        ∙ ap (λ (x : Move × World F). so_far ++ x.0 ∷ moves_of (front ++ one ∷ [])) same)
 
   -- ---- the beginning
 
@@ -256,6 +287,15 @@ module _ (sound : IsSound link) (whole : IsSoundWhole layers) {F : Type 0} where
       zeros = ap (λ (l : Option Link). image_in first.controller.setup l) opens.unrelated;
       none = subst (λ (frames : List (List ℕ)). AllByRecursion (BringsNone (rules_at first)) frames) (sym opens.opened) (opening_silent, tt);
     })
+
+    first_given : first.controller.live.cyclic.shown ≡ image_given setup []
+    first_given = ap (λ (l : ControllerLive). l.cyclic.shown) opens.made ∙ first_image setup
+
+    pub given_in_run : ArePlacedOnce setup → (image : F → FlashImage) (failures : F → ℕ) (asked : F → List Call → F → Type 0) (run : List (Move × World F)) → AreMade image failures asked first run
+        → AreMeant first run → (front : List (Move × World F)) (one : Move × World F) (later : List (Move × World F)) → run ≡ front ++ one ∷ later
+        → one.1.controller.live.cyclic.shown ≡ image_given setup (moves_of (front ++ one ∷ []))
+    given_in_run once image failures asked run made meant front one later e =
+        given_at image failures asked setup once [] first run holds_first first_given made meant front one later e
 
     pub shown_runs : (image : F → FlashImage) (failures : F → ℕ) (asked : F → List Call → F → Type 0) (run : List (Move × World F)) → AreMade image failures asked first run
         → AreMeant first run → IsShownRun (outputs_of setup identity) (shown_of first) (shown_run run)
