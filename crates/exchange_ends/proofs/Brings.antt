@@ -59,13 +59,13 @@ holds_if P false x y one other = other
 
 -- ---- the octets in front of a body
 
-raw_if : ℕ → List ℕ → Bool → Result (List ℕ × List ℕ) ShortFrame
+abbrev raw_if : ℕ → List ℕ → Bool → Result (List ℕ × List ℕ) ShortFrame
 raw_if n bytes b = cond b (Err short) (Ok (take n bytes, drop n bytes))
 
-tail_behind : List ℕ → Result (CyclicTail × List ℕ) ShortFrame → Result ((List ℕ × CyclicTail) × List ℕ) ShortFrame
+abbrev tail_behind : List ℕ → Result (CyclicTail × List ℕ) ShortFrame → Result ((List ℕ × CyclicTail) × List ℕ) ShortFrame
 tail_behind octets read = read >>= λ y. Ok ((octets, y.0), y.1)
 
-first_of : Result ((List ℕ × CyclicTail) × List ℕ) ShortFrame → Result (List ℕ × CyclicTail) ShortFrame
+abbrev first_of : Result ((List ℕ × CyclicTail) × List ℕ) ShortFrame → Result (List ℕ × CyclicTail) ShortFrame
 first_of read = read >>= λ x. Ok x.0
 
 abbrev AreAtMost : List ℕ → Option (List ℕ) → Type 0
@@ -159,10 +159,10 @@ module _ (setup : Setup) (identity : Identity) where
   abbrev IsAtMost : Mac → ℕ → List ℕ → Heard → Type 0
   IsAtMost source frame_id body heard = IsNone heard ⊎ (brought_in setup heard ≡ brought_in setup (Cyclic source frame_id body))
 
-  cyclic_of_own : Mac → Mac → ℕ → List ℕ → Heard
+  abbrev cyclic_of_own : Mac → Mac → ℕ → List ℕ → Heard
   cyclic_of_own destination source frame_id body = cond (is_own identity destination && is_cyclic frame_id) (Cyclic source frame_id body) Elsewhere
 
-  alarm_of_own : Mac → Mac → ℕ → List ℕ → Heard
+  abbrev alarm_of_own : Mac → Mac → ℕ → List ℕ → Heard
   alarm_of_own destination source frame_id body =
       cond (is_own identity destination && is_alarm frame_id) (heard_alarm source (message_of body)) (cyclic_of_own destination source frame_id body)
 

@@ -45,7 +45,7 @@ cells_same given other same (place ∷ places) =
     ap (λ (g : Option (List ℕ)). cell_of_kind place.kind place g ∷ cells_of given places) (same place)
     ∙ ap (λ (cs : List Cell). cell_of_kind place.kind place (other place) ∷ cs) (cells_same given other same places)
 
-image_with : Setup → List Cell → Image
+abbrev image_with : Setup → List Cell → Image
 image_with setup cells = record { data_length = (zeros_for setup).data_length; cells = cells }
 
 -- a move that gives nothing
@@ -61,9 +61,6 @@ given_image : (setup : Setup) → ArePlacedOnce setup → (moves : List Move) (l
 given_image setup once moves live was slot subslot value =
     by_shown live.cyclic.shown was (has_size (length value) (cell_at Data slot subslot live.cyclic.shown.cells)) refl
   where
-    abbrev values : Place → Option (List ℕ)
-    values place = last_given place None moves
-
     by_fit : (b : Bool) → (record live { cyclic = unwrap_or (cond b (Some (record live.cyclic { shown = changed Data slot subslot (with_good value) live.cyclic.shown })) None) live.cyclic }).cyclic.shown
         ≡ cond b (changed Data slot subslot (with_good value) live.cyclic.shown) live.cyclic.shown
     by_fit true = refl
@@ -75,12 +72,12 @@ given_image setup once moves live was slot subslot value =
     image_if false = refl
 
     by_shown : (shown : Image) → shown ≡ image_given setup moves → (b : Bool) → has_size (length value) (cell_at Data slot subslot live.cyclic.shown.cells) ≡ b
-        → (given live slot subslot value).cyclic.shown ≡ image_with setup (cells_of (now_given slot subslot value values) (places_for setup))
+        → (given live slot subslot value).cyclic.shown ≡ image_with setup (cells_of (now_given slot subslot value (λ place. last_given place None moves)) (places_for setup))
     by_shown shown is b e =
         by_fit (has_size (length value) (cell_at Data slot subslot live.cyclic.shown.cells))
         ∙ (ap (λ (s : Image). cond (has_size (length value) (cell_at Data slot subslot s.cells)) (changed Data slot subslot (with_good value) s) s) was
         ∙ (image_if (has_size (length value) (cell_at Data slot subslot (image_given setup moves).cells))
-        ∙ ap (λ (cs : List Cell). image_with setup cs) (cells_given slot subslot value values (places_for setup) (once slot subslot))))
+        ∙ ap (λ (cs : List Cell). image_with setup cs) (cells_given slot subslot value (λ place. last_given place None moves) (places_for setup) (once slot subslot))))
 
 -- behind a move
 pub given_more : (setup : Setup) → ArePlacedOnce setup → (moves : List Move) (live : Live) → live.cyclic.shown ≡ image_given setup moves → (one : Move)
@@ -102,7 +99,7 @@ first_image setup = ap (λ (cs : List Cell). image_with setup cs) (first_cells (
 
 -- ---- what is shown of it
 
-IsFit : Place → Option (List ℕ) → Type 0
+abbrev IsFit : Place → Option (List ℕ) → Type 0
 IsFit place None = Unit {0}
 IsFit place (Some value) = (place.size == length value + 1) ≡ true
 

@@ -56,7 +56,7 @@ IsReadAs meaning rest (Ok found) =
     (found.destination ≡ meaning.destination) × (found.source ≡ meaning.source) × ((content_under (type_of meaning.content)).read rest ≡ Ok found.content)
 IsReadAs meaning rest (Err fault) = Unit {0}
 
-headed : LinkHeader → Result Content FrameFault → Result (LinkHeader × Content) FrameFault
+abbrev headed : LinkHeader → Result Content FrameFault → Result (LinkHeader × Content) FrameFault
 headed header r = r >>= λ y. Ok (header, y)
 
 made : (meaning : Meaning) (rest : List ℕ) (r : Result Content FrameFault) → (content_under (type_of meaning.content)).read rest ≡ r
@@ -98,7 +98,7 @@ datagram_other bytes content e =
     other_made {A = (InternetHeader × List ℕ) × (UdpHeader × List ℕ)} ((loose packet).read bytes) (λ x. datagram_in x) content (λ x. tt) e
 
 -- the octets of a FrameID and what is behind them
-number_if : ℕ → List ℕ → Bool → Result (ℕ × List ℕ) FrameFault
+abbrev number_if : ℕ → List ℕ → Bool → Result (ℕ × List ℕ) FrameFault
 number_if frame_id behind b = cond b (Err TooShort) (Ok (big_number 2 (big_bytes 2 frame_id ++ behind), drop 2 (big_bytes 2 frame_id ++ behind)))
 
 real_time_if : (frame_id : ℕ) (behind : List ℕ) (content : Content) (b : Bool) → ((number_if frame_id behind b >>= λ x. Ok (x.0, x.1)) >>= λ x. Ok (RealTime x.0 x.1)) ≡ Ok content

@@ -42,15 +42,18 @@ use Rattle.controller_core.specs.declared.state.State.TheVariants.{Looking, Addr
 use Rattle.controller_core.specs.Alarms.{is_alarm}
 use Rattle.controller_core.specs.Answers.{is_addressed, is_answer, is_found, is_ready, is_right, is_set_answer}
 use Rattle.controller_core.specs.Connect.{found_in, is_whole, nothing}
-use Rattle.controller_core.specs.Machine.{Turn, first, given, acks_in, answered, behind_data, brought, called, come, connected, decided, done, flow_later, flowed, is_again, judged, noticed, readied, ready_in, related_by, requests_of, responded, stopped, taken, ticked, turn_of, turned, where_due}
+use Rattle.controller_core.specs.Machine.{Turn, acks_in, answered, asking, behind_data, brought, called, come, connected, decided, done, flow_later, flowed, given, is_again, judged, noticed, readied, ready_in, related_by, requests_of, responded, stays, stopped, taken, ticked, turn_of, turned, where_due}
 use Rattle.controller_core.specs.State.{Live}
 use Rattle.exchange_ends.proofs.Brings.{IsAddressed, IsNow, IsWay}
 
 -- a controller that sends to stations, with an image of so many octets
-pub record IsKept (size : ℕ) (live : Live) : Type 0 where
-  pub device : IsMac live.device
-  pub way : IsWay live.cyclic.route
-  pub size : live.cyclic.shown.data_length ≡ size
+pub record IsKeptAs (size : ℕ) (station : Mac) (route : Route) (shown : Image) : Type 0 where
+  pub device : IsMac station
+  pub way : IsWay route
+  pub size : shown.data_length ≡ size
+
+abbrev pub IsKept : ℕ → Live → Type 0
+IsKept size live = IsKeptAs size live.device live.cyclic.route live.cyclic.shown
 
 -- a message of it
 abbrev pub IsSaid : Image → Sent → Type 0
@@ -89,49 +92,55 @@ module _ (size : ℕ) where
   either shown true one other first second = first
   either shown false one other first second = second
 
+  stays_tells : (live : Live) → IsKept size live → Tells live.cyclic.shown (stays live)
+  stays_tells live k = record { told = tt; kept = k; same = refl }
+
+  asking_tells : (phase : State) (request : Request) (live : Live) → IsKept size live → Tells live.cyclic.shown (asking phase request live)
+  asking_tells phase request live k = record { told = ((tt, k.device), tt); kept = k; same = refl }
+
   stopped_tells : (setup : Setup) (live : Live) (phase : State) → IsKept size live → Tells live.cyclic.shown (stopped setup live phase)
-  stopped_tells setup live Looking k = record { told = tt; same = refl; kept = record { device = k.device; way = k.way; size = k.size } }
-  stopped_tells setup live Addressing k = record { told = tt; same = refl; kept = record { device = k.device; way = k.way; size = k.size } }
-  stopped_tells setup live Connecting k = record { told = ((tt, k.device), tt); same = refl; kept = record { device = k.device; way = k.way; size = k.size } }
-  stopped_tells setup live Writing k = record { told = ((tt, k.device), tt); same = refl; kept = record { device = k.device; way = k.way; size = k.size } }
-  stopped_tells setup live Ending k = record { told = ((tt, k.device), tt); same = refl; kept = record { device = k.device; way = k.way; size = k.size } }
-  stopped_tells setup live Waiting k = record { told = ((tt, k.device), tt); same = refl; kept = record { device = k.device; way = k.way; size = k.size } }
-  stopped_tells setup live Exchanging k = record { told = ((tt, k.device), tt); same = refl; kept = record { device = k.device; way = k.way; size = k.size } }
-  stopped_tells setup live (Ended why) k = record { told = tt; same = refl; kept = record { device = k.device; way = k.way; size = k.size } }
+  stopped_tells setup live Looking k = stays_tells _ k
+  stopped_tells setup live Addressing k = stays_tells _ k
+  stopped_tells setup live Connecting k = asking_tells _ _ _ k
+  stopped_tells setup live Writing k = asking_tells _ _ _ k
+  stopped_tells setup live Ending k = asking_tells _ _ _ k
+  stopped_tells setup live Waiting k = asking_tells _ _ _ k
+  stopped_tells setup live Exchanging k = asking_tells _ _ _ k
+  stopped_tells setup live (Ended why) k = stays_tells _ k
 
   answered_tells : (setup : Setup) (live : Live) (source : Mac) (answer : Answered) (phase : State) → IsMac source → IsKept size live → Tells live.cyclic.shown (answered setup live source answer phase)
   answered_tells setup live source answer Looking six k =
-      either live.cyclic.shown (is_found setup.plan answer) _ _ (either live.cyclic.shown (is_right setup.plan answer) _ _ (either live.cyclic.shown (is_addressed setup.plan answer) _ _ (record { told = ((tt, six), tt); same = refl; kept = record { device = six; way = k.way; size = k.size } }) (record { told = ((tt, six), tt); same = refl; kept = record { device = six; way = k.way; size = k.size } })) (record { told = tt; same = refl; kept = record { device = k.device; way = k.way; size = k.size } })) (record { told = tt; same = refl; kept = record { device = k.device; way = k.way; size = k.size } })
-  answered_tells setup live source answer Addressing six k = either live.cyclic.shown (is_set_answer answer) _ _ (either live.cyclic.shown (is_agreed answer) _ _ (record { told = ((tt, k.device), tt); same = refl; kept = record { device = k.device; way = k.way; size = k.size } }) (record { told = tt; same = refl; kept = record { device = k.device; way = k.way; size = k.size } })) (record { told = tt; same = refl; kept = record { device = k.device; way = k.way; size = k.size } })
-  answered_tells setup live source answer Connecting six k = record { told = tt; same = refl; kept = record { device = k.device; way = k.way; size = k.size } }
-  answered_tells setup live source answer Writing six k = record { told = tt; same = refl; kept = record { device = k.device; way = k.way; size = k.size } }
-  answered_tells setup live source answer Ending six k = record { told = tt; same = refl; kept = record { device = k.device; way = k.way; size = k.size } }
-  answered_tells setup live source answer Waiting six k = record { told = tt; same = refl; kept = record { device = k.device; way = k.way; size = k.size } }
-  answered_tells setup live source answer Exchanging six k = record { told = tt; same = refl; kept = record { device = k.device; way = k.way; size = k.size } }
-  answered_tells setup live source answer (Ended why) six k = record { told = tt; same = refl; kept = record { device = k.device; way = k.way; size = k.size } }
+      either live.cyclic.shown (is_found setup.plan answer) _ _ (either live.cyclic.shown (is_right setup.plan answer) _ _ (either live.cyclic.shown (is_addressed setup.plan answer) _ _ (asking_tells _ _ _ (record { device = six; way = k.way; size = k.size })) (asking_tells _ _ _ (record { device = six; way = k.way; size = k.size }))) (stays_tells _ k)) (stays_tells _ k)
+  answered_tells setup live source answer Addressing six k = either live.cyclic.shown (is_set_answer answer) _ _ (either live.cyclic.shown (is_agreed answer) _ _ (asking_tells _ _ _ k) (stays_tells _ k)) (stays_tells _ k)
+  answered_tells setup live source answer Connecting six k = stays_tells _ k
+  answered_tells setup live source answer Writing six k = stays_tells _ k
+  answered_tells setup live source answer Ending six k = stays_tells _ k
+  answered_tells setup live source answer Waiting six k = stays_tells _ k
+  answered_tells setup live source answer Exchanging six k = stays_tells _ k
+  answered_tells setup live source answer (Ended why) six k = stays_tells _ k
 
   related_tells : (setup : Setup) (live : Live) (output : Option ℕ) → IsKept size live → Tells live.cyclic.shown (related_by setup live output)
   related_tells setup live (Some frame_id) k = record {
     told = ((tt, k.device), tt);
     same = refl; kept = record { device = k.device; way = record { partner = k.device; sent_tag = omega arith; alarm_tag = omega arith }; size = k.size };
   }
-  related_tells setup live None k = record { told = tt; same = refl; kept = record { device = k.device; way = k.way; size = k.size } }
+  related_tells setup live None k = stays_tells _ k
 
   connected_tells : (setup : Setup) (live : Live) (read : Option Found) → IsKept size live → Tells live.cyclic.shown (connected setup live read)
   connected_tells setup live (Some found_is) k =
-      either live.cyclic.shown (is_whole found_is) _ _ (either live.cyclic.shown found_is.differs _ _ (record { told = ((tt, k.device), tt); same = refl; kept = record { device = k.device; way = k.way; size = k.size } }) (related_tells setup live found_is.output k)) (record { told = tt; same = refl; kept = record { device = k.device; way = k.way; size = k.size } })
-  connected_tells setup live None k = record { told = tt; same = refl; kept = record { device = k.device; way = k.way; size = k.size } }
+      either live.cyclic.shown (is_whole found_is) _ _ (either live.cyclic.shown found_is.differs _ _ (asking_tells _ _ _ k) (related_tells setup live found_is.output k)) (stays_tells _ k)
+  connected_tells setup live None k = stays_tells _ k
 
   done_tells : (setup : Setup) (live : Live) (blocks : List ℕ) (request : Request) → IsKept size live → Tells live.cyclic.shown (done setup live blocks request)
-  done_tells setup live blocks asks.Identify k = record { told = tt; same = refl; kept = record { device = k.device; way = k.way; size = k.size } }
-  done_tells setup live blocks asks.Address k = record { told = tt; same = refl; kept = record { device = k.device; way = k.way; size = k.size } }
+  done_tells setup live blocks asks.Identify k = stays_tells _ k
+  done_tells setup live blocks asks.Address k = stays_tells _ k
   done_tells setup live blocks asks.Connect k = connected_tells setup live (found_in 400 blocks nothing) k
-  done_tells setup live blocks (asks.Write number) k = record { told = ((tt, k.device), tt); same = refl; kept = record { device = k.device; way = k.way; size = k.size } }
-  done_tells setup live blocks asks.PrmEnd k = record { told = tt; same = refl; kept = record { device = k.device; way = k.way; size = k.size } }
-  done_tells setup live blocks (asks.Release sequence) k = record { told = tt; same = refl; kept = record { device = k.device; way = k.way; size = k.size } }
+  done_tells setup live blocks (asks.Write number) k = asking_tells _ _ _ k
+  done_tells setup live blocks asks.PrmEnd k = stays_tells _ k
+  done_tells setup live blocks (asks.Release sequence) k = stays_tells _ k
 
   judged_tells : (setup : Setup) (live : Live) (response : Response) (request : Request) → IsKept size live → Tells live.cyclic.shown (judged setup live response request)
-  judged_tells setup live response request k = either live.cyclic.shown (is_done response.status) _ _ (done_tells setup live response.blocks request k) (record { told = tt; same = refl; kept = record { device = k.device; way = k.way; size = k.size } })
+  judged_tells setup live response request k = either live.cyclic.shown (is_done response.status) _ _ (done_tells setup live response.blocks request k) (stays_tells _ k)
 
   decided_tells : (setup : Setup) (live : Live) (response : Response) (request : Request) → IsKept size live → Tells live.cyclic.shown (decided setup live response request)
   decided_tells setup live response asks.Identify k = judged_tells setup live response asks.Identify k
@@ -139,36 +148,36 @@ module _ (size : ℕ) where
   decided_tells setup live response asks.Connect k = judged_tells setup live response asks.Connect k
   decided_tells setup live response (asks.Write number) k = judged_tells setup live response (asks.Write number) k
   decided_tells setup live response asks.PrmEnd k = judged_tells setup live response asks.PrmEnd k
-  decided_tells setup live response (asks.Release sequence) k = record { told = tt; same = refl; kept = record { device = k.device; way = k.way; size = k.size } }
+  decided_tells setup live response (asks.Release sequence) k = stays_tells _ k
 
   responded_tells : (setup : Setup) (live : Live) (response : Response) (asked : Option Request) → IsKept size live → Tells live.cyclic.shown (responded setup live response asked)
-  responded_tells setup live response (Some request) k = either live.cyclic.shown (is_answer setup request response.header) _ _ (decided_tells setup live response request k) (record { told = tt; same = refl; kept = record { device = k.device; way = k.way; size = k.size } })
-  responded_tells setup live response None k = record { told = tt; same = refl; kept = record { device = k.device; way = k.way; size = k.size } }
+  responded_tells setup live response (Some request) k = either live.cyclic.shown (is_answer setup request response.header) _ _ (decided_tells setup live response request k) (stays_tells _ k)
+  responded_tells setup live response None k = stays_tells _ k
 
   readied_tells : (live : Live) (caller : Caller) (call : Call) (block : ControlBlock) (phase : State) → IsMac caller.mac → IsKept size live → Tells live.cyclic.shown (readied live caller call block phase)
-  readied_tells live caller call block Looking from k = record { told = tt; same = refl; kept = record { device = k.device; way = k.way; size = k.size } }
-  readied_tells live caller call block Addressing from k = record { told = tt; same = refl; kept = record { device = k.device; way = k.way; size = k.size } }
-  readied_tells live caller call block Connecting from k = record { told = tt; same = refl; kept = record { device = k.device; way = k.way; size = k.size } }
-  readied_tells live caller call block Writing from k = record { told = tt; same = refl; kept = record { device = k.device; way = k.way; size = k.size } }
-  readied_tells live caller call block Ending from k = record { told = ((tt, from), tt); same = refl; kept = record { device = k.device; way = k.way; size = k.size } }
-  readied_tells live caller call block Waiting from k = record { told = ((tt, from), tt); same = refl; kept = record { device = k.device; way = k.way; size = k.size } }
-  readied_tells live caller call block Exchanging from k = record { told = ((tt, from), tt); same = refl; kept = record { device = k.device; way = k.way; size = k.size } }
-  readied_tells live caller call block (Ended why) from k = record { told = tt; same = refl; kept = record { device = k.device; way = k.way; size = k.size } }
+  readied_tells live caller call block Looking from k = stays_tells _ k
+  readied_tells live caller call block Addressing from k = stays_tells _ k
+  readied_tells live caller call block Connecting from k = stays_tells _ k
+  readied_tells live caller call block Writing from k = stays_tells _ k
+  readied_tells live caller call block Ending from k = record { told = ((tt, from), tt); same = refl; kept = k }
+  readied_tells live caller call block Waiting from k = record { told = ((tt, from), tt); same = refl; kept = k }
+  readied_tells live caller call block Exchanging from k = record { told = ((tt, from), tt); same = refl; kept = k }
+  readied_tells live caller call block (Ended why) from k = stays_tells _ k
 
   called_tells : (setup : Setup) (live : Live) (caller : Caller) (call : Call) (block : Option ControlBlock) → IsMac caller.mac → IsKept size live → Tells live.cyclic.shown (called setup live caller call block)
-  called_tells setup live caller call (Some block) from k = either live.cyclic.shown (is_ready setup block) _ _ (readied_tells live caller call block live.phase from k) (record { told = tt; same = refl; kept = record { device = k.device; way = k.way; size = k.size } })
-  called_tells setup live caller call None from k = record { told = tt; same = refl; kept = record { device = k.device; way = k.way; size = k.size } }
+  called_tells setup live caller call (Some block) from k = either live.cyclic.shown (is_ready setup block) _ _ (readied_tells live caller call block live.phase from k) (stays_tells _ k)
+  called_tells setup live caller call None from k = stays_tells _ k
 
   taken_tells : (live : Live) (alarm : AlarmNotification) (as_is : Taken) → IsKept size live → Tells live.cyclic.shown (taken live alarm as_is)
-  taken_tells live alarm New k = record { told = ((tt, k.way), ((tt, k.way), tt)); same = refl; kept = record { device = k.device; way = k.way; size = k.size } }
-  taken_tells live alarm Again k = record { told = ((tt, k.way), tt); same = refl; kept = record { device = k.device; way = k.way; size = k.size } }
-  taken_tells live alarm Refused k = record { told = ((tt, k.way), tt); same = refl; kept = record { device = k.device; way = k.way; size = k.size } }
+  taken_tells live alarm New k = record { told = ((tt, k.way), ((tt, k.way), tt)); same = refl; kept = k }
+  taken_tells live alarm Again k = record { told = ((tt, k.way), tt); same = refl; kept = k }
+  taken_tells live alarm Refused k = record { told = ((tt, k.way), tt); same = refl; kept = k }
 
   noticed_tells : (live : Live) (told : ToController) → IsKept size live → Tells live.cyclic.shown (noticed live told)
-  noticed_tells live (notice.Data number alarm) k = taken_tells (behind_data live number) alarm (taken_as live.alarms.seen number) (record { device = k.device; way = k.way; size = k.size })
-  noticed_tells live (notice.Ack number) k = record { told = tt; same = refl; kept = record { device = k.device; way = k.way; size = k.size } }
-  noticed_tells live notice.Nack k = record { told = tt; same = refl; kept = record { device = k.device; way = k.way; size = k.size } }
-  noticed_tells live notice.Abort k = record { told = tt; same = refl; kept = record { device = k.device; way = k.way; size = k.size } }
+  noticed_tells live (notice.Data number alarm) k = taken_tells (behind_data live number) alarm (taken_as live.alarms.seen number) k
+  noticed_tells live (notice.Ack number) k = stays_tells _ k
+  noticed_tells live notice.Nack k = stays_tells _ k
+  noticed_tells live notice.Abort k = stays_tells _ k
 
   -- a cyclic frame changes neither the route nor what is sent
   read_keeps : (cyclic : Cyclic) (read : Result (List ℕ × CyclicTail) ShortFrame)
@@ -214,12 +223,12 @@ module _ (size : ℕ) where
       by_standing false = refl
 
   turned_tells : (setup : Setup) (live : Live) (heard : Heard) → IsSix heard → IsKept size live → Tells live.cyclic.shown (turned setup live heard)
-  turned_tells setup live Nothing six k = record { told = tt; same = refl; kept = record { device = k.device; way = k.way; size = k.size } }
+  turned_tells setup live Nothing six k = stays_tells _ k
   turned_tells setup live (Answers source answer) six k = answered_tells setup live source answer live.phase six k
   turned_tells setup live (Responds response) six k = responded_tells setup live response live.asked k
   turned_tells setup live (Calls caller call) six k = called_tells setup live caller call (ready_in call) six k
   turned_tells setup live (Comes source frame_id body) six k = record { told = tt; same = come_same live source frame_id body; kept = come_keeps live source frame_id body k }
-  turned_tells setup live (Alarms source header told) six k = either live.cyclic.shown (live.stands && is_alarm live.cyclic.route source header) _ _ (noticed_tells live told k) (record { told = tt; same = refl; kept = record { device = k.device; way = k.way; size = k.size } })
+  turned_tells setup live (Alarms source header told) six k = either live.cyclic.shown (live.stands && is_alarm live.cyclic.route source header) _ _ (noticed_tells live told k) (stays_tells _ k)
 
   -- ---- units
 
@@ -240,7 +249,7 @@ module _ (size : ℕ) where
   acks_tell shown live None way = tt
 
   flowed_tells : (live : Live) (is_request : Bool) (tick : Tick) (ending : Option Abort) → IsKept size live → Tells live.cyclic.shown (flowed live is_request tick ending)
-  flowed_tells live is_request tick (Some reason) k = record { told = ((tt, k.way), tt); same = refl; kept = record { device = k.device; way = k.way; size = k.size } }
+  flowed_tells live is_request tick (Some reason) k = record { told = ((tt, k.way), tt); same = refl; kept = k }
   flowed_tells live is_request tick None k =
       let shown = live.cyclic.shown in
       record {
@@ -255,8 +264,8 @@ module _ (size : ℕ) where
 
   ticked_tells : (live : Live) → IsKept size live → Tells live.cyclic.shown (ticked live)
   ticked_tells live k =
-      either live.cyclic.shown live.stands _ _ (flowed_tells (flow_later live) (is_again live) (brought live) (brought live).ending (record { device = k.device; way = k.way; size = k.size }))
-      (record { told = due_tells live.cyclic.shown (is_again live) (requests_of live.device live.asked) (request_tells live.cyclic.shown live.device live.asked k.device); same = refl; kept = record { device = k.device; way = k.way; size = k.size } })
+      either live.cyclic.shown live.stands _ _ (flowed_tells (flow_later live) (is_again live) (brought live) (brought live).ending k)
+      (record { told = due_tells live.cyclic.shown (is_again live) (requests_of live.device live.asked) (request_tells live.cyclic.shown live.device live.asked k.device); same = refl; kept = k })
 
   given_keeps : (live : Live) (slot subslot : ℕ) (value : List ℕ) → IsKept size live → IsKept size (given live slot subslot value)
   given_keeps live slot subslot value k = by_size (has_size (length value) (cell_at Data slot subslot live.cyclic.shown.cells))
@@ -264,8 +273,8 @@ module _ (size : ℕ) where
       by_size : (b : Bool) → IsKept size (record live {
         cyclic = unwrap_or (cond b (Some (record live.cyclic { shown = changed Data slot subslot (with_good value) live.cyclic.shown })) None) live.cyclic;
       })
-      by_size true = record { device = k.device; way = k.way; size = k.size }
-      by_size false = record { device = k.device; way = k.way; size = k.size }
+      by_size true = k
+      by_size false = k
 
   pub turn_tells : (setup : Setup) (live : Live) (event : Event) → IsSixAt setup event → IsKept size live → Tells (shown_behind live event) (turn_of setup live event)
   turn_tells setup live (Frame bytes) six k = turned_tells setup live (heard_of setup.plan.controller bytes.items) six k

@@ -163,10 +163,8 @@ module _ (slot subslot : ℕ) (value : List ℕ) where
         at_place : (cell place).place ≡ place
         at_place = kind_place place.kind place (given place)
 
-        abbrev Goal : Type 0
-        Goal = behind (fits_in (place ∷ places)) (place ∷ places) ≡ cells_of now (place ∷ places)
-
-        by_test : (b : Bool) → is_there slot subslot place ≡ b → cond b 1 0 + times_listed Data slot subslot places ≤ 1 → Goal
+        by_test : (b : Bool) → is_there slot subslot place ≡ b → cond b 1 0 + times_listed Data slot subslot places ≤ 1
+            → behind (fits_in (place ∷ places)) (place ∷ places) ≡ cells_of now (place ∷ places)
         by_test true e few =
             let found : fits_in (place ∷ places) ≡ (place.size == length value + 1) =
             ap (λ (b : Bool). has_size (length value) (cond b (Some (cell place)) (cell_at Data slot subslot (cells_of given places)))) (ap (λ (p : Place). is_there slot subslot p) at_place ∙ e)

@@ -1,5 +1,5 @@
 -- The outputs of a device, over the worlds of a plan.
-use Rattle.std.specs.Prelude.{◌≡◌, Bool, false, List, [], ◌∷◌, map, Option, Some, None, is_some, Result, Ok, Err, if◌then◌else◌}
+use Rattle.std.specs.Prelude.{◌≡◌, ℕ, Bool, false, List, [], ◌∷◌, map, Option, Some, None, is_some, Result, Ok, Err, if◌then◌else◌}
 use Rattle.pn_values.specs.declared.identity.Identity.{Identity}
 use Rattle.connect_blocks.specs.declared.iocr.IocrType.TheVariants.{Output}
 use Rattle.cyclic_data.specs.declared.tail.CyclicTail.{CyclicTail}
