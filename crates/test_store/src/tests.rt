@@ -20,7 +20,10 @@ type Stored<'a, const S: usize> = Journal<Lent<'a, MemoryFlash<S>>, S>;
 /// The journal that a flash keeps.
 #[inline(never)]
 fn start<const S: usize>(flash: &mut MemoryFlash<S>) -> Result<Stored<'_, S>, BootFault> {
-    Journal::boot(Lent::new(flash)).map_err(|refused| refused.0)
+    match Journal::boot(Lent::new(flash)) {
+        Ok(journal) => Ok(journal),
+        Err((fault, _)) => Err(fault),
+    }
 }
 
 /// A name, permanent.

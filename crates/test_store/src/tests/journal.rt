@@ -174,7 +174,10 @@ fn outlives_an_erase(rt: &impl Abort, mask: [u8; 8]) -> Result<(), Fail> {
     assert!(rt; cut, "at {mask:?}");
     drop(journal);
     let without = start(&mut flash);
-    assert!(rt; matches!(without, Err(BootFault::FlashFault)), "at {mask:?}");
+    assert!(rt;
+        matches!(without, Err(BootFault::FlashFault)),
+        "at {mask:?}"
+    );
     drop(without);
     flash.power_up();
     is_left(rt, &mut flash, b"pump-2")
@@ -206,11 +209,7 @@ const FOREIGN: [(Image, Image, &str); 12] = [
         All(0xFF),
         "the generation 0",
     ),
-    (
-        Base(b"PNJ\x02\xFF\xFE\x06pump_1", 0),
-        All(0xFF),
-        "no name",
-    ),
+    (Base(b"PNJ\x02\xFF\xFE\x06pump_1", 0), All(0xFF), "no name"),
     (
         Base(b"PNJ\x02\xFF\xFE\xF1pump-1", 0),
         All(0xFF),
@@ -233,11 +232,7 @@ const FOREIGN: [(Image, Image, &str); 12] = [
         All(0xFF),
         "a slot with no name",
     ),
-    (
-        Slot(FIRST, &I_AND_M_4),
-        All(0xFF),
-        "an I&M4 that is short",
-    ),
+    (Slot(FIRST, &I_AND_M_4), All(0xFF), "an I&M4 that is short"),
 ];
 
 #[test]
