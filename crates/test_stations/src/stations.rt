@@ -1,10 +1,12 @@
 //! The station, over the smallest flash, and frames that were worked out by hand.
 use arrayvec::ArrayVec;
 use demo_station::identity;
-use device_core::{Device, Event};
+use device_core::{Device, Event, Note};
 use flash_model::{Flash, FlashFault, MemoryFlash, Sector};
 use frame_codec::{Bytes, Frame, Outbox};
 use pn_values::{Real, RealModule, RealSubmodule};
+use std::fmt::Debug;
+use std::process::Abort;
 
 /// A device over the smallest flash.
 pub type Station = Device<MemoryFlash<768>, 768>;
@@ -156,4 +158,14 @@ pub fn write_last(
     flash.program(Sector::First, 511, &[0])?;
     flash.program(Sector::First, 512, &[8, 0])?;
     flash.program(Sector::First, 767, &[0])
+}
+
+/// Two values are the same.
+pub fn same<T: PartialEq + Debug>(rt: &impl Abort, left: &T, right: &T) {
+    assert_eq!(rt; *left, *right);
+}
+
+/// What a station makes of an event. A test hands each over to this function, as what a step promises is then read here alone.
+pub fn step(device: &mut Station, event: &Event, outbox: &mut Outbox) -> Note {
+    device.step(event, outbox)
 }
