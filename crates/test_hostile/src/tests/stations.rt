@@ -77,8 +77,8 @@ fn is_alike(rt: &impl Abort, (device, other): (&mut Station, &mut Station), even
     let note = step(device, event, &mut outbox);
     same(rt, &note, &step(other, event, &mut wanted));
     same(rt, &outbox.len(), &wanted.len());
-    for (sent, same) in outbox.as_slice().iter().zip(wanted.as_slice()) {
-        same(rt, &sent.as_slice(), &same.as_slice());
+    for (sent, other) in outbox.as_slice().iter().zip(wanted.as_slice()) {
+        same(rt, &sent.as_slice(), &other.as_slice());
     }
     same(rt, &device.phase(), &other.phase());
     same(rt, &device.output(2, 1), &other.output(2, 1));
