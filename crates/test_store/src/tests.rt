@@ -34,29 +34,29 @@ fn set(name: &[u8]) -> Result<Command, Fail> {
     })
 }
 
-/// What a commit of this name is answered.
+/// What a commit of this command is answered.
 #[inline(never)]
 fn commit<const S: usize>(
     journal: &mut Stored<'_, S>,
-    name: &[u8],
-) -> Result<Result<(), CommitFault>, Fail> {
-    Ok(journal.commit(&set(name)?))
+    command: &Command,
+) -> Result<(), CommitFault> {
+    journal.commit(command)
 }
 
 /// Stores this name.
 fn keep<const S: usize>(journal: &mut Stored<'_, S>, name: &[u8]) -> Result<(), Fail> {
-    commit(journal, name)??;
+    commit(journal, &set(name)?)?;
     Ok(())
 }
 
-/// Whether a commit of this name is stopped by a loss of power in the flash call behind `after` further ones.
+/// Whether a commit of this command is stopped by a loss of power in the flash call behind `after` further ones.
 fn is_cut<const S: usize>(
     journal: &mut Stored<'_, S>,
     (after, mask): (u32, [u8; 8]),
-    name: &[u8],
-) -> Result<bool, Fail> {
+    command: &Command,
+) -> bool {
     journal.arm(Order::Cut { after, mask });
-    Ok(matches!(commit(journal, name)?, Err(CommitFault::FlashFault)))
+    matches!(commit(journal, command), Err(CommitFault::FlashFault))
 }
 
 /// This name is stored.
@@ -65,7 +65,7 @@ fn is_named<const S: usize>(rt: &impl Abort, journal: &Stored<'_, S>, name: &[u8
 }
 
 /// A start on this flash finds this name.
-fn is_left<const S: usize>(
+fn finds<const S: usize>(
     rt: &impl Abort,
     flash: &mut MemoryFlash<S>,
     name: &[u8],
@@ -75,8 +75,8 @@ fn is_left<const S: usize>(
     Ok(())
 }
 
-/// These octets lie at a place of a sector.
-fn lie<const S: usize>(
+/// A sector holds these octets at a place.
+fn holds<const S: usize>(
     rt: &impl Abort,
     flash: &MemoryFlash<S>,
     (sector, place): (Sector, usize),

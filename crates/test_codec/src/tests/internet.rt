@@ -148,8 +148,8 @@ fn writes_address_resolution(rt: HostRuntime) {
     assert!(rt; written_reply().as_slice() == padded.as_slice());
 }
 
-/// These octets lie at a place of a frame.
-fn lie(rt: &impl Abort, frame: &Frame, place: usize, octets: &[u8]) {
+/// A frame holds these octets at a place.
+fn holds(rt: &impl Abort, frame: &Frame, place: usize, octets: &[u8]) {
     let rest = frame.as_slice().get(place..).unwrap_or(&[]);
     assert_eq!(rt; rest.get(..octets.len()), Some(octets), "at {place}");
 }
@@ -158,9 +158,9 @@ fn lie(rt: &impl Abort, frame: &Frame, place: usize, octets: &[u8]) {
 fn writes_a_header_of_the_internet(rt: HostRuntime) {
     let body = [7; 100];
     let frame = written(&rt, None, &body);
-    lie(&rt, &frame, 12, &[0x08, 0x00]);
-    lie(&rt, &frame, 14, &HEADER);
-    lie(&rt, &frame, 34, &[0x88, 0x94, 0xC0, 0x00, 0x00, 0x6C]);
+    holds(&rt, &frame, 12, &[0x08, 0x00]);
+    holds(&rt, &frame, 14, &HEADER);
+    holds(&rt, &frame, 34, &[0x88, 0x94, 0xC0, 0x00, 0x00, 0x6C]);
     assert!(rt; frame.as_slice().get(42..) == Some(body.as_slice()));
 }
 
@@ -183,7 +183,7 @@ fn reads_what_it_writes(rt: HostRuntime) {
 fn sends_all_ones_for_no_checksum(rt: HostRuntime) {
     // The complement of the sum of this datagram is 0.
     let frame = written(&rt, None, &[0x35, 0xF1]);
-    lie(&rt, &frame, 40, &[0xFF, 0xFF, 0x35, 0xF1]);
+    holds(&rt, &frame, 40, &[0xFF, 0xFF, 0x35, 0xF1]);
 }
 
 #[test]

@@ -19,8 +19,8 @@ pub(crate) const PHASES: [Option<Phase>; 4] = [
 ];
 
 /// A station with an address, in this phase of a relation that these blocks of a Connect made.
-pub(crate) fn asked_for(blocks: &[u8], phase: Option<Phase>) -> Option<Station> {
-    let mut device = station(plugged(), MemoryFlash::blank())?;
+pub(crate) fn asked_for(blocks: &[u8], phase: Option<Phase>) -> Result<Station, Fail> {
+    let mut device = station(plugged(), MemoryFlash::blank()).ok_or("starts")?;
     let mut outbox = Outbox::new();
     let frames = [
         call(CONNECT, 0, blocks),
@@ -34,14 +34,24 @@ pub(crate) fn asked_for(blocks: &[u8], phase: Option<Phase>) -> Option<Station> 
         let _ = step(&mut device, &frame(bytes.as_slice()), &mut outbox);
     }
     if device.phase() == phase {
-        Some(device)
+        Ok(device)
     } else {
-        None
+        Err("is in another phase".into())
     }
 }
 
-pub(crate) fn at(phase: Option<Phase>) -> Option<Station> {
+pub(crate) fn at(phase: Option<Phase>) -> Result<Station, Fail> {
     asked_for(&BLOCKS, phase)
+}
+
+/// A station is in this phase of a relation.
+pub(crate) fn is_in(rt: &impl Abort, device: &Station, phase: Option<Phase>) {
+    same(rt, &device.phase(), &phase);
+}
+
+/// The front of a frame.
+pub(crate) fn front(bytes: &[u8], length: usize) -> Result<Bytes, Fail> {
+    Ok(octets(bytes.get(..length).ok_or("is longer")?))
 }
 
 /// The application raises an alarm of the module in slot 1.
@@ -57,8 +67,13 @@ pub(crate) fn is_noted(rt: &impl Abort, device: &mut Station, bytes: &Bytes, not
     same(rt, &outbox.len(), &0);
 }
 
+/// A station takes an event; what it sends is in the box.
+pub(crate) fn takes(rt: &impl Abort, device: &mut Station, event: &Event, outbox: &mut Outbox) {
+    same(rt, &step(device, event, outbox), &Note::Done);
+}
+
 /// Hands a call in. How many octets the one answer has, and its status.
-pub(crate) fn served(device: &mut Station, bytes: &Bytes) -> (usize, [u8; 4]) {
+fn served(device: &mut Station, bytes: &Bytes) -> (usize, [u8; 4]) {
     let mut outbox = Outbox::new();
     let _ = step(device, &frame(bytes.as_slice()), &mut outbox);
     let mut status = [0xFF; 4];
@@ -71,6 +86,16 @@ pub(crate) fn served(device: &mut Station, bytes: &Bytes) -> (usize, [u8; 4]) {
     }
 }
 
+/// The one answer to a call has so many octets, and this status.
+pub(crate) fn is_served(
+    rt: &impl Abort,
+    device: &mut Station,
+    bytes: &Bytes,
+    (length, status): (usize, [u8; 4]),
+) {
+    same(rt, &served(device, bytes), &(length, status));
+}
+
 /// Two stations answer an event alike, and show the same behind it.
 fn is_alike(rt: &impl Abort, (device, other): (&mut Station, &mut Station), event: &Event) {
     let (mut outbox, mut wanted) = (Outbox::new(), Outbox::new());
@@ -80,7 +105,7 @@ fn is_alike(rt: &impl Abort, (device, other): (&mut Station, &mut Station), even
     for (sent, other) in outbox.as_slice().iter().zip(wanted.as_slice()) {
         same(rt, &sent.as_slice(), &other.as_slice());
     }
-    same(rt, &device.phase(), &other.phase());
+    is_in(rt, device, other.phase());
     same(rt, &device.output(2, 1), &other.output(2, 1));
     same(
         rt,
@@ -89,15 +114,9 @@ fn is_alike(rt: &impl Abort, (device, other): (&mut Station, &mut Station), even
     );
 }
 
-/// A station that met broken frames goes on, through the rest of the start-up, an alarm and the end of its relation by silence, as one
-/// in this phase does that met none.
-pub(crate) fn is_untouched(
-    rt: &impl Abort,
-    mut device: Station,
-    phase: Option<Phase>,
-) -> Result<(), Fail> {
-    let mut other = at(phase).ok_or("starts")?;
-    let events = [
+/// The rest of the start-up of a relation, and what is exchanged in it.
+fn further_events() -> [Event; 13] {
+    [
         alarm(),
         frame(&ACK),
         frame(&ALARM_ACK),
@@ -111,14 +130,24 @@ pub(crate) fn is_untouched(
         frame(&ACK),
         frame(&ALARM_ACK),
         frame(&OUTPUTS),
-    ];
-    for event in &events {
+    ]
+}
+
+/// A station that met broken frames goes on, through the rest of the start-up, an alarm and the end of its relation by silence, as one
+/// in this phase does that met none.
+pub(crate) fn is_untouched(
+    rt: &impl Abort,
+    mut device: Station,
+    phase: Option<Phase>,
+) -> Result<(), Fail> {
+    let mut other = at(phase)?;
+    for event in &further_events() {
         is_alike(rt, (&mut device, &mut other), event);
     }
-    same(rt, &device.phase(), &Some(Phase::Exchanging));
+    is_in(rt, &device, Some(Phase::Exchanging));
     for _ in 0..97 {
         is_alike(rt, (&mut device, &mut other), &Event::Tick);
     }
-    same(rt, &device.phase(), &None);
+    is_in(rt, &device, None);
     Ok(())
 }

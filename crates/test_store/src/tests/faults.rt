@@ -1,6 +1,6 @@
 // Calls that fail while power stays. The bytes were computed by hand from the rule of a torn call.
 use super::flash::{SIZE, erases, is_all, programs, reads};
-use super::{is_named, lie};
+use super::{holds, is_named};
 use flash_model::{Flash, FlashFault, Lent, MemoryFlash, Order, Sector};
 use settings_journal::{BootFault, Journal};
 use std::process::Abort;
@@ -12,7 +12,7 @@ fn a_fault_tears_one_program_call(rt: HostRuntime) {
     let failed = Err(FlashFault);
     flash.fault(0, [0x55; 8]);
     programs(&rt, &mut flash, (Sector::First, 512), &[0x00, 0x80], failed);
-    lie(&rt, &flash, (Sector::First, 511), &[0xFF, 0xAA, 0xAA, 0xFF]);
+    holds(&rt, &flash, (Sector::First, 511), &[0xFF, 0xAA, 0xAA, 0xFF]);
     assert!(rt; !flash.is_lost());
     programs(&rt, &mut flash, (Sector::First, 512), &[0x00], Ok(()));
     assert_eq!(rt; flash.failures(), 1);
@@ -39,7 +39,7 @@ fn a_fault_counts_program_and_erase_calls(rt: HostRuntime) {
     erases(&rt, &mut flash, Sector::First, Ok(()));
     programs(&rt, &mut flash, (Sector::First, 0), &[0x12], failed);
     programs(&rt, &mut flash, (Sector::First, 1), &[0x34], Ok(()));
-    lie(&rt, &flash, (Sector::First, 0), &[0x12, 0x34, 0xFF]);
+    holds(&rt, &flash, (Sector::First, 0), &[0x12, 0x34, 0xFF]);
 }
 
 #[test]

@@ -1,6 +1,6 @@
 // Calls whose bytes were computed by hand from the rule of a torn call: the old bit where the mask has a 0, the new one
 // where it has a 1.
-use super::lie;
+use super::holds;
 use flash_model::{Flash, FlashFault, Lent, MemoryFlash, Order, Sector};
 use std::process::Abort;
 
@@ -65,7 +65,7 @@ fn a_program_call_is_torn(rt: HostRuntime) {
     let failed = Err(FlashFault);
     programs(&rt, &mut flash, (Sector::First, 512), &written, failed);
     let left = [0xFF, 0xAA, 0xAB, 0xAA, 0xAA, 0xFF, 0xFF, 0xFA, 0xAF, 0xFF];
-    lie(&rt, &flash, (Sector::First, 511), &left);
+    holds(&rt, &flash, (Sector::First, 511), &left);
     assert!(rt; flash.is_lost());
     assert_eq!(rt; flash.failures(), 1);
 }
@@ -79,7 +79,7 @@ fn the_mask_repeats_from_the_start_of_the_range(rt: HostRuntime) {
     let left = [
         0xFF, 0xFF, 0x00, 0xF0, 0x0F, 0xFE, 0x7F, 0xAA, 0x55, 0xFF, 0x00, 0xFF,
     ];
-    lie(&rt, &flash, (Sector::Second, 514), &left);
+    holds(&rt, &flash, (Sector::Second, 514), &left);
 }
 
 #[test]
@@ -129,7 +129,7 @@ fn a_fuse_counts_program_and_erase_calls(rt: HostRuntime) {
     assert_eq!(rt; flash.failures(), 0);
     let failed = Err(FlashFault);
     programs(&rt, &mut flash, (Sector::First, 0), &[0x12], failed);
-    lie(&rt, &flash, (Sector::First, 0), &[0x12, 0xFF]);
+    holds(&rt, &flash, (Sector::First, 0), &[0x12, 0xFF]);
 }
 
 #[test]
@@ -143,7 +143,7 @@ fn arming_again_replaces_the_order(rt: HostRuntime) {
     let failed = Err(FlashFault);
     programs(&rt, &mut flash, (Sector::First, 0), &[0x00], Ok(()));
     programs(&rt, &mut flash, (Sector::First, 1), &[0x00], failed);
-    lie(&rt, &flash, (Sector::First, 0), &[0x00, 0x0F, 0xFF]);
+    holds(&rt, &flash, (Sector::First, 0), &[0x00, 0x0F, 0xFF]);
 }
 
 #[test]
@@ -199,5 +199,5 @@ fn what_is_done_to_a_lent_flash_is_done_to_it(rt: HostRuntime) {
     assert_eq!(rt; Flash::failures(&lent), 1);
     lent.power_up();
     assert!(rt; !lent.flash().is_lost());
-    lie(&rt, &flash, (Sector::Second, 100), &[0xFA]);
+    holds(&rt, &flash, (Sector::Second, 100), &[0xFA]);
 }

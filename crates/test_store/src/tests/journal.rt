@@ -1,5 +1,5 @@
 // Images whose bytes were worked out by hand from the layout, and calls at a flash in memory.
-use super::{Stored, commit, is_cut, is_left, is_named, keep, lie, start};
+use super::{Stored, commit, finds, holds, is_cut, is_named, keep, set, start};
 use flash_model::{FlashFault, MemoryFlash, Sector};
 use pn_values::{Command, ImValue, Padded};
 use settings_journal::{BootFault, CommitFault};
@@ -66,7 +66,7 @@ fn flash_of(first: Image, second: Image) -> MemoryFlash<SIZE> {
 
 /// Each byte of a sector is FF.
 fn is_blank(rt: &impl Abort, flash: &MemoryFlash<SIZE>, sector: Sector) {
-    lie(rt, flash, (sector, 0), &[0xFF; SIZE]);
+    holds(rt, flash, (sector, 0), &[0xFF; SIZE]);
 }
 
 #[test]
@@ -76,8 +76,8 @@ fn the_first_name_goes_to_the_first_sector(rt: HostRuntime) -> Result<(), Fail> 
     is_named(&rt, &journal, b"");
     keep(&mut journal, b"pump-1")?;
     drop(journal);
-    lie(&rt, &flash, (Sector::First, 0), FIRST);
-    lie(&rt, &flash, (Sector::First, 511), &[0x00]);
+    holds(&rt, &flash, (Sector::First, 0), FIRST);
+    holds(&rt, &flash, (Sector::First, 511), &[0x00]);
     is_blank(&rt, &flash, Sector::Second);
     Ok(())
 }
@@ -89,9 +89,9 @@ fn the_next_name_goes_into_the_slot(rt: HostRuntime) -> Result<(), Fail> {
     keep(&mut journal, b"pump-1")?;
     keep(&mut journal, b"pump-2")?;
     drop(journal);
-    lie(&rt, &flash, (Sector::First, 0), FIRST);
-    lie(&rt, &flash, (Sector::First, 512), b"\x01\x06pump-2");
-    lie(&rt, &flash, (Sector::First, 767), &[0x00]);
+    holds(&rt, &flash, (Sector::First, 0), FIRST);
+    holds(&rt, &flash, (Sector::First, 512), b"\x01\x06pump-2");
+    holds(&rt, &flash, (Sector::First, 767), &[0x00]);
     is_blank(&rt, &flash, Sector::Second);
     let again = start(&mut flash)?;
     is_named(&rt, &again, b"pump-2");
@@ -108,11 +108,11 @@ fn without_a_slot_the_next_name_goes_to_the_other_sector(rt: HostRuntime) -> Res
     keep(&mut journal, b"n2")?;
     keep(&mut journal, b"n3")?;
     drop(journal);
-    lie(&rt, &flash, (Sector::First, 0), b"PNJ\x02\xFF\xFE\x02n1");
-    lie(&rt, &flash, (Sector::Second, 0), b"PNJ\x02\xFF\xFD\x02n3");
-    lie(&rt, &flash, (Sector::Second, 511), &[0x00]);
-    lie(&rt, &flash, (Sector::Second, 512), &[0xFF; 256]);
-    is_left(&rt, &mut flash, b"n3")
+    holds(&rt, &flash, (Sector::First, 0), b"PNJ\x02\xFF\xFE\x02n1");
+    holds(&rt, &flash, (Sector::Second, 0), b"PNJ\x02\xFF\xFD\x02n3");
+    holds(&rt, &flash, (Sector::Second, 511), &[0x00]);
+    holds(&rt, &flash, (Sector::Second, 512), &[0xFF; 256]);
+    finds(&rt, &mut flash, b"n3")
 }
 
 #[test]
@@ -120,17 +120,17 @@ fn a_gate_that_half_opens_is_closed(rt: HostRuntime) -> Result<(), Fail> {
     let mut flash = MemoryFlash::<SIZE>::blank();
     let mut journal = start(&mut flash)?;
     keep(&mut journal, b"pump-1")?;
-    assert!(rt; is_cut(&mut journal, (1, [0x55; 8]), b"pump-2")?);
+    assert!(rt; is_cut(&mut journal, (1, [0x55; 8]), &set(b"pump-2")?));
     drop(journal);
-    lie(&rt, &flash, (Sector::First, 767), &[0xAA]);
+    holds(&rt, &flash, (Sector::First, 767), &[0xAA]);
     flash.power_up();
     let mut journal = start(&mut flash)?;
     is_named(&rt, &journal, b"pump-1");
     keep(&mut journal, b"pump-3")?;
     drop(journal);
     let base = b"PNJ\x02\xFF\xFD\x06pump-3";
-    lie(&rt, &flash, (Sector::Second, 0), base);
-    is_left(&rt, &mut flash, b"pump-3")
+    holds(&rt, &flash, (Sector::Second, 0), base);
+    finds(&rt, &mut flash, b"pump-3")
 }
 
 // A slot that no byte was programmed into is still the next one.
@@ -139,13 +139,13 @@ fn a_slot_that_stayed_blank_is_used(rt: HostRuntime) -> Result<(), Fail> {
     let mut flash = MemoryFlash::<SIZE>::blank();
     let mut journal = start(&mut flash)?;
     keep(&mut journal, b"pump-1")?;
-    assert!(rt; is_cut(&mut journal, (0, [0x00; 8]), b"pump-2")?);
+    assert!(rt; is_cut(&mut journal, (0, [0x00; 8]), &set(b"pump-2")?));
     drop(journal);
     flash.power_up();
     let mut journal = start(&mut flash)?;
     keep(&mut journal, b"pump-3")?;
     drop(journal);
-    lie(&rt, &flash, (Sector::First, 512), b"\x01\x06pump-3");
+    holds(&rt, &flash, (Sector::First, 512), b"\x01\x06pump-3");
     Ok(())
 }
 
@@ -153,8 +153,8 @@ fn a_slot_that_stayed_blank_is_used(rt: HostRuntime) -> Result<(), Fail> {
 fn after_a_fault_nothing_is_stored_until_a_start(rt: HostRuntime) -> Result<(), Fail> {
     let mut flash = MemoryFlash::<SIZE>::blank();
     let mut journal = start(&mut flash)?;
-    assert!(rt; is_cut(&mut journal, (2, [0x55; 8]), b"pump-2")?);
-    let refused = commit(&mut journal, b"pump-2")?;
+    assert!(rt; is_cut(&mut journal, (2, [0x55; 8]), &set(b"pump-2")?));
+    let refused = commit(&mut journal, &set(b"pump-2")?);
     assert!(rt; matches!(refused, Err(CommitFault::Failed)));
     assert!(rt; journal.has_failed());
     drop(journal);
@@ -170,7 +170,7 @@ fn after_a_fault_nothing_is_stored_until_a_start(rt: HostRuntime) -> Result<(), 
 fn outlives_an_erase(rt: &impl Abort, mask: [u8; 8]) -> Result<(), Fail> {
     let mut flash = flash_of(Base(FIRST, 0), Slot(SECOND, b"\x08\x00"));
     let mut journal = start(&mut flash)?;
-    let cut = is_cut(&mut journal, (0, mask), b"pump-3")?;
+    let cut = is_cut(&mut journal, (0, mask), &set(b"pump-3")?);
     assert!(rt; cut, "at {mask:?}");
     drop(journal);
     let without = start(&mut flash);
@@ -180,7 +180,7 @@ fn outlives_an_erase(rt: &impl Abort, mask: [u8; 8]) -> Result<(), Fail> {
     );
     drop(without);
     flash.power_up();
-    is_left(rt, &mut flash, b"pump-2")
+    finds(rt, &mut flash, b"pump-2")
 }
 
 #[test]
@@ -260,7 +260,7 @@ const NEWEST: [(Image, Image, &[u8; 6]); 5] = [
 #[test]
 fn the_newest_sector_is_read(rt: HostRuntime) -> Result<(), Fail> {
     for (first, second, name) in NEWEST {
-        is_left(&rt, &mut flash_of(first, second), name)?;
+        finds(&rt, &mut flash_of(first, second), name)?;
     }
     Ok(())
 }
@@ -275,11 +275,11 @@ fn the_last_generation_is_kept(rt: HostRuntime) -> Result<(), Fail> {
     assert!(rt; !journal.is_exhausted());
     keep(&mut journal, b"pump-2")?;
     assert!(rt; journal.is_exhausted());
-    let refused = commit(&mut journal, b"pump-3")?;
+    let refused = commit(&mut journal, &set(b"pump-3")?);
     assert!(rt; matches!(refused, Err(CommitFault::Exhausted)));
     assert!(rt; !journal.has_failed());
     drop(journal);
-    is_left(&rt, &mut flash, b"pump-2")
+    finds(&rt, &mut flash, b"pump-2")
 }
 
 const OLD: &[u8; 13] = b"PNJ\x01\xFF\xFE\x06pump-1";
@@ -292,7 +292,7 @@ fn has_im4(rt: &impl Abort, journal: &Stored<'_, SIZE>, octet: u8) {
 /// Stores an I&M4 of fours.
 fn store_im4(journal: &mut Stored<'_, SIZE>) -> Result<(), Fail> {
     let im4 = Padded::new([b'4'; 54]);
-    journal.commit(&Command::SetIm(ImValue::Im4(im4)))?;
+    commit(journal, &Command::SetIm(ImValue::Im4(im4)))?;
     Ok(())
 }
 
@@ -305,25 +305,25 @@ fn version_1_is_read_and_not_written(rt: HostRuntime) -> Result<(), Fail> {
     keep(&mut journal, b"pump-2")?;
     store_im4(&mut journal)?;
     drop(journal);
-    lie(&rt, &flash, (Sector::First, 0), &base(OLD, 0));
-    lie(&rt, &flash, (Sector::Second, 0), SECOND);
-    lie(&rt, &flash, (Sector::Second, 383), &[0; 54]);
-    lie(&rt, &flash, (Sector::Second, 511), &[0x00]);
-    lie(&rt, &flash, (Sector::Second, 512), b"\x0B\x36444");
+    holds(&rt, &flash, (Sector::First, 0), &base(OLD, 0));
+    holds(&rt, &flash, (Sector::Second, 0), SECOND);
+    holds(&rt, &flash, (Sector::Second, 383), &[0; 54]);
+    holds(&rt, &flash, (Sector::Second, 511), &[0x00]);
+    holds(&rt, &flash, (Sector::Second, 512), b"\x0B\x36444");
     let again = start(&mut flash)?;
     has_im4(&rt, &again, b'4');
     Ok(())
 }
 
 /// The move from version 1 is cut short in the flash call behind `after` further ones: this name is left.
-fn is_moved(rt: &impl Abort, after: u32, byte: u8, name: &[u8]) -> Result<(), Fail> {
+fn outlives_a_move(rt: &impl Abort, after: u32, byte: u8, name: &[u8]) -> Result<(), Fail> {
     let mut flash = flash_of(Base(OLD, 0), All(0xFF));
     let mut journal = start(&mut flash)?;
-    let cut = is_cut(&mut journal, (after, [byte; 8]), b"pump-2")?;
+    let cut = is_cut(&mut journal, (after, [byte; 8]), &set(b"pump-2")?);
     assert!(rt; cut, "at {after} {byte}");
     drop(journal);
     flash.power_up();
-    is_left(rt, &mut flash, name)
+    finds(rt, &mut flash, name)
 }
 
 #[test]
@@ -332,7 +332,7 @@ fn a_move_from_version_1_that_is_cut_short(rt: HostRuntime) -> Result<(), Fail> 
         for byte in [0x00, 0x55, 0xFF] {
             let whole = after == 2 && byte == 0xFF;
             let name = if whole { b"pump-2" } else { b"pump-1" };
-            is_moved(&rt, after, byte, name)?;
+            outlives_a_move(&rt, after, byte, name)?;
         }
     }
     Ok(())
@@ -343,7 +343,7 @@ fn the_last_generation_of_version_1_has_no_room(rt: HostRuntime) -> Result<(), F
     let mut flash = flash_of(Base(b"PNJ\x01\x00\x00\x06pump-1", 0), All(0xFF));
     let mut journal = start(&mut flash)?;
     assert!(rt; journal.is_exhausted());
-    let refused = commit(&mut journal, b"pump-3")?;
+    let refused = commit(&mut journal, &set(b"pump-3")?);
     assert!(rt; matches!(refused, Err(CommitFault::Exhausted)));
     Ok(())
 }

@@ -1,7 +1,7 @@
 // Sectors of 4,096 bytes, which have fourteen slots, until the next one is needed and until no commit has room. The bytes
 // were worked out by hand from the layout.
-use super::{Stored, commit, is_cut, is_left, is_named, keep, lie, set, start};
-use flash_model::{Flash, FlashFault, MemoryFlash, Order, Sector};
+use super::{Stored, commit, finds, holds, is_cut, is_named, keep, set, start};
+use flash_model::{Flash, FlashFault, MemoryFlash, Sector};
 use pn_values::{Command, ImValue, IpSuite, Padded, StationName};
 use settings_journal::CommitFault;
 use std::alloc::Global;
@@ -32,15 +32,15 @@ fn thirty_names_fill_both_sectors(rt: HostRuntime) -> Result<(), Fail> {
     let mut journal = start(&mut flash)?;
     set_names(rt.alloc(), &mut journal, FULL)?;
     drop(journal);
-    lie(&rt, &flash, (Sector::First, 0), b"PNJ\x02\xFF\xFE\x02n1");
-    lie(&rt, &flash, (Sector::First, 512), b"\x01\x02n2");
-    lie(&rt, &flash, (Sector::First, 3840), b"\x01\x03n15");
-    lie(&rt, &flash, (Sector::Second, 0), b"PNJ\x02\xFF\xFD\x03n16");
-    lie(&rt, &flash, (Sector::Second, 512), b"\x01\x03n17");
-    lie(&rt, &flash, (Sector::Second, 3840), b"\x01\x03n30");
+    holds(&rt, &flash, (Sector::First, 0), b"PNJ\x02\xFF\xFE\x02n1");
+    holds(&rt, &flash, (Sector::First, 512), b"\x01\x02n2");
+    holds(&rt, &flash, (Sector::First, 3840), b"\x01\x03n15");
+    holds(&rt, &flash, (Sector::Second, 0), b"PNJ\x02\xFF\xFD\x03n16");
+    holds(&rt, &flash, (Sector::Second, 512), b"\x01\x03n17");
+    holds(&rt, &flash, (Sector::Second, 3840), b"\x01\x03n30");
     for gate in [511, 767, 4095] {
-        lie(&rt, &flash, (Sector::First, gate), &[0]);
-        lie(&rt, &flash, (Sector::Second, gate), &[0]);
+        holds(&rt, &flash, (Sector::First, gate), &[0]);
+        holds(&rt, &flash, (Sector::Second, gate), &[0]);
     }
     Ok(())
 }
@@ -56,11 +56,11 @@ fn outlives(
     flash.erase(Sector::Second)?;
     let mut journal = start(flash)?;
     set_names(alloc, &mut journal, FULL)?;
-    let cut = is_cut(&mut journal, (after, mask), b"n31")?;
+    let cut = is_cut(&mut journal, (after, mask), &set(b"n31")?);
     assert!(rt; cut, "at {after} {mask:?}");
     drop(journal);
     flash.power_up();
-    is_left(rt, flash, name)
+    finds(rt, flash, name)
 }
 
 /// A flash call of the commit behind the thirtieth name that is cut short, its mask, and the name that is left.
@@ -93,26 +93,17 @@ fn the_slot_behind_one_that_was_cut_short_is_used(rt: HostRuntime) -> Result<(),
     let mut flash = MemoryFlash::<SIZE>::blank();
     let mut journal = start(&mut flash)?;
     keep(&mut journal, b"pump-1")?;
-    assert!(rt; is_cut(&mut journal, (1, [0x55; 8]), b"pump-2")?);
+    assert!(rt; is_cut(&mut journal, (1, [0x55; 8]), &set(b"pump-2")?));
     drop(journal);
     flash.power_up();
     let mut journal = start(&mut flash)?;
     is_named(&rt, &journal, b"pump-1");
     keep(&mut journal, b"pump-3")?;
     drop(journal);
-    lie(&rt, &flash, (Sector::First, 767), &[0xAA]);
-    lie(&rt, &flash, (Sector::First, 768), b"\x01\x06pump-3");
-    lie(&rt, &flash, (Sector::First, 1023), &[0x00]);
-    is_left(&rt, &mut flash, b"pump-3")
-}
-
-/// The commit of a date is cut short in its last call, and all of it reached the flash.
-fn is_dated(journal: &mut Stored<'_, SIZE>) -> bool {
-    let mask = [0xFF; 8];
-    journal.arm(Order::Cut { after: 1, mask });
-    let date = Padded::new(*b"2024-05-06 07:08");
-    let cut = journal.commit(&Command::SetIm(ImValue::Im2(date)));
-    matches!(cut, Err(CommitFault::FlashFault))
+    holds(&rt, &flash, (Sector::First, 767), &[0xAA]);
+    holds(&rt, &flash, (Sector::First, 768), b"\x01\x06pump-3");
+    holds(&rt, &flash, (Sector::First, 1023), &[0x00]);
+    finds(&rt, &mut flash, b"pump-3")
 }
 
 // The gate's byte is the last that a commit programs: where it is 00, the command counts, though power was lost in the call.
@@ -121,7 +112,8 @@ fn a_date_whose_gate_opened_is_kept(rt: HostRuntime) -> Result<(), Fail> {
     let mut flash = MemoryFlash::<SIZE>::blank();
     let mut journal = start(&mut flash)?;
     keep(&mut journal, b"pump-1")?;
-    assert!(rt; is_dated(&mut journal));
+    let date = Command::SetIm(ImValue::Im2(Padded::new(*b"2024-05-06 07:08")));
+    assert!(rt; is_cut(&mut journal, (1, [0xFF; 8]), &date));
     drop(journal);
     flash.power_up();
     let again = start(&mut flash)?;
@@ -175,7 +167,7 @@ fn commands() -> Result<[Command; 8], Fail> {
 fn has_no_room(rt: &impl Abort, journal: &mut Stored<'_, SIZE>) -> Result<(), Fail> {
     assert!(rt; journal.is_exhausted());
     for command in commands()? {
-        let refused = journal.commit(&command);
+        let refused = commit(journal, &command);
         assert!(rt; matches!(refused, Err(CommitFault::Exhausted)));
     }
     assert!(rt; !journal.has_failed());
@@ -217,14 +209,14 @@ fn each_generation_has_a_base_and_its_slots(rt: HostRuntime) -> Result<(), Fail>
     }
     let mut journal = start(&mut flash)?;
     assert!(rt; journal.is_exhausted());
-    let refused = commit(&mut journal, b"pump-2")?;
+    let refused = commit(&mut journal, &set(b"pump-2")?);
     assert!(rt; matches!(refused, Err(CommitFault::Exhausted)));
     is_named(&rt, &journal, b"pump-2");
     Ok(())
 }
 
 /// A commit behind so many others changes the sector `here` and not the one `there`: of a slot's commit, that slot alone.
-fn is_beside(
+fn leaves_the_rest(
     rt: &impl Abort,
     alloc: Global,
     flash: &mut MemoryFlash<SIZE>,
@@ -257,7 +249,7 @@ fn a_commit_leaves_what_is_stored_where_it_lies(rt: HostRuntime) -> Result<(), F
         } else {
             (number, Sector::Second, Sector::First)
         };
-        is_beside(&rt, rt.alloc(), &mut flash, place)?;
+        leaves_the_rest(&rt, rt.alloc(), &mut flash, place)?;
     }
     Ok(())
 }
