@@ -1,14 +1,13 @@
 // Broken calls of each operation.
 use super::frames::{ASKED, BLOCKS, CALLS, GIVEN, NUMBERS, bent, call};
+use super::same;
 use super::stations::{at, front, is_in, is_noted, is_served, is_untouched, takes};
 use device_core::Note;
 use frame_codec::{Bytes, Outbox};
 use relations::Phase;
 use std::process::Abort;
 use std::test::Fail;
-use test_stations::{
-    CONNECT, CONTROL, PRM_END, READ, Station, WRITE, frame, mend, same, shortened,
-};
+use test_stations::{CONNECT, CONTROL, PRM_END, READ, Station, WRITE, frame, mend, shortened};
 
 /// A call is a fault that ends in front of its end, or within its headers.
 fn is_cut(rt: &impl Abort, device: &mut Station, whole: &[u8]) -> Result<(), Fail> {
@@ -59,7 +58,7 @@ fn blocks_cut_short(rt: HostRuntime) -> Result<(), Fail> {
 // The relation is where it was, and no date is stored.
 fn is_as_it_was(rt: &impl Abort, device: &Station) {
     is_in(rt, device, Some(Phase::Started));
-    same(rt, &device.running().im2.as_bytes(), &[b' '; 16].as_slice());
+    same(rt, device.running().im2.as_bytes(), [b' '; 16].as_slice());
 }
 
 // The end of each block of a Connect; ErrorCode1 of its fields; and both codes where the blocks end in front of it: there is no
@@ -226,10 +225,10 @@ fn is_answered(
     let mut outbox = Outbox::new();
     takes(rt, &mut device, &frame(bytes.as_slice()), &mut outbox);
     let sent = outbox.as_slice().first().ok_or("is answered")?;
-    same(rt, &sent.len(), &length);
+    same(rt, sent.len(), length);
     let status = sent.as_slice().get(122..126);
-    same(rt, &status, &Some([0; 4].as_slice()));
-    same(rt, &sent.as_slice().get(130..134), &bytes.get(122..126));
+    same(rt, status, Some([0; 4].as_slice()));
+    same(rt, sent.as_slice().get(130..134), bytes.get(122..126));
     Ok(())
 }
 

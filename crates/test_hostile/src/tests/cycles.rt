@@ -1,12 +1,13 @@
 // Cyclic frames whose FrameID, CycleCounter or statuses are others, and what stands behind them.
 use super::frames::{BLOCKS, OUTPUTS};
+use super::same;
 use super::stations::{PHASES, asked_for, at, front, is_noted, is_untouched};
 use device_core::Note;
 use frame_codec::Bytes;
 use relations::Phase;
 use std::process::Abort;
 use std::test::Fail;
-use test_stations::{Station, octets, same, set};
+use test_stations::{Station, octets, set};
 
 // DataStatus without its bit 'valid', and TransferStatus.
 #[test]
@@ -64,7 +65,7 @@ fn other_frame_ids(rt: HostRuntime) -> Result<(), Fail> {
 
 /// The output of the module in slot 2.
 fn shows(rt: &impl Abort, device: &Station, output: [u8; 2]) {
-    same(rt, &device.output(2, 1), &Some(output.as_slice()));
+    same(rt, device.output(2, 1), Some(output.as_slice()));
 }
 
 // In a relation of RT class 2 the device chooses the FrameID 0x8000.
@@ -148,7 +149,7 @@ fn filled(rt: &impl Abort, length: usize) -> Bytes {
     for _ in 64..length {
         let _ = bytes.try_push(0xFF);
     }
-    same(rt, &bytes.len(), &length);
+    same(rt, bytes.len(), length);
     bytes
 }
 

@@ -1,5 +1,6 @@
 //! The station of these tests in each phase, and whether frames left it as it was.
 use super::frames::{ACK, ALARM_ACK, ASKED, BLOCKS, OUTPUTS, call};
+use super::same;
 use device_core::{Event, Note};
 use flash_model::MemoryFlash;
 use frame_codec::{Bytes, Outbox};
@@ -7,7 +8,7 @@ use relations::Phase;
 use std::process::Abort;
 use std::test::Fail;
 use test_stations::{
-    CONNECT, CONTROL, PRM_END, READ, Station, frame, octets, plugged, response, same, station, step,
+    CONNECT, CONTROL, PRM_END, READ, Station, frame, octets, plugged, response, station, step,
 };
 
 /// Without a relation, and in each phase of one.
@@ -46,7 +47,7 @@ pub(crate) fn at(phase: Option<Phase>) -> Result<Station, Fail> {
 
 /// A station is in this phase of a relation.
 pub(crate) fn is_in(rt: &impl Abort, device: &Station, phase: Option<Phase>) {
-    same(rt, &device.phase(), &phase);
+    same(rt, device.phase(), phase);
 }
 
 /// The front of a frame.
@@ -64,12 +65,12 @@ pub(crate) fn is_noted(rt: &impl Abort, device: &mut Station, bytes: &Bytes, not
     let mut outbox = Outbox::new();
     let came = step(device, &frame(bytes.as_slice()), &mut outbox);
     assert_eq!(rt; came, note, "{:?}", bytes.as_slice());
-    same(rt, &outbox.len(), &0);
+    same(rt, outbox.len(), 0);
 }
 
 /// A station takes an event; what it sends is in the box.
 pub(crate) fn takes(rt: &impl Abort, device: &mut Station, event: &Event, outbox: &mut Outbox) {
-    same(rt, &step(device, event, outbox), &Note::Done);
+    same(rt, step(device, event, outbox), Note::Done);
 }
 
 /// Hands a call in. How many octets the one answer has, and its status.
@@ -93,25 +94,22 @@ pub(crate) fn is_served(
     bytes: &Bytes,
     (length, status): (usize, [u8; 4]),
 ) {
-    same(rt, &served(device, bytes), &(length, status));
+    same(rt, served(device, bytes), (length, status));
 }
 
 /// Two stations answer an event alike, and show the same behind it.
 fn is_alike(rt: &impl Abort, (device, other): (&mut Station, &mut Station), event: &Event) {
     let (mut outbox, mut wanted) = (Outbox::new(), Outbox::new());
     let note = step(device, event, &mut outbox);
-    same(rt, &note, &step(other, event, &mut wanted));
-    same(rt, &outbox.len(), &wanted.len());
+    same(rt, note, step(other, event, &mut wanted));
+    same(rt, outbox.len(), wanted.len());
     for (sent, other) in outbox.as_slice().iter().zip(wanted.as_slice()) {
-        same(rt, &sent.as_slice(), &other.as_slice());
+        same(rt, sent.as_slice(), other.as_slice());
     }
     is_in(rt, device, other.phase());
-    same(rt, &device.output(2, 1), &other.output(2, 1));
-    same(
-        rt,
-        &device.running().im2.as_bytes(),
-        &other.running().im2.as_bytes(),
-    );
+    same(rt, device.output(2, 1), other.output(2, 1));
+    let date = device.running().im2.as_bytes();
+    same(rt, date, other.running().im2.as_bytes());
 }
 
 /// The rest of the start-up of a relation, and what is exchanged in it.
