@@ -143,7 +143,7 @@ fn writes_padded(rt: HostRuntime) {
 
 /// Puts an Identify request with this tag and this body into a box, which has room for it.
 fn put(rt: &impl Abort, outbox: &mut Outbox, tag: Option<u16>, body: &[u8]) {
-    if outbox.is_full() || body.len() > 1498 {
+    if outbox.len() >= 4 || body.len() > 1498 {
         panic!(rt; "{} octets", body.len());
     }
     outbox.put(&identify(tag, body));

@@ -33,14 +33,18 @@ fn is_bound(rt: &impl Abort, device: &mut Station, (bytes, place): (&[u8], usize
     }
 }
 
+fn are_lengths_bound(rt: &impl Abort, phase: Option<Phase>) -> Result<(), Fail> {
+    let mut device = at(phase)?;
+    for length in LENGTHS {
+        is_bound(rt, &mut device, length);
+    }
+    is_untouched(rt, device, phase)
+}
+
 #[test]
 fn lengths_of_alarm_frames(rt: HostRuntime) -> Result<(), Fail> {
     for phase in PHASES {
-        let mut device = at(phase)?;
-        for length in LENGTHS {
-            is_bound(&rt, &mut device, length);
-        }
-        is_untouched(&rt, device, phase)?;
+        are_lengths_bound(&rt, phase)?;
     }
     Ok(())
 }
@@ -52,20 +56,23 @@ const NOTIFICATION: [u8; 62] =
     \x00\x01\x00\x1a\x01\x00\x00\x02\x00\x00\x00\x00\x00\x01\x00\x01\x00\x00\x00\x10\x00\x00\x00\x10\x00\x00\
     \x00\x01\xaa\xbb";
 
-// Data of a controller is an AlarmAck, and nothing else; what follows the block in VarPartLen is none either.
-#[test]
-fn data_that_is_no_alarm_ack(rt: HostRuntime) -> Result<(), Fail> {
+fn are_no_alarm_acks(rt: &impl Abort, phase: Option<Phase>) -> Result<(), Fail> {
     let mut version = octets(&ALARM_ACK);
     set(&mut version, 36, 2);
     let mut kind = octets(&ALARM_ACK);
     set(&mut kind, 33, 2);
-    let frames = [octets(&NOTIFICATION), version, kind];
+    let mut device = at(phase)?;
+    is_fault(rt, &mut device, &NOTIFICATION);
+    is_fault(rt, &mut device, version.as_slice());
+    is_fault(rt, &mut device, kind.as_slice());
+    is_untouched(rt, device, phase)
+}
+
+// Data of a controller is an AlarmAck, and nothing else; what follows the block in VarPartLen is none either.
+#[test]
+fn data_that_is_no_alarm_ack(rt: HostRuntime) -> Result<(), Fail> {
     for phase in PHASES {
-        let mut device = at(phase)?;
-        for bytes in &frames {
-            is_fault(&rt, &mut device, bytes.as_slice());
-        }
-        is_untouched(&rt, device, phase)?;
+        are_no_alarm_acks(&rt, phase)?;
     }
     Ok(())
 }

@@ -30,25 +30,39 @@ fn calls_cut_short(rt: HostRuntime) -> Result<(), Fail> {
     is_untouched(&rt, device, Some(Phase::Exchanging))
 }
 
-// Cut within their blocks, with the lengths lowered: no block, or no whole one, or a record that is shorter than RecordDataLength.
+// The status of a call whose blocks are cut at a length: there is no block, or no whole one, or the record is shorter than
+// RecordDataLength.
+fn status_of_cut(code: u8, length: usize) -> [u8; 4] {
+    match length {
+        0 => [code, 0x81, 0x40, 1],
+        64.. => [code, 0x80, 0xB1, 0],
+        _ => [code, 0x81, 0x40, 0],
+    }
+}
+
+fn are_refused_cut(
+    rt: &impl Abort,
+    device: &mut Station,
+    (operation, code, blocks): (u8, u8, &[u8]),
+    sequence: &mut u16,
+) -> Result<(), Fail> {
+    for length in 0..blocks.len() {
+        let part = blocks.get(..length).ok_or("is longer")?;
+        let part = call(operation, *sequence, part);
+        is_served(rt, device, &part, (142, status_of_cut(code, length)));
+        *sequence = sequence.wrapping_add(1);
+    }
+    Ok(())
+}
+
+// Cut within their blocks, with the lengths lowered.
 #[test]
 fn blocks_cut_short(rt: HostRuntime) -> Result<(), Fail> {
     let mut device = at(Some(Phase::Started))?;
     let mut sequence: u16 = 1;
     for (operation, code, blocks) in CALLS {
-        if operation == CONNECT {
-            continue;
-        }
-        for length in 0..blocks.len() {
-            let wanted = match length {
-                0 => [code, 0x81, 0x40, 1],
-                64.. => [code, 0x80, 0xB1, 0],
-                _ => [code, 0x81, 0x40, 0],
-            };
-            let part = blocks.get(..length).ok_or("is longer")?;
-            let part = call(operation, sequence, part);
-            is_served(&rt, &mut device, &part, (142, wanted));
-            sequence = sequence.wrapping_add(1);
+        if operation != CONNECT {
+            are_refused_cut(&rt, &mut device, (operation, code, blocks), &mut sequence)?;
         }
     }
     is_as_it_was(&rt, &device);

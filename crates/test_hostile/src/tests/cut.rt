@@ -31,14 +31,18 @@ fn note_of_short(phase: Option<Phase>) -> Note {
     }
 }
 
+fn are_cyclic_frames_cut(rt: &impl Abort, phase: Option<Phase>) -> Result<(), Fail> {
+    let mut device = at(phase)?;
+    let note = note_of_short(phase);
+    are_cut(rt, &mut device, &octets(&OUTPUTS), (20, note))?;
+    are_cut(rt, &mut device, &untagged(&OUTPUTS), (16, note))?;
+    is_untouched(rt, device, phase)
+}
+
 #[test]
 fn cyclic_frames_cut_short(rt: HostRuntime) -> Result<(), Fail> {
     for phase in PHASES {
-        let mut device = at(phase)?;
-        let note = note_of_short(phase);
-        are_cut(&rt, &mut device, &octets(&OUTPUTS), (20, note))?;
-        are_cut(&rt, &mut device, &untagged(&OUTPUTS), (16, note))?;
-        is_untouched(&rt, device, phase)?;
+        are_cyclic_frames_cut(&rt, phase)?;
     }
     Ok(())
 }
@@ -50,15 +54,19 @@ fn is_whole_or_fault(rt: &impl Abort, device: &mut Station, bytes: &[u8]) -> Res
     are_cut(rt, device, &elsewhere(bytes), (0, Note::Fault))
 }
 
+fn are_alarm_frames_cut(rt: &impl Abort, phase: Option<Phase>) -> Result<(), Fail> {
+    let mut device = at(phase)?;
+    for bytes in PDUS {
+        is_whole_or_fault(rt, &mut device, bytes)?;
+    }
+    is_untouched(rt, device, phase)
+}
+
 // A PDU that is not whole is a fault, be there a relation or none, under either FrameID.
 #[test]
 fn alarm_frames_cut_short(rt: HostRuntime) -> Result<(), Fail> {
     for phase in PHASES {
-        let mut device = at(phase)?;
-        for bytes in PDUS {
-            is_whole_or_fault(&rt, &mut device, bytes)?;
-        }
-        is_untouched(&rt, device, phase)?;
+        are_alarm_frames_cut(&rt, phase)?;
     }
     Ok(())
 }
@@ -75,19 +83,23 @@ fn is_foreign(rt: &impl Abort, device: &mut Station, bytes: &[u8]) -> Result<(),
     Ok(())
 }
 
+fn are_foreign(rt: &impl Abort, phase: Option<Phase>) -> Result<(), Fail> {
+    let mut device = at(phase)?;
+    let mut cyclic = octets(&OUTPUTS);
+    set(&mut cyclic, 11, 3);
+    are_cut(rt, &mut device, &cyclic, (20, Note::NoRelation))?;
+    is_noted(rt, &mut device, &cyclic, Note::NoRelation);
+    for bytes in PDUS {
+        is_foreign(rt, &mut device, bytes)?;
+    }
+    is_untouched(rt, device, phase)
+}
+
 // Broken or whole, what another station sends belongs to no relation; but a PDU that is not whole is a fault, whoever sent it.
 #[test]
 fn frames_of_another_station(rt: HostRuntime) -> Result<(), Fail> {
     for phase in PHASES {
-        let mut device = at(phase)?;
-        let mut cyclic = octets(&OUTPUTS);
-        set(&mut cyclic, 11, 3);
-        are_cut(&rt, &mut device, &cyclic, (20, Note::NoRelation))?;
-        is_noted(&rt, &mut device, &cyclic, Note::NoRelation);
-        for bytes in PDUS {
-            is_foreign(&rt, &mut device, bytes)?;
-        }
-        is_untouched(&rt, device, phase)?;
+        are_foreign(&rt, phase)?;
     }
     Ok(())
 }

@@ -10,20 +10,26 @@ use std::test::Fail;
 use test_stations::{Station, octets, set};
 
 // DataStatus without its bit 'valid', and TransferStatus.
+const STATUSES: [(usize, u8); 5] = [(62, 0), (62, 1), (62, 0xFB), (63, 1), (63, 0xFF)];
+
+fn are_statuses_stale(rt: &impl Abort, phase: Option<Phase>) -> Result<(), Fail> {
+    let mut device = at(phase)?;
+    let note = match phase {
+        None => Note::NoRelation,
+        Some(_) => Note::StaleCycle,
+    };
+    for (place, octet) in STATUSES {
+        let mut bytes = octets(&OUTPUTS);
+        set(&mut bytes, place, octet);
+        is_noted(rt, &mut device, &bytes, note);
+    }
+    is_untouched(rt, device, phase)
+}
+
 #[test]
 fn statuses_of_cyclic_frames(rt: HostRuntime) -> Result<(), Fail> {
     for phase in PHASES {
-        let mut device = at(phase)?;
-        let note = match phase {
-            None => Note::NoRelation,
-            Some(_) => Note::StaleCycle,
-        };
-        for (place, octet) in [(62, 0), (62, 1), (62, 0xFB), (63, 1), (63, 0xFF)] {
-            let mut bytes = octets(&OUTPUTS);
-            set(&mut bytes, place, octet);
-            is_noted(&rt, &mut device, &bytes, note);
-        }
-        is_untouched(&rt, device, phase)?;
+        are_statuses_stale(&rt, phase)?;
     }
     Ok(())
 }
@@ -48,17 +54,21 @@ const OTHER_IDS: [(u8, u8, Note); 8] = [
     (0xF8, 0, Note::NotMine),
 ];
 
+fn are_ids_of_others(rt: &impl Abort, phase: Option<Phase>) -> Result<(), Fail> {
+    let mut device = at(phase)?;
+    for (high, low, note) in OTHER_IDS {
+        let bytes = named(high, low);
+        is_noted(rt, &mut device, &bytes, note);
+        is_noted(rt, &mut device, &front(bytes.as_slice(), 20)?, note);
+    }
+    is_untouched(rt, device, phase)
+}
+
 // Those of cyclic data belong to no relation, be they whole or not, and the others are for nobody.
 #[test]
 fn other_frame_ids(rt: HostRuntime) -> Result<(), Fail> {
     for phase in PHASES {
-        let mut device = at(phase)?;
-        for (high, low, note) in OTHER_IDS {
-            let bytes = named(high, low);
-            is_noted(&rt, &mut device, &bytes, note);
-            is_noted(&rt, &mut device, &front(bytes.as_slice(), 20)?, note);
-        }
-        is_untouched(&rt, device, phase)?;
+        are_ids_of_others(&rt, phase)?;
     }
     Ok(())
 }
@@ -128,16 +138,26 @@ const COUNTERS: [(u16, [(u16, Note); 3]); 3] = [
     ),
 ];
 
+/// A relation in this phase takes a first CycleCounter, and this becomes of the others behind it.
+fn are_counted(
+    rt: &impl Abort,
+    phase: Phase,
+    (first, others): (u16, [(u16, Note); 3]),
+) -> Result<(), Fail> {
+    let mut device = at(Some(phase))?;
+    is_counted(rt, &mut device, first, Note::Done);
+    for (counter, note) in others {
+        is_counted(rt, &mut device, counter, note);
+    }
+    Ok(())
+}
+
 // The first CycleCounter is newer, and then those that are 1 to 61,440 ahead.
 #[test]
 fn first_cycle_counters(rt: HostRuntime) -> Result<(), Fail> {
     for phase in [Phase::Started, Phase::Awaiting, Phase::Exchanging] {
-        for (first, others) in COUNTERS {
-            let mut device = at(Some(phase))?;
-            is_counted(&rt, &mut device, first, Note::Done);
-            for (counter, note) in others {
-                is_counted(&rt, &mut device, counter, note);
-            }
+        for counters in COUNTERS {
+            are_counted(&rt, phase, counters)?;
         }
     }
     Ok(())
@@ -153,14 +173,20 @@ fn filled(rt: &impl Abort, length: usize) -> Bytes {
     bytes
 }
 
+/// The cyclic frame is taken, filled up to so many octets, and then only a newer one.
+fn is_taken(rt: &impl Abort, length: usize) -> Result<(), Fail> {
+    let mut device = at(Some(Phase::Exchanging))?;
+    is_noted(rt, &mut device, &filled(rt, length), Note::Done);
+    is_counted(rt, &mut device, 32, Note::StaleCycle);
+    is_counted(rt, &mut device, 33, Note::Done);
+    Ok(())
+}
+
 // What trails DataLength and the statuses is not looked at, up to the length of the longest frame.
 #[test]
 fn octets_behind_a_cyclic_frame(rt: HostRuntime) -> Result<(), Fail> {
     for length in [65, 164, 1518] {
-        let mut device = at(Some(Phase::Exchanging))?;
-        is_noted(&rt, &mut device, &filled(&rt, length), Note::Done);
-        is_counted(&rt, &mut device, 32, Note::StaleCycle);
-        is_counted(&rt, &mut device, 33, Note::Done);
+        is_taken(&rt, length)?;
     }
     let mut device = at(Some(Phase::Exchanging))?;
     is_noted(&rt, &mut device, &filled(&rt, 1519), Note::Fault);

@@ -97,15 +97,20 @@ pub(crate) fn is_served(
     same(rt, served(device, bytes), (length, status));
 }
 
+/// Two boxes hold the same frames.
+fn are_sent_alike(rt: &impl Abort, outbox: &Outbox, wanted: &Outbox) {
+    same(rt, outbox.len(), wanted.len());
+    for (sent, other) in outbox.as_slice().iter().zip(wanted.as_slice()) {
+        same(rt, sent.as_slice(), other.as_slice());
+    }
+}
+
 /// Two stations answer an event alike, and show the same behind it.
 fn is_alike(rt: &impl Abort, (device, other): (&mut Station, &mut Station), event: &Event) {
     let (mut outbox, mut wanted) = (Outbox::new(), Outbox::new());
     let note = step(device, event, &mut outbox);
     same(rt, note, step(other, event, &mut wanted));
-    same(rt, outbox.len(), wanted.len());
-    for (sent, other) in outbox.as_slice().iter().zip(wanted.as_slice()) {
-        same(rt, sent.as_slice(), other.as_slice());
-    }
+    are_sent_alike(rt, &outbox, &wanted);
     is_in(rt, device, other.phase());
     same(rt, device.output(2, 1), other.output(2, 1));
     let date = device.running().im2.as_bytes();
