@@ -1,6 +1,9 @@
 // Requests of DCP, and frames of each kind that a relation knows, in each phase: cut at each length, and with each length and count in
 // them at 0, at 1 and at its greatest. (Connects with such numbers in each of their fields are those of table_connect; packets of ARP
 // and Read Implicit stand in test_call.)
+use std::fmt::Debug;
+use std::process::Abort;
+
 mod answers;
 mod bent;
 mod calls;
@@ -10,3 +13,8 @@ mod frames;
 mod requests;
 mod samples;
 mod stations;
+
+/// Two values are the same.
+fn same<T: PartialEq + Debug + Copy>(rt: &impl Abort, left: T, right: T) {
+    assert_eq!(rt; left, right);
+}

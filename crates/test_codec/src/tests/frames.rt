@@ -3,11 +3,13 @@ ghost use Rattle.std.specs.Prelude.{◌≡◌, ◌+◌, length};
 ghost use Rattle.frame_codec.specs.Meaning.{meaning_of};
 ghost use Rattle.frame_codec.specs.Frame.{content_size};
 
+use super::{reads, same};
 use frame_codec::{
-    ALARM_HIGH, ALARM_LOW, DCP_GET_SET, DCP_IDENTIFY_REQUEST, DCP_IDENTIFY_RESPONSE, FrameFault,
-    Layered, Outbox, Payload, RPC_PORT, is_alarm, is_cyclic, read, write,
+    ALARM_HIGH, ALARM_LOW, DCP_GET_SET, DCP_IDENTIFY_REQUEST, DCP_IDENTIFY_RESPONSE, Frame,
+    FrameFault, Layered, Outbox, Payload, RPC_PORT, is_alarm, is_cyclic, read, write,
 };
 use pn_values::Mac;
+use std::process::Abort;
 
 /// A DCP Identify request for all stations, as it is sent on the wire before padding.
 const IDENTIFY: [u8; 30] = [
@@ -48,32 +50,26 @@ fn identify(tag: Option<u16>, body: &[u8]) -> Layered<'_>
 
 #[test]
 fn reads_with_and_without_tag(rt: HostRuntime) {
-    assert_eq!(rt; read(&IDENTIFY), Ok(identify(None, &BODY)));
-    assert_eq!(rt; read(&TAGGED), Ok(identify(Some(0), &BODY)));
-    assert_eq!(rt;
-        read(&IDENTIFY[..20]),
-        Ok(identify(None, &BODY[..4])),
-        "only the link layer is judged here"
-    );
-    assert_eq!(rt; read(&IDENTIFY[..16]), Ok(identify(None, &[])));
+    reads(&rt, &IDENTIFY, Ok(identify(None, &BODY)));
+    reads(&rt, &TAGGED, Ok(identify(Some(0), &BODY)));
+    // Only the link layer is judged here.
+    reads(&rt, &IDENTIFY[..20], Ok(identify(None, &BODY[..4])));
+    reads(&rt, &IDENTIFY[..16], Ok(identify(None, &[])));
 }
 
 #[test]
 fn short_frames(rt: HostRuntime) {
     for length in [0, 5, 13, 14, 15] {
-        assert_eq!(rt;
-            read(&IDENTIFY[..length]),
-            Err(FrameFault::TooShort),
-            "{length}"
-        );
+        reads(&rt, &IDENTIFY[..length], Err(FrameFault::TooShort));
     }
     for length in [13, 14, 15, 17, 18, 19] {
-        assert_eq!(rt;
-            read(&TAGGED[..length]),
-            Err(FrameFault::TooShort),
-            "{length} with a tag"
-        );
+        reads(&rt, &TAGGED[..length], Err(FrameFault::TooShort));
     }
+}
+
+/// Whether there is no fault in a frame.
+fn is_read(frame: &[u8]) -> bool {
+    read(frame).is_ok()
 }
 
 #[test]
@@ -81,20 +77,17 @@ fn long_frames(rt: HostRuntime) {
     let mut long = [0; 1520];
     long[12] = 0x88;
     long[13] = 0x92;
-    assert!(rt; read(&long[..1514]).is_ok());
-    assert_eq!(rt; read(&long[..1515]), Err(FrameFault::TooLong));
+    assert!(rt; is_read(&long[..1514]));
+    reads(&rt, &long[..1515], Err(FrameFault::TooLong));
+    // The length is judged before the EtherType.
     long[13] = 0x93;
-    assert_eq!(rt;
-        read(&long[..1515]),
-        Err(FrameFault::TooLong),
-        "the length is judged before the EtherType"
-    );
+    reads(&rt, &long[..1515], Err(FrameFault::TooLong));
     long[12] = 0x81;
     long[13] = 0x00;
     long[16] = 0x88;
     long[17] = 0x92;
-    assert!(rt; read(&long[..1518]).is_ok());
-    assert_eq!(rt; read(&long[..1519]), Err(FrameFault::TooLong));
+    assert!(rt; is_read(&long[..1518]));
+    reads(&rt, &long[..1519], Err(FrameFault::TooLong));
 }
 
 #[test]
@@ -102,18 +95,15 @@ fn two_tags(rt: HostRuntime) {
     let mut long = [0; 1520];
     long[12] = 0x81;
     long[16] = 0x81;
-    assert_eq!(rt; read(&long), Err(FrameFault::TooLong));
-    assert_eq!(rt; read(&long[..1518]), Err(FrameFault::Tag));
-    assert_eq!(rt;
-        read(&long[..18]),
-        Err(FrameFault::Tag),
-        "nothing behind the second"
-    );
+    reads(&rt, &long, Err(FrameFault::TooLong));
+    reads(&rt, &long[..1518], Err(FrameFault::Tag));
+    // Nothing stands behind the second.
+    reads(&rt, &long[..18], Err(FrameFault::Tag));
 }
 
 #[test]
 fn other_ether_types(rt: HostRuntime) {
-    for ether_type in [
+    for [high, low] in [
         [0x88, 0x93],
         [0x08, 0x01],
         [0x06, 0x08],
@@ -121,74 +111,81 @@ fn other_ether_types(rt: HostRuntime) {
         [0x00, 0x01],
     ] {
         let mut frame = IDENTIFY;
-        frame[12] = ether_type[0];
-        frame[13] = ether_type[1];
-        assert_eq!(rt; read(&frame), Err(FrameFault::EtherType));
-        assert_eq!(rt;
-            read(&frame[..15]),
-            Err(FrameFault::EtherType),
-            "before its FrameID"
-        );
+        frame[12] = high;
+        frame[13] = low;
+        reads(&rt, &frame, Err(FrameFault::EtherType));
+        // It is judged before its FrameID.
+        reads(&rt, &frame[..15], Err(FrameFault::EtherType));
     }
+}
+
+/// An Identify request with this tag and this body, for which a frame has room, as it is written.
+fn written(rt: &impl Abort, tag: Option<u16>, body: &[u8]) -> Frame {
+    if body.len() > 1498 {
+        panic!(rt; "{} octets", body.len());
+    }
+    write(&identify(tag, body))
 }
 
 #[test]
 fn writes_padded(rt: HostRuntime) {
     let mut padded = [0; 60];
     padded[..30].copy_from_slice(&IDENTIFY);
-    assert_eq!(rt; write(&identify(None, &BODY)).as_slice(), padded.as_slice());
+    assert!(rt; written(&rt, None, &BODY).as_slice() == padded.as_slice());
     padded[..34].copy_from_slice(&TAGGED);
-    assert_eq!(rt;
-        write(&identify(Some(0), &BODY)).as_slice(),
-        padded.as_slice()
-    );
+    assert!(rt; written(&rt, Some(0), &BODY).as_slice() == padded.as_slice());
     let body = [7; 1498];
-    assert_eq!(rt; write(&identify(None, &body[..44])).len(), 60);
-    assert_eq!(rt; write(&identify(None, &body[..45])).len(), 61);
-    assert_eq!(rt; write(&identify(None, &body)).len(), 1514);
-    assert_eq!(rt; write(&identify(Some(0xC000), &body)).len(), 1518);
+    same(&rt, written(&rt, None, &body[..44]).len(), 60);
+    same(&rt, written(&rt, None, &body[..45]).len(), 61);
+    same(&rt, written(&rt, None, &body).len(), 1514);
+    same(&rt, written(&rt, Some(0xC000), &body).len(), 1518);
 }
 
-/// What is read of the frame at this place of a box.
-fn read_at(outbox: &Outbox, place: usize) -> Option<Result<Layered<'_>, FrameFault>> {
-    outbox
-        .as_slice()
-        .get(place)
-        .map(|frame| read(frame.as_slice()))
+/// Puts an Identify request with this tag and this body into a box, which has room for it.
+fn put(rt: &impl Abort, outbox: &mut Outbox, tag: Option<u16>, body: &[u8]) {
+    if outbox.len() >= 4 || body.len() > 1498 {
+        panic!(rt; "{} octets", body.len());
+    }
+    outbox.put(&identify(tag, body));
+}
+
+/// The frame at this place of a box is read as an Identify request with this tag and this body.
+fn holds(rt: &impl Abort, outbox: &Outbox, place: usize, (tag, body): (Option<u16>, &[u8])) {
+    match outbox.as_slice().get(place) {
+        Some(frame) => reads(rt, frame.as_slice(), Ok(identify(tag, body))),
+        None => panic!(rt; "no frame at {place}"),
+    }
 }
 
 #[test]
 fn four_frames_in_a_box(rt: HostRuntime) {
     let body = [7; 100];
     let mut outbox = Outbox::new();
-    assert_eq!(rt; outbox.len(), 0);
-    outbox.put(&identify(None, &body[..90]));
-    outbox.put(&identify(Some(0), &body[..91]));
-    outbox.put(&identify(None, &body[..92]));
+    same(&rt, outbox.len(), 0);
+    put(&rt, &mut outbox, None, &body[..90]);
+    put(&rt, &mut outbox, Some(0), &body[..91]);
+    put(&rt, &mut outbox, None, &body[..92]);
     assert!(rt; !outbox.is_full());
-    outbox.put(&identify(Some(7), &body));
+    put(&rt, &mut outbox, Some(7), &body);
     assert!(rt; outbox.is_full());
-    assert_eq!(rt; read_at(&outbox, 0), Some(Ok(identify(None, &body[..90]))));
-    assert_eq!(rt;
-        read_at(&outbox, 1),
-        Some(Ok(identify(Some(0), &body[..91])))
-    );
-    assert_eq!(rt; read_at(&outbox, 2), Some(Ok(identify(None, &body[..92]))));
-    assert_eq!(rt; read_at(&outbox, 3), Some(Ok(identify(Some(7), &body))));
-    assert_eq!(rt; read_at(&outbox, 4), None);
+    holds(&rt, &outbox, 0, (None, &body[..90]));
+    holds(&rt, &outbox, 1, (Some(0), &body[..91]));
+    holds(&rt, &outbox, 2, (None, &body[..92]));
+    holds(&rt, &outbox, 3, (Some(7), &body));
+    assert!(rt; outbox.as_slice().get(4).is_none());
 }
 
 #[test]
 fn a_box_that_is_used_again(rt: HostRuntime) {
     let body = [7; 100];
     let mut outbox = Outbox::new();
-    outbox.put(&identify(Some(0), &body));
-    outbox.put(&identify(None, &body));
+    put(&rt, &mut outbox, Some(0), &body);
+    put(&rt, &mut outbox, None, &body);
     outbox.clear();
-    assert_eq!(rt; read_at(&outbox, 0), None);
-    outbox.put(&identify(None, &body[..45]));
-    assert_eq!(rt; outbox.len(), 1);
-    assert_eq!(rt; read_at(&outbox, 0), Some(Ok(identify(None, &body[..45]))));
+    assert!(rt; outbox.as_slice().get(0).is_none());
+    put(&rt, &mut outbox, None, &body[..45]);
+    same(&rt, outbox.len(), 1);
+    holds(&rt, &outbox, 0, (None, &body[..45]));
 }
 
 #[test]
@@ -205,7 +202,7 @@ fn faults_of_frames_are_numbered(rt: HostRuntime) {
         (FrameFault::Arp, 9),
     ];
     for (fault, number) in faults {
-        assert_eq!(rt; fault.number(), number, "{fault:?}");
+        same(&rt, fault.number(), number);
     }
 }
 
@@ -220,7 +217,7 @@ fn numbers_of_the_standard(rt: HostRuntime) {
         (DCP_IDENTIFY_RESPONSE, [0xFE, 0xFF]),
         (RPC_PORT, [0x88, 0x94]),
     ] {
-        assert_eq!(rt; number.to_be_bytes(), wanted);
+        same(&rt, number.to_be_bytes(), wanted);
     }
     for (number, alarm, cyclic) in [
         (0xFC01, true, false),
@@ -234,6 +231,6 @@ fn numbers_of_the_standard(rt: HostRuntime) {
         (0xF7FF, false, true),
         (0xF800, false, false),
     ] {
-        assert_eq!(rt; (is_alarm(number), is_cyclic(number)), (alarm, cyclic));
+        same(&rt, (is_alarm(number), is_cyclic(number)), (alarm, cyclic));
     }
 }

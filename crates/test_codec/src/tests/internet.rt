@@ -3,11 +3,13 @@ ghost use Rattle.std.specs.Prelude.{◌≡◌, ◌+◌, length};
 ghost use Rattle.frame_codec.specs.Meaning.{meaning_of};
 ghost use Rattle.frame_codec.specs.Frame.{content_size};
 
+use super::{reads, same};
 use frame_codec::{
-    Arp, ArpOperation, Endpoint, FrameFault, Holder, Layered, Payload, RPC_PORT, Udp, ones_sum,
-    read, write,
+    Arp, ArpOperation, Endpoint, Frame, FrameFault, Holder, Layered, Payload, RPC_PORT, Udp,
+    ones_sum, write,
 };
 use pn_values::Mac;
+use std::process::Abort;
 
 /// The address of a device, and of who asks it.
 const DEVICE: Mac = Mac {
@@ -114,79 +116,99 @@ fn datagram(tag: Option<u16>, body: &[u8]) -> Layered<'_>
     }
 }
 
+/// The packets of ARP, as they are written.
+fn written_request() -> Frame {
+    write(&request())
+}
+
+fn written_reply() -> Frame {
+    write(&reply())
+}
+
+/// A datagram from the device to the asker, for which a frame has room, as it is written.
+fn written(rt: &impl Abort, tag: Option<u16>, body: &[u8]) -> Frame {
+    if body.len() > 1472 {
+        panic!(rt; "{} octets", body.len());
+    }
+    write(&datagram(tag, body))
+}
+
 #[test]
 fn reads_address_resolution(rt: HostRuntime) {
-    assert_eq!(rt; read(&REQUEST), Ok(request()));
-    assert_eq!(rt; read(&REPLY), Ok(reply()));
+    reads(&rt, &REQUEST, Ok(request()));
+    reads(&rt, &REPLY, Ok(reply()));
 }
 
 #[test]
 fn writes_address_resolution(rt: HostRuntime) {
     let mut padded = [0; 60];
     padded[..42].copy_from_slice(&REQUEST);
-    assert_eq!(rt; write(&request()).as_slice(), padded.as_slice());
+    assert!(rt; written_request().as_slice() == padded.as_slice());
     padded[..42].copy_from_slice(&REPLY);
-    assert_eq!(rt; write(&reply()).as_slice(), padded.as_slice());
+    assert!(rt; written_reply().as_slice() == padded.as_slice());
+}
+
+/// A frame holds these octets at a place.
+fn holds(rt: &impl Abort, frame: &Frame, place: usize, octets: &[u8]) {
+    let rest = frame.as_slice().get(place..).unwrap_or(&[]);
+    assert_eq!(rt; rest.get(..octets.len()), Some(octets), "at {place}");
 }
 
 #[test]
 fn writes_a_header_of_the_internet(rt: HostRuntime) {
     let body = [7; 100];
-    let frame = write(&datagram(None, &body));
-    assert_eq!(rt; &frame.as_slice()[12..14], [0x08, 0x00].as_slice());
-    assert_eq!(rt; &frame.as_slice()[14..34], HEADER.as_slice());
-    assert_eq!(rt;
-        &frame.as_slice()[34..40],
-        [0x88, 0x94, 0xC0, 0x00, 0x00, 0x6C].as_slice()
-    );
-    assert_eq!(rt; &frame.as_slice()[42..], body.as_slice());
+    let frame = written(&rt, None, &body);
+    holds(&rt, &frame, 12, &[0x08, 0x00]);
+    holds(&rt, &frame, 14, &HEADER);
+    holds(&rt, &frame, 34, &[0x88, 0x94, 0xC0, 0x00, 0x00, 0x6C]);
+    assert!(rt; frame.as_slice().get(42..) == Some(body.as_slice()));
+}
+
+/// A datagram is read as it was written.
+fn is_read_back(rt: &impl Abort, tag: Option<u16>, body: &[u8]) {
+    let frame = written(rt, tag, body);
+    reads(rt, frame.as_slice(), Ok(datagram(tag, body)));
 }
 
 #[test]
 fn reads_what_it_writes(rt: HostRuntime) {
     let body = [7; 1472];
     for length in [0, 1, 2, 17, 18, 19, 100, 1471, 1472] {
-        let plain = datagram(None, &body[..length]);
-        assert_eq!(rt; read(write(&plain).as_slice()), Ok(plain), "{length}");
-        let tagged = datagram(Some(0xC000), &body[..length]);
-        assert_eq!(rt;
-            read(write(&tagged).as_slice()),
-            Ok(tagged),
-            "{length} with a tag"
-        );
+        is_read_back(&rt, None, &body[..length]);
+        is_read_back(&rt, Some(0xC000), &body[..length]);
     }
 }
 
 #[test]
 fn sends_all_ones_for_no_checksum(rt: HostRuntime) {
     // The complement of the sum of this datagram is 0.
-    let frame = write(&datagram(None, &[0x35, 0xF1]));
-    assert_eq!(rt;
-        &frame.as_slice()[40..44],
-        [0xFF, 0xFF, 0x35, 0xF1].as_slice()
-    );
+    let frame = written(&rt, None, &[0x35, 0xF1]);
+    holds(&rt, &frame, 40, &[0xFF, 0xFF, 0x35, 0xF1]);
 }
 
 #[test]
 fn reads_without_a_checksum(rt: HostRuntime) {
     let body = [0, 1, 2, 3, 4, 5, 6, 7, 8, 9];
-    assert_eq!(rt; read(&UNSUMMED), Ok(datagram(None, &body)));
+    reads(&rt, &UNSUMMED, Ok(datagram(None, &body)));
     let mut octets = UNSUMMED;
     octets[41] = 1;
-    assert_eq!(rt; read(&octets), Err(FrameFault::UdpChecksum));
+    reads(&rt, &octets, Err(FrameFault::UdpChecksum));
+}
+
+/// The sum of these octets is this one.
+fn sums(rt: &impl Abort, octets: &[u8], sum: u16) {
+    assert_eq!(rt; ones_sum(octets), sum, "{octets:?}");
 }
 
 #[test]
 fn sums_of_words(rt: HostRuntime) {
-    assert_eq!(rt; ones_sum(&[]), 0);
-    assert_eq!(rt; ones_sum(&[0, 0, 0]), 0);
-    assert_eq!(rt; ones_sum(&[1]), 0x0100);
-    assert_eq!(rt; ones_sum(&[0xFF, 0xFF]), 0xFFFF);
-    assert_eq!(rt; ones_sum(&[0xFF, 0xFF, 0, 1]), 1);
+    sums(&rt, &[], 0);
+    sums(&rt, &[0, 0, 0], 0);
+    sums(&rt, &[1], 0x0100);
+    sums(&rt, &[0xFF, 0xFF], 0xFFFF);
+    sums(&rt, &[0xFF, 0xFF, 0, 1], 1);
     // The worked example of RFC 1071, section 3.
-    assert_eq!(rt;
-        ones_sum(&[0x00, 0x01, 0xF2, 0x03, 0xF4, 0xF5, 0xF6, 0xF7]),
-        0xDDF2
-    );
-    assert_eq!(rt; ones_sum(&HEADER), 0xFFFF);
+    let worked = [0x00, 0x01, 0xF2, 0x03, 0xF4, 0xF5, 0xF6, 0xF7];
+    sums(&rt, &worked, 0xDDF2);
+    sums(&rt, &HEADER, 0xFFFF);
 }

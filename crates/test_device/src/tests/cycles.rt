@@ -5,7 +5,7 @@ use flash_model::{MemoryFlash, Sector};
 use frame_codec::Frame;
 use std::process::Abort;
 use std::test::Fail;
-use test_stations::{DONE, IDENTIFY, frame, no_modules, set_pump};
+use test_stations::{DONE, IDENTIFY, frame, no_modules, same, set_pump};
 
 // What is handed on, kept in memory.
 #[derive(Drop)]
@@ -54,11 +54,15 @@ fn a_cycle_with_a_loss(rt: HostRuntime) -> Result<(), Fail> {
     )
     .ok()
     .ok_or("starts again")?;
-    assert_eq!(rt; device.running().name.as_bytes(), b"pump-1".as_slice());
+    same(
+        &rt,
+        &device.running().name.as_bytes(),
+        &b"pump-1".as_slice(),
+    );
     let first = device.flash().sector(Sector::First);
-    assert_eq!(rt; first.get(767).copied(), Some(0xAA));
-    assert_eq!(rt; device.lamp(), 0);
-    assert_eq!(rt; sink.frames.len(), 1);
+    same(&rt, &first.get(767).copied(), &Some(0xAA));
+    same(&rt, &device.lamp(), &0);
+    same(&rt, &sink.frames.len(), &1);
     let sent = sink.frames.first();
     assert!(rt; sent.is_some_and(|sent| sent.as_slice().starts_with(&DONE)));
     Ok(())

@@ -6,7 +6,8 @@ use frame_codec::Outbox;
 use settings_journal::BootFault;
 use std::test::Fail;
 use test_stations::{
-    IDENTIFY, PUMP_1, Station, frame, is_padded, no_modules, set_pump, start, write_last,
+    IDENTIFY, PUMP_1, Station, frame, is_padded, no_modules, same, set_pump, start, step,
+    write_last,
 };
 
 // A reset of DCP without its block, and the answer without how the block came out.
@@ -45,7 +46,11 @@ fn no_setting_and_no_reset_is_carried_out_without_room(rt: HostRuntime) -> Resul
     for version in [1, 2] {
         let mut outbox = Outbox::new();
         let mut device = full(version).ok_or("starts")?;
-        assert_eq!(rt; device.step(&set_pump(b'2'), &mut outbox), Note::Done);
+        same(
+            &rt,
+            &step(&mut device, &set_pump(b'2'), &mut outbox),
+            &Note::Done,
+        );
         assert!(rt; is_padded(&outbox, &FULL));
         for block in [
             *b"\x05\x06\x00\x02\x00\x02",
@@ -53,10 +58,18 @@ fn no_setting_and_no_reset_is_carried_out_without_room(rt: HostRuntime) -> Resul
             *b"\x05\x05\x00\x02\x00\x00",
         ] {
             let (request, answer) = reset(block);
-            assert_eq!(rt; device.step(&frame(&request), &mut outbox), Note::Done);
+            same(
+                &rt,
+                &step(&mut device, &frame(&request), &mut outbox),
+                &Note::Done,
+            );
             assert!(rt; is_padded(&outbox, &answer));
         }
-        assert_eq!(rt; device.step(&frame(&IDENTIFY), &mut outbox), Note::Done);
+        same(
+            &rt,
+            &step(&mut device, &frame(&IDENTIFY), &mut outbox),
+            &Note::Done,
+        );
         assert!(rt; is_padded(&outbox, &PUMP_1));
         let flash = device.into_flash();
         let mut untouched = MemoryFlash::blank();
@@ -75,7 +88,7 @@ fn another_layout_is_foreign(rt: HostRuntime) -> Result<(), Fail> {
     flash.program(Sector::First, 511, &[0])?;
     let refused = Device::boot(identity(), no_modules(), flash).err();
     let (fault, flash) = refused.ok_or("foreign")?;
-    assert_eq!(rt; fault, BootFault::Foreign);
+    same(&rt, &fault, &BootFault::Foreign);
     assert!(rt; flash.sector(Sector::First).starts_with(b"PNS\x01"));
     Ok(())
 }

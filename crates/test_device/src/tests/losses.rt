@@ -4,13 +4,13 @@ use flash_model::{MemoryFlash, Order, Sector};
 use frame_codec::Outbox;
 use std::process::Abort;
 use std::test::Fail;
-use test_stations::{Station, restart, set_pump, start};
+use test_stations::{Station, restart, same, set_pump, start, step};
 
 // A station that was named "pump-1", and then "pump-2".
 fn named_twice(outbox: &mut Outbox) -> Option<Station> {
     let mut device = start(MemoryFlash::blank())?;
-    let _ = device.step(&set_pump(b'1'), outbox);
-    let _ = device.step(&set_pump(b'2'), outbox);
+    let _ = step(&mut device, &set_pump(b'1'), outbox);
+    let _ = step(&mut device, &set_pump(b'2'), outbox);
     Some(device)
 }
 
@@ -18,10 +18,10 @@ fn named_twice(outbox: &mut Outbox) -> Option<Station> {
 fn the_first_name_lies_in_the_first_sector(rt: HostRuntime) -> Result<(), Fail> {
     let mut outbox = Outbox::new();
     let mut device = start(MemoryFlash::blank()).ok_or("starts")?;
-    let _ = device.step(&set_pump(b'1'), &mut outbox);
+    let _ = step(&mut device, &set_pump(b'1'), &mut outbox);
     let first = device.flash().sector(Sector::First);
     assert!(rt; first.starts_with(b"PNJ\x02\xff\xfe\x06pump-1"));
-    assert_eq!(rt; first.get(511).copied(), Some(0));
+    same(&rt, &first.get(511).copied(), &Some(0));
     let second = device.flash().sector(Sector::Second);
     assert!(rt; second.iter().all(|x| *x == 0xFF));
     Ok(())
@@ -33,10 +33,10 @@ fn the_second_name_lies_in_the_slot_behind_it(rt: HostRuntime) -> Result<(), Fai
     let device = named_twice(&mut outbox).ok_or("starts")?;
     let first = device.flash().sector(Sector::First);
     assert!(rt; first.starts_with(b"PNJ\x02\xff\xfe\x06pump-1"));
-    assert_eq!(rt; first.get(512).copied(), Some(0x01));
-    assert_eq!(rt; first.get(513).copied(), Some(0x06));
-    assert_eq!(rt; first.get(519).copied(), Some(b'2'));
-    assert_eq!(rt; first.get(767).copied(), Some(0));
+    same(&rt, &first.get(512).copied(), &Some(0x01));
+    same(&rt, &first.get(513).copied(), &Some(0x06));
+    same(&rt, &first.get(519).copied(), &Some(b'2'));
+    same(&rt, &first.get(767).copied(), &Some(0));
     let second = device.flash().sector(Sector::Second);
     assert!(rt; second.iter().all(|x| *x == 0xFF));
     Ok(())
@@ -46,10 +46,10 @@ fn the_second_name_lies_in_the_slot_behind_it(rt: HostRuntime) -> Result<(), Fai
 fn the_third_name_lies_in_the_other_sector(rt: HostRuntime) -> Result<(), Fail> {
     let mut outbox = Outbox::new();
     let mut device = named_twice(&mut outbox).ok_or("starts")?;
-    let _ = device.step(&set_pump(b'3'), &mut outbox);
+    let _ = step(&mut device, &set_pump(b'3'), &mut outbox);
     let second = device.flash().sector(Sector::Second);
     assert!(rt; second.starts_with(b"PNJ\x02\xff\xfd\x06pump-3"));
-    assert_eq!(rt; second.get(511).copied(), Some(0));
+    same(&rt, &second.get(511).copied(), &Some(0));
     Ok(())
 }
 
@@ -66,7 +66,7 @@ fn after_loss(after: u32, mask: [u8; 8]) -> Option<Station> {
     let mut outbox = Outbox::new();
     let mut device = named_twice(&mut outbox)?;
     device.arm(Order::Cut { after, mask });
-    let _ = device.step(&set_pump(b'3'), &mut outbox);
+    let _ = step(&mut device, &set_pump(b'3'), &mut outbox);
     if !device.is_lost() {
         return None;
     }
@@ -76,10 +76,14 @@ fn after_loss(after: u32, mask: [u8; 8]) -> Option<Station> {
 // It is named as it was left, and takes and keeps another name.
 fn goes_on<R: Abort>(rt: &R, mut device: Station, left: &[u8]) -> Result<(), Fail> {
     let mut outbox = Outbox::new();
-    assert_eq!(rt; device.running().name.as_bytes(), left);
-    assert_eq!(rt; device.step(&set_pump(b'4'), &mut outbox), Note::Done);
+    same(rt, &device.running().name.as_bytes(), &left);
+    same(
+        rt,
+        &step(&mut device, &set_pump(b'4'), &mut outbox),
+        &Note::Done,
+    );
     let device = restart(device).ok_or("starts a third time")?;
-    assert_eq!(rt; device.stored().name.as_bytes(), b"pump-4".as_slice());
+    same(rt, &device.stored().name.as_bytes(), &b"pump-4".as_slice());
     Ok(())
 }
 

@@ -1,5 +1,5 @@
 // Both ends by their public calls, frame by frame. The octets that are wanted come from the rules of IEC 61158-6-10.
-use super::{OTHER_MODULES, PUMP};
+use super::{OTHER_MODULES, PUMP, same};
 use configurator::plan_from_json;
 use controller_core::{Cause, Controller, Event as ControllerEvent, State};
 use demo_station::identity;
@@ -10,7 +10,7 @@ use relations::Phase;
 use std::alloc::Global;
 use std::test::Fail;
 use test_stations::{
-    DONE, SET, Station, WRITE, call, frame, is_filled, is_padded, octets, plugged, set_pump,
+    DONE, SET, Station, WRITE, call, frame, is_filled, is_padded, octets, plugged, set_pump, step,
 };
 use uuid::Uuid;
 
@@ -85,7 +85,7 @@ impl Ends {
             .ok()
             .ok_or("it starts")?;
         let mut answers = Outbox::new();
-        let _ = device.step(&frame(&SET), &mut answers);
+        let _ = step(&mut device, &frame(&SET), &mut answers);
         let controller = controller(alloc, catalogue, 0x11)?;
         let sent = octets(controller.opening().as_slice());
         Ok(Ends {
@@ -99,7 +99,7 @@ impl Ends {
     /// The device hears what the controller sent last, and the controller what the device answers.
     fn turn(&mut self) {
         let event = frame(self.sent.as_slice());
-        let _ = self.device.step(&event, &mut self.answers);
+        let _ = step(&mut self.device, &event, &mut self.answers);
         hear(
             &mut self.controller,
             self.answers.as_slice(),
@@ -139,7 +139,7 @@ fn is_none_where_cut(device: &mut Station, octets: &[u8]) -> bool {
     let mut outbox = Outbox::new();
     let mut is_none = true;
     for length in 0..octets.len() {
-        let note = device.step(&frame(&octets[..length]), &mut outbox);
+        let note = step(device, &frame(&octets[..length]), &mut outbox);
         is_none = is_none && note == Note::Fault && outbox.len() == 0;
     }
     is_none
@@ -211,9 +211,9 @@ fn a_start_up(rt: HostRuntime) -> Result<(), Fail> {
     ];
     for state in states {
         ends.turn();
-        assert_eq!(rt; ends.state(), state);
+        same(&rt, &ends.state(), &state);
     }
-    assert_eq!(rt; ends.device.phase(), Some(Phase::Exchanging));
+    same(&rt, &ends.device.phase(), &Some(Phase::Exchanging));
     Ok(())
 }
 
@@ -222,12 +222,12 @@ fn a_start_up(rt: HostRuntime) -> Result<(), Fail> {
 fn a_connect_that_is_cut_is_none(rt: HostRuntime) -> Result<(), Fail> {
     let mut ends = Ends::new(rt.alloc(), PUMP)?;
     ends.turns(2);
-    assert_eq!(rt; ends.sent.len(), 533);
+    same(&rt, &ends.sent.len(), &533);
     assert!(rt; is_none_where_cut(&mut ends.device, ends.sent.as_slice()));
     ends.turn();
     let answer = one(&ends.answers).ok_or("an answer")?;
-    assert_eq!(rt; answer.len(), 212);
-    assert_eq!(rt; ends.state(), State::Ending);
+    same(&rt, &answer.len(), &212);
+    same(&rt, &ends.state(), &State::Ending);
     Ok(())
 }
 
@@ -236,12 +236,12 @@ fn other_modules_are_told(rt: HostRuntime) -> Result<(), Fail> {
     let mut ends = Ends::new(rt.alloc(), OTHER_MODULES)?;
     ends.turns(3);
     let answer = one(&ends.answers).ok_or("an answer")?;
-    assert_eq!(rt; answer.len(), 262);
+    same(&rt, &answer.len(), &262);
     assert!(rt; ends_with(&ends.answers, 212, &DIFFERENCES));
-    assert_eq!(rt; ends.state(), State::Ended(Cause::ModuleDiff));
-    assert_eq!(rt; ends.device.phase(), Some(Phase::Started));
+    same(&rt, &ends.state(), &State::Ended(Cause::ModuleDiff));
+    same(&rt, &ends.device.phase(), &Some(Phase::Started));
     ends.turn();
-    assert_eq!(rt; ends.device.phase(), None);
+    same(&rt, &ends.device.phase(), &None);
     Ok(())
 }
 
@@ -252,7 +252,7 @@ fn a_reset_that_is_refused_is_an_answer(rt: HostRuntime) -> Result<(), Fail> {
     ends.sent = reset(7);
     ends.turn();
     assert!(rt; is_padded(&ends.answers, &REFUSED));
-    assert_eq!(rt; ends.state(), State::Exchanging);
+    same(&rt, &ends.state(), &State::Exchanging);
     Ok(())
 }
 
@@ -263,8 +263,8 @@ fn a_reset_is_an_err_and_an_answer(rt: HostRuntime) -> Result<(), Fail> {
     ends.sent = reset(2);
     ends.turn();
     assert!(rt; are_filled(&ends.answers, &ABORT, &RESET));
-    assert_eq!(rt; ends.state(), State::Ended(Cause::Aborted));
-    assert_eq!(rt; ends.device.running().name.as_bytes(), b"".as_slice());
+    same(&rt, &ends.state(), &State::Ended(Cause::Aborted));
+    same(&rt, &ends.device.running().name.as_bytes(), &b"".as_slice());
     Ok(())
 }
 
@@ -273,19 +273,21 @@ fn no_name_is_set_before_the_release(rt: HostRuntime) -> Result<(), Fail> {
     let mut ends = Ends::started(rt.alloc())?;
     let mut refused = DONE;
     refused[32] = 6;
-    assert_eq!(rt;
-        ends.device.step(&set_pump(b'9'), &mut ends.answers),
-        Note::Done
+    same(
+        &rt,
+        &step(&mut ends.device, &set_pump(b'9'), &mut ends.answers),
+        &Note::Done,
     );
     assert!(rt; is_padded(&ends.answers, &refused));
     let mut outbox = Outbox::new();
     ends.controller.step(&ControllerEvent::Stop, &mut outbox);
     ends.sent = one(&outbox).ok_or("a Release")?;
     ends.turn();
-    assert_eq!(rt; ends.device.phase(), None);
-    assert_eq!(rt;
-        ends.device.step(&set_pump(b'9'), &mut ends.answers),
-        Note::Done
+    same(&rt, &ends.device.phase(), &None);
+    same(
+        &rt,
+        &step(&mut ends.device, &set_pump(b'9'), &mut ends.answers),
+        &Note::Done,
     );
     assert!(rt; is_padded(&ends.answers, &DONE));
     Ok(())
@@ -296,18 +298,38 @@ fn no_name_is_set_before_the_release(rt: HostRuntime) -> Result<(), Fail> {
 fn an_alarm_is_taken(rt: HostRuntime) -> Result<(), Fail> {
     let mut ends = Ends::started(rt.alloc())?;
     let raised = Event::Alarm(1, 1, octets(&[0xAA, 0xBB]));
-    assert_eq!(rt; ends.device.step(&raised, &mut ends.answers), Note::Done);
+    same(
+        &rt,
+        &step(&mut ends.device, &raised, &mut ends.answers),
+        &Note::Done,
+    );
     let alarm = one(&ends.answers).ok_or("an alarm")?;
     let mut acks = Outbox::new();
     ends.controller
         .step(&ControllerEvent::Frame(alarm), &mut acks);
     assert!(rt; is_alarm_shown(&ends.controller));
     let again = Event::Alarm(1, 1, octets(&[0xCC]));
-    assert_eq!(rt; ends.device.step(&again, &mut ends.answers), Note::Refused);
+    same(
+        &rt,
+        &step(&mut ends.device, &again, &mut ends.answers),
+        &Note::Refused,
+    );
     let (ack, alarm_ack) = two(&acks).ok_or("an ACK and an AlarmAck")?;
-    assert_eq!(rt; ends.device.step(&ack, &mut ends.answers), Note::Done);
-    assert_eq!(rt; ends.device.step(&alarm_ack, &mut ends.answers), Note::Done);
-    assert_eq!(rt; ends.device.step(&again, &mut ends.answers), Note::Done);
+    same(
+        &rt,
+        &step(&mut ends.device, &ack, &mut ends.answers),
+        &Note::Done,
+    );
+    same(
+        &rt,
+        &step(&mut ends.device, &alarm_ack, &mut ends.answers),
+        &Note::Done,
+    );
+    same(
+        &rt,
+        &step(&mut ends.device, &again, &mut ends.answers),
+        &Note::Done,
+    );
     Ok(())
 }
 
@@ -316,29 +338,36 @@ fn an_alarm_is_taken(rt: HostRuntime) -> Result<(), Fail> {
 fn a_write_that_is_repeated_is_one_command(rt: HostRuntime) -> Result<(), Fail> {
     let mut ends = Ends::started(rt.alloc())?;
     let first = call(WRITE, 9, 5, &WRITE_DATE);
-    assert_eq!(rt;
-        ends.device
-            .step(&frame(first.as_slice()), &mut ends.answers),
-        Note::Done
+    same(
+        &rt,
+        &step(
+            &mut ends.device,
+            &frame(first.as_slice()),
+            &mut ends.answers,
+        ),
+        &Note::Done,
     );
-    assert_eq!(rt; status_of(&ends.answers), Some([0; 4].as_slice()));
+    same(&rt, &status_of(&ends.answers), &Some([0; 4].as_slice()));
     let mut again = Outbox::new();
-    assert_eq!(rt;
-        ends.device.step(&frame(first.as_slice()), &mut again),
-        Note::Done
+    same(
+        &rt,
+        &step(&mut ends.device, &frame(first.as_slice()), &mut again),
+        &Note::Done,
     );
     let answer = one(&ends.answers).ok_or("an answer")?;
-    let same = one(&again).ok_or("the answer again")?;
-    assert_eq!(rt; same.as_slice(), answer.as_slice());
+    let repeated = one(&again).ok_or("the answer again")?;
+    same(&rt, &repeated.as_slice(), &answer.as_slice());
     let older = call(WRITE, 9, 4, &WRITE_DATE);
-    assert_eq!(rt;
-        ends.device.step(&frame(older.as_slice()), &mut again),
-        Note::OldCall
+    same(
+        &rt,
+        &step(&mut ends.device, &frame(older.as_slice()), &mut again),
+        &Note::OldCall,
     );
-    assert_eq!(rt; again.len(), 0);
-    assert_eq!(rt;
-        ends.device.running().im2.as_bytes(),
-        b"2024-05-06 07:08".as_slice()
+    same(&rt, &again.len(), &0);
+    same(
+        &rt,
+        &ends.device.running().im2.as_bytes(),
+        &b"2024-05-06 07:08".as_slice(),
     );
     Ok(())
 }
@@ -352,16 +381,19 @@ fn a_fault_of_the_flash_is_a_status(rt: HostRuntime) -> Result<(), Fail> {
         mask: [0xFF; 8],
     });
     let write = call(WRITE, 9, 0, &WRITE_DATE);
-    assert_eq!(rt;
-        ends.device
+    same(
+        &rt,
+        &ends
+            .device
             .step(&frame(write.as_slice()), &mut ends.answers),
-        Note::Done
+        &Note::Done,
     );
-    assert_eq!(rt;
-        status_of(&ends.answers),
-        Some([0xDF, 0x80, 0xB5, 5].as_slice())
+    same(
+        &rt,
+        &status_of(&ends.answers),
+        &Some([0xDF, 0x80, 0xB5, 5].as_slice()),
     );
-    assert_eq!(rt; ends.device.phase(), Some(Phase::Exchanging));
+    same(&rt, &ends.device.phase(), &Some(Phase::Exchanging));
     Ok(())
 }
 
@@ -373,15 +405,16 @@ fn a_second_controller_is_refused(rt: HostRuntime) -> Result<(), Fail> {
     ends.sent = octets(other.opening().as_slice());
     ends.controller = other;
     ends.turn();
-    assert_eq!(rt; ends.state(), State::Connecting);
+    same(&rt, &ends.state(), &State::Connecting);
     ends.turn();
-    assert_eq!(rt;
-        status_of(&ends.answers),
-        Some([0xDB, 0x81, 0x40, 4].as_slice())
+    same(
+        &rt,
+        &status_of(&ends.answers),
+        &Some([0xDB, 0x81, 0x40, 4].as_slice()),
     );
     let answer = one(&ends.answers).ok_or("an answer")?;
-    assert_eq!(rt; answer.len(), 142);
-    assert_eq!(rt; ends.state(), State::Ended(Cause::Refused));
-    assert_eq!(rt; ends.device.phase(), Some(Phase::Exchanging));
+    same(&rt, &answer.len(), &142);
+    same(&rt, &ends.state(), &State::Ended(Cause::Refused));
+    same(&rt, &ends.device.phase(), &Some(Phase::Exchanging));
     Ok(())
 }

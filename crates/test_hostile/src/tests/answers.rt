@@ -1,23 +1,20 @@
 // Broken answers to ApplicationReady. Behind each the right one still counts.
 use super::frames::{NUMBERS, bent};
-use super::stations::{at, is_noted, is_untouched};
+use super::stations::{at, is_in, is_noted, is_untouched};
 use device_core::Note;
-use frame_codec::{Bytes, Outbox};
+use frame_codec::Bytes;
 use relations::Phase;
 use std::process::Abort;
 use std::test::Fail;
-use test_stations::{frame, mend, response, shortened};
+use test_stations::{mend, response, shortened};
 
 // A broken answer, and then the right one.
 fn are_heard(rt: &impl Abort, broken: &Bytes) -> Result<(), Fail> {
-    let mut device = at(Some(Phase::Awaiting)).ok_or("starts")?;
+    let mut device = at(Some(Phase::Awaiting))?;
     is_noted(rt, &mut device, broken, Note::Fault);
-    assert_eq!(rt; device.phase(), Some(Phase::Awaiting));
-    let mut outbox = Outbox::new();
-    let note = device.step(&frame(response().as_slice()), &mut outbox);
-    assert_eq!(rt; note, Note::Done);
-    assert_eq!(rt; outbox.len(), 0);
-    assert_eq!(rt; device.phase(), Some(Phase::Exchanging));
+    is_in(rt, &device, Some(Phase::Awaiting));
+    is_noted(rt, &mut device, &response(), Note::Done);
+    is_in(rt, &device, Some(Phase::Exchanging));
     Ok(())
 }
 
@@ -25,7 +22,7 @@ fn are_heard(rt: &impl Abort, broken: &Bytes) -> Result<(), Fail> {
 #[test]
 fn answers_cut_with_their_lengths(rt: HostRuntime) -> Result<(), Fail> {
     let whole = response();
-    let mut device = at(Some(Phase::Awaiting)).ok_or("starts")?;
+    let mut device = at(Some(Phase::Awaiting))?;
     for length in 0..whole.len() {
         let part = shortened(whole.as_slice(), length);
         is_noted(&rt, &mut device, &part, Note::Fault);

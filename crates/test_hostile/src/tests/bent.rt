@@ -1,11 +1,12 @@
 // PDUs of alarms with other lengths, with another block, and under the other of the two FrameIDs.
 use super::frames::{ACK, ALARM_ACK, ERR, NACK, NUMBERS, bent, elsewhere};
-use super::stations::{PHASES, alarm, at, is_noted, is_untouched};
+use super::stations::{PHASES, alarm, at, is_in, is_noted, is_untouched, takes};
 use device_core::Note;
 use frame_codec::Outbox;
 use relations::Phase;
+use std::process::Abort;
 use std::test::Fail;
-use test_stations::{frame, octets, set};
+use test_stations::{Station, frame, octets, set};
 
 // VarPartLen, and BlockLength of the AlarmAck.
 const LENGTHS: [(&[u8], usize); 5] = [
@@ -16,20 +17,34 @@ const LENGTHS: [(&[u8], usize); 5] = [
     (&ERR, 30),
 ];
 
+/// A PDU is a fault, under either FrameID.
+fn is_fault(rt: &impl Abort, device: &mut Station, bytes: &[u8]) {
+    is_noted(rt, device, &octets(bytes), Note::Fault);
+    is_noted(rt, device, &elsewhere(bytes), Note::Fault);
+}
+
+/// A PDU is a fault with each other number at a place.
+fn is_bound(rt: &impl Abort, device: &mut Station, (bytes, place): (&[u8], usize)) {
+    for number in NUMBERS {
+        let other = bent(bytes, place, 2, number);
+        if other.as_slice() != bytes {
+            is_fault(rt, device, other.as_slice());
+        }
+    }
+}
+
+fn are_lengths_bound(rt: &impl Abort, phase: Option<Phase>) -> Result<(), Fail> {
+    let mut device = at(phase)?;
+    for length in LENGTHS {
+        is_bound(rt, &mut device, length);
+    }
+    is_untouched(rt, device, phase)
+}
+
 #[test]
 fn lengths_of_alarm_frames(rt: HostRuntime) -> Result<(), Fail> {
     for phase in PHASES {
-        let mut device = at(phase).ok_or("starts")?;
-        for (bytes, place) in LENGTHS {
-            for number in NUMBERS {
-                let other = bent(bytes, place, 2, number);
-                if other.as_slice() != bytes {
-                    is_noted(&rt, &mut device, &other, Note::Fault);
-                    is_noted(&rt, &mut device, &elsewhere(other.as_slice()), Note::Fault);
-                }
-            }
-        }
-        is_untouched(&rt, device, phase)?;
+        are_lengths_bound(&rt, phase)?;
     }
     Ok(())
 }
@@ -41,21 +56,23 @@ const NOTIFICATION: [u8; 62] =
     \x00\x01\x00\x1a\x01\x00\x00\x02\x00\x00\x00\x00\x00\x01\x00\x01\x00\x00\x00\x10\x00\x00\x00\x10\x00\x00\
     \x00\x01\xaa\xbb";
 
-// Data of a controller is an AlarmAck, and nothing else; what follows the block in VarPartLen is none either.
-#[test]
-fn data_that_is_no_alarm_ack(rt: HostRuntime) -> Result<(), Fail> {
+fn are_no_alarm_acks(rt: &impl Abort, phase: Option<Phase>) -> Result<(), Fail> {
     let mut version = octets(&ALARM_ACK);
     set(&mut version, 36, 2);
     let mut kind = octets(&ALARM_ACK);
     set(&mut kind, 33, 2);
-    let frames = [octets(&NOTIFICATION), version, kind];
+    let mut device = at(phase)?;
+    is_fault(rt, &mut device, &NOTIFICATION);
+    is_fault(rt, &mut device, version.as_slice());
+    is_fault(rt, &mut device, kind.as_slice());
+    is_untouched(rt, device, phase)
+}
+
+// Data of a controller is an AlarmAck, and nothing else; what follows the block in VarPartLen is none either.
+#[test]
+fn data_that_is_no_alarm_ack(rt: HostRuntime) -> Result<(), Fail> {
     for phase in PHASES {
-        let mut device = at(phase).ok_or("starts")?;
-        for bytes in &frames {
-            is_noted(&rt, &mut device, bytes, Note::Fault);
-            is_noted(&rt, &mut device, &elsewhere(bytes.as_slice()), Note::Fault);
-        }
-        is_untouched(&rt, device, phase)?;
+        are_no_alarm_acks(&rt, phase)?;
     }
     Ok(())
 }
@@ -68,17 +85,17 @@ const TAKEN: [u8; 32] =
 // Each PDU is read under either FrameID.
 #[test]
 fn alarms_under_the_other_frame_id(rt: HostRuntime) -> Result<(), Fail> {
-    let mut device = at(Some(Phase::Exchanging)).ok_or("starts")?;
+    let mut device = at(Some(Phase::Exchanging))?;
     let mut outbox = Outbox::new();
-    assert_eq!(rt; device.step(&alarm(), &mut outbox), Note::Done);
+    takes(&rt, &mut device, &alarm(), &mut outbox);
     is_noted(&rt, &mut device, &elsewhere(&NACK), Note::Filter);
     is_noted(&rt, &mut device, &elsewhere(&ACK), Note::Done);
     let acknowledged = frame(elsewhere(&ALARM_ACK).as_slice());
-    assert_eq!(rt; device.step(&acknowledged, &mut outbox), Note::Done);
+    takes(&rt, &mut device, &acknowledged, &mut outbox);
     let sent = outbox.as_slice().first().ok_or("is answered")?;
     assert!(rt; sent.as_slice().starts_with(&TAKEN));
-    assert_eq!(rt; device.step(&alarm(), &mut outbox), Note::Done);
+    takes(&rt, &mut device, &alarm(), &mut outbox);
     is_noted(&rt, &mut device, &elsewhere(&ERR), Note::Done);
-    assert_eq!(rt; device.phase(), None);
+    is_in(&rt, &device, None);
     Ok(())
 }

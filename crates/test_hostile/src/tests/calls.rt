@@ -1,55 +1,68 @@
 // Broken calls of each operation.
 use super::frames::{ASKED, BLOCKS, CALLS, GIVEN, NUMBERS, bent, call};
-use super::stations::{at, is_noted, is_untouched, served};
+use super::same;
+use super::stations::{at, front, is_in, is_noted, is_served, is_untouched, takes};
 use device_core::Note;
-use frame_codec::Outbox;
+use frame_codec::{Bytes, Outbox};
 use relations::Phase;
 use std::process::Abort;
 use std::test::Fail;
-use test_stations::{
-    CONNECT, CONTROL, PRM_END, READ, Station, WRITE, frame, mend, octets, shortened,
-};
+use test_stations::{CONNECT, CONTROL, PRM_END, READ, Station, WRITE, frame, mend, shortened};
+
+/// A call is a fault that ends in front of its end, or within its headers.
+fn is_cut(rt: &impl Abort, device: &mut Station, whole: &[u8]) -> Result<(), Fail> {
+    for length in 0..whole.len() {
+        is_noted(rt, device, &front(whole, length)?, Note::Fault);
+    }
+    for length in 0..142 {
+        is_noted(rt, device, &shortened(whole, length), Note::Fault);
+    }
+    Ok(())
+}
 
 // Cut at each length, with all lengths as they were; and cut within the headers, with the lengths lowered to what is there.
 #[test]
 fn calls_cut_short(rt: HostRuntime) -> Result<(), Fail> {
-    let mut device = at(Some(Phase::Exchanging)).ok_or("starts")?;
+    let mut device = at(Some(Phase::Exchanging))?;
     for (operation, _, blocks) in CALLS {
-        let whole = call(operation, 9, blocks);
-        for length in 0..whole.len() {
-            let part = octets(whole.get(..length).ok_or("is longer")?);
-            is_noted(&rt, &mut device, &part, Note::Fault);
-        }
-        for length in 0..142 {
-            let part = shortened(whole.as_slice(), length);
-            is_noted(&rt, &mut device, &part, Note::Fault);
-        }
+        is_cut(&rt, &mut device, call(operation, 9, blocks).as_slice())?;
     }
     is_untouched(&rt, device, Some(Phase::Exchanging))
 }
 
-// Cut within their blocks, with the lengths lowered: no block, or no whole one, or a record that is shorter than RecordDataLength.
+// The status of a call whose blocks are cut at a length: there is no block, or no whole one, or the record is shorter than
+// RecordDataLength.
+fn status_of_cut(code: u8, length: usize) -> [u8; 4] {
+    match length {
+        0 => [code, 0x81, 0x40, 1],
+        64.. => [code, 0x80, 0xB1, 0],
+        _ => [code, 0x81, 0x40, 0],
+    }
+}
+
+fn are_refused_cut(
+    rt: &impl Abort,
+    device: &mut Station,
+    (operation, code, blocks): (u8, u8, &[u8]),
+    sequence: &mut u16,
+) -> Result<(), Fail> {
+    for length in 0..blocks.len() {
+        let part = blocks.get(..length).ok_or("is longer")?;
+        let part = call(operation, *sequence, part);
+        is_served(rt, device, &part, (142, status_of_cut(code, length)));
+        *sequence = sequence.wrapping_add(1);
+    }
+    Ok(())
+}
+
+// Cut within their blocks, with the lengths lowered.
 #[test]
 fn blocks_cut_short(rt: HostRuntime) -> Result<(), Fail> {
-    let mut device = at(Some(Phase::Started)).ok_or("starts")?;
+    let mut device = at(Some(Phase::Started))?;
     let mut sequence: u16 = 1;
     for (operation, code, blocks) in CALLS {
-        if operation == CONNECT {
-            continue;
-        }
-        for length in 0..blocks.len() {
-            let wanted = match length {
-                0 => [code, 0x81, 0x40, 1],
-                64.. => [code, 0x80, 0xB1, 0],
-                _ => [code, 0x81, 0x40, 0],
-            };
-            let part = call(
-                operation,
-                sequence,
-                blocks.get(..length).ok_or("is longer")?,
-            );
-            assert_eq!(rt; served(&mut device, &part), (142, wanted));
-            sequence = sequence.wrapping_add(1);
+        if operation != CONNECT {
+            are_refused_cut(&rt, &mut device, (operation, code, blocks), &mut sequence)?;
         }
     }
     is_as_it_was(&rt, &device);
@@ -58,8 +71,8 @@ fn blocks_cut_short(rt: HostRuntime) -> Result<(), Fail> {
 
 // The relation is where it was, and no date is stored.
 fn is_as_it_was(rt: &impl Abort, device: &Station) {
-    assert_eq!(rt; device.phase(), Some(Phase::Started));
-    assert_eq!(rt; device.running().im2.as_bytes(), [b' '; 16].as_slice());
+    is_in(rt, device, Some(Phase::Started));
+    same(rt, device.running().im2.as_bytes(), [b' '; 16].as_slice());
 }
 
 // The end of each block of a Connect; ErrorCode1 of its fields; and both codes where the blocks end in front of it: there is no
@@ -92,34 +105,36 @@ fn codes_of_connect(length: usize) -> [u8; 2] {
 
 #[test]
 fn connects_cut_short(rt: HostRuntime) -> Result<(), Fail> {
-    let mut device = at(None).ok_or("starts")?;
+    let mut device = at(None)?;
     let mut sequence: u16 = 1;
     for length in 0..BLOCKS.len() {
         let part = call(CONNECT, sequence, BLOCKS.get(..length).ok_or("is longer")?);
         let [code, other] = codes_of_connect(length);
-        assert_eq!(rt;
-            served(&mut device, &part),
-            (142, [0xDB, 0x81, code, other]),
-            "{length}"
-        );
+        let status = [0xDB, 0x81, code, other];
+        is_served(&rt, &mut device, &part, (142, status));
         sequence = sequence.wrapping_add(1);
     }
-    assert_eq!(rt; device.phase(), None);
+    is_in(&rt, &device, None);
     Ok(())
+}
+
+/// A call is a fault with each other number at a place.
+fn is_bound(rt: &impl Abort, device: &mut Station, whole: &[u8], place: usize) {
+    for number in NUMBERS {
+        let mut other = bent(whole, place, 2, number);
+        mend(&mut other);
+        is_noted(rt, device, &other, Note::Fault);
+    }
 }
 
 // The lengths of IPv4, of UDP and of RPC in a call of each operation: where one is another, the call cannot be read.
 #[test]
 fn lengths_around_calls(rt: HostRuntime) -> Result<(), Fail> {
-    let mut device = at(Some(Phase::Exchanging)).ok_or("starts")?;
+    let mut device = at(Some(Phase::Exchanging))?;
     for (operation, _, blocks) in CALLS {
         let whole = call(operation, 9, blocks);
         for place in [16, 38, 116usize] {
-            for number in NUMBERS {
-                let mut other = bent(whole.as_slice(), place, 2, number);
-                mend(&mut other);
-                is_noted(&rt, &mut device, &other, Note::Fault);
-            }
+            is_bound(&rt, &mut device, whole.as_slice(), place);
         }
     }
     is_untouched(&rt, device, Some(Phase::Exchanging))
@@ -129,7 +144,7 @@ fn lengths_around_calls(rt: HostRuntime) -> Result<(), Fail> {
 // Connect's first block, or those of all other calls.
 #[test]
 fn counts_in_calls(rt: HostRuntime) -> Result<(), Fail> {
-    let mut device = at(Some(Phase::Started)).ok_or("starts")?;
+    let mut device = at(Some(Phase::Started))?;
     let mut sequence: u16 = 1;
     for number in NUMBERS {
         for (place, size) in [(126, 4), (138, 4), (144, 2)] {
@@ -141,7 +156,7 @@ fn counts_in_calls(rt: HostRuntime) -> Result<(), Fail> {
                 };
                 let whole = call(operation, sequence, blocks);
                 let other = bent(whole.as_slice(), place, size, number);
-                assert_eq!(rt; served(&mut device, &other), (142, wanted));
+                is_served(&rt, &mut device, &other, (142, wanted));
                 sequence = sequence.wrapping_add(1);
             }
         }
@@ -153,17 +168,15 @@ fn counts_in_calls(rt: HostRuntime) -> Result<(), Fail> {
 // ArgsLength and ActualCount alike: there is no block, one octet of a block, or less than they say.
 #[test]
 fn counts_alike(rt: HostRuntime) -> Result<(), Fail> {
-    let mut device = at(Some(Phase::Started)).ok_or("starts")?;
+    let mut device = at(Some(Phase::Started))?;
     let mut sequence: u16 = 1;
     for (number, wanted) in NUMBERS.into_iter().zip([1u8, 0, 0]) {
         for (operation, code, blocks) in CALLS {
             let whole = call(operation, sequence, blocks);
             let other = bent(whole.as_slice(), 126, 4, number);
             let other = bent(other.as_slice(), 138, 4, number);
-            assert_eq!(rt;
-                served(&mut device, &other),
-                (142, [code, 0x81, 0x40, wanted])
-            );
+            let status = [code, 0x81, 0x40, wanted];
+            is_served(&rt, &mut device, &other, (142, status));
             sequence = sequence.wrapping_add(1);
         }
     }
@@ -174,21 +187,15 @@ fn counts_alike(rt: HostRuntime) -> Result<(), Fail> {
 // RecordDataLength: that of a Write has to be the record's own; a Read gives no more than so many octets of it.
 #[test]
 fn lengths_of_records(rt: HostRuntime) -> Result<(), Fail> {
-    let mut device = at(Some(Phase::Started)).ok_or("starts")?;
+    let mut device = at(Some(Phase::Started))?;
     let mut sequence: u16 = 1;
     for (number, read) in NUMBERS.into_iter().zip([0, 1, 22usize]) {
-        let written = bent(call(WRITE, sequence, &GIVEN).as_slice(), 178, 4, number);
-        assert_eq!(rt; served(&mut device, &written), (142, [0xDF, 0x80, 0xB1, 0]));
-        let asked = bent(
-            call(READ, sequence.wrapping_add(1), &ASKED).as_slice(),
-            178,
-            4,
-            number,
-        );
-        assert_eq!(rt;
-            served(&mut device, &asked),
-            (read.saturating_add(206), [0; 4])
-        );
+        let written = call(WRITE, sequence, &GIVEN);
+        let written = bent(written.as_slice(), 178, 4, number);
+        is_served(&rt, &mut device, &written, (142, [0xDF, 0x80, 0xB1, 0]));
+        let asked = call(READ, sequence.wrapping_add(1), &ASKED);
+        let asked = bent(asked.as_slice(), 178, 4, number);
+        is_served(&rt, &mut device, &asked, (read.saturating_add(206), [0; 4]));
         sequence = sequence.wrapping_add(2);
     }
     is_as_it_was(&rt, &device);
@@ -208,16 +215,34 @@ fn offsets_of_blocks(rt: HostRuntime) -> Result<(), Fail> {
     for (phase, operation, code, blocks, length) in SERVED {
         let whole = call(operation, 2, blocks);
         for number in NUMBERS {
-            let mut device = at(phase).ok_or("starts")?;
+            let mut device = at(phase)?;
             let other = bent(whole.as_slice(), 134, 4, number);
             let wanted = if number == (0, 0) {
                 (length, [0; 4])
             } else {
                 (142, [code, 0x81, 0x40, 0])
             };
-            assert_eq!(rt; served(&mut device, &other), wanted);
+            is_served(&rt, &mut device, &other, wanted);
         }
     }
+    Ok(())
+}
+
+/// A call in this phase has a positive answer of so many octets, which repeats the ArgsMaximum of the call.
+fn is_answered(
+    rt: &impl Abort,
+    phase: Option<Phase>,
+    bytes: &Bytes,
+    length: usize,
+) -> Result<(), Fail> {
+    let mut device = at(phase)?;
+    let mut outbox = Outbox::new();
+    takes(rt, &mut device, &frame(bytes.as_slice()), &mut outbox);
+    let sent = outbox.as_slice().first().ok_or("is answered")?;
+    same(rt, sent.len(), length);
+    let status = sent.as_slice().get(122..126);
+    same(rt, status, Some([0; 4].as_slice()));
+    same(rt, sent.as_slice().get(130..134), bytes.get(122..126));
     Ok(())
 }
 
@@ -228,15 +253,8 @@ fn room_for_the_answer(rt: HostRuntime) -> Result<(), Fail> {
         let whole = call(operation, 2, blocks);
         for place in [122, 130usize] {
             for number in NUMBERS {
-                let mut device = at(phase).ok_or("starts")?;
-                let mut outbox = Outbox::new();
                 let other = bent(whole.as_slice(), place, 4, number);
-                let note = device.step(&frame(other.as_slice()), &mut outbox);
-                assert_eq!(rt; note, Note::Done);
-                let sent = outbox.as_slice().first().ok_or("is answered")?;
-                assert_eq!(rt; sent.len(), length);
-                assert_eq!(rt; sent.as_slice().get(122..126), Some([0; 4].as_slice()));
-                assert_eq!(rt; sent.as_slice().get(130..134), other.get(122..126));
+                is_answered(&rt, phase, &other, length)?;
             }
         }
     }

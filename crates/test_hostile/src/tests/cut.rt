@@ -1,6 +1,6 @@
 // Frames that are no calls, cut at each length.
 use super::frames::{OUTPUTS, PDUS, elsewhere, untagged};
-use super::stations::{PHASES, at, is_noted, is_untouched};
+use super::stations::{PHASES, at, front, is_noted, is_untouched};
 use device_core::Note;
 use frame_codec::Bytes;
 use relations::Phase;
@@ -16,7 +16,7 @@ fn are_cut(
     (from, note): (usize, Note),
 ) -> Result<(), Fail> {
     for length in 0..bytes.len() {
-        let part = octets(bytes.get(..length).ok_or("is longer")?);
+        let part = front(bytes.as_slice(), length)?;
         let wanted = if length < from { Note::Fault } else { note };
         is_noted(rt, device, &part, wanted);
     }
@@ -31,52 +31,75 @@ fn note_of_short(phase: Option<Phase>) -> Note {
     }
 }
 
+fn are_cyclic_frames_cut(rt: &impl Abort, phase: Option<Phase>) -> Result<(), Fail> {
+    let mut device = at(phase)?;
+    let note = note_of_short(phase);
+    are_cut(rt, &mut device, &octets(&OUTPUTS), (20, note))?;
+    are_cut(rt, &mut device, &untagged(&OUTPUTS), (16, note))?;
+    is_untouched(rt, device, phase)
+}
+
 #[test]
 fn cyclic_frames_cut_short(rt: HostRuntime) -> Result<(), Fail> {
     for phase in PHASES {
-        let mut device = at(phase).ok_or("starts")?;
-        let note = note_of_short(phase);
-        are_cut(&rt, &mut device, &octets(&OUTPUTS), (20, note))?;
-        are_cut(&rt, &mut device, &untagged(&OUTPUTS), (16, note))?;
-        is_untouched(&rt, device, phase)?;
+        are_cyclic_frames_cut(&rt, phase)?;
     }
     Ok(())
+}
+
+/// No part of a PDU is taken, with a tag or without, under either FrameID.
+fn is_whole_or_fault(rt: &impl Abort, device: &mut Station, bytes: &[u8]) -> Result<(), Fail> {
+    are_cut(rt, device, &octets(bytes), (0, Note::Fault))?;
+    are_cut(rt, device, &untagged(bytes), (0, Note::Fault))?;
+    are_cut(rt, device, &elsewhere(bytes), (0, Note::Fault))
+}
+
+fn are_alarm_frames_cut(rt: &impl Abort, phase: Option<Phase>) -> Result<(), Fail> {
+    let mut device = at(phase)?;
+    for bytes in PDUS {
+        is_whole_or_fault(rt, &mut device, bytes)?;
+    }
+    is_untouched(rt, device, phase)
 }
 
 // A PDU that is not whole is a fault, be there a relation or none, under either FrameID.
 #[test]
 fn alarm_frames_cut_short(rt: HostRuntime) -> Result<(), Fail> {
     for phase in PHASES {
-        let mut device = at(phase).ok_or("starts")?;
-        for bytes in PDUS {
-            for whole in [octets(bytes), untagged(bytes), elsewhere(bytes)] {
-                are_cut(&rt, &mut device, &whole, (0, Note::Fault))?;
-            }
-        }
-        is_untouched(&rt, device, phase)?;
+        are_alarm_frames_cut(&rt, phase)?;
     }
     Ok(())
+}
+
+/// A PDU from another station, or for another endpoint, belongs to no relation where it is whole.
+fn is_foreign(rt: &impl Abort, device: &mut Station, bytes: &[u8]) -> Result<(), Fail> {
+    // the source, and either endpoint
+    for place in [11, 21, 23usize] {
+        let mut other = octets(bytes);
+        set(&mut other, place, 3);
+        are_cut(rt, device, &other, (0, Note::Fault))?;
+        is_noted(rt, device, &other, Note::NoRelation);
+    }
+    Ok(())
+}
+
+fn are_foreign(rt: &impl Abort, phase: Option<Phase>) -> Result<(), Fail> {
+    let mut device = at(phase)?;
+    let mut cyclic = octets(&OUTPUTS);
+    set(&mut cyclic, 11, 3);
+    are_cut(rt, &mut device, &cyclic, (20, Note::NoRelation))?;
+    is_noted(rt, &mut device, &cyclic, Note::NoRelation);
+    for bytes in PDUS {
+        is_foreign(rt, &mut device, bytes)?;
+    }
+    is_untouched(rt, device, phase)
 }
 
 // Broken or whole, what another station sends belongs to no relation; but a PDU that is not whole is a fault, whoever sent it.
 #[test]
 fn frames_of_another_station(rt: HostRuntime) -> Result<(), Fail> {
     for phase in PHASES {
-        let mut device = at(phase).ok_or("starts")?;
-        let mut cyclic = octets(&OUTPUTS);
-        set(&mut cyclic, 11, 3);
-        are_cut(&rt, &mut device, &cyclic, (20, Note::NoRelation))?;
-        is_noted(&rt, &mut device, &cyclic, Note::NoRelation);
-        for bytes in PDUS {
-            // the source, and either endpoint
-            for place in [11, 21, 23usize] {
-                let mut other = octets(bytes);
-                set(&mut other, place, 3);
-                are_cut(&rt, &mut device, &other, (0, Note::Fault))?;
-                is_noted(&rt, &mut device, &other, Note::NoRelation);
-            }
-        }
-        is_untouched(&rt, device, phase)?;
+        are_foreign(&rt, phase)?;
     }
     Ok(())
 }
@@ -84,7 +107,7 @@ fn frames_of_another_station(rt: HostRuntime) -> Result<(), Fail> {
 // A whole one belongs to no relation where there is none.
 #[test]
 fn frames_of_no_relation(rt: HostRuntime) -> Result<(), Fail> {
-    let mut device = at(None).ok_or("starts")?;
+    let mut device = at(None)?;
     is_noted(&rt, &mut device, &octets(&OUTPUTS), Note::NoRelation);
     for bytes in PDUS {
         is_noted(&rt, &mut device, &octets(bytes), Note::NoRelation);

@@ -1,5 +1,6 @@
 //! The station of these tests in each phase, and whether frames left it as it was.
 use super::frames::{ACK, ALARM_ACK, ASKED, BLOCKS, OUTPUTS, call};
+use super::same;
 use device_core::{Event, Note};
 use flash_model::MemoryFlash;
 use frame_codec::{Bytes, Outbox};
@@ -7,7 +8,7 @@ use relations::Phase;
 use std::process::Abort;
 use std::test::Fail;
 use test_stations::{
-    CONNECT, CONTROL, PRM_END, READ, Station, frame, octets, plugged, response, station,
+    CONNECT, CONTROL, PRM_END, READ, Station, frame, octets, plugged, response, station, step,
 };
 
 /// Without a relation, and in each phase of one.
@@ -19,8 +20,8 @@ pub(crate) const PHASES: [Option<Phase>; 4] = [
 ];
 
 /// A station with an address, in this phase of a relation that these blocks of a Connect made.
-pub(crate) fn asked_for(blocks: &[u8], phase: Option<Phase>) -> Option<Station> {
-    let mut device = station(plugged(), MemoryFlash::blank())?;
+pub(crate) fn asked_for(blocks: &[u8], phase: Option<Phase>) -> Result<Station, Fail> {
+    let mut device = station(plugged(), MemoryFlash::blank()).ok_or("starts")?;
     let mut outbox = Outbox::new();
     let frames = [
         call(CONNECT, 0, blocks),
@@ -31,17 +32,27 @@ pub(crate) fn asked_for(blocks: &[u8], phase: Option<Phase>) -> Option<Station> 
         if device.phase() == phase {
             break;
         }
-        let _ = device.step(&frame(bytes.as_slice()), &mut outbox);
+        let _ = step(&mut device, &frame(bytes.as_slice()), &mut outbox);
     }
     if device.phase() == phase {
-        Some(device)
+        Ok(device)
     } else {
-        None
+        Err("is in another phase".into())
     }
 }
 
-pub(crate) fn at(phase: Option<Phase>) -> Option<Station> {
+pub(crate) fn at(phase: Option<Phase>) -> Result<Station, Fail> {
     asked_for(&BLOCKS, phase)
+}
+
+/// A station is in this phase of a relation.
+pub(crate) fn is_in(rt: &impl Abort, device: &Station, phase: Option<Phase>) {
+    same(rt, device.phase(), phase);
+}
+
+/// The front of a frame.
+pub(crate) fn front(bytes: &[u8], length: usize) -> Result<Bytes, Fail> {
+    Ok(octets(bytes.get(..length).ok_or("is longer")?))
 }
 
 /// The application raises an alarm of the module in slot 1.
@@ -52,15 +63,20 @@ pub(crate) fn alarm() -> Event {
 /// Nothing is sent for a frame, and this becomes of it.
 pub(crate) fn is_noted(rt: &impl Abort, device: &mut Station, bytes: &Bytes, note: Note) {
     let mut outbox = Outbox::new();
-    let came = device.step(&frame(bytes.as_slice()), &mut outbox);
+    let came = step(device, &frame(bytes.as_slice()), &mut outbox);
     assert_eq!(rt; came, note, "{:?}", bytes.as_slice());
-    assert_eq!(rt; outbox.len(), 0);
+    same(rt, outbox.len(), 0);
+}
+
+/// A station takes an event; what it sends is in the box.
+pub(crate) fn takes(rt: &impl Abort, device: &mut Station, event: &Event, outbox: &mut Outbox) {
+    same(rt, step(device, event, outbox), Note::Done);
 }
 
 /// Hands a call in. How many octets the one answer has, and its status.
-pub(crate) fn served(device: &mut Station, bytes: &Bytes) -> (usize, [u8; 4]) {
+fn served(device: &mut Station, bytes: &Bytes) -> (usize, [u8; 4]) {
     let mut outbox = Outbox::new();
-    let _ = device.step(&frame(bytes.as_slice()), &mut outbox);
+    let _ = step(device, &frame(bytes.as_slice()), &mut outbox);
     let mut status = [0xFF; 4];
     match outbox.as_slice() {
         [sent, ..] if sent.len() >= 126 => {
@@ -71,32 +87,39 @@ pub(crate) fn served(device: &mut Station, bytes: &Bytes) -> (usize, [u8; 4]) {
     }
 }
 
+/// The one answer to a call has so many octets, and this status.
+pub(crate) fn is_served(
+    rt: &impl Abort,
+    device: &mut Station,
+    bytes: &Bytes,
+    (length, status): (usize, [u8; 4]),
+) {
+    same(rt, served(device, bytes), (length, status));
+}
+
+/// Two boxes hold the same frames.
+fn are_sent_alike(rt: &impl Abort, outbox: &Outbox, wanted: &Outbox) {
+    same(rt, outbox.len(), wanted.len());
+    for (sent, other) in outbox.as_slice().iter().zip(wanted.as_slice()) {
+        same(rt, sent.as_slice(), other.as_slice());
+    }
+}
+
 /// Two stations answer an event alike, and show the same behind it.
 fn is_alike(rt: &impl Abort, (device, other): (&mut Station, &mut Station), event: &Event) {
     let (mut outbox, mut wanted) = (Outbox::new(), Outbox::new());
-    let note = device.step(event, &mut outbox);
-    assert_eq!(rt; note, other.step(event, &mut wanted));
-    assert_eq!(rt; outbox.len(), wanted.len());
-    for (sent, same) in outbox.as_slice().iter().zip(wanted.as_slice()) {
-        assert_eq!(rt; sent.as_slice(), same.as_slice());
-    }
-    assert_eq!(rt; device.phase(), other.phase());
-    assert_eq!(rt; device.output(2, 1), other.output(2, 1));
-    assert_eq!(rt;
-        device.running().im2.as_bytes(),
-        other.running().im2.as_bytes()
-    );
+    let note = step(device, event, &mut outbox);
+    same(rt, note, step(other, event, &mut wanted));
+    are_sent_alike(rt, &outbox, &wanted);
+    is_in(rt, device, other.phase());
+    same(rt, device.output(2, 1), other.output(2, 1));
+    let date = device.running().im2.as_bytes();
+    same(rt, date, other.running().im2.as_bytes());
 }
 
-/// A station that met broken frames goes on, through the rest of the start-up, an alarm and the end of its relation by silence, as one
-/// in this phase does that met none.
-pub(crate) fn is_untouched(
-    rt: &impl Abort,
-    mut device: Station,
-    phase: Option<Phase>,
-) -> Result<(), Fail> {
-    let mut other = at(phase).ok_or("starts")?;
-    let events = [
+/// The rest of the start-up of a relation, and what is exchanged in it.
+fn further_events() -> [Event; 13] {
+    [
         alarm(),
         frame(&ACK),
         frame(&ALARM_ACK),
@@ -110,14 +133,24 @@ pub(crate) fn is_untouched(
         frame(&ACK),
         frame(&ALARM_ACK),
         frame(&OUTPUTS),
-    ];
-    for event in &events {
+    ]
+}
+
+/// A station that met broken frames goes on, through the rest of the start-up, an alarm and the end of its relation by silence, as one
+/// in this phase does that met none.
+pub(crate) fn is_untouched(
+    rt: &impl Abort,
+    mut device: Station,
+    phase: Option<Phase>,
+) -> Result<(), Fail> {
+    let mut other = at(phase)?;
+    for event in &further_events() {
         is_alike(rt, (&mut device, &mut other), event);
     }
-    assert_eq!(rt; device.phase(), Some(Phase::Exchanging));
+    is_in(rt, &device, Some(Phase::Exchanging));
     for _ in 0..97 {
         is_alike(rt, (&mut device, &mut other), &Event::Tick);
     }
-    assert_eq!(rt; device.phase(), None);
+    is_in(rt, &device, None);
     Ok(())
 }

@@ -4,6 +4,7 @@ use device_port::Port;
 use std::alloc::Global;
 use std::process::Abort;
 use std::test::Fail;
+use test_stations::same;
 
 /// A Set of the address 192.168.0.2, and a Connect whose inputs are sent each millisecond, 32 units, as Scapy 2.5.0 builds them.
 const OPENING: [&str; 2] = [
@@ -34,12 +35,12 @@ fn stops_behind_a_unit_that_sends(rt: HostRuntime) -> Result<(), Fail> {
     let mut port = connected(rt.alloc())?;
     let left = port.tick(1000).ok().ok_or("time goes by")?;
     assert!(rt; left > 0);
-    assert_eq!(rt; kind(&port), 3);
-    assert_eq!(rt; number(port.tick(left)), 7);
+    same(&rt, &kind(&port), &3);
+    same(&rt, &number(port.tick(left)), &7);
     port.advance();
     assert!(rt; matches!(port.tick(31), Ok(0)));
-    assert_eq!(rt; kind(&port), 0);
+    same(&rt, &kind(&port), &0);
     assert!(rt; matches!(port.tick(5), Ok(4)));
-    assert_eq!(rt; kind(&port), 3);
+    same(&rt, &kind(&port), &3);
     Ok(())
 }

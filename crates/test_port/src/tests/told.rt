@@ -3,6 +3,7 @@ use crate::tests::stations::{booted, busy, made};
 use device_port::{Stage, Work};
 use std::process::Abort;
 use std::test::Fail;
+use test_stations::same;
 
 #[test]
 fn a_port_that_started(rt: HostRuntime) -> Result<(), Fail> {
@@ -12,11 +13,11 @@ fn a_port_that_started(rt: HostRuntime) -> Result<(), Fail> {
     let phase = port.phase().ok().ok_or("is told")?;
     assert!(rt; phase.is_none());
     let lamp = port.lamp().ok().ok_or("is told")?;
-    assert_eq!(rt; lamp, 0);
+    same(&rt, &lamp, &0);
     let taken = port.taken().ok().ok_or("is told")?;
     assert!(rt; taken.is_empty());
     let output = port.output(2, 1).ok().ok_or("is told")?;
-    assert_eq!(rt; output, [0, 0].as_slice());
+    same(&rt, &output, &[0, 0].as_slice());
     let running = port.running().ok().ok_or("is told")?;
     assert!(rt; running.name.as_bytes().is_empty());
     Ok(())
@@ -26,9 +27,9 @@ fn a_port_that_started(rt: HostRuntime) -> Result<(), Fail> {
 fn a_name_runs_at_once(rt: HostRuntime) -> Result<(), Fail> {
     let port = busy();
     let running = port.running().ok().ok_or("is told")?;
-    assert_eq!(rt; running.name.as_bytes(), b"pump-1".as_slice());
+    same(&rt, &running.name.as_bytes(), &b"pump-1".as_slice());
     let stored = port.stored().ok().ok_or("is told")?;
-    assert_eq!(rt; stored.name.as_bytes(), b"pump-1".as_slice());
+    same(&rt, &stored.name.as_bytes(), &b"pump-1".as_slice());
     Ok(())
 }
 

@@ -3,14 +3,14 @@ use crate::tests::stations::{booted, busy, kind};
 use device_core::Note;
 use device_port::{Stage, Work};
 use std::process::Abort;
-use test_stations::{DONE, IDENTIFY, is_filled};
+use test_stations::{DONE, IDENTIFY, is_filled, same};
 
 #[test]
 fn calls_come_first(rt: HostRuntime) {
     let mut port = busy();
     // A base: the sector is erased, its octets are programmed, and its gate is closed.
     for wanted in [2, 1, 1, 3, 0] {
-        assert_eq!(rt; kind(&port), wanted);
+        same(&rt, &kind(&port), &wanted);
         port.advance();
     }
     assert!(rt; !port.has_work());

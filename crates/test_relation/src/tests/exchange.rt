@@ -6,7 +6,7 @@ use frame_codec::Outbox;
 use relations::Phase;
 use std::process::Abort;
 use std::test::Fail;
-use test_stations::{Station, frame, is_filled, is_padded, octets, set};
+use test_stations::{Station, frame, is_filled, is_padded, octets, same, set, step};
 
 // The first cyclic frame of the device, for which the application gave 12 34.
 const INPUTS: [u8; 64] =
@@ -61,7 +61,7 @@ fn alarm(bytes: &[u8]) -> Event {
 pub(crate) fn is_interval_sent(device: &mut Station, value: [u8; 2]) -> bool {
     let mut outbox = Outbox::new();
     let early = sent_in(device, 31);
-    let note = device.step(&Event::Tick, &mut outbox);
+    let note = step(device, &Event::Tick, &mut outbox);
     let mut wanted = INPUTS;
     wanted[23..25].copy_from_slice(&value);
     early == 0 && note == Note::Done && is_padded(&outbox, &wanted)
@@ -77,11 +77,11 @@ fn inputs_are_sent_each_interval(rt: HostRuntime) -> Result<(), Fail> {
         (&[], Note::Refused),
     ] {
         let given = Event::Input(1, 1, octets(value));
-        assert_eq!(rt; device.step(&given, &mut outbox), note);
-        assert_eq!(rt; outbox.len(), 0);
+        same(&rt, &step(&mut device, &given, &mut outbox), &note);
+        same(&rt, &outbox.len(), &0);
     }
     assert!(rt; is_interval_sent(&mut device, [0x12, 0x34]));
-    assert_eq!(rt; sent_in(&mut device, 32), 1);
+    same(&rt, &sent_in(&mut device, 32), &1);
     Ok(())
 }
 
@@ -89,16 +89,40 @@ fn inputs_are_sent_each_interval(rt: HostRuntime) -> Result<(), Fail> {
 fn one_alarm_stands_at_a_time(rt: HostRuntime) -> Result<(), Fail> {
     let mut device = exchanging().ok_or("starts")?;
     let mut outbox = Outbox::new();
-    assert_eq!(rt; device.step(&alarm(&[0xAA, 0xBB]), &mut outbox), Note::Done);
+    same(
+        &rt,
+        &step(&mut device, &alarm(&[0xAA, 0xBB]), &mut outbox),
+        &Note::Done,
+    );
     assert!(rt; is_padded(&outbox, &NOTIFIED));
-    assert_eq!(rt; device.step(&alarm(&[0xCC]), &mut outbox), Note::Refused);
-    assert_eq!(rt; device.step(&frame(&ACK), &mut outbox), Note::Done);
-    assert_eq!(rt; outbox.len(), 0);
-    assert_eq!(rt; device.step(&alarm(&[0xCC]), &mut outbox), Note::Refused);
-    assert_eq!(rt; device.step(&frame(&ALARM_ACK), &mut outbox), Note::Done);
+    same(
+        &rt,
+        &step(&mut device, &alarm(&[0xCC]), &mut outbox),
+        &Note::Refused,
+    );
+    same(
+        &rt,
+        &step(&mut device, &frame(&ACK), &mut outbox),
+        &Note::Done,
+    );
+    same(&rt, &outbox.len(), &0);
+    same(
+        &rt,
+        &step(&mut device, &alarm(&[0xCC]), &mut outbox),
+        &Note::Refused,
+    );
+    same(
+        &rt,
+        &step(&mut device, &frame(&ALARM_ACK), &mut outbox),
+        &Note::Done,
+    );
     assert!(rt; is_padded(&outbox, &TAKEN));
-    assert_eq!(rt; device.step(&alarm(&[0xCC]), &mut outbox), Note::Done);
-    assert_eq!(rt; outbox.len(), 1);
+    same(
+        &rt,
+        &step(&mut device, &alarm(&[0xCC]), &mut outbox),
+        &Note::Done,
+    );
+    same(&rt, &outbox.len(), &1);
     Ok(())
 }
 
@@ -133,20 +157,32 @@ fn an_alarm_that_nobody_acknowledges(rt: HostRuntime) -> Result<(), Fail> {
     for (first, between) in [(0, 99), (5, 100)] {
         let mut device = patient().ok_or("starts")?;
         let mut outbox = Outbox::new();
-        assert_eq!(rt; sent_in(&mut device, first), 0);
-        assert_eq!(rt; device.step(&alarm(&[0xAA, 0xBB]), &mut outbox), Note::Done);
+        same(&rt, &sent_in(&mut device, first), &0);
+        same(
+            &rt,
+            &step(&mut device, &alarm(&[0xAA, 0xBB]), &mut outbox),
+            &Note::Done,
+        );
         assert!(rt; is_notified_again(&outbox, false));
         for _ in 0..3 {
-            assert_eq!(rt; sent_in(&mut device, 3199), between);
-            assert_eq!(rt; device.step(&Event::Tick, &mut outbox), Note::Done);
+            same(&rt, &sent_in(&mut device, 3199), &between);
+            same(
+                &rt,
+                &step(&mut device, &Event::Tick, &mut outbox),
+                &Note::Done,
+            );
             assert!(rt; is_notified_again(&outbox, first == 0));
         }
-        assert_eq!(rt; sent_in(&mut device, 3199), between);
-        assert_eq!(rt; device.phase(), Some(Phase::Exchanging));
-        assert_eq!(rt; device.step(&Event::Tick, &mut outbox), Note::Done);
+        same(&rt, &sent_in(&mut device, 3199), &between);
+        same(&rt, &device.phase(), &Some(Phase::Exchanging));
+        same(
+            &rt,
+            &step(&mut device, &Event::Tick, &mut outbox),
+            &Note::Done,
+        );
         assert!(rt; is_padded(&outbox, &SPENT));
-        assert_eq!(rt; device.phase(), None);
-        assert_eq!(rt; sent_in(&mut device, 32), 0);
+        same(&rt, &device.phase(), &None);
+        same(&rt, &sent_in(&mut device, 32), &0);
     }
     Ok(())
 }
@@ -162,7 +198,7 @@ pub(crate) fn outputs(counter: u16, [first, second]: [u8; 2]) -> Event {
 }
 
 fn is_output<R: Abort>(rt: &R, device: &Station, value: [u8; 2]) {
-    assert_eq!(rt; device.output(2, 1), Some(value.as_slice()));
+    same(rt, &device.output(2, 1), &Some(value.as_slice()));
 }
 
 #[test]
@@ -178,8 +214,12 @@ fn outputs_are_those_of_the_newest_frame(rt: HostRuntime) -> Result<(), Fail> {
         (61_456, [5, 0], Note::Done, [5, 0]),
         (57_361, [6, 6], Note::StaleCycle, [5, 0]),
     ] {
-        assert_eq!(rt; device.step(&outputs(counter, value), &mut outbox), note);
-        assert_eq!(rt; outbox.len(), 0);
+        same(
+            &rt,
+            &step(&mut device, &outputs(counter, value), &mut outbox),
+            &note,
+        );
+        same(&rt, &outbox.len(), &0);
         is_output(&rt, &device, shown);
     }
     Ok(())
@@ -189,20 +229,30 @@ fn outputs_are_those_of_the_newest_frame(rt: HostRuntime) -> Result<(), Fail> {
 fn silence_of_three_intervals_ends_the_exchange(rt: HostRuntime) -> Result<(), Fail> {
     let mut device = exchanging().ok_or("starts")?;
     let mut outbox = Outbox::new();
-    assert_eq!(rt; sent_in(&mut device, 95), 2);
-    assert_eq!(rt; device.step(&frame(&OUTPUTS), &mut outbox), Note::Done);
-    assert_eq!(rt; sent_in(&mut device, 95), 3);
-    assert_eq!(rt;
-        device.step(&frame(&OUTPUTS), &mut outbox),
-        Note::StaleCycle
+    same(&rt, &sent_in(&mut device, 95), &2);
+    same(
+        &rt,
+        &step(&mut device, &frame(&OUTPUTS), &mut outbox),
+        &Note::Done,
     );
-    assert_eq!(rt; device.phase(), Some(Phase::Exchanging));
-    assert_eq!(rt; device.step(&Event::Tick, &mut outbox), Note::Done);
+    same(&rt, &sent_in(&mut device, 95), &3);
+    same(
+        &rt,
+        &step(&mut device, &frame(&OUTPUTS), &mut outbox),
+        &Note::StaleCycle,
+    );
+    same(&rt, &device.phase(), &Some(Phase::Exchanging));
+    same(
+        &rt,
+        &step(&mut device, &Event::Tick, &mut outbox),
+        &Note::Done,
+    );
     assert!(rt; is_padded(&outbox, &SILENT));
-    assert_eq!(rt; device.phase(), None);
-    assert_eq!(rt;
-        device.step(&frame(&OUTPUTS), &mut outbox),
-        Note::NoRelation
+    same(&rt, &device.phase(), &None);
+    same(
+        &rt,
+        &step(&mut device, &frame(&OUTPUTS), &mut outbox),
+        &Note::NoRelation,
     );
     Ok(())
 }

@@ -11,7 +11,8 @@ use pn_values::{ParameterRecord, Real, RealModule, RealSubmodule};
 use relations::Phase;
 use std::test::Fail;
 use test_stations::{
-    CONNECT, Station, WRITE, call, frame, no_modules, plugged, restart, station, write_last,
+    CONNECT, Station, WRITE, call, frame, no_modules, plugged, restart, same, station, step,
+    write_last,
 };
 
 // I&M2, the date of installation.
@@ -32,24 +33,26 @@ fn status_of(device: &mut Station, sequence: u8, place: (u16, u16, u16), record:
 fn a_write_that_is_repeated_is_one_command(rt: HostRuntime) -> Result<(), Fail> {
     let mut device = related(600, THREE).ok_or("starts")?;
     let written = call(WRITE, 7, 2, write(2, 0, 1, 0xAFF2, &DATE).as_slice());
-    assert_eq!(rt; served(&mut device, &written), (1, 206, [0; 4]));
-    assert_eq!(rt;
-        device.running().im2.as_bytes(),
-        b"2024-05-06 07:08".as_slice()
+    same(&rt, &served(&mut device, &written), &(1, 206, [0; 4]));
+    same(
+        &rt,
+        &device.running().im2.as_bytes(),
+        &b"2024-05-06 07:08".as_slice(),
     );
     // A second commit would fail.
     device.arm(Order::Fault {
         after: 0,
         mask: [0xFF; 8],
     });
-    assert_eq!(rt; served(&mut device, &written), (1, 206, [0; 4]));
+    same(&rt, &served(&mut device, &written), &(1, 206, [0; 4]));
     let mut outbox = Outbox::new();
     let older = call(WRITE, 7, 1, write(1, 0, 1, 0xAFF2, &DATE).as_slice());
-    assert_eq!(rt;
-        device.step(&frame(older.as_slice()), &mut outbox),
-        Note::OldCall
+    same(
+        &rt,
+        &step(&mut device, &frame(older.as_slice()), &mut outbox),
+        &Note::OldCall,
     );
-    assert_eq!(rt; outbox.len(), 0);
+    same(&rt, &outbox.len(), &0);
     Ok(())
 }
 
@@ -65,25 +68,33 @@ fn write_elsewhere(sequence: u8) -> Blocks {
 #[test]
 fn what_is_not_written_is_refused(rt: HostRuntime) -> Result<(), Fail> {
     let mut device = related(600, THREE).ok_or("starts")?;
-    assert_eq!(rt;
-        status_of(&mut device, 1, (1, 1, 0xAFF1), &[0; 60]),
-        [0xDF, 0x80, 0xB0, 0]
+    same(
+        &rt,
+        &status_of(&mut device, 1, (1, 1, 0xAFF1), &[0; 60]),
+        &[0xDF, 0x80, 0xB0, 0],
     );
-    assert_eq!(rt;
-        status_of(&mut device, 2, (0, 1, 0xAFF0), &[0; 60]),
-        [0xDF, 0x80, 0xB6, 0]
+    same(
+        &rt,
+        &status_of(&mut device, 2, (0, 1, 0xAFF0), &[0; 60]),
+        &[0xDF, 0x80, 0xB6, 0],
     );
     // a date of fifteen octets
-    assert_eq!(rt;
-        status_of(&mut device, 3, (0, 1, 0xAFF2), &DATE[..21]),
-        [0xDF, 0x80, 0xB1, 0]
+    same(
+        &rt,
+        &status_of(&mut device, 3, (0, 1, 0xAFF2), &DATE[..21]),
+        &[0xDF, 0x80, 0xB1, 0],
     );
     let other = write_elsewhere(4);
-    assert_eq!(rt;
-        served(&mut device, &call(WRITE, 7, 4, other.as_slice())),
-        (1, 142, [0xDF, 0x81, 0x40, 5])
+    same(
+        &rt,
+        &served(&mut device, &call(WRITE, 7, 4, other.as_slice())),
+        &(1, 142, [0xDF, 0x81, 0x40, 5]),
     );
-    assert_eq!(rt; device.running().im2.as_bytes(), [b' '; 16].as_slice());
+    same(
+        &rt,
+        &device.running().im2.as_bytes(),
+        &[b' '; 16].as_slice(),
+    );
     Ok(())
 }
 
@@ -99,11 +110,12 @@ fn power_is_lost_as_a_date_is_stored(rt: HostRuntime) -> Result<(), Fail> {
     let _ = served(&mut device, &call(WRITE, 7, 1, blocks.as_slice()));
     assert!(rt; device.is_lost());
     let device = restart(device).ok_or("starts again")?;
-    assert_eq!(rt;
-        device.running().im2.as_bytes(),
-        b"2024-05-06 07:08".as_slice()
+    same(
+        &rt,
+        &device.running().im2.as_bytes(),
+        &b"2024-05-06 07:08".as_slice(),
     );
-    assert_eq!(rt; device.phase(), None);
+    same(&rt, &device.phase(), &None);
     Ok(())
 }
 
@@ -115,9 +127,10 @@ fn a_date_is_refused_after_a_fault(rt: HostRuntime) -> Result<(), Fail> {
         mask: [0xFF; 8],
     });
     let blocks = write(0, 0, 1, 0xAFF2, &DATE);
-    assert_eq!(rt;
-        served(&mut device, &call(WRITE, 8, 0, blocks.as_slice())),
-        (1, 142, [0xDF, 0x80, 0xB5, 5])
+    same(
+        &rt,
+        &served(&mut device, &call(WRITE, 8, 0, blocks.as_slice())),
+        &(1, 142, [0xDF, 0x80, 0xB5, 5]),
     );
     // cyclic frames go on, each way
     let mut outbox = Outbox::new();
@@ -127,11 +140,11 @@ fn a_date_is_refused_after_a_fault(rt: HostRuntime) -> Result<(), Fail> {
         (65_520, Note::StaleCycle),
     ] {
         let event = outputs(counter, [0xAA, 0x55]);
-        assert_eq!(rt; device.step(&event, &mut outbox), note);
-        assert_eq!(rt; outbox.len(), 0);
+        same(&rt, &step(&mut device, &event, &mut outbox), &note);
+        same(&rt, &outbox.len(), &0);
     }
     assert!(rt; is_interval_sent(&mut device, [0, 0]));
-    assert_eq!(rt; device.phase(), Some(Phase::Exchanging));
+    same(&rt, &device.phase(), &Some(Phase::Exchanging));
     Ok(())
 }
 
@@ -154,18 +167,23 @@ fn without_room_the_relation_stays(rt: HostRuntime) -> Result<(), Fail> {
     let reset =
         *b"\x02\x00\x00\x00\x00\x01\x02\x00\x00\x00\x00\x02\x88\x92\xfe\xfd\x04\x00\x00\x00\x00\x03\x00\x00\x00\x06\
         \x05\x06\x00\x02\x00\x04";
-    assert_eq!(rt; device.step(&frame(&reset), &mut outbox), Note::Done);
-    assert_eq!(rt; outbox.len(), 1);
+    same(
+        &rt,
+        &step(&mut device, &frame(&reset), &mut outbox),
+        &Note::Done,
+    );
+    same(&rt, &outbox.len(), &1);
     let sent = outbox
         .as_slice()
         .first()
         .and_then(|sent| sent.as_slice().get(32));
-    assert_eq!(rt; sent.copied(), Some(4));
-    assert_eq!(rt;
-        status_of(&mut device, 1, (0, 1, 0xAFF2), &DATE),
-        [0xDF, 0x80, 0xB5, 4]
+    same(&rt, &sent.copied(), &Some(4));
+    same(
+        &rt,
+        &status_of(&mut device, 1, (0, 1, 0xAFF2), &DATE),
+        &[0xDF, 0x80, 0xB5, 4],
     );
-    assert_eq!(rt; device.phase(), Some(Phase::Started));
+    same(&rt, &device.phase(), &Some(Phase::Started));
     Ok(())
 }
 
@@ -216,12 +234,12 @@ fn sixty_four_parameter_records_are_kept(rt: HostRuntime) -> Result<(), Fail> {
         } else {
             [0xDF, 0x80, 0xB5, 6]
         };
-        assert_eq!(rt; status, wanted);
+        same(&rt, &status, &wanted);
     }
     let kept = device.taken();
-    assert_eq!(rt; kept.len(), 64);
+    same(&rt, &kept.len(), &64);
     let last = kept.last().ok_or("is kept")?;
-    assert_eq!(rt; (last.slot, last.subslot, last.index), (7, 4, 2));
-    assert_eq!(rt; last.value.as_slice(), [63].as_slice());
+    same(&rt, &(last.slot, last.subslot, last.index), &(7, 4, 2));
+    same(&rt, &last.value.as_slice(), &[63].as_slice());
     Ok(())
 }

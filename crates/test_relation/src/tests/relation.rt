@@ -10,7 +10,7 @@ use std::process::Abort;
 use std::test::Fail;
 use test_stations::{
     CONNECT, CONTROL, DONE, END, PRM_END, RELEASE, Station, call, frame, is_filled, is_padded,
-    plugged, set, set_pump, station,
+    plugged, same, set, set_pump, station, step,
 };
 
 // The blocks of the answer to the Connect of three modules: ARBlockRes, an IOCRBlockRes each, AlarmCRBlockRes.
@@ -42,24 +42,24 @@ fn three() -> Bytes {
 fn is_made<R: Abort>(rt: &R, bytes: &Bytes, length: usize, blocks: &[&[u8]]) -> Result<(), Fail> {
     let mut device = fresh().ok_or("starts")?;
     let mut outbox = Outbox::new();
-    let _ = device.step(&frame(bytes.as_slice()), &mut outbox);
-    assert_eq!(rt; outbox.len(), 1);
+    let _ = step(&mut device, &frame(bytes.as_slice()), &mut outbox);
+    same(rt, &outbox.len(), &1);
     let sent = outbox.as_slice().first().ok_or("is answered")?;
-    assert_eq!(rt; sent.len(), length);
+    same(rt, &sent.len(), &length);
     let mut place: usize = 142;
     for block in blocks {
         let rest = sent.as_slice().get(place..).unwrap_or(&[]);
         assert!(rt; rest.starts_with(block));
         place = place.wrapping_add(block.len());
     }
-    assert_eq!(rt; device.phase(), Some(Phase::Started));
+    same(rt, &device.phase(), &Some(Phase::Started));
     Ok(())
 }
 
 #[test]
 fn a_connect_makes_a_relation(rt: HostRuntime) -> Result<(), Fail> {
-    assert_eq!(rt; connect(0x11, 600, THREE).len(), 391);
-    assert_eq!(rt; three().len(), 533);
+    same(&rt, &connect(0x11, 600, THREE).len(), &391);
+    same(&rt, &three().len(), &533);
     is_made(&rt, &three(), 212, &[&MADE])
 }
 
@@ -103,10 +103,14 @@ fn a_connect_that_is_cut_is_none(rt: HostRuntime) -> Result<(), Fail> {
     let bytes = three();
     for length in 0..533 {
         let part = bytes.get(..length).ok_or("is longer")?;
-        assert_eq!(rt; device.step(&frame(part), &mut outbox), Note::Fault);
-        assert_eq!(rt; outbox.len(), 0);
+        same(
+            &rt,
+            &step(&mut device, &frame(part), &mut outbox),
+            &Note::Fault,
+        );
+        same(&rt, &outbox.len(), &0);
     }
-    assert_eq!(rt; device.phase(), None);
+    same(&rt, &device.phase(), &None);
     Ok(())
 }
 
@@ -132,19 +136,22 @@ fn sent_to(changes: &[(usize, u8)]) -> Option<(usize, usize, [u8; 4])> {
 #[test]
 fn a_connect_with_a_fault_is_refused(rt: HostRuntime) {
     // ArgsLength one less than ActualCount
-    assert_eq!(rt;
-        sent_to(&[(129, 0x86)]),
-        Some((1, 142, [0xDB, 0x81, 0x40, 0]))
+    same(
+        &rt,
+        &sent_to(&[(129, 0x86)]),
+        &Some((1, 142, [0xDB, 0x81, 0x40, 0])),
     );
     // BlockLength of the ARBlockReq
-    assert_eq!(rt;
-        sent_to(&[(144, 0xFF), (145, 0xFF)]),
-        Some((1, 142, [0xDB, 0x81, 1, 1]))
+    same(
+        &rt,
+        &sent_to(&[(144, 0xFF), (145, 0xFF)]),
+        &Some((1, 142, [0xDB, 0x81, 1, 1])),
     );
     // NumberOfIODataObjects of the input
-    assert_eq!(rt;
-        sent_to(&[(253, 0xFF), (254, 0xFF)]),
-        Some((1, 142, [0xDB, 0x81, 2, 1]))
+    same(
+        &rt,
+        &sent_to(&[(253, 0xFF), (254, 0xFF)]),
+        &Some((1, 142, [0xDB, 0x81, 2, 1])),
     );
 }
 
@@ -156,22 +163,25 @@ fn a_connect_that_can_not_be_read_is_a_fault(rt: HostRuntime) -> Result<(), Fail
     let mut bytes = three();
     set(&mut bytes, 40, CHECKSUM[0]);
     set(&mut bytes, 41, CHECKSUM[1].wrapping_add(1));
-    assert_eq!(rt;
-        device.step(&frame(bytes.as_slice()), &mut outbox),
-        Note::Fault
+    same(
+        &rt,
+        &step(&mut device, &frame(bytes.as_slice()), &mut outbox),
+        &Note::Fault,
     );
     set(&mut bytes, 41, CHECKSUM[1]);
     set(&mut bytes, 46, 0x20);
-    assert_eq!(rt;
-        device.step(&frame(bytes.as_slice()), &mut outbox),
-        Note::Fault
+    same(
+        &rt,
+        &step(&mut device, &frame(bytes.as_slice()), &mut outbox),
+        &Note::Fault,
     );
     set(&mut bytes, 46, 0);
-    assert_eq!(rt;
-        device.step(&frame(bytes.as_slice()), &mut outbox),
-        Note::Done
+    same(
+        &rt,
+        &step(&mut device, &frame(bytes.as_slice()), &mut outbox),
+        &Note::Done,
     );
-    assert_eq!(rt; outbox.len(), 1);
+    same(&rt, &outbox.len(), &1);
     Ok(())
 }
 
@@ -180,16 +190,18 @@ const CHECKSUM: [u8; 2] = [0x30, 0x24];
 #[test]
 fn a_second_connect_is_refused(rt: HostRuntime) -> Result<(), Fail> {
     let mut device = related(600, THREE).ok_or("starts")?;
-    assert_eq!(rt;
-        refused(&mut device, 0x12, &[]),
-        (1, 142, [0xDB, 0x81, 0x40, 4])
+    same(
+        &rt,
+        &refused(&mut device, 0x12, &[]),
+        &(1, 142, [0xDB, 0x81, 0x40, 4]),
     );
     let mut device = related(600, THREE).ok_or("starts")?;
-    assert_eq!(rt;
-        refused(&mut device, 0x11, &[]),
-        (1, 142, [0xDB, 0x81, 0x40, 6])
+    same(
+        &rt,
+        &refused(&mut device, 0x11, &[]),
+        &(1, 142, [0xDB, 0x81, 0x40, 6]),
     );
-    assert_eq!(rt; device.phase(), Some(Phase::Started));
+    same(&rt, &device.phase(), &Some(Phase::Started));
     Ok(())
 }
 
@@ -197,14 +209,18 @@ fn a_second_connect_is_refused(rt: HostRuntime) -> Result<(), Fail> {
 fn silence_ends_a_relation(rt: HostRuntime) -> Result<(), Fail> {
     let mut device = related(1, THREE).ok_or("starts")?;
     // a cyclic frame each interval of 32 units
-    assert_eq!(rt; sent_in(&mut device, 3199), 99);
-    assert_eq!(rt; device.phase(), Some(Phase::Started));
+    same(&rt, &sent_in(&mut device, 3199), &99);
+    same(&rt, &device.phase(), &Some(Phase::Started));
     let mut outbox = Outbox::new();
-    assert_eq!(rt; device.step(&Event::Tick, &mut outbox), Note::Done);
+    same(
+        &rt,
+        &step(&mut device, &Event::Tick, &mut outbox),
+        &Note::Done,
+    );
     let mut silent = ABORT;
     silent[35] = 6;
     assert!(rt; is_padded(&outbox, &silent));
-    assert_eq!(rt; device.phase(), None);
+    same(&rt, &device.phase(), &None);
     Ok(())
 }
 
@@ -216,7 +232,11 @@ fn a_reset_ends_a_relation(rt: HostRuntime) -> Result<(), Fail> {
     let request =
         *b"\x02\x00\x00\x00\x00\x01\x02\x00\x00\x00\x00\x02\x88\x92\xfe\xfd\x04\x00\x00\x00\x00\x02\x00\x00\x00\x12\
         \x05\x06\x00\x02\x00\x04\x02\x02\x00\x08\x00\x01pump-9";
-    assert_eq!(rt; device.step(&frame(&request), &mut outbox), Note::Done);
+    same(
+        &rt,
+        &step(&mut device, &frame(&request), &mut outbox),
+        &Note::Done,
+    );
     let answer =
         *b"\x02\x00\x00\x00\x00\x02\x02\x00\x00\x00\x00\x01\x88\x92\xfe\xfd\x04\x01\x00\x00\x00\x02\x00\x00\x00\x10\
         \x05\x04\x00\x03\x05\x06\x00\x00\x05\x04\x00\x03\x02\x02\x06\x00";
@@ -227,8 +247,8 @@ fn a_reset_ends_a_relation(rt: HostRuntime) -> Result<(), Fail> {
         }
         _ => panic!(&rt; "an ERR, and an answer"),
     }
-    assert_eq!(rt; device.running().name.as_bytes(), b"".as_slice());
-    assert_eq!(rt; device.phase(), None);
+    same(&rt, &device.running().name.as_bytes(), &b"".as_slice());
+    same(&rt, &device.phase(), &None);
     Ok(())
 }
 
@@ -238,14 +258,23 @@ fn no_name_is_set_before_the_release(rt: HostRuntime) -> Result<(), Fail> {
     let mut outbox = Outbox::new();
     let mut refused = DONE;
     refused[32] = 6;
-    assert_eq!(rt; device.step(&set_pump(b'9'), &mut outbox), Note::Done);
-    assert!(rt; is_padded(&outbox, &refused));
-    assert_eq!(rt;
-        served(&mut device, &call(RELEASE, 7, 1, &END)),
-        (1, 174, [0; 4])
+    same(
+        &rt,
+        &step(&mut device, &set_pump(b'9'), &mut outbox),
+        &Note::Done,
     );
-    assert_eq!(rt; device.phase(), None);
-    assert_eq!(rt; device.step(&set_pump(b'9'), &mut outbox), Note::Done);
+    assert!(rt; is_padded(&outbox, &refused));
+    same(
+        &rt,
+        &served(&mut device, &call(RELEASE, 7, 1, &END)),
+        &(1, 174, [0; 4]),
+    );
+    same(&rt, &device.phase(), &None);
+    same(
+        &rt,
+        &step(&mut device, &set_pump(b'9'), &mut outbox),
+        &Note::Done,
+    );
     assert!(rt; is_padded(&outbox, &DONE));
     Ok(())
 }
@@ -254,16 +283,17 @@ fn no_name_is_set_before_the_release(rt: HostRuntime) -> Result<(), Fail> {
 fn the_parameters_end_once(rt: HostRuntime) -> Result<(), Fail> {
     let mut device = related(600, THREE).ok_or("starts")?;
     let ends = call(CONTROL, 7, 1, &PRM_END);
-    assert_eq!(rt; served(&mut device, &ends), (2, 174, [0; 4]));
-    assert_eq!(rt; device.phase(), Some(Phase::Awaiting));
+    same(&rt, &served(&mut device, &ends), &(2, 174, [0; 4]));
+    same(&rt, &device.phase(), &Some(Phase::Awaiting));
     let again = call(CONTROL, 7, 2, &PRM_END);
-    assert_eq!(rt;
-        served(&mut device, &again),
-        (1, 142, [0xDD, 0x81, 0x40, 6])
+    same(
+        &rt,
+        &served(&mut device, &again),
+        &(1, 142, [0xDD, 0x81, 0x40, 6]),
     );
     // ApplicationReady again, beside a cyclic frame each interval
-    assert_eq!(rt; sent_in(&mut device, 32_000), 1001);
+    same(&rt, &sent_in(&mut device, 32_000), &1001);
     let device = exchanging().ok_or("starts")?;
-    assert_eq!(rt; device.phase(), Some(Phase::Exchanging));
+    same(&rt, &device.phase(), &Some(Phase::Exchanging));
     Ok(())
 }
