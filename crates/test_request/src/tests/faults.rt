@@ -175,14 +175,14 @@ fn layouts_that_are_none(rt: HostRuntime) {
 
 #[test]
 fn a_relation_that_stands(rt: HostRuntime) {
-    let same = Uuid::from_bytes([
+    let standing = Uuid::from_bytes([
         0x11, 0x11, 0x11, 0x11, 0x22, 0x22, 0x33, 0x33, 0x44, 0x44, 0x55, 0x55, 0x55, 0x55, 0x55,
         0x55,
     ]);
     let other = Uuid::from_bytes([7; 16]);
     same(
         &rt,
-        &refuse(&same, all().as_slice()),
+        &refuse(&standing, all().as_slice()),
         &CallFault::RelationExists,
     );
     same(
@@ -193,15 +193,15 @@ fn a_relation_that_stands(rt: HostRuntime) {
     // before any fault of a later block, and behind those of its own
     same(
         &rt,
-        &refuse(&same, joined(&[&AR, &AR]).as_slice()),
+        &refuse(&standing, joined(&[&AR, &AR]).as_slice()),
         &CallFault::RelationExists,
     );
     same(
         &rt,
-        &refuse(&same, with(&AR, 26, 3).as_slice()),
+        &refuse(&standing, with(&AR, 26, 3).as_slice()),
         &CallFault::ArField(7),
     );
-    same(&rt, &refuse(&same, &INPUT), &CallFault::BlockType);
-    same(&rt, &refuse(&same, &[]), &CallFault::BlockMissing);
+    same(&rt, &refuse(&standing, &INPUT), &CallFault::BlockType);
+    same(&rt, &refuse(&standing, &[]), &CallFault::BlockMissing);
     same(&rt, &refuse(&other, &AR[..2]), &CallFault::BlockHeader);
 }
