@@ -98,9 +98,9 @@ const WORDS: [(&str, &str); 8] = [
     ("is refused", SET_REFUSED),
 ];
 
-/// What a line stands for. It is a word of the table, a Set or a Get with these data, the answer to one, or what `show` prints: of
-/// a name that runs and is stored, without an address or with `SUITE`; of a name that only runs; or of a lamp that flashes for so
-/// many units. All others are themselves.
+/// What a line stands for that is no word of the table, by the word that it begins with: a Set or a Get with these data, or the
+/// answer to one; what `show` prints of a name that runs and is stored, without an address or with `SUITE`, of a name that only
+/// runs, or of a lamp that flashes for so many units. Any other line is itself.
 fn line_of(alloc: Global, line: &str) -> Result<String, AllocError> {
     match line.split_once(' ') {
         Some(("set", data)) => request(alloc, "fefd0400", data),
@@ -115,7 +115,7 @@ fn line_of(alloc: Global, line: &str) -> Result<String, AllocError> {
     }
 }
 
-/// The same of a word of the table.
+/// The line that a word of the table stands for.
 fn word_of(line: &str) -> Option<&'static str> {
     for (word, text) in WORDS {
         if line == word {
@@ -154,7 +154,7 @@ const SUITE: &str = "192.168.0.2 255.255.255.0 0.0.0.0";
 /// Name and IP suite of a device that has none.
 const NOTHING: (&str, &str) = ("-", NO_SUITE);
 
-/// What `show` prints, but for the last end of a line, of these running and stored settings, where the texts are blank and the lamp flashes for so many units.
+/// What `show` prints of these running and stored settings, where the texts are blank and the lamp flashes for so many units.
 fn shown(
     alloc: Global,
     running: (&str, &str),

@@ -91,6 +91,18 @@ fn answered(octets: &[u8]) -> Result<Blocks, CallFault> {
     Ok(answer)
 }
 
+/// The octets of a status: what is there of a header is wrong, another BlockType, no such place, no such Index there, and a
+/// record that is not read.
+const WRONG_HEADER: [u8; 4] = [0xDE, 0x81, 0x40, 0x00];
+
+const OTHER_TYPE: [u8; 4] = [0xDE, 0x81, 0x40, 0x01];
+
+const NO_PLACE: [u8; 4] = [0xDE, 0x80, 0xB2, 0x00];
+
+const NO_INDEX: [u8; 4] = [0xDE, 0x80, 0xB0, 0x00];
+
+const NO_ACCESS: [u8; 4] = [0xDE, 0x80, 0xB6, 0x00];
+
 /// The four octets of the status by which these octets are answered.
 fn refused(octets: &[u8]) -> Option<[u8; 4]> {
     let status = answered(octets).err()?.number(Operation::ReadImplicit);
@@ -171,55 +183,43 @@ impl Wrong {
 
 /// The faults of a whole block, in their order.
 const ORDER: [(Wrong, [u8; 4]); 5] = [
-    (Wrong::Kind, [0xDE, 0x81, 0x40, 0x01]),
-    (Wrong::Version, [0xDE, 0x81, 0x40, 0x00]),
+    (Wrong::Kind, OTHER_TYPE),
+    (Wrong::Version, WRONG_HEADER),
     (Wrong::Api, [0xDE, 0x80, 0xB4, 0x00]),
-    (Wrong::Slot, [0xDE, 0x80, 0xB2, 0x00]),
-    (Wrong::Index, [0xDE, 0x80, 0xB0, 0x00]),
+    (Wrong::Slot, NO_PLACE),
+    (Wrong::Index, NO_INDEX),
 ];
+
+/// The status of a call that is wrong in two ways.
+fn twice_wrong(first: Wrong, second: Wrong) -> Option<[u8; 4]> {
+    refused(&first.put(second.put(GOOD)).octets())
+}
 
 #[test]
 fn tells_the_first_of_two_faults(rt: HostRuntime) {
     for (place, (first, status)) in ORDER.iter().enumerate() {
         for (second, _) in &ORDER[place..] {
-            let octets = first.put(second.put(GOOD)).octets();
-            same(&rt, &refused(&octets), &Some(*status));
+            same(&rt, &twice_wrong(*first, *second), &Some(*status));
         }
     }
 }
 
+/// The status of so many octets of a call, which has another BlockType or not.
+fn refused_of(length: usize, kind: u16) -> Option<[u8; 4]> {
+    let octets = Asked { kind, ..GOOD }.octets();
+    refused(octets.get(..length)?)
+}
+
 #[test]
 fn judges_what_is_there_of_a_block_first(rt: HostRuntime) {
-    let good = GOOD.octets();
-    let other = Asked {
-        kind: 0x0008,
-        ..GOOD
-    }
-    .octets();
-    same(&rt, &refused(&[]), &Some([0xDE, 0x81, 0x40, 0x01]));
+    same(&rt, &refused(&[]), &Some(OTHER_TYPE));
     for length in 1..4 {
-        same(
-            &rt,
-            &refused(&good[..length]),
-            &Some([0xDE, 0x81, 0x40, 0x00]),
-        );
-        same(
-            &rt,
-            &refused(&other[..length]),
-            &Some([0xDE, 0x81, 0x40, 0x00]),
-        );
+        same(&rt, &refused_of(length, 0x0009), &Some(WRONG_HEADER));
+        same(&rt, &refused_of(length, 0x0008), &Some(WRONG_HEADER));
     }
     for length in 4..64 {
-        same(
-            &rt,
-            &refused(&good[..length]),
-            &Some([0xDE, 0x81, 0x40, 0x00]),
-        );
-        same(
-            &rt,
-            &refused(&other[..length]),
-            &Some([0xDE, 0x81, 0x40, 0x01]),
-        );
+        same(&rt, &refused_of(length, 0x0009), &Some(WRONG_HEADER));
+        same(&rt, &refused_of(length, 0x0008), &Some(OTHER_TYPE));
     }
 }
 
@@ -243,12 +243,12 @@ fn status_of(slot: u16, subslot: u16, index: u16) -> Option<[u8; 4]> {
 
 #[test]
 fn reads_no_parameter_record(rt: HostRuntime) {
-    same(&rt, &status_of(2, 2, 1), &Some([0xDE, 0x80, 0xB6, 0x00]));
-    same(&rt, &status_of(2, 2, 700), &Some([0xDE, 0x80, 0xB6, 0x00]));
+    same(&rt, &status_of(2, 2, 1), &Some(NO_ACCESS));
+    same(&rt, &status_of(2, 2, 700), &Some(NO_ACCESS));
     // they are known at their submodule alone
-    same(&rt, &status_of(2, 2, 2), &Some([0xDE, 0x80, 0xB0, 0x00]));
-    same(&rt, &status_of(2, 1, 1), &Some([0xDE, 0x80, 0xB0, 0x00]));
-    same(&rt, &status_of(1, 2, 1), &Some([0xDE, 0x80, 0xB2, 0x00]));
+    same(&rt, &status_of(2, 2, 2), &Some(NO_INDEX));
+    same(&rt, &status_of(2, 1, 1), &Some(NO_INDEX));
+    same(&rt, &status_of(1, 2, 1), &Some(NO_PLACE));
 }
 
 #[test]
@@ -256,21 +256,9 @@ fn reads_what_is_plugged_in_from_any_place(rt: HostRuntime) {
     same(&rt, &status_of(0, 1, 0xF840), &None);
     same(&rt, &status_of(9, 9, 0xF840), &None);
     // the difference of a relation is read within the relation alone
-    same(
-        &rt,
-        &status_of(0, 1, 0xE002),
-        &Some([0xDE, 0x80, 0xB0, 0x00]),
-    );
-    same(
-        &rt,
-        &status_of(9, 9, 0xE002),
-        &Some([0xDE, 0x80, 0xB0, 0x00]),
-    );
+    same(&rt, &status_of(0, 1, 0xE002), &Some(NO_INDEX));
+    same(&rt, &status_of(9, 9, 0xE002), &Some(NO_INDEX));
     // the texts stand at the access point alone
     same(&rt, &status_of(0, 1, 0xAFF3), &None);
-    same(
-        &rt,
-        &status_of(1, 1, 0xAFF3),
-        &Some([0xDE, 0x80, 0xB0, 0x00]),
-    );
+    same(&rt, &status_of(1, 1, 0xAFF3), &Some(NO_INDEX));
 }

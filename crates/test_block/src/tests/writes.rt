@@ -63,52 +63,48 @@ fn stored(asked: Asked, behind: &[u8]) -> Option<Settings> {
     }
 }
 
-#[test]
-fn refuses_what_is_not_written_there(rt: HostRuntime) {
-    let at = |slot, subslot, index| Asked {
+/// The status by which a Write of four octets is answered at this place.
+fn refused_at(slot: u16, subslot: u16, index: u16) -> Option<[u8; 4]> {
+    let asked = Asked {
         slot,
         subslot,
         index,
         ..GOOD
     };
-    same(
-        &rt,
-        &refused(at(1, 1, 0xAFF1), &[0; 4]),
-        &Some([0xDF, 0x80, 0xB0, 0x00]),
-    );
-    same(
-        &rt,
-        &refused(at(0, 1, 0xAFF0), &[0; 4]),
-        &Some([0xDF, 0x80, 0xB6, 0x00]),
-    );
-    same(
-        &rt,
-        &refused(at(9, 9, 0xF840), &[0; 4]),
-        &Some([0xDF, 0x80, 0xB6, 0x00]),
-    );
-    same(
-        &rt,
-        &refused(at(9, 9, 0xE002), &[0; 4]),
-        &Some([0xDF, 0x80, 0xB6, 0x00]),
-    );
-    same(
-        &rt,
-        &refused(at(9, 9, 0xAFF0), &[0; 4]),
-        &Some([0xDF, 0x80, 0xB2, 0x00]),
-    );
-    same(
-        &rt,
-        &refused(at(2, 1, 1), &[0; 4]),
-        &Some([0xDF, 0x80, 0xB0, 0x00]),
-    );
+    refused(asked, &[0; 4])
+}
+
+/// The octets of a status: no such place, no such Index there, a record that is not written, another relation, and another length.
+const NO_PLACE: [u8; 4] = [0xDF, 0x80, 0xB2, 0x00];
+
+const NO_INDEX: [u8; 4] = [0xDF, 0x80, 0xB0, 0x00];
+
+const NO_ACCESS: [u8; 4] = [0xDF, 0x80, 0xB6, 0x00];
+
+const NO_RELATION: [u8; 4] = [0xDF, 0x81, 0x40, 0x05];
+
+const OTHER_LENGTH: [u8; 4] = [0xDF, 0x80, 0xB1, 0x00];
+
+#[test]
+fn refuses_what_is_not_written_there(rt: HostRuntime) {
+    same(&rt, &refused_at(1, 1, 0xAFF1), &Some(NO_INDEX));
+    same(&rt, &refused_at(0, 1, 0xAFF0), &Some(NO_ACCESS));
+    same(&rt, &refused_at(9, 9, 0xF840), &Some(NO_ACCESS));
+    same(&rt, &refused_at(9, 9, 0xE002), &Some(NO_ACCESS));
+    same(&rt, &refused_at(9, 9, 0xAFF0), &Some(NO_PLACE));
+    same(&rt, &refused_at(2, 1, 1), &Some(NO_INDEX));
+}
+
+/// The status by which a Write is answered while no relation stands.
+fn refused_alone() -> Option<[u8; 4]> {
+    Some(octets_of(judge_write(&GOOD.octets(), None, &plugged()).err()?))
 }
 
 #[test]
 fn refuses_a_write_of_another_relation(rt: HostRuntime) {
     let fault = judged_in(8, GOOD, &[0; 4]).err();
-    same(&rt, &fault.map(octets_of), &Some([0xDF, 0x81, 0x40, 0x05]));
-    let alone = judge_write(&GOOD.octets(), None, &plugged()).err();
-    same(&rt, &alone.map(octets_of), &Some([0xDF, 0x81, 0x40, 0x05]));
+    same(&rt, &fault.map(octets_of), &Some(NO_RELATION));
+    same(&rt, &refused_alone(), &Some(NO_RELATION));
 }
 
 #[test]
@@ -118,19 +114,15 @@ fn keeps_a_record_of_its_exact_length(rt: HostRuntime) {
     };
     same(&rt, &(taken.slot, taken.subslot, taken.index), &(2, 2, 1));
     same(&rt, &taken.value.as_slice(), &[1, 2, 3, 4].as_slice());
+}
+
+#[test]
+fn takes_no_record_of_another_length(rt: HostRuntime) {
     for length in [0, 3, 5] {
         let asked = Asked { length, ..GOOD };
-        same(
-            &rt,
-            &refused(asked, &[0; 9]),
-            &Some([0xDF, 0x80, 0xB1, 0x00]),
-        );
+        same(&rt, &refused(asked, &[0; 9]), &Some(OTHER_LENGTH));
     }
-    same(
-        &rt,
-        &refused(GOOD, &[0; 3]),
-        &Some([0xDF, 0x80, 0xB1, 0x00]),
-    );
+    same(&rt, &refused(GOOD, &[0; 3]), &Some(OTHER_LENGTH));
 }
 
 #[test]
@@ -141,13 +133,9 @@ fn stores_a_whole_text(rt: HostRuntime) {
     };
     same(&rt, &settings.im2.as_bytes(), &&whole[6..]);
     let short = Asked { length: 21, ..DATE };
-    same(
-        &rt,
-        &refused(short, &whole[..21]),
-        &Some([0xDF, 0x80, 0xB1, 0x00]),
-    );
+    same(&rt, &refused(short, &whole[..21]), &Some(OTHER_LENGTH));
     let other = *b"\x00\x23\x00\x12\x01\x002024-05-06 07:08";
-    same(&rt, &refused(DATE, &other), &Some([0xDF, 0x80, 0xB1, 0x00]));
+    same(&rt, &refused(DATE, &other), &Some(OTHER_LENGTH));
 }
 
 #[test]
