@@ -1,6 +1,7 @@
 // Records that are read by a Read Implicit, octet by octet.
 use super::records::{module, settings};
 use super::same;
+use super::statuses::told;
 use arrayvec::ArrayVec;
 use demo_station::identity;
 use pn_values::{ParameterRecord, Real, RealSubmodule};
@@ -8,7 +9,7 @@ use pnio_status::{CallFault, Operation};
 use record_reads::{Blocks, read_implicit};
 
 /// I&M0 of the demo station.
-const IM0: [u8; 60] =
+pub(crate) const IM0: [u8; 60] =
     *b"\x00\x20\x00\x38\x01\x00\x01\x23                                    \x00\x00V\x00\x00\x00\x00\x00\x00\x00\x00\x00\x01\x01\x00\x1E";
 
 /// A submodule with parameter records 1 and 700.
@@ -105,8 +106,7 @@ const NO_ACCESS: [u8; 4] = [0xDE, 0x80, 0xB6, 0x00];
 
 /// The four octets of the status by which these octets are answered.
 fn refused(octets: &[u8]) -> Option<[u8; 4]> {
-    let status = answered(octets).err()?.number(Operation::ReadImplicit);
-    Some([status.code, status.decode, status.code1, status.code2])
+    Some(told(Operation::ReadImplicit, answered(octets).err()?))
 }
 
 /// IODReadResHeader with 60 octets of record 0xAFF0.
@@ -122,30 +122,31 @@ fn answers_with_the_whole_record(rt: HostRuntime) {
     let Ok(answer) = answered(&GOOD.octets()) else {
         panic!(rt; "refused");
     };
-    same(
-        &rt,
-        &answer.as_slice().split_at_checked(64),
-        &Some((HEADER.as_slice(), IM0.as_slice())),
-    );
+    same(&rt, &answer.as_slice().get(..64), &Some(HEADER.as_slice()));
+    same(&rt, &answer.as_slice().get(64..), &Some(IM0.as_slice()));
 }
 
 /// RecordDataLength of an answer, and the record.
-fn sent(answer: &Blocks) -> Option<(&[u8], &[u8])> {
+pub(crate) fn sent(answer: &Blocks) -> Option<(&[u8], &[u8])> {
     let (header, record) = answer.as_slice().split_at_checked(64)?;
     Some((header.get(36..40)?, record))
+}
+
+/// Whether a call for so many octets is answered with so many of I&M0, by RecordDataLength too.
+fn gives(length: u32, told: u8) -> bool {
+    match answered(&Asked { length, ..GOOD }.octets()) {
+        Ok(answer) => match (sent(&answer), IM0.get(..usize::from(told))) {
+            (Some(sent), Some(record)) => sent == (&[0, 0, 0, told], record),
+            _ => false,
+        },
+        Err(_) => false,
+    }
 }
 
 #[test]
 fn answers_with_as_much_as_is_asked_for(rt: HostRuntime) {
     for (length, told) in [(0, 0), (1, 1), (10, 10), (59, 59), (60, 60), (61, 60)] {
-        let Ok(answer) = answered(&Asked { length, ..GOOD }.octets()) else {
-            panic!(rt; "refused");
-        };
-        let Some((record_data_length, record)) = sent(&answer) else {
-            panic!(rt; "no header");
-        };
-        same(&rt, &record_data_length, &[0, 0, 0, told].as_slice());
-        same(&rt, &Some(record), &IM0.get(..told as usize));
+        assert!(rt; gives(length, told), "{length}");
     }
 }
 

@@ -8,7 +8,7 @@ fn octets(status: Status) -> [u8; 4] {
 }
 
 /// The four octets of the status of a fault of a call.
-fn told(operation: Operation, fault: CallFault) -> [u8; 4] {
+pub(crate) fn told(operation: Operation, fault: CallFault) -> [u8; 4] {
     octets(fault.number(operation))
 }
 
@@ -95,26 +95,20 @@ const OF_WRITE: [(CallFault, [u8; 4]); 4] = [
     (CallFault::TooManyRecords, [0xDF, 0x80, 0xB5, 0x06]),
 ];
 
+/// Faults of Release and Control alone, by ErrorCode.
+const OF_OTHERS: [(Operation, CallFault, u8); 3] = [
+    (Operation::Release, CallFault::ControlCommand, 0xDC),
+    (Operation::Control, CallFault::ControlCommand, 0xDD),
+    (Operation::Control, CallFault::Phase, 0xDD),
+];
+
 #[test]
 fn tells_the_faults_of_other_calls(rt: HostRuntime) {
     for (fault, status) in OF_WRITE {
         same(&rt, &told(Operation::Write, fault), &status);
     }
-    let command = CallFault::ControlCommand;
-    same(
-        &rt,
-        &told(Operation::Release, command),
-        &[0xDC, 0x81, 0x40, 0x06],
-    );
-    same(
-        &rt,
-        &told(Operation::Control, command),
-        &[0xDD, 0x81, 0x40, 0x06],
-    );
-    same(
-        &rt,
-        &told(Operation::Control, CallFault::Phase),
-        &[0xDD, 0x81, 0x40, 0x06],
-    );
+    for (operation, fault, code) in OF_OTHERS {
+        same(&rt, &told(operation, fault), &[code, 0x81, 0x40, 0x06]);
+    }
     same(&rt, &octets(done()), &[0, 0, 0, 0]);
 }
