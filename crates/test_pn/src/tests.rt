@@ -23,11 +23,11 @@ mod whole;
 const IDENTIFY: &str = "frame 010ecf0000000200000000028892fefe05000000000100010004ffff0000";
 
 const IDENTIFIED: &str =
-    "out 0200000000020200000000018892feff0501000000010000005e020100090000706e2d64656d6f000202000200000203000600000123045602040004000001000205001a000001010102020102020203020402050207050305040505050602070004000000010102000e0000000000000000000000000000";
+    "out 0200000000020200000000018892feff0501000000010000005e020100090000706e2d64656d6f000202000200000203000600000123045602040004000001000205001a000001010102020102020203020402050207050305040505050602070004000000010102000e0000000000000000000000000000\nnote done";
 
 /// The answer of the station `pump-1`.
 const IDENTIFIED_PUMP_1: &str =
-    "out 0200000000020200000000018892feff05010000000100000064020100090000706e2d64656d6f0002020008000070756d702d310203000600000123045602040004000001000205001a000001010102020102020203020402050207050305040505050602070004000000010102000e0000000000000000000000000000";
+    "out 0200000000020200000000018892feff05010000000100000064020100090000706e2d64656d6f0002020008000070756d702d310203000600000123045602040004000001000205001a000001010102020102020203020402050207050305040505050602070004000000010102000e0000000000000000000000000000\nnote done";
 
 /// Sets of a name, permanent.
 const SET_PUMP_1: &str =
@@ -41,10 +41,10 @@ const SET_PUMP_3: &str =
 
 /// What is printed of a Set of a name that is done, and of one that is refused after a fault, with error 5.
 const SET_DONE: &str =
-    "out 0200000000020200000000018892fefd0401000000020000000805040003020200000000000000000000000000000000000000000000000000000000\nnote done\n";
+    "out 0200000000020200000000018892fefd0401000000020000000805040003020200000000000000000000000000000000000000000000000000000000\nnote done";
 
 const SET_REFUSED: &str =
-    "out 0200000000020200000000018892fefd0401000000020000000805040003020205000000000000000000000000000000000000000000000000000000\nnote done\n";
+    "out 0200000000020200000000018892fefd0401000000020000000805040003020205000000000000000000000000000000000000000000000000000000\nnote done";
 
 /// The settings that are shown of a device with this name and no address, whose lamp is off.
 const TEXTS: &str =
@@ -55,15 +55,6 @@ fn same<T: PartialEq + Debug>(rt: &impl Abort, left: &T, right: &T) {
     assert_eq!(rt; *left, *right);
 }
 
-/// These texts, one behind the other.
-fn joined(alloc: Global, parts: &[&str]) -> Result<String, AllocError> {
-    let mut text = String::new(alloc);
-    for part in parts {
-        text.push_str(part)?;
-    }
-    Ok(text)
-}
-
 fn output(alloc: Global, script: &[u8]) -> (Result<(), RunFault>, Vec<u8>) {
     let mut reader = script;
     let mut writer = Vec::new(alloc);
@@ -71,24 +62,107 @@ fn output(alloc: Global, script: &[u8]) -> (Result<(), RunFault>, Vec<u8>) {
     (result, writer)
 }
 
+/// The script ends in this way, and prints this text.
+fn ends(
+    rt: &impl Abort,
+    alloc: Global,
+    script: &[u8],
+    wanted: Result<(), RunFault>,
+    printed: &[u8],
+) {
+    let (result, text) = output(alloc, script);
+    same(rt, &result, &wanted);
+    same(rt, &text.as_slice(), &printed);
+}
+
 /// The script has no line that is refused, and prints this text.
 fn prints(rt: &impl Abort, alloc: Global, script: &str, wanted: &str) -> Result<(), Fail> {
-    let (result, text) = output(alloc, script.as_bytes());
-    assert_eq!(rt; result, Ok(()));
-    assert_eq!(rt; text.as_slice(), wanted.as_bytes());
+    ends(rt, alloc, script.as_bytes(), Ok(()), wanted.as_bytes());
     Ok(())
+}
+
+/// The line of this number, counted from 1, is refused, and up to there this text is printed.
+fn is_refused(rt: &impl Abort, alloc: Global, script: &[u8], line: u32, printed: &[u8]) {
+    ends(rt, alloc, script, Err(RunFault::Line(line)), printed);
+}
+
+/// Words for whole lines, of a script or of what it prints.
+const WORDS: [(&str, &str); 8] = [
+    ("identify", IDENTIFY),
+    ("identified", IDENTIFIED),
+    ("identified pump-1", IDENTIFIED_PUMP_1),
+    ("set pump-1", SET_PUMP_1),
+    ("set pump-2", SET_PUMP_2),
+    ("set pump-3", SET_PUMP_3),
+    ("is set", SET_DONE),
+    ("is refused", SET_REFUSED),
+];
+
+/// What a line stands for that is no word of the table, by the word that it begins with: a Set or a Get with these data, or the
+/// answer to one; what `show` prints of a name that runs and is stored, without an address or with `SUITE`, of a name that only
+/// runs, or of a lamp that flashes for so many units. Any other line is itself.
+fn line_of(alloc: Global, line: &str) -> Result<String, AllocError> {
+    match line.split_once(' ') {
+        Some(("set", data)) => request(alloc, "fefd0400", data),
+        Some(("get", data)) => request(alloc, "fefd0300", data),
+        Some(("answer", data)) => answer(alloc, "fefd0401", data),
+        Some(("got", data)) => answer(alloc, "fefd0301", data),
+        Some(("named", name)) => shown(alloc, (name, NO_SUITE), (name, NO_SUITE), "0"),
+        Some(("addressed", name)) => shown(alloc, (name, SUITE), (name, SUITE), "0"),
+        Some(("running", name)) => shown(alloc, (name, NO_SUITE), NOTHING, "0"),
+        Some(("flashing", left)) => shown(alloc, NOTHING, NOTHING, left),
+        _ => String::from_str(alloc, line),
+    }
+}
+
+/// The line that a word of the table stands for.
+fn word_of(line: &str) -> Option<&'static str> {
+    for (word, text) in WORDS {
+        if line == word {
+            return Some(text);
+        }
+    }
+    None
+}
+
+/// What these lines stand for, each with its end.
+fn meaning(alloc: Global, text: &str) -> Result<String, AllocError> {
+    let mut lines = String::new(alloc);
+    for line in text.lines() {
+        match word_of(line) {
+            Some(text) => lines.push_str(text)?,
+            None => lines.push_str(line_of(alloc, line)?.as_str())?,
+        }
+        lines.push('\n')?;
+    }
+    Ok(lines)
+}
+
+/// A script prints what it has to, both by the words above.
+fn means(rt: &impl Abort, alloc: Global, script: &str, wanted: &str) -> Result<(), Fail> {
+    let script = meaning(alloc, script)?;
+    let wanted = meaning(alloc, wanted)?;
+    prints(rt, alloc, script.as_str(), wanted.as_str())
 }
 
 /// The IP suite of a device that has none, as it is shown.
 const NO_SUITE: &str = "0.0.0.0 0.0.0.0 0.0.0.0";
 
-/// Name and IP suite as `show` prints them.
-type Shown = (&'static str, &'static str);
+/// One that is set by a block `0102000e0001c0a80002ffffff0000000000`.
+const SUITE: &str = "192.168.0.2 255.255.255.0 0.0.0.0";
 
-/// What `show` prints of these running and stored settings, where the texts are blank and the lamp is off.
-fn shown(alloc: Global, running: Shown, stored: Shown) -> Result<String, AllocError> {
+/// Name and IP suite of a device that has none.
+const NOTHING: (&str, &str) = ("-", NO_SUITE);
+
+/// What `show` prints of these running and stored settings, where the texts are blank and the lamp flashes for so many units.
+fn shown(
+    alloc: Global,
+    running: (&str, &str),
+    stored: (&str, &str),
+    lamp: &str,
+) -> Result<String, AllocError> {
     format!(in alloc;
-        "name {}\nip {}\nstored-name {}\nstored-ip {}\n{TEXTS} 0\noutput 2 1 0000\n",
+        "name {}\nip {}\nstored-name {}\nstored-ip {}\n{TEXTS} {lamp}\noutput 2 1 0000",
         running.0, running.1, stored.0, stored.1
     )
 }
@@ -96,17 +170,21 @@ fn shown(alloc: Global, running: Shown, stored: Shown) -> Result<String, AllocEr
 /// A frame that carries this DCP request, as a line of a script. `head` is FrameID, ServiceID and ServiceType.
 fn request(alloc: Global, head: &str, data: &str) -> Result<String, AllocError> {
     let length = data.len() / 2;
-    format!(in alloc; "frame 0200000000010200000000028892{head}000000020000{length:04x}{data}\n")
+    format!(in alloc; "frame 0200000000010200000000028892{head}000000020000{length:04x}{data}")
 }
 
-/// What is printed where this DCP answer is sent, filled up to 60 bytes, and all is done.
+/// How long the hex of a frame of 60 octets is behind `out `.
+const LEAST: usize = 124;
+
+/// What is printed where this DCP answer is sent, filled up to 60 octets, and all is done.
 fn answer(alloc: Global, head: &str, data: &str) -> Result<String, AllocError> {
     let length = data.len() / 2;
     let mut text = format!(in alloc;
-        "0200000000020200000000018892{head}000000020000{length:04x}{data}"
+        "out 0200000000020200000000018892{head}000000020000{length:04x}{data}"
     )?;
-    for _ in text.len()..120 {
+    for _ in text.len()..LEAST {
         text.push('0')?;
     }
-    format!(in alloc; "out {text}\nnote done\n")
+    text.push_str("\nnote done")?;
+    Ok(text)
 }

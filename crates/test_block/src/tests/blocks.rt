@@ -1,5 +1,7 @@
 // PROFINET blocks, by the tables of IEC 61158-6-10, 5.2. The program table_block compares what each kind is with results of
 // a reference model; here is what its lines do not show.
+use super::reads::IM0;
+use super::records::IM2;
 use super::same;
 use arrayvec::ArrayVec;
 use block_codec::{
@@ -45,7 +47,7 @@ const EXPECTED: [u8; 64] = [
 ];
 
 /// A wrong submodule and an empty slot.
-const MODULE_DIFF: [u8; 50] = [
+pub(crate) const MODULE_DIFF: [u8; 50] = [
     0x81, 0x04, 0x00, 0x2e, 0x01, 0x00, 0x00, 0x01, 0x00, 0x00, 0x00, 0x00, 0x00, 0x02, 0x00, 0x02,
     0x00, 0x00, 0x00, 0x20, 0x00, 0x01, 0x00, 0x01, 0x00, 0x01, 0x00, 0x00, 0x00, 0x20, 0x90, 0x00,
     0x00, 0x03, 0x00, 0x00, 0x00, 0x00, 0x00, 0x00, 0x00, 0x01, 0x00, 0x01, 0x00, 0x00, 0x00, 0x00,
@@ -64,24 +66,10 @@ const PRM_END_RES: [u8; 32] = [
     0x11, 0x11, 0x11, 0x11, 0x11, 0x11, 0x11, 0x22, 0x00, 0x01, 0x00, 0x00, 0x00, 0x08, 0x00, 0x00,
 ];
 
-/// I&M0 of a device with blank texts.
-const IM0: [u8; 60] = [
-    0x00, 0x20, 0x00, 0x38, 0x01, 0x00, 0x01, 0x23, 0x20, 0x20, 0x20, 0x20, 0x20, 0x20, 0x20, 0x20,
-    0x20, 0x20, 0x20, 0x20, 0x20, 0x20, 0x20, 0x20, 0x20, 0x20, 0x20, 0x20, 0x20, 0x20, 0x20, 0x20,
-    0x20, 0x20, 0x20, 0x20, 0x20, 0x20, 0x20, 0x20, 0x20, 0x20, 0x20, 0x20, 0x00, 0x00, 0x56, 0x00,
-    0x00, 0x00, 0x00, 0x00, 0x00, 0x00, 0x00, 0x00, 0x01, 0x01, 0x00, 0x1e,
-];
-
 /// I&M0FilterData of the device.
 const FILTER_DEVICE: [u8; 28] = [
     0x00, 0x32, 0x00, 0x18, 0x01, 0x00, 0x00, 0x01, 0x00, 0x00, 0x00, 0x00, 0x00, 0x01, 0x00, 0x00,
     0x00, 0x00, 0x00, 0x01, 0x00, 0x01, 0x00, 0x01, 0x00, 0x00, 0x00, 0x01,
-];
-
-/// I&M2.
-const IM2: [u8; 22] = [
-    0x00, 0x22, 0x00, 0x12, 0x01, 0x00, 0x32, 0x30, 0x32, 0x34, 0x2d, 0x30, 0x35, 0x2d, 0x30, 0x36,
-    0x20, 0x30, 0x37, 0x3a, 0x30, 0x38,
 ];
 
 /// PrmEnd.
@@ -196,21 +184,28 @@ fn fault_of(bytes: &[u8]) -> Option<BlockFault> {
 fn with_number(bytes: &[u8], place: usize, number: u16) -> Option<BlockFault> {
     let mut changed: ArrayVec<u8, 128> = ArrayVec::new();
     let _ = changed.try_extend_from_slice(bytes);
-    for (octet, value) in changed.iter_mut().skip(place).zip(number.to_be_bytes()) {
-        *octet = value;
+    let [first, second] = number.to_be_bytes();
+    if let Some([high, low, ..]) = changed.as_mut_slice().get_mut(place..) {
+        *high = first;
+        *low = second;
     }
     fault_of(changed.as_slice())
 }
 
+/// Whether a number at a place, if there is one, is refused by the number of its field.
+fn is_refused(bytes: &[u8], place: usize, number: Option<u16>, field: u8) -> bool {
+    match number {
+        Some(number) => with_number(bytes, place, number) == Some(BlockFault::Field(field)),
+        None => true,
+    }
+}
+
 /// Whether the field at a place is accepted from the least to the greatest number, and refused by its number beside them.
 fn is_ranged(bytes: &[u8], place: usize, least: u16, greatest: u16, field: u8) -> bool {
-    let refused = Some(BlockFault::Field(field));
-    let below = least.checked_sub(1);
-    let above = greatest.checked_add(1);
     with_number(bytes, place, least).is_none()
         && with_number(bytes, place, greatest).is_none()
-        && below.is_none_or(|number| with_number(bytes, place, number) == refused)
-        && above.is_none_or(|number| with_number(bytes, place, number) == refused)
+        && is_refused(bytes, place, least.checked_sub(1), field)
+        && is_refused(bytes, place, greatest.checked_add(1), field)
 }
 
 #[test]
@@ -290,24 +285,23 @@ fn ranges_of_identification(rt: HostRuntime) {
     assert!(rt; is_ranged(&IM0, 58, 0x001E, 0x001E, 13));
 }
 
+/// Numbers at places that are refused by the number of their field.
+const REFUSED: [(&[u8], usize, u16, u8); 8] = [
+    (&AR_BLOCK_REQ, 26, 0x0300, 7),
+    (&AR_BLOCK_REQ, 56, 241, 12),
+    (&IOCR_BLOCK_REQ, 14, 0, 7),
+    (&IOCR_BLOCK_REQ, 14, 3, 7),
+    (&EXPECTED, 40, 1, 6),
+    (&EXPECTED, 30, 2, 13),
+    (&EXPECTED, 34, 0x0201, 15),
+    (&EXPECTED, 62, 0x0100, 16),
+];
+
 #[test]
 fn fields_that_are_no_ranges(rt: HostRuntime) {
-    let cases: [(&[u8], usize, u16, u8); 8] = [
-        (&AR_BLOCK_REQ, 26, 0x0300, 7),
-        (&AR_BLOCK_REQ, 56, 241, 12),
-        (&IOCR_BLOCK_REQ, 14, 0, 7),
-        (&IOCR_BLOCK_REQ, 14, 3, 7),
-        (&EXPECTED, 40, 1, 6),
-        (&EXPECTED, 30, 2, 13),
-        (&EXPECTED, 34, 0x0201, 15),
-        (&EXPECTED, 62, 0x0100, 16),
-    ];
-    for (bytes, place, number, field) in cases {
-        same(
-            &rt,
-            &with_number(bytes, place, number),
-            &Some(BlockFault::Field(field)),
-        );
+    for (bytes, place, number, field) in REFUSED {
+        let found = with_number(bytes, place, number);
+        same(&rt, &found, &Some(BlockFault::Field(field)));
     }
 }
 
@@ -354,9 +348,6 @@ fn input_of(objects: u16) -> ArrayVec<u8, 2048> {
 #[test]
 fn a_257th_data_object_is_one_too_many(rt: HostRuntime) {
     same(&rt, &fault_of(input_of(256).as_slice()), &None);
-    same(
-        &rt,
-        &fault_of(input_of(257).as_slice()),
-        &Some(BlockFault::Count),
-    );
+    let fault = fault_of(input_of(257).as_slice());
+    same(&rt, &fault, &Some(BlockFault::Count));
 }

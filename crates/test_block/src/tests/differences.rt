@@ -1,21 +1,12 @@
 // Which modules are not as a Connect expects them, octet by octet.
-use super::records::module;
+use super::blocks::MODULE_DIFF;
+use super::records::real;
 use super::same;
 use arrayvec::ArrayVec;
 use block_codec::{
     Block, ExpectedModule, ExpectedSubmodule, SubmoduleData, block_len, write_block,
 };
 use module_diff::{Expected, diff};
-use pn_values::Real;
-
-/// An access point with its interface and a port, and a module in slots 1 and 2.
-fn plugged() -> Real {
-    let mut modules = ArrayVec::new();
-    modules.push(module(0, 1, &[(1, 1), (0x8000, 2), (0x8001, 3)]));
-    modules.push(module(1, 16, &[(1, 16)]));
-    modules.push(module(2, 32, &[(1, 32)]));
-    Real { modules }
-}
 
 /// These modules, each a slot, an ident number, and its submodules by subslot and ident number.
 fn expected(modules: &[(u16, u32, &[(u16, u32)])]) -> Expected {
@@ -40,7 +31,7 @@ fn expected(modules: &[(u16, u32, &[(u16, u32)])]) -> Expected {
 
 /// The ModuleDiffBlock of these modules.
 fn block_of(modules: &[(u16, u32, &[(u16, u32)])]) -> ArrayVec<u8, 1372> {
-    let rows = diff(&expected(modules), &plugged());
+    let rows = diff(&expected(modules), &real());
     let block = Block::ModuleDiffBlock(rows.to_block());
     let mut out = ArrayVec::new();
     if block_len(&block) <= 1372 {
@@ -52,14 +43,6 @@ fn block_of(modules: &[(u16, u32, &[(u16, u32)])]) -> ArrayVec<u8, 1372> {
 /// The access point as it is.
 const ACCESS_POINT: (u16, u32, &[(u16, u32)]) = (0, 1, &[(1, 1), (0x8000, 2), (0x8001, 3)]);
 
-/// Another module in slot 2, and nothing in slot 3.
-const DIFFERENT: [u8; 50] = [
-    0x81, 0x04, 0x00, 0x2E, 0x01, 0x00, 0x00, 0x01, 0x00, 0x00, 0x00, 0x00, 0x00, 0x02, 0x00, 0x02,
-    0x00, 0x00, 0x00, 0x20, 0x00, 0x01, 0x00, 0x01, 0x00, 0x01, 0x00, 0x00, 0x00, 0x20, 0x90, 0x00,
-    0x00, 0x03, 0x00, 0x00, 0x00, 0x00, 0x00, 0x00, 0x00, 0x01, 0x00, 0x01, 0x00, 0x00, 0x00, 0x00,
-    0x98, 0x00,
-];
-
 #[test]
 fn lists_a_wrong_module_and_an_empty_slot(rt: HostRuntime) {
     let block = block_of(&[
@@ -68,13 +51,13 @@ fn lists_a_wrong_module_and_an_empty_slot(rt: HostRuntime) {
         (2, 33, &[(1, 33)]),
         (3, 48, &[(1, 48)]),
     ]);
-    same(&rt, &block.as_slice(), &DIFFERENT.as_slice());
+    same(&rt, &block.as_slice(), &MODULE_DIFF.as_slice());
 }
 
 #[test]
 fn lists_nothing_where_all_is_as_expected(rt: HostRuntime) {
     let modules: [(u16, u32, &[(u16, u32)]); 2] = [ACCESS_POINT, (2, 32, &[(1, 32)])];
-    assert!(rt; diff(&expected(&modules), &plugged()).is_empty());
+    assert!(rt; diff(&expected(&modules), &real()).is_empty());
 }
 
 /// Of a proper module the submodules that are not as expected: another one in subslot 0x8000, and none in subslot 2.

@@ -1,6 +1,7 @@
 // Records that are read by a Read Implicit, octet by octet.
 use super::records::{module, settings};
 use super::same;
+use super::statuses::told;
 use arrayvec::ArrayVec;
 use demo_station::identity;
 use pn_values::{ParameterRecord, Real, RealSubmodule};
@@ -8,7 +9,7 @@ use pnio_status::{CallFault, Operation};
 use record_reads::{Blocks, read_implicit};
 
 /// I&M0 of the demo station.
-const IM0: [u8; 60] =
+pub(crate) const IM0: [u8; 60] =
     *b"\x00\x20\x00\x38\x01\x00\x01\x23                                    \x00\x00V\x00\x00\x00\x00\x00\x00\x00\x00\x00\x01\x01\x00\x1E";
 
 /// A submodule with parameter records 1 and 700.
@@ -91,10 +92,21 @@ fn answered(octets: &[u8]) -> Result<Blocks, CallFault> {
     Ok(answer)
 }
 
+/// The octets of a status: what is there of a header is wrong, another BlockType, no such place, no such Index there, and a
+/// record that is not read.
+const WRONG_HEADER: [u8; 4] = [0xDE, 0x81, 0x40, 0x00];
+
+const OTHER_TYPE: [u8; 4] = [0xDE, 0x81, 0x40, 0x01];
+
+const NO_PLACE: [u8; 4] = [0xDE, 0x80, 0xB2, 0x00];
+
+const NO_INDEX: [u8; 4] = [0xDE, 0x80, 0xB0, 0x00];
+
+const NO_ACCESS: [u8; 4] = [0xDE, 0x80, 0xB6, 0x00];
+
 /// The four octets of the status by which these octets are answered.
 fn refused(octets: &[u8]) -> Option<[u8; 4]> {
-    let status = answered(octets).err()?.number(Operation::ReadImplicit);
-    Some([status.code, status.decode, status.code1, status.code2])
+    Some(told(Operation::ReadImplicit, answered(octets).err()?))
 }
 
 /// IODReadResHeader with 60 octets of record 0xAFF0.
@@ -110,30 +122,31 @@ fn answers_with_the_whole_record(rt: HostRuntime) {
     let Ok(answer) = answered(&GOOD.octets()) else {
         panic!(rt; "refused");
     };
-    same(
-        &rt,
-        &answer.as_slice().split_at_checked(64),
-        &Some((HEADER.as_slice(), IM0.as_slice())),
-    );
+    same(&rt, &answer.as_slice().get(..64), &Some(HEADER.as_slice()));
+    same(&rt, &answer.as_slice().get(64..), &Some(IM0.as_slice()));
 }
 
 /// RecordDataLength of an answer, and the record.
-fn sent(answer: &Blocks) -> Option<(&[u8], &[u8])> {
+pub(crate) fn sent(answer: &Blocks) -> Option<(&[u8], &[u8])> {
     let (header, record) = answer.as_slice().split_at_checked(64)?;
     Some((header.get(36..40)?, record))
+}
+
+/// Whether a call for so many octets is answered with so many of I&M0, by RecordDataLength too.
+fn gives(length: u32, told: u8) -> bool {
+    match answered(&Asked { length, ..GOOD }.octets()) {
+        Ok(answer) => match (sent(&answer), IM0.get(..usize::from(told))) {
+            (Some(sent), Some(record)) => sent == (&[0, 0, 0, told], record),
+            _ => false,
+        },
+        Err(_) => false,
+    }
 }
 
 #[test]
 fn answers_with_as_much_as_is_asked_for(rt: HostRuntime) {
     for (length, told) in [(0, 0), (1, 1), (10, 10), (59, 59), (60, 60), (61, 60)] {
-        let Ok(answer) = answered(&Asked { length, ..GOOD }.octets()) else {
-            panic!(rt; "refused");
-        };
-        let Some((record_data_length, record)) = sent(&answer) else {
-            panic!(rt; "no header");
-        };
-        same(&rt, &record_data_length, &[0, 0, 0, told].as_slice());
-        same(&rt, &Some(record), &IM0.get(..told as usize));
+        assert!(rt; gives(length, told), "{length}");
     }
 }
 
@@ -171,55 +184,43 @@ impl Wrong {
 
 /// The faults of a whole block, in their order.
 const ORDER: [(Wrong, [u8; 4]); 5] = [
-    (Wrong::Kind, [0xDE, 0x81, 0x40, 0x01]),
-    (Wrong::Version, [0xDE, 0x81, 0x40, 0x00]),
+    (Wrong::Kind, OTHER_TYPE),
+    (Wrong::Version, WRONG_HEADER),
     (Wrong::Api, [0xDE, 0x80, 0xB4, 0x00]),
-    (Wrong::Slot, [0xDE, 0x80, 0xB2, 0x00]),
-    (Wrong::Index, [0xDE, 0x80, 0xB0, 0x00]),
+    (Wrong::Slot, NO_PLACE),
+    (Wrong::Index, NO_INDEX),
 ];
+
+/// The status of a call that is wrong in two ways.
+fn twice_wrong(first: Wrong, second: Wrong) -> Option<[u8; 4]> {
+    refused(&first.put(second.put(GOOD)).octets())
+}
 
 #[test]
 fn tells_the_first_of_two_faults(rt: HostRuntime) {
     for (place, (first, status)) in ORDER.iter().enumerate() {
         for (second, _) in &ORDER[place..] {
-            let octets = first.put(second.put(GOOD)).octets();
-            same(&rt, &refused(&octets), &Some(*status));
+            same(&rt, &twice_wrong(*first, *second), &Some(*status));
         }
     }
 }
 
+/// The status of so many octets of a call, which has another BlockType or not.
+fn refused_of(length: usize, kind: u16) -> Option<[u8; 4]> {
+    let octets = Asked { kind, ..GOOD }.octets();
+    refused(octets.get(..length)?)
+}
+
 #[test]
 fn judges_what_is_there_of_a_block_first(rt: HostRuntime) {
-    let good = GOOD.octets();
-    let other = Asked {
-        kind: 0x0008,
-        ..GOOD
-    }
-    .octets();
-    same(&rt, &refused(&[]), &Some([0xDE, 0x81, 0x40, 0x01]));
+    same(&rt, &refused(&[]), &Some(OTHER_TYPE));
     for length in 1..4 {
-        same(
-            &rt,
-            &refused(&good[..length]),
-            &Some([0xDE, 0x81, 0x40, 0x00]),
-        );
-        same(
-            &rt,
-            &refused(&other[..length]),
-            &Some([0xDE, 0x81, 0x40, 0x00]),
-        );
+        same(&rt, &refused_of(length, 0x0009), &Some(WRONG_HEADER));
+        same(&rt, &refused_of(length, 0x0008), &Some(WRONG_HEADER));
     }
     for length in 4..64 {
-        same(
-            &rt,
-            &refused(&good[..length]),
-            &Some([0xDE, 0x81, 0x40, 0x00]),
-        );
-        same(
-            &rt,
-            &refused(&other[..length]),
-            &Some([0xDE, 0x81, 0x40, 0x01]),
-        );
+        same(&rt, &refused_of(length, 0x0009), &Some(WRONG_HEADER));
+        same(&rt, &refused_of(length, 0x0008), &Some(OTHER_TYPE));
     }
 }
 
@@ -243,12 +244,12 @@ fn status_of(slot: u16, subslot: u16, index: u16) -> Option<[u8; 4]> {
 
 #[test]
 fn reads_no_parameter_record(rt: HostRuntime) {
-    same(&rt, &status_of(2, 2, 1), &Some([0xDE, 0x80, 0xB6, 0x00]));
-    same(&rt, &status_of(2, 2, 700), &Some([0xDE, 0x80, 0xB6, 0x00]));
+    same(&rt, &status_of(2, 2, 1), &Some(NO_ACCESS));
+    same(&rt, &status_of(2, 2, 700), &Some(NO_ACCESS));
     // they are known at their submodule alone
-    same(&rt, &status_of(2, 2, 2), &Some([0xDE, 0x80, 0xB0, 0x00]));
-    same(&rt, &status_of(2, 1, 1), &Some([0xDE, 0x80, 0xB0, 0x00]));
-    same(&rt, &status_of(1, 2, 1), &Some([0xDE, 0x80, 0xB2, 0x00]));
+    same(&rt, &status_of(2, 2, 2), &Some(NO_INDEX));
+    same(&rt, &status_of(2, 1, 1), &Some(NO_INDEX));
+    same(&rt, &status_of(1, 2, 1), &Some(NO_PLACE));
 }
 
 #[test]
@@ -256,21 +257,9 @@ fn reads_what_is_plugged_in_from_any_place(rt: HostRuntime) {
     same(&rt, &status_of(0, 1, 0xF840), &None);
     same(&rt, &status_of(9, 9, 0xF840), &None);
     // the difference of a relation is read within the relation alone
-    same(
-        &rt,
-        &status_of(0, 1, 0xE002),
-        &Some([0xDE, 0x80, 0xB0, 0x00]),
-    );
-    same(
-        &rt,
-        &status_of(9, 9, 0xE002),
-        &Some([0xDE, 0x80, 0xB0, 0x00]),
-    );
+    same(&rt, &status_of(0, 1, 0xE002), &Some(NO_INDEX));
+    same(&rt, &status_of(9, 9, 0xE002), &Some(NO_INDEX));
     // the texts stand at the access point alone
     same(&rt, &status_of(0, 1, 0xAFF3), &None);
-    same(
-        &rt,
-        &status_of(1, 1, 0xAFF3),
-        &Some([0xDE, 0x80, 0xB0, 0x00]),
-    );
+    same(&rt, &status_of(1, 1, 0xAFF3), &Some(NO_INDEX));
 }

@@ -29,7 +29,7 @@ const IM0: [u8; 60] =
 const IM1: [u8; 60] =
     *b"\x00\x21\x00\x38\x01\x00the function of this station is.between press and oven";
 
-const IM2: [u8; 22] = *b"\x00\x22\x00\x12\x01\x002024-05-06 07:08";
+pub(crate) const IM2: [u8; 22] = *b"\x00\x22\x00\x12\x01\x002024-05-06 07:08";
 
 const IM3: [u8; 60] =
     *b"\x00\x23\x00\x38\x01\x00what its user has to say of it in fifty-four octets so";
@@ -87,7 +87,7 @@ pub(crate) fn module(slot: u16, ident: u32, parts: &[(u16, u32)]) -> RealModule 
 }
 
 /// An access point with its interface and a port, and two modules.
-fn real() -> Real {
+pub(crate) fn real() -> Real {
     let mut modules = ArrayVec::new();
     modules.push(module(0, 1, &[(1, 1), (0x8000, 2), (0x8001, 3)]));
     modules.push(module(1, 16, &[(1, 16)]));
@@ -95,12 +95,22 @@ fn real() -> Real {
     Real { modules }
 }
 
-/// Whether these octets are what is read.
-fn reads(index: u16, slot: u16, subslot: u16, octets: &[u8]) -> bool {
-    match read_record(index, slot, subslot, &identity(), &real(), &settings()) {
+/// Whether these octets are what is read at a place of a station with these modules and settings.
+fn reads_of(
+    (index, slot, subslot): (u16, u16, u16),
+    real: &Real,
+    settings: &Settings,
+    octets: &[u8],
+) -> bool {
+    match read_record(index, slot, subslot, &identity(), real, settings) {
         Some(found) => found.as_slice() == octets,
         None => false,
     }
+}
+
+/// Whether these octets are what is read at a place of the station.
+fn reads(index: u16, slot: u16, subslot: u16, octets: &[u8]) -> bool {
+    reads_of((index, slot, subslot), &real(), &settings(), octets)
 }
 
 #[test]
@@ -122,12 +132,7 @@ const SPACES: [u8; 22] = *b"\x00\x22\x00\x12\x01\x00                ";
 
 #[test]
 fn reads_texts_of_spaces(rt: HostRuntime) {
-    let found = read_record(0xAFF2, 0, 1, &identity(), &real(), &Settings::factory());
-    same(
-        &rt,
-        &found.map(|octets| octets.as_slice() == SPACES.as_slice()),
-        &Some(true),
-    );
+    assert!(rt; reads_of((0xAFF2, 0, 1), &real(), &Settings::factory(), &SPACES));
 }
 
 #[test]
@@ -140,27 +145,36 @@ fn lists_no_module_without_a_submodule(rt: HostRuntime) {
     let mut modules = ArrayVec::new();
     modules.push(module(3, 32, &[(1, 33)]));
     modules.push(module(4, 48, &[]));
-    let found = read_record(0xF840, 0, 1, &identity(), &Real { modules }, &settings());
-    same(
-        &rt,
-        &found.map(|octets| octets.as_slice() == FILTER_OF_ONE.as_slice()),
-        &Some(true),
+    assert!(rt;
+        reads_of(
+            (0xF840, 0, 1),
+            &Real { modules },
+            &settings(),
+            &FILTER_OF_ONE
+        )
     );
 }
 
+/// Whether there is no such record of the station.
+fn reads_none(index: u16, slot: u16, subslot: u16) -> bool {
+    read_record(index, slot, subslot, &identity(), &real(), &settings()).is_none()
+}
+
+/// Records that are not there: the index, the slot and the subslot.
+const OTHERS: [(u16, u16, u16); 7] = [
+    (0xAFF0, 3, 1),
+    (0xAFF0, 1, 2),
+    (0xAFF1, 1, 1),
+    (0xAFF3, 0, 0x8000),
+    (0xAFF4, 0, 2),
+    (0xAFF5, 0, 1),
+    (0x0001, 0, 1),
+];
+
 #[test]
 fn reads_no_others(rt: HostRuntime) {
-    for (index, slot, subslot) in [
-        (0xAFF0, 3, 1),
-        (0xAFF0, 1, 2),
-        (0xAFF1, 1, 1),
-        (0xAFF3, 0, 0x8000),
-        (0xAFF4, 0, 2),
-        (0xAFF5, 0, 1),
-        (0x0001, 0, 1),
-    ] {
-        let found = read_record(index, slot, subslot, &identity(), &real(), &settings());
-        assert!(rt; found.is_none());
+    for (index, slot, subslot) in OTHERS {
+        assert!(rt; reads_none(index, slot, subslot));
     }
 }
 
@@ -182,7 +196,7 @@ fn sets_the_text_of_its_index(rt: HostRuntime) {
 
 /// The number of the fault that a record has.
 fn fault_of(index: u16, bytes: &[u8]) -> Option<u8> {
-    read_write(index, bytes).err().map(|fault| fault.number())
+    Some(read_write(index, bytes).err()?.number())
 }
 
 #[test]
@@ -195,12 +209,17 @@ fn takes_no_record_of_another_length(rt: HostRuntime) {
     same(&rt, &fault_of(0xAFF3, &[]), &Some(2));
 }
 
+/// The fault of I&M2 with another octet at a place.
+fn fault_with(place: usize, octet: u8) -> Option<u8> {
+    let mut other = IM2;
+    *other.get_mut(place)? = octet;
+    fault_of(0xAFF2, &other)
+}
+
 #[test]
 fn takes_no_block_of_another_kind(rt: HostRuntime) {
     for (place, octet) in [(0, 0x80), (1, 0x21), (2, 1), (3, 0x38), (4, 2), (5, 1)] {
-        let mut other = IM2;
-        other[place] = octet;
-        assert_eq!(rt; fault_of(0xAFF2, &other), Some(3), "at {place}");
+        same(&rt, &(place, fault_with(place, octet)), &(place, Some(3)));
     }
     same(&rt, &fault_of(0xAFF3, &IM1), &Some(3));
 }
@@ -209,9 +228,6 @@ fn takes_no_block_of_another_kind(rt: HostRuntime) {
 fn takes_no_other_index(rt: HostRuntime) {
     same(&rt, &fault_of(0xAFF0, &IM0), &Some(1));
     same(&rt, &fault_of(0xF840, &[]), &Some(1));
-    same(
-        &rt,
-        &read_write(0xAFF5, &IM3).err(),
-        &Some(RecordFault::Index),
-    );
+    let fault = read_write(0xAFF5, &IM3).err();
+    same(&rt, &fault, &Some(RecordFault::Index));
 }

@@ -7,6 +7,11 @@ fn octets(status: Status) -> [u8; 4] {
     [status.code, status.decode, status.code1, status.code2]
 }
 
+/// The four octets of the status of a fault of a call.
+pub(crate) fn told(operation: Operation, fault: CallFault) -> [u8; 4] {
+    octets(fault.number(operation))
+}
+
 /// Faults of each operation that has blocks, without ErrorCode.
 const OF_EACH: [(CallFault, [u8; 3]); 11] = [
     (CallFault::Arguments, [0x81, 0x40, 0x00]),
@@ -46,11 +51,7 @@ fn names_each_operation(rt: HostRuntime) {
 fn tells_the_faults_of_every_call(rt: HostRuntime) {
     for (operation, _number, code) in OPERATIONS {
         for (fault, [decode, code1, code2]) in OF_EACH {
-            same(
-                &rt,
-                &octets(fault.number(operation)),
-                &[code, decode, code1, code2],
-            );
+            same(&rt, &told(operation, fault), &[code, decode, code1, code2]);
         }
     }
 }
@@ -82,53 +83,32 @@ const OF_CONNECT: [(CallFault, [u8; 4]); 20] = [
 #[test]
 fn tells_the_faults_of_a_connect(rt: HostRuntime) {
     for (fault, status) in OF_CONNECT {
-        same(&rt, &octets(fault.number(Operation::Connect)), &status);
+        same(&rt, &told(Operation::Connect, fault), &status);
     }
 }
 
-/// Faults of other calls alone.
-const OF_OTHERS: [(Operation, CallFault, [u8; 4]); 7] = [
-    (
-        Operation::Release,
-        CallFault::ControlCommand,
-        [0xDC, 0x81, 0x40, 0x06],
-    ),
-    (
-        Operation::Control,
-        CallFault::ControlCommand,
-        [0xDD, 0x81, 0x40, 0x06],
-    ),
-    (
-        Operation::Control,
-        CallFault::Phase,
-        [0xDD, 0x81, 0x40, 0x06],
-    ),
-    (
-        Operation::Write,
-        CallFault::WriteLength,
-        [0xDF, 0x80, 0xB1, 0x00],
-    ),
-    (
-        Operation::Write,
-        CallFault::JournalExhausted,
-        [0xDF, 0x80, 0xB5, 0x04],
-    ),
-    (
-        Operation::Write,
-        CallFault::FlashFault,
-        [0xDF, 0x80, 0xB5, 0x05],
-    ),
-    (
-        Operation::Write,
-        CallFault::TooManyRecords,
-        [0xDF, 0x80, 0xB5, 0x06],
-    ),
+/// Faults of a Write alone.
+const OF_WRITE: [(CallFault, [u8; 4]); 4] = [
+    (CallFault::WriteLength, [0xDF, 0x80, 0xB1, 0x00]),
+    (CallFault::JournalExhausted, [0xDF, 0x80, 0xB5, 0x04]),
+    (CallFault::FlashFault, [0xDF, 0x80, 0xB5, 0x05]),
+    (CallFault::TooManyRecords, [0xDF, 0x80, 0xB5, 0x06]),
+];
+
+/// Faults of Release and Control alone, by ErrorCode.
+const OF_OTHERS: [(Operation, CallFault, u8); 3] = [
+    (Operation::Release, CallFault::ControlCommand, 0xDC),
+    (Operation::Control, CallFault::ControlCommand, 0xDD),
+    (Operation::Control, CallFault::Phase, 0xDD),
 ];
 
 #[test]
 fn tells_the_faults_of_other_calls(rt: HostRuntime) {
-    for (operation, fault, status) in OF_OTHERS {
-        same(&rt, &octets(fault.number(operation)), &status);
+    for (fault, status) in OF_WRITE {
+        same(&rt, &told(Operation::Write, fault), &status);
+    }
+    for (operation, fault, code) in OF_OTHERS {
+        same(&rt, &told(operation, fault), &[code, 0x81, 0x40, 0x06]);
     }
     same(&rt, &octets(done()), &[0, 0, 0, 0]);
 }

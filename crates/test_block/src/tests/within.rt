@@ -1,9 +1,10 @@
 // Records that are read within a relation.
 ghost use Rattle.std.specs.Prelude.{◌≤◌, length};
 
-use super::reads::{Asked, GOOD, plugged};
+use super::reads::{Asked, GOOD, plugged, sent};
 use super::records::settings;
 use super::same;
+use super::statuses::told;
 use block_fields::Uuid;
 use demo_station::identity;
 use pnio_status::{CallFault, Operation};
@@ -35,35 +36,38 @@ fn answered(relation: u8, differing: &[u8], asked: Asked) -> Result<Blocks, Call
     Ok(answer)
 }
 
-/// RecordDataLength of an answer and the octets of the record.
-fn sent(answer: &Blocks) -> Option<(&[u8], &[u8])> {
-    let (header, octets) = answer.as_slice().split_at_checked(64)?;
-    Some((header.get(36..40)?, octets))
+/// Whether a ModuleDiffBlock of these octets is read, so many by RecordDataLength.
+fn reads_difference(differing: &[u8], told: u8) -> bool
+    requires { length differing.now ≤ 1308 }
+{
+    match answered(7, differing, DIFFERENCE) {
+        Ok(answer) => sent(&answer) == Some((&[0, 0, 0, told], differing)),
+        Err(_) => false,
+    }
 }
 
 #[test]
 fn reads_what_differs(rt: HostRuntime) {
-    let differing = [1, 2, 3, 4, 5];
-    for size in 0..=5 {
-        let Ok(answer) = answered(7, &differing[..size], DIFFERENCE) else {
-            panic!(rt; "refused");
-        };
-        let told = [0, 0, 0, size as u8];
-        same(
-            &rt,
-            &sent(&answer),
-            &Some((told.as_slice(), &differing[..size])),
-        );
-    }
+    assert!(rt; reads_difference(&[], 0));
+    assert!(rt; reads_difference(&[1], 1));
+    assert!(rt; reads_difference(&[1, 2], 2));
+    assert!(rt; reads_difference(&[1, 2, 3], 3));
+    assert!(rt; reads_difference(&[1, 2, 3, 4], 4));
+    assert!(rt; reads_difference(&[1, 2, 3, 4, 5], 5));
+}
+
+/// The four octets of the status by which a Read within a relation is answered.
+fn refused_in(relation: u8, asked: Asked) -> Option<[u8; 4]> {
+    let status = answered(relation, &[], asked)
+        .err()?
+        .number(Operation::Read);
+    Some([status.code, status.decode, status.code1, status.code2])
 }
 
 #[test]
 fn reads_within_its_relation_alone(rt: HostRuntime) {
     for asked in [DIFFERENCE, GOOD, Asked { api: 1, ..GOOD }] {
-        let fault = answered(8, &[], asked).err();
-        let status = fault.map(|fault| fault.number(Operation::Read));
-        let octets = status.map(|status| [status.code, status.decode, status.code1, status.code2]);
-        same(&rt, &octets, &Some([0xDE, 0x81, 0x40, 0x05]));
+        same(&rt, &refused_in(8, asked), &Some([0xDE, 0x81, 0x40, 0x05]));
     }
     assert!(rt; answered(7, &[], GOOD).is_ok());
 }

@@ -1,6 +1,8 @@
 // Records that are written within a relation, octet by octet.
 use super::reads::{Asked, plugged};
+use super::records::IM2;
 use super::same;
+use super::statuses::told;
 use arrayvec::ArrayVec;
 use block_fields::Uuid;
 use pn_values::{Command, Settings};
@@ -36,15 +38,14 @@ fn judged_in(relation: u8, asked: Asked, behind: &[u8]) -> Result<Write, CallFau
     judge_write(call.as_slice(), Some(&uuid), &plugged())
 }
 
-/// The four octets of the status of a fault.
-fn octets_of(fault: CallFault) -> [u8; 4] {
-    let status = fault.number(Operation::Write);
-    [status.code, status.decode, status.code1, status.code2]
+/// The status by which a Write is answered while this relation stands, if it is refused.
+fn refused_in(relation: u8, asked: Asked, behind: &[u8]) -> Option<[u8; 4]> {
+    Some(told(Operation::Write, judged_in(relation, asked, behind).err()?))
 }
 
-/// The status by which a Write is answered within its relation, if it is refused.
+/// The same within its own relation.
 fn refused(asked: Asked, behind: &[u8]) -> Option<[u8; 4]> {
-    Some(octets_of(judged_in(7, asked, behind).err()?))
+    refused_in(7, asked, behind)
 }
 
 /// The parameter record that a Write asks to keep.
@@ -63,52 +64,53 @@ fn stored(asked: Asked, behind: &[u8]) -> Option<Settings> {
     }
 }
 
-#[test]
-fn refuses_what_is_not_written_there(rt: HostRuntime) {
-    let at = |slot, subslot, index| Asked {
+/// The status by which a Write of four octets is answered at this place.
+fn refused_at(slot: u16, subslot: u16, index: u16) -> Option<[u8; 4]> {
+    let asked = Asked {
         slot,
         subslot,
         index,
         ..GOOD
     };
-    same(
-        &rt,
-        &refused(at(1, 1, 0xAFF1), &[0; 4]),
-        &Some([0xDF, 0x80, 0xB0, 0x00]),
-    );
-    same(
-        &rt,
-        &refused(at(0, 1, 0xAFF0), &[0; 4]),
-        &Some([0xDF, 0x80, 0xB6, 0x00]),
-    );
-    same(
-        &rt,
-        &refused(at(9, 9, 0xF840), &[0; 4]),
-        &Some([0xDF, 0x80, 0xB6, 0x00]),
-    );
-    same(
-        &rt,
-        &refused(at(9, 9, 0xE002), &[0; 4]),
-        &Some([0xDF, 0x80, 0xB6, 0x00]),
-    );
-    same(
-        &rt,
-        &refused(at(9, 9, 0xAFF0), &[0; 4]),
-        &Some([0xDF, 0x80, 0xB2, 0x00]),
-    );
-    same(
-        &rt,
-        &refused(at(2, 1, 1), &[0; 4]),
-        &Some([0xDF, 0x80, 0xB0, 0x00]),
-    );
+    refused(asked, &[0; 4])
+}
+
+/// The octets of a status: no such place, no such Index there, a record that is not written, another relation, another length,
+/// and a record too many.
+const NO_PLACE: [u8; 4] = [0xDF, 0x80, 0xB2, 0x00];
+
+const NO_INDEX: [u8; 4] = [0xDF, 0x80, 0xB0, 0x00];
+
+const NO_ACCESS: [u8; 4] = [0xDF, 0x80, 0xB6, 0x00];
+
+const NO_RELATION: [u8; 4] = [0xDF, 0x81, 0x40, 0x05];
+
+const OTHER_LENGTH: [u8; 4] = [0xDF, 0x80, 0xB1, 0x00];
+
+const TOO_MANY: [u8; 4] = [0xDF, 0x80, 0xB5, 0x06];
+
+#[test]
+fn refuses_what_is_not_written_there(rt: HostRuntime) {
+    same(&rt, &refused_at(1, 1, 0xAFF1), &Some(NO_INDEX));
+    same(&rt, &refused_at(0, 1, 0xAFF0), &Some(NO_ACCESS));
+    same(&rt, &refused_at(9, 9, 0xF840), &Some(NO_ACCESS));
+    same(&rt, &refused_at(9, 9, 0xE002), &Some(NO_ACCESS));
+    same(&rt, &refused_at(9, 9, 0xAFF0), &Some(NO_PLACE));
+    same(&rt, &refused_at(2, 1, 1), &Some(NO_INDEX));
+}
+
+/// The status by which a Write is answered while no relation stands.
+fn refused_alone() -> Option<[u8; 4]> {
+    Some(told(
+        Operation::Write,
+        judge_write(&GOOD.octets(), None, &plugged()).err()?,
+    ))
 }
 
 #[test]
 fn refuses_a_write_of_another_relation(rt: HostRuntime) {
-    let fault = judged_in(8, GOOD, &[0; 4]).err();
-    same(&rt, &fault.map(octets_of), &Some([0xDF, 0x81, 0x40, 0x05]));
-    let alone = judge_write(&GOOD.octets(), None, &plugged()).err();
-    same(&rt, &alone.map(octets_of), &Some([0xDF, 0x81, 0x40, 0x05]));
+    same(&rt, &refused_in(8, GOOD, &[0; 4]), &Some(NO_RELATION));
+    same(&rt, &refused_alone(), &Some(NO_RELATION));
 }
 
 #[test]
@@ -118,36 +120,27 @@ fn keeps_a_record_of_its_exact_length(rt: HostRuntime) {
     };
     same(&rt, &(taken.slot, taken.subslot, taken.index), &(2, 2, 1));
     same(&rt, &taken.value.as_slice(), &[1, 2, 3, 4].as_slice());
+}
+
+#[test]
+fn takes_no_record_of_another_length(rt: HostRuntime) {
     for length in [0, 3, 5] {
         let asked = Asked { length, ..GOOD };
-        same(
-            &rt,
-            &refused(asked, &[0; 9]),
-            &Some([0xDF, 0x80, 0xB1, 0x00]),
-        );
+        same(&rt, &refused(asked, &[0; 9]), &Some(OTHER_LENGTH));
     }
-    same(
-        &rt,
-        &refused(GOOD, &[0; 3]),
-        &Some([0xDF, 0x80, 0xB1, 0x00]),
-    );
+    same(&rt, &refused(GOOD, &[0; 3]), &Some(OTHER_LENGTH));
 }
 
 #[test]
 fn stores_a_whole_text(rt: HostRuntime) {
-    let whole = *b"\x00\x22\x00\x12\x01\x002024-05-06 07:08";
-    let Some(settings) = stored(DATE, &whole) else {
+    let Some(settings) = stored(DATE, &IM2) else {
         panic!(rt; "refused");
     };
-    same(&rt, &settings.im2.as_bytes(), &&whole[6..]);
+    same(&rt, &settings.im2.as_bytes(), &&IM2[6..]);
     let short = Asked { length: 21, ..DATE };
-    same(
-        &rt,
-        &refused(short, &whole[..21]),
-        &Some([0xDF, 0x80, 0xB1, 0x00]),
-    );
+    same(&rt, &refused(short, &IM2[..21]), &Some(OTHER_LENGTH));
     let other = *b"\x00\x23\x00\x12\x01\x002024-05-06 07:08";
-    same(&rt, &refused(DATE, &other), &Some([0xDF, 0x80, 0xB1, 0x00]));
+    same(&rt, &refused(DATE, &other), &Some(OTHER_LENGTH));
 }
 
 #[test]
@@ -162,24 +155,34 @@ fn answers_with_what_was_asked_for(rt: HostRuntime) {
     same(&rt, &answer.as_slice(), &octets.as_slice());
 }
 
+/// Keeps a record whose first octet is this one, or says why not.
+fn keep(records: &mut TakenRecords, first: u8) -> Option<Result<(), CallFault>> {
+    Some(records.keep(kept(GOOD, &[first, 0, 0, 0])?))
+}
+
+/// The first octet of each record that is kept.
+fn first_octets(records: &TakenRecords) -> ArrayVec<u8, 64> {
+    let mut octets = ArrayVec::new();
+    for taken in records.as_slice() {
+        if let [first, ..] = taken.value.as_slice() {
+            let _ = octets.try_push(*first);
+        }
+    }
+    octets
+}
+
 #[test]
 fn takes_sixty_four_records(rt: HostRuntime) {
     let mut records = TakenRecords::new();
-    for place in 0..64 {
-        let Some(taken) = kept(GOOD, &[place, 0, 0, 0]) else {
-            panic!(rt; "refused");
-        };
-        same(&rt, &records.keep(taken), &Ok(()));
+    let mut firsts: ArrayVec<u8, 64> = ArrayVec::new();
+    for first in 0..64 {
+        same(&rt, &keep(&mut records, first), &Some(Ok(())));
+        let _ = firsts.try_push(first);
     }
-    let fault = records.keep(TakenRecord::default()).err();
-    same(&rt, &fault.map(octets_of), &Some([0xDF, 0x80, 0xB5, 0x06]));
-    for (place, taken) in records.as_slice().iter().enumerate() {
-        let first = taken
-            .value
-            .as_slice()
-            .first()
-            .map(|first| usize::from(*first));
-        same(&rt, &first, &Some(place));
-    }
+    let Err(fault) = records.keep(TakenRecord::default()) else {
+        panic!(rt; "kept");
+    };
+    same(&rt, &told(Operation::Write, fault), &TOO_MANY);
     same(&rt, &records.as_slice().len(), &64);
+    same(&rt, &first_octets(&records).as_slice(), &firsts.as_slice());
 }

@@ -59,27 +59,52 @@ const OF_BLOCK: [Field; 9] = [
     (164, 4),
 ];
 
+/// A frame with this number at a place behind its link header.
+fn bent(
+    (good, head): (&Vec<u8>, usize),
+    order: Order,
+    (place, size): Field,
+    number: u32,
+) -> Result<Vec<u8>, Fail> {
+    let mut octets = good.clone()?;
+    let packet = octets.as_mut_slice().get_mut(head..).ok_or("a packet")?;
+    put(order, packet, place, size, number);
+    Ok(octets)
+}
+
+/// Makes the checksums of a frame's packet right.
+fn mend_frame(octets: &mut Vec<u8>, head: usize) -> Result<(), Fail> {
+    mend(octets.as_mut_slice().get_mut(head..).ok_or("a packet")?);
+    Ok(())
+}
+
+/// The number at a place of a frame, if the frame is so long.
+fn own_of((good, head): (&Vec<u8>, usize), order: Order, (place, size): Field) -> Option<u32> {
+    let packet = good.as_slice().get(head..)?;
+    if packet.len() > place {
+        Some(number_at(order, packet, place, size))
+    } else {
+        None
+    }
+}
+
 /// Hands in a frame with other numbers at a place, with the checksums as they were and, of a packet, right again.
 fn bend(
     rt: &impl Abort,
     trial: &mut Trial,
-    (good, head): (&Vec<u8>, usize),
+    frame: (&Vec<u8>, usize),
     order: Order,
-    (place, size): Field,
+    field: Field,
     has_checksums: bool,
 ) -> Result<(), Fail> {
-    let own = match good.as_slice().get(head..) {
-        Some(packet) if packet.len() > place => number_at(order, packet, place, size),
-        _ => return Ok(()),
+    let Some(own) = own_of(frame, order, field) else {
+        return Ok(());
     };
     for number in [0, 1, u32::MAX, own.wrapping_sub(1), own.wrapping_add(1)] {
-        let mut octets = good.clone()?;
-        let packet = octets.as_mut_slice().get_mut(head..).ok_or("a packet")?;
-        put(order, packet, place, size, number);
+        let mut octets = bent(frame, order, field, number)?;
         trial.judge(rt, octets.as_slice())?;
         if has_checksums {
-            let packet = octets.as_mut_slice().get_mut(head..).ok_or("a packet")?;
-            mend(packet);
+            mend_frame(&mut octets, frame.1)?;
             trial.judge(rt, octets.as_slice())?;
         }
     }
@@ -99,6 +124,25 @@ fn bent_arp(rt: HostRuntime) -> Result<(), Fail> {
     trial.end(&rt)
 }
 
+/// Hands in a datagram with other numbers at each place.
+fn bend_each(
+    rt: &impl Abort,
+    trial: &mut Trial,
+    frame: (&Vec<u8>, usize),
+    order: Order,
+) -> Result<(), Fail> {
+    for field in OF_DATAGRAM {
+        bend(rt, trial, frame, Order::Big, field, true)?;
+    }
+    for field in OF_CALL {
+        bend(rt, trial, frame, order, field, true)?;
+    }
+    for field in OF_BLOCK {
+        bend(rt, trial, frame, Order::Big, field, true)?;
+    }
+    Ok(())
+}
+
 #[test]
 fn bent_datagrams(rt: HostRuntime) -> Result<(), Fail> {
     let alloc = rt.alloc();
@@ -106,15 +150,7 @@ fn bent_datagrams(rt: HostRuntime) -> Result<(), Fail> {
     for sample in &DATAGRAMS {
         for tag in TAGS {
             let (good, head) = frame(alloc, sample.hex, tag)?;
-            for field in OF_DATAGRAM {
-                bend(&rt, &mut trial, (&good, head), Order::Big, field, true)?;
-            }
-            for field in OF_CALL {
-                bend(&rt, &mut trial, (&good, head), sample.order, field, true)?;
-            }
-            for field in OF_BLOCK {
-                bend(&rt, &mut trial, (&good, head), Order::Big, field, true)?;
-            }
+            bend_each(&rt, &mut trial, (&good, head), sample.order)?;
         }
     }
     trial.end(&rt)

@@ -2,6 +2,7 @@
 use super::numbers::{Order, mend, put};
 use super::samples::{ARP, DATAGRAMS, TAGS, frame};
 use super::stations::Trial;
+use std::process::Abort;
 use std::test::Fail;
 
 #[test]
@@ -40,25 +41,45 @@ fn lower(order: Order, packet: &mut [u8], lowered: Lowered) {
     mend(packet);
 }
 
+/// A frame of so many octets of this one.
+fn cut(
+    (good, head): (&Vec<u8>, usize),
+    order: Order,
+    length: usize,
+    lowered: Lowered,
+) -> Result<Vec<u8>, Fail> {
+    let mut octets = good.clone()?;
+    octets.truncate(length);
+    match (lowered, octets.as_mut_slice().get_mut(head..)) {
+        (Lowered::OfDatagram | Lowered::OfCall, Some(packet)) => lower(order, packet, lowered),
+        _ => {}
+    }
+    Ok(octets)
+}
+
+/// Hands in a datagram cut at each length, in each way.
+fn cut_each(
+    rt: &impl Abort,
+    trial: &mut Trial,
+    frame: (&Vec<u8>, usize),
+    order: Order,
+) -> Result<(), Fail> {
+    for length in 0..=frame.0.len() {
+        for lowered in [Lowered::None, Lowered::OfDatagram, Lowered::OfCall] {
+            let octets = cut(frame, order, length, lowered)?;
+            trial.judge(rt, octets.as_slice())?;
+        }
+    }
+    Ok(())
+}
+
 #[test]
 fn datagrams_cut_short(rt: HostRuntime) -> Result<(), Fail> {
     let alloc = rt.alloc();
     let mut trial = Trial::new(alloc)?;
     for sample in &DATAGRAMS {
         let (good, head) = frame(alloc, sample.hex, &[])?;
-        for length in 0..=good.len() {
-            for lowered in [Lowered::None, Lowered::OfDatagram, Lowered::OfCall] {
-                let mut octets = good.clone()?;
-                octets.truncate(length);
-                match (lowered, octets.as_mut_slice().get_mut(head..)) {
-                    (Lowered::OfDatagram | Lowered::OfCall, Some(packet)) => {
-                        lower(sample.order, packet, lowered);
-                    }
-                    _ => {}
-                }
-                trial.judge(&rt, octets.as_slice())?;
-            }
-        }
+        cut_each(&rt, &mut trial, (&good, head), sample.order)?;
     }
     trial.end(&rt)
 }

@@ -8,7 +8,7 @@ use frame_codec::Outbox;
 use std::alloc::{AllocError, Global};
 use std::process::Abort;
 use std::test::Fail;
-use test_stations::{Station, plugged, station, step};
+use test_stations::{Station, plugged, same, station, step};
 
 /// A Read Implicit of I&M0 by the activity whose octets are all this number.
 fn call(alloc: Global, activity: u8, sequence: u32) -> Result<Event, Fail> {
@@ -52,66 +52,75 @@ pub(crate) struct Trial {
 impl Trial {
     pub(crate) fn new(alloc: Global) -> Result<Trial, Fail> {
         let mut outbox = Outbox::new();
-        let mut trial = Trial {
+        let mut station = called(alloc)?;
+        let again = call(alloc, 2, 5)?;
+        let _ = step(&mut station, &again, &mut outbox);
+        let kept = octets_of(alloc, &outbox)?;
+        Ok(Trial {
             alloc,
-            station: called(alloc)?,
-            again: call(alloc, 2, 5)?,
-            kept: Vec::new(alloc),
-        };
-        let _ = trial.station.step(&trial.again, &mut outbox);
-        trial.kept = octets_of(alloc, &outbox)?;
-        Ok(trial)
+            station,
+            again,
+            kept,
+        })
     }
 
     /// What becomes of a frame is what has to. Behind one that is not answered the second call gets the same octets again;
     /// one that is answered goes to another station.
     pub(crate) fn judge(&mut self, rt: &impl Abort, octets: &[u8]) -> Result<(), Fail> {
-        let mut outbox = Outbox::new();
         let wanted = fate_of(octets);
-        let is_answered = matches!(wanted, Fate::Answered { .. });
-        let note = if is_answered {
-            called(self.alloc)?.step(&test_stations::frame(octets), &mut outbox)
+        if matches!(wanted, Fate::Answered { .. }) {
+            let came = fate_at(&mut called(self.alloc)?, octets);
+            same(rt, &(octets, came), &(octets, Some(wanted)));
         } else {
-            self.station
-                .step(&test_stations::frame(octets), &mut outbox)
-        };
-        let came = outcome(note, &outbox);
-        assert!(rt;
-            came == Some(wanted),
-            "of {octets:?} came {came:?}, not {wanted:?}"
-        );
-        if !is_answered {
-            let note = self.station.step(&self.again, &mut outbox);
-            let kept = octets_of(self.alloc, &outbox)?;
-            assert!(rt;
-                note == Note::Done && kept.as_slice() == self.kept.as_slice(),
-                "behind {octets:?}"
-            );
+            let came = fate_at(&mut self.station, octets);
+            same(rt, &(octets, came), &(octets, Some(wanted)));
+            self.calls_again(rt, octets)?;
         }
+        Ok(())
+    }
+
+    /// The second call is answered as it was, behind these octets.
+    fn calls_again(&mut self, rt: &impl Abort, octets: &[u8]) -> Result<(), Fail> {
+        let mut outbox = Outbox::new();
+        let note = step(&mut self.station, &self.again, &mut outbox);
+        let kept = octets_of(self.alloc, &outbox)?;
+        assert!(rt;
+            note == Note::Done && kept.as_slice() == self.kept.as_slice(),
+            "behind {octets:?}"
+        );
         Ok(())
     }
 
     /// The station is as it was before all that it refused: it answers each probe as one that heard nothing of it does.
     pub(crate) fn end(mut self, rt: &impl Abort) -> Result<(), Fail> {
-        let alloc = self.alloc;
-        let mut other = called(alloc)?;
-        let (mut outbox, mut wanted) = (Outbox::new(), Outbox::new());
+        let mut other = called(self.alloc)?;
         for (activity, sequence, note) in PROBES {
-            let event = call(alloc, activity, sequence)?;
-            assert_eq!(rt;
-                self.station.step(&event, &mut outbox),
-                note,
-                "activity {activity}"
-            );
-            let _ = step(&mut other, &event, &mut wanted);
-            let came = octets_of(alloc, &outbox)?;
-            assert!(rt;
-                came.as_slice() == octets_of(alloc, &wanted)?.as_slice(),
-                "activity {activity}"
-            );
+            let event = call(self.alloc, activity, sequence)?;
+            let (found, came) = answer_at(self.alloc, &mut self.station, &event)?;
+            let (_note, wanted) = answer_at(self.alloc, &mut other, &event)?;
+            same(rt, &(activity, found), &(activity, note));
+            same(rt, &came.as_slice(), &wanted.as_slice());
         }
         Ok(())
     }
+}
+
+/// What a station makes of an event, and all octets that it sends.
+fn answer_at(
+    alloc: Global,
+    station: &mut Station,
+    event: &Event,
+) -> Result<(Note, Vec<u8>), AllocError> {
+    let mut outbox = Outbox::new();
+    let note = step(station, event, &mut outbox);
+    Ok((note, octets_of(alloc, &outbox)?))
+}
+
+/// What becomes of a frame at a station.
+fn fate_at(station: &mut Station, octets: &[u8]) -> Option<Fate> {
+    let mut outbox = Outbox::new();
+    let note = step(station, &test_stations::frame(octets), &mut outbox);
+    outcome(note, &outbox)
 }
 
 /// A station with an address that has answered calls of the activities 1 to 4, each under the sequence number 5.
@@ -119,7 +128,7 @@ fn called(alloc: Global) -> Result<Station, Fail> {
     let mut outbox = Outbox::new();
     let mut station = station(plugged(), MemoryFlash::blank()).ok_or("starts")?;
     for activity in 1..5 {
-        let _ = station.step(&call(alloc, activity, 5)?, &mut outbox);
+        let _ = step(&mut station, &call(alloc, activity, 5)?, &mut outbox);
     }
     Ok(station)
 }

@@ -2,7 +2,9 @@
 use super::{IDENTIFY, same};
 use arrayvec::ArrayVec;
 use script_runner::{RunFault, run};
+use std::alloc::Global;
 use std::io::{self, ErrorKind, Read, Write};
+use std::process::Abort;
 use std::test::Fail;
 
 /// A reader of one byte, over and over.
@@ -70,35 +72,48 @@ impl Write for Narrow {
     }
 }
 
-#[test]
-fn long_input(rt: HostRuntime) -> Result<(), Fail> {
-    let cases = [
-        (b'\n', 16_777_216, Ok(()), true),
-        (b'\n', 16_777_217, Err(RunFault::EndlessInput), false),
-        (b'#', 65_536, Ok(()), true),
-        (b'#', 65_537, Err(RunFault::Line(1)), true),
-    ];
-    for (byte, left, wanted, starts) in cases {
-        let mut reader = Repeated {
-            byte,
-            left,
-            at_once: 4096,
-            reads: 0,
-        };
-        let mut writer = Vec::new(rt.alloc());
-        let result = run(rt.alloc(), &mut reader, &mut writer);
-        same(&rt, &result, &wanted);
-        same(
-            &rt,
-            &(writer.as_slice() == b"boot ok\n".as_slice()),
-            &starts,
-        );
-    }
-    Ok(())
+/// A script of so many of this byte ends in this way, and whether it prints that the device started.
+fn reads_long(
+    rt: &impl Abort,
+    alloc: Global,
+    (byte, left): (u8, u64),
+    wanted: Result<(), RunFault>,
+    starts: bool,
+) {
+    let mut reader = Repeated {
+        byte,
+        left,
+        at_once: 4096,
+        reads: 0,
+    };
+    let mut writer = Vec::new(alloc);
+    let result = run(alloc, &mut reader, &mut writer);
+    same(rt, &result, &wanted);
+    same(rt, &(writer.as_slice() == b"boot ok\n".as_slice()), &starts);
 }
 
 #[test]
-fn endless_input(rt: HostRuntime) -> Result<(), Fail> {
+fn long_input(rt: HostRuntime) {
+    reads_long(&rt, rt.alloc(), (b'\n', 16_777_216), Ok(()), true);
+    reads_long(
+        &rt,
+        rt.alloc(),
+        (b'\n', 16_777_217),
+        Err(RunFault::EndlessInput),
+        false,
+    );
+    reads_long(&rt, rt.alloc(), (b'#', 65_536), Ok(()), true);
+    reads_long(
+        &rt,
+        rt.alloc(),
+        (b'#', 65_537),
+        Err(RunFault::Line(1)),
+        true,
+    );
+}
+
+#[test]
+fn endless_input(rt: HostRuntime) {
     let mut reader = Repeated {
         byte: b'\n',
         left: u64::MAX,
@@ -110,16 +125,18 @@ fn endless_input(rt: HostRuntime) -> Result<(), Fail> {
     same(&rt, &result, &Err(RunFault::EndlessInput));
     same(&rt, &reader.reads, &16_777_217);
     same(&rt, &writer.len(), &0);
-    Ok(())
 }
 
 #[test]
-fn failing_ends(rt: HostRuntime) -> Result<(), Fail> {
+fn a_reader_that_fails(rt: HostRuntime) {
     let mut writer = Vec::new(rt.alloc());
     let result = run(rt.alloc(), &mut Broken { is_first: true }, &mut writer);
     same(&rt, &result, &Err(RunFault::Read));
     same(&rt, &writer.len(), &0);
+}
 
+#[test]
+fn a_writer_that_fails(rt: HostRuntime) {
     let mut narrow = Narrow {
         taken: ArrayVec::new(),
     };
@@ -127,20 +144,21 @@ fn failing_ends(rt: HostRuntime) -> Result<(), Fail> {
     let result = run(rt.alloc(), &mut reader, &mut narrow);
     same(&rt, &result, &Err(RunFault::Write));
     same(&rt, &narrow.taken.as_slice(), &b"boot ok\nou".as_slice());
-    Ok(())
 }
+
+/// The number of a fault, and its text.
+const FAULTS: [(RunFault, u8, &str); 6] = [
+    (RunFault::Read, 1, "read"),
+    (RunFault::Write, 2, "write"),
+    (RunFault::Line(70_000), 3, "line 70000"),
+    (RunFault::OutOfMemory, 4, "out of memory"),
+    (RunFault::Config(11), 5, "config 11"),
+    (RunFault::EndlessInput, 6, "endless input"),
+];
 
 #[test]
 fn texts(rt: HostRuntime) -> Result<(), Fail> {
-    let cases = [
-        (RunFault::Read, 1, "read"),
-        (RunFault::Write, 2, "write"),
-        (RunFault::Line(70_000), 3, "line 70000"),
-        (RunFault::OutOfMemory, 4, "out of memory"),
-        (RunFault::Config(11), 5, "config 11"),
-        (RunFault::EndlessInput, 6, "endless input"),
-    ];
-    for (fault, number, text) in cases {
+    for (fault, number, text) in FAULTS {
         let shown = format!(in rt.alloc(); "{fault}")?;
         same(&rt, &shown.as_str(), &text);
         same(&rt, &fault.number(), &number);

@@ -3,8 +3,9 @@ use super::input::{Broken, Narrow, Repeated};
 use super::same;
 use arrayvec::ArrayVec;
 use script_runner::{RunFault, plan_text};
+use std::alloc::Global;
 use std::io::{self, Read, Write};
-use std::test::Fail;
+use std::process::Abort;
 
 /// The demo station, and the layouts of its plan.
 const PUMP: &str =
@@ -43,48 +44,38 @@ impl Write for Sipping {
     }
 }
 
-#[test]
-fn pump(rt: HostRuntime) -> Result<(), Fail> {
-    let mut reader = PUMP.as_bytes();
-    let mut writer = Vec::new(rt.alloc());
-    same(
-        &rt,
-        &plan_text(rt.alloc(), &mut reader, &mut writer),
-        &Ok(()),
-    );
-    same(&rt, &writer.as_slice(), &LAYOUTS.as_bytes());
-    Ok(())
+/// A catalogue of this text ends in this way, and this is written.
+fn plans(rt: &impl Abort, alloc: Global, text: &str, wanted: Result<(), RunFault>, written: &str) {
+    let mut reader = text.as_bytes();
+    let mut writer = Vec::new(alloc);
+    let result = plan_text(alloc, &mut reader, &mut writer);
+    same(rt, &result, &wanted);
+    same(rt, &writer.as_slice(), &written.as_bytes());
 }
 
 #[test]
-fn no_plan(rt: HostRuntime) -> Result<(), Fail> {
-    let cases = [
-        ("{", Err(RunFault::Config(1))),
-        ("{}", Err(RunFault::Config(2))),
-        ("[]", Err(RunFault::Config(3))),
-        ("", Err(RunFault::Config(1))),
-    ];
-    for (text, wanted) in cases {
-        let mut reader = text.as_bytes();
-        let mut writer = Vec::new(rt.alloc());
-        same(
-            &rt,
-            &plan_text(rt.alloc(), &mut reader, &mut writer),
-            &wanted,
-        );
-        same(&rt, &writer.len(), &0);
+fn pump(rt: HostRuntime) {
+    plans(&rt, rt.alloc(), PUMP, Ok(()), LAYOUTS);
+}
+
+#[test]
+fn no_plan(rt: HostRuntime) {
+    for (text, fault) in [("{", 1), ("{}", 2), ("[]", 3), ("", 1)] {
+        plans(&rt, rt.alloc(), text, Err(RunFault::Config(fault)), "");
     }
-    Ok(())
 }
 
 #[test]
-fn failing_ends(rt: HostRuntime) -> Result<(), Fail> {
+fn a_reader_that_fails(rt: HostRuntime) {
     let mut writer = Vec::new(rt.alloc());
     let mut broken = Broken { is_first: true };
     let result = plan_text(rt.alloc(), &mut broken, &mut writer);
     same(&rt, &result, &Err(RunFault::Read));
     same(&rt, &writer.len(), &0);
+}
 
+#[test]
+fn a_writer_that_fails(rt: HostRuntime) {
     let mut narrow = Narrow {
         taken: ArrayVec::new(),
     };
@@ -92,43 +83,37 @@ fn failing_ends(rt: HostRuntime) -> Result<(), Fail> {
     let result = plan_text(rt.alloc(), &mut reader, &mut narrow);
     same(&rt, &result, &Err(RunFault::Write));
     same(&rt, &narrow.taken.as_slice(), &b"input 40\nd".as_slice());
-    Ok(())
 }
 
 #[test]
-fn few_bytes_at_a_time(rt: HostRuntime) -> Result<(), Fail> {
+fn few_bytes_at_a_time(rt: HostRuntime) {
     let mut reader = Dripping {
         rest: PUMP.as_bytes(),
     };
     let mut writer = Sipping {
         taken: Vec::new(rt.alloc()),
     };
-    same(
-        &rt,
-        &plan_text(rt.alloc(), &mut reader, &mut writer),
-        &Ok(()),
-    );
+    let result = plan_text(rt.alloc(), &mut reader, &mut writer);
+    same(&rt, &result, &Ok(()));
     same(&rt, &writer.taken.as_slice(), &LAYOUTS.as_bytes());
-    Ok(())
+}
+
+/// A catalogue of so many spaces has this fault.
+fn has_fault(rt: &impl Abort, alloc: Global, left: u64, fault: RunFault) {
+    let mut reader = Repeated {
+        byte: b' ',
+        left,
+        at_once: 4096,
+        reads: 0,
+    };
+    let mut writer = Vec::new(alloc);
+    let result = plan_text(alloc, &mut reader, &mut writer);
+    same(rt, &result, &Err(fault));
+    same(rt, &writer.len(), &0);
 }
 
 #[test]
-fn endless_catalogue(rt: HostRuntime) -> Result<(), Fail> {
-    let cases = [
-        (16_777_216, RunFault::Config(1)),
-        (16_777_217, RunFault::EndlessInput),
-    ];
-    for (left, wanted) in cases {
-        let mut reader = Repeated {
-            byte: b' ',
-            left,
-            at_once: 4096,
-            reads: 0,
-        };
-        let mut writer = Vec::new(rt.alloc());
-        let result = plan_text(rt.alloc(), &mut reader, &mut writer);
-        same(&rt, &result, &Err(wanted));
-        same(&rt, &writer.len(), &0);
-    }
-    Ok(())
+fn endless_catalogue(rt: HostRuntime) {
+    has_fault(&rt, rt.alloc(), 16_777_216, RunFault::Config(1));
+    has_fault(&rt, rt.alloc(), 16_777_217, RunFault::EndlessInput);
 }

@@ -1,6 +1,7 @@
 // PDUs of alarms: the octets are worked out by hand from the formats, and those of the first alarm are a worked frame's.
 ghost use Rattle.std.specs.Prelude.{◌≡◌};
 
+use super::blocks::with;
 use super::same;
 use alarm_exchange::{Exchange, Kept, Move};
 use arrayvec::ArrayVec;
@@ -9,6 +10,7 @@ use pn_alarms::{
     Abort, Alarm, AlarmFault, DeviceAlarms, Due, Message, PduFate, PduType, RaiseFault, Receiver,
     Taken, read_message, read_notification, read_pdu, write_alarm, write_pdu,
 };
+use std::alloc::Global;
 
 /// The first alarm of a relation, of slot 1 and subslot 1, with two octets of data.
 const ALARM: [u8; 42] = [
@@ -77,45 +79,61 @@ fn fault_of(octets: &[u8]) -> Option<AlarmFault> {
     }
 }
 
+/// Raises an alarm without data.
+fn raise(alarms: &mut DeviceAlarms) -> Result<(), RaiseFault> {
+    alarms.raise(&alarm_of(&[]))
+}
+
+/// Whether an alarm stands.
+fn stands(alarms: &DeviceAlarms) -> bool {
+    alarms.standing().is_some()
+}
+
+/// What becomes of a message that comes.
+fn hear(alarms: &mut DeviceAlarms, message: Message) -> PduFate {
+    alarms.hear(&message)
+}
+
+/// What is due as a unit of time ends.
+fn tick(alarms: &mut DeviceAlarms) -> Due {
+    alarms.tick()
+}
+
 #[test]
 fn first_alarm(rt: HostRuntime) {
     same(&rt, &sent(&alarmed()).as_slice(), &ALARM.as_slice());
 }
 
+/// Whether octets are the first alarm.
+fn is_first(octets: &[u8]) -> Option<bool> {
+    let pdu = read_pdu(octets).ok()?;
+    let alarm = read_notification(pdu.body).ok()?;
+    Some(
+        alarm.alarm_type == 2
+            && alarm.slot_number == 1
+            && alarm.module_ident_number == 0x10
+            && alarm.alarm_data.octets() == [0xAA, 0xBB].as_slice(),
+    )
+}
+
 #[test]
 fn alarm_is_read(rt: HostRuntime) {
-    let mut found = false;
-    if let Ok(pdu) = read_pdu(&ALARM) {
-        if let Ok(alarm) = read_notification(pdu.body) {
-            found = alarm.alarm_type == 2
-                && alarm.slot_number == 1
-                && alarm.module_ident_number == 0x10
-                && alarm.alarm_data.octets() == [0xAA, 0xBB].as_slice();
-        }
-    }
-    assert!(rt; found);
+    same(&rt, &is_first(&ALARM), &Some(true));
 }
 
 #[test]
 fn one_stands_at_a_time(rt: HostRuntime) {
     let mut alarms = alarmed();
-    let refused = alarms.raise(&alarm_of(&[])).err();
-    same(&rt, &refused, &Some(RaiseFault::Busy));
+    same(&rt, &raise(&mut alarms), &Err(RaiseFault::Busy));
     same(&rt, &RaiseFault::Busy.number(), &1);
-    same(
-        &rt,
-        &heard(&mut alarms, &ACK),
-        &Some(PduFate::Data(Taken::New)),
-    );
-    assert!(rt; alarms.standing().is_none());
+    let fate = heard(&mut alarms, &ACK);
+    same(&rt, &fate, &Some(PduFate::Data(Taken::New)));
+    assert!(rt; !stands(&alarms));
     // again it is acknowledged, and ends nothing
-    assert!(rt; alarms.raise(&alarm_of(&[])).is_ok());
-    same(
-        &rt,
-        &heard(&mut alarms, &ACK),
-        &Some(PduFate::Data(Taken::Again)),
-    );
-    assert!(rt; alarms.standing().is_some());
+    same(&rt, &raise(&mut alarms), &Ok(()));
+    let fate = heard(&mut alarms, &ACK);
+    same(&rt, &fate, &Some(PduFate::Data(Taken::Again)));
+    assert!(rt; stands(&alarms));
     // number 0 and AlarmSpecifier 1; the AlarmAck was number 0xFFFF
     let octets = sent(&alarms);
     same(&rt, &number_at(octets.as_slice(), 6), &0);
@@ -123,86 +141,107 @@ fn one_stands_at_a_time(rt: HostRuntime) {
     same(&rt, &number_at(octets.as_slice(), 36), &1);
 }
 
-#[test]
-fn sent_again_until_it_is_spent(rt: HostRuntime) {
+/// The units of time at whose end this is due.
+fn units_of(due: Due) -> ArrayVec<u32, 8> {
     let mut alarms = alarmed();
-    let mut again = ArrayVec::<u32, 8>::new();
-    let mut spent = ArrayVec::<u32, 8>::new();
+    let mut units = ArrayVec::new();
     for unit in 1..20_000_u32 {
-        match alarms.tick() {
-            Due::Nothing => {}
-            Due::Again => {
-                let _ = again.try_push(unit);
-            }
-            Due::Spent => {
-                let _ = spent.try_push(unit);
-            }
+        if tick(&mut alarms) == due {
+            let _ = units.try_push(unit);
         }
     }
+    units
+}
+
+#[test]
+fn sent_again_until_it_is_spent(rt: HostRuntime) {
+    let again = units_of(Due::Again);
     same(&rt, &again.as_slice(), &[3_200, 6_400, 9_600].as_slice());
-    same(&rt, &spent.as_slice(), &[12_800].as_slice());
+    same(&rt, &units_of(Due::Spent).as_slice(), &[12_800].as_slice());
+}
+
+/// Whether something is due within 20,000 units.
+fn is_due(alarms: &mut DeviceAlarms) -> bool {
+    let mut is_due = false;
+    for _ in 0..20_000_u32 {
+        is_due = is_due || tick(alarms) != Due::Nothing;
+    }
+    is_due
 }
 
 #[test]
 fn acknowledged(rt: HostRuntime) {
     let mut alarms = alarmed();
-    same(&rt, &alarms.hear(&Message::Nack), &PduFate::Ignored);
-    same(&rt, &alarms.hear(&Message::Ack(0)), &PduFate::Ignored);
-    same(&rt, &alarms.hear(&Message::Ack(0xFFFF)), &PduFate::Done);
-    let mut is_due = false;
-    for _ in 0..20_000_u32 {
-        is_due = is_due || alarms.tick() != Due::Nothing;
-    }
-    assert!(rt; !is_due);
-    same(&rt, &alarms.hear(&Message::Abort), &PduFate::Aborted);
+    same(&rt, &hear(&mut alarms, Message::Nack), &PduFate::Ignored);
+    same(&rt, &hear(&mut alarms, Message::Ack(0)), &PduFate::Ignored);
     same(
         &rt,
-        &DeviceAlarms::new(1, 3).hear(&Message::Ack(0xFFFF)),
+        &hear(&mut alarms, Message::Ack(0xFFFF)),
+        &PduFate::Done,
+    );
+    assert!(rt; !is_due(&mut alarms));
+    same(&rt, &hear(&mut alarms, Message::Abort), &PduFate::Aborted);
+    let mut idle = DeviceAlarms::new(1, 3);
+    same(
+        &rt,
+        &hear(&mut idle, Message::Ack(0xFFFF)),
         &PduFate::Ignored,
     );
 }
 
+/// What becomes of the number that an alarm has.
+fn take(receiver: &mut Receiver, number: u16) -> Taken {
+    receiver.take(number)
+}
+
+/// Numbers that come, and what becomes of each.
+const NUMBERS: [(u16, Taken); 9] = [
+    (0xFFFE, Taken::Refused),
+    (0, Taken::Refused),
+    (0xFFFF, Taken::New),
+    (0xFFFF, Taken::Again),
+    (1, Taken::Refused),
+    (0, Taken::New),
+    (0xFFFF, Taken::Refused),
+    (0, Taken::Again),
+    (1, Taken::New),
+];
+
 #[test]
 fn taken_in_order(rt: HostRuntime) {
     let mut receiver = Receiver::new();
-    for (number, taken) in [
-        (0xFFFE, Taken::Refused),
-        (0, Taken::Refused),
-        (0xFFFF, Taken::New),
-        (0xFFFF, Taken::Again),
-        (1, Taken::Refused),
-        (0, Taken::New),
-        (0xFFFF, Taken::Refused),
-        (0, Taken::Again),
-        (1, Taken::New),
-    ] {
-        assert_eq!(rt; receiver.take(number), taken, "number {number}");
+    for (number, taken) in NUMBERS {
+        let found = take(&mut receiver, number);
+        same(&rt, &(number, found), &(number, taken));
     }
+}
+
+/// Each has one octet of the AlarmAck's data changed: at which place, to what, and the fault.
+const CHANGED: [(usize, u8, Option<AlarmFault>); 12] = [
+    (4, 0x10, Some(AlarmFault::Type)),
+    (4, 0x15, Some(AlarmFault::Type)),
+    (4, 0x21, Some(AlarmFault::Type)),
+    (4, 0x12, None),
+    (4, 0x13, None),
+    (4, 0x14, None),
+    (5, 0x00, None),
+    (11, 0x17, Some(AlarmFault::Short)),
+    (11, 0x15, Some(AlarmFault::Block)),
+    (12, 0x00, Some(AlarmFault::Block)),
+    (15, 0x11, Some(AlarmFault::Block)),
+    (16, 0x02, Some(AlarmFault::Block)),
+];
+
+/// The fault of octets of which one is another.
+fn fault_with(octets: &[u8], place: usize, octet: u8) -> Option<AlarmFault> {
+    fault_of(with(octets, place, octet).as_slice())
 }
 
 #[test]
 fn faults_in_their_order(rt: HostRuntime) {
-    // Each has one octet of the AlarmAck's data changed: at which place, to what, and the fault.
-    for (place, octet, fault) in [
-        (4, 0x10, Some(AlarmFault::Type)),
-        (4, 0x15, Some(AlarmFault::Type)),
-        (4, 0x21, Some(AlarmFault::Type)),
-        (4, 0x12, None),
-        (4, 0x13, None),
-        (4, 0x14, None),
-        (5, 0x00, None),
-        (11, 0x17, Some(AlarmFault::Short)),
-        (11, 0x15, Some(AlarmFault::Block)),
-        (12, 0x00, Some(AlarmFault::Block)),
-        (15, 0x11, Some(AlarmFault::Block)),
-        (16, 0x02, Some(AlarmFault::Block)),
-    ] {
-        let mut bytes = ACK;
-        let slice: &mut [u8] = &mut bytes;
-        if place < slice.len() {
-            slice[place] = octet;
-        }
-        assert_eq!(rt; fault_of(&bytes), fault, "place {place}");
+    for (place, octet, fault) in CHANGED {
+        let found = fault_with(&ACK, place, octet);
+        same(&rt, &(place, octet, found), &(place, octet, fault));
     }
     same(&rt, &fault_of(&ALARM), &Some(AlarmFault::Block));
 }
@@ -213,6 +252,13 @@ fn each_length(rt: HostRuntime) {
         same(&rt, &fault_of(&ACK[..length]), &Some(AlarmFault::Short));
     }
     same(&rt, &fault_of(&ACK), &None);
+}
+
+/// The ERR of a relation that is ended for this reason.
+fn ended(reason: Abort) -> ArrayVec<u8, 16> {
+    let mut octets = ArrayVec::new();
+    write_pdu(&mut octets, &reason.pdu(2, 1, 0xFFFF, 0xFFFE));
+    octets
 }
 
 #[test]
@@ -226,17 +272,10 @@ fn relation_is_ended(rt: HostRuntime) {
             0x00, 0x02, 0x00, 0x01, 0x14, 0x01, 0xFF, 0xFF, 0xFF, 0xFE, 0x00, 0x04, 0xCF, 0x81,
             0xFD, code,
         ];
-        let mut written = ArrayVec::<u8, 16>::new();
-        write_pdu(&mut written, &reason.pdu(2, 1, 0xFFFF, 0xFFFE));
-        same(&rt, &written.as_slice(), &octets.as_slice());
+        same(&rt, &ended(reason).as_slice(), &octets.as_slice());
         same(&rt, &fault_of(&octets), &None);
         // with fewer than four octets behind the header
-        let mut short = octets;
-        let slice: &mut [u8] = &mut short;
-        if slice.len() > 11 {
-            slice[11] = 3;
-        }
-        same(&rt, &fault_of(&short), &Some(AlarmFault::Cause));
+        same(&rt, &fault_with(&octets, 11, 3), &Some(AlarmFault::Cause));
     }
 }
 
@@ -251,16 +290,29 @@ fn told(alarms: &[Kept]) -> ArrayVec<(u16, u8), 4> {
     list
 }
 
+/// An AlarmAck's block of the first alarm.
+const CONFIRMED: AlarmAck = AlarmAck {
+    alarm_type: 2,
+    api: 0,
+    slot_number: 1,
+    subslot_number: 1,
+    alarm_specifier: 0,
+    pnio_status: 0,
+};
+
+/// AlarmSpecifier and the first octet of data of each alarm that is raised, and of each that is taken, and how many times the
+/// device hears that one was confirmed.
+type Played = (ArrayVec<(u16, u8), 4>, ArrayVec<(u16, u8), 4>, usize);
+
+/// What is made of these moves.
+fn played(alloc: Global, moves: &[Move]) -> Option<Played> {
+    let exchange = Exchange::play(alloc, 1, 3, moves).ok()?;
+    let (raised, taken) = (told(exchange.raised()), told(exchange.taken()));
+    Some((raised, taken, exchange.heard().len()))
+}
+
 #[test]
 fn alarms_come_in_order_over_a_network_that_repeats_them(rt: HostRuntime) {
-    let ack = AlarmAck {
-        alarm_type: 2,
-        api: 0,
-        slot_number: 1,
-        subslot_number: 1,
-        alarm_specifier: 0,
-        pnio_status: 0,
-    };
     let moves = [
         Move::Raise(alarm_of(&[0xAA])),
         // refused: one stands
@@ -268,9 +320,9 @@ fn alarms_come_in_order_over_a_network_that_repeats_them(rt: HostRuntime) {
         Move::AlarmComes(0),
         Move::AlarmComes(0),
         Move::AckComesToDevice(1),
-        Move::Confirm(ack),
+        Move::Confirm(CONFIRMED),
         // refused: one alarm was taken
-        Move::Confirm(ack),
+        Move::Confirm(CONFIRMED),
         Move::ConfirmComes(0),
         Move::ConfirmComes(0),
         Move::Raise(alarm_of(&[0xBB])),
@@ -284,14 +336,9 @@ fn alarms_come_in_order_over_a_network_that_repeats_them(rt: HostRuntime) {
         // no such place
         Move::AlarmComes(2),
     ];
-    let mut raised = ArrayVec::new();
-    let mut taken = ArrayVec::new();
-    let mut heard = 0;
-    if let Ok(exchange) = Exchange::play(rt.alloc(), 1, 3, &moves) {
-        raised = told(exchange.raised());
-        taken = told(exchange.taken());
-        heard = exchange.heard().len();
-    }
+    let Some((raised, taken, heard)) = played(rt.alloc(), &moves) else {
+        panic!(rt; "memory");
+    };
     same(&rt, &raised.as_slice(), &[(0, 0xAA), (1, 0xBB)].as_slice());
     same(&rt, &taken.as_slice(), &[(0, 0xAA), (1, 0xBB)].as_slice());
     same(&rt, &heard, &1);

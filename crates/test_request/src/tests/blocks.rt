@@ -1,5 +1,7 @@
 // A Connect as a controller sends it, block by block.
 use arrayvec::ArrayVec;
+use connect_requests::ConnectRequest;
+use pnio_status::CallFault;
 
 /// The blocks of a call.
 pub(super) type Blocks = ArrayVec<u8, 1372>;
@@ -80,6 +82,13 @@ pub(super) fn all() -> Blocks {
         &EXPECTED_1,
         &EXPECTED_2,
     ])
+}
+
+/// What is read of a Connect with these blocks, or its first fault.
+pub(super) fn request_of(blocks: &[u8]) -> Result<ConnectRequest, CallFault> {
+    let mut request = ConnectRequest::new();
+    request.read(blocks)?;
+    Ok(request)
 }
 
 /// Octets with this one at a place.

@@ -1,4 +1,5 @@
 // The octets are those of a reference model that shares no line with this repository.
+use super::blocks::with;
 use super::same;
 use arrayvec::ArrayVec;
 use frame_codec::Frame;
@@ -93,8 +94,8 @@ fn frame_of(octets: &[u8; 4]) -> Frame {
 }
 
 /// The first octet of the kept frame, or 0 of a new call, or 1 of an old one.
-fn seen<const N: usize>(cache: &CallCache<N>, activity: &[u8; 16], sequence: u32) -> u8 {
-    match cache.look(&Uuid::from_bytes(*activity), sequence) {
+fn seen<const N: usize>(cache: &CallCache<N>, activity: u8, sequence: u32) -> u8 {
+    match cache.look(&Uuid::from_bytes([activity; 16]), sequence) {
         Looked::New => 0,
         Looked::Old => 1,
         Looked::Again(frame) => match frame.as_slice() {
@@ -144,41 +145,44 @@ fn reads_a_call_in_little_endian(rt: HostRuntime) {
     assert!(rt; is_read(&LITTLE, &header, 64));
 }
 
+/// Each has one octet of the call changed: at which place, to what, and the fault.
+const CHANGED: [(usize, u8, u8); 24] = [
+    (0, 5, 2),
+    (1, 2, 2),
+    (1, 1, 2),
+    (2, 0x24, 4),
+    (2, 0xFB, 0),
+    (3, 0xFF, 0),
+    (4, 0x20, 3),
+    (4, 0x0F, 0),
+    (4, 0x10, 1),
+    (7, 0xFF, 0),
+    (8, 0xFF, 0),
+    (27, 2, 5),
+    (59, 0xFF, 0),
+    (63, 0xFF, 0),
+    (70, 0, 0),
+    (74, 1, 1),
+    (75, 0x55, 1),
+    (75, 0x53, 0),
+    (75, 20, 0),
+    (75, 19, 1),
+    (76, 1, 4),
+    (77, 1, 4),
+    (78, 1, 2),
+    (79, 1, 0),
+];
+
+/// The fault of the call with another octet at a place.
+fn fault_with(place: usize, octet: u8) -> u8 {
+    call_fault(with(&CALL, place, octet).as_slice())
+}
+
 #[test]
 fn faults_in_their_order(rt: HostRuntime) {
-    // Each has one octet of the call changed: at which place, to what, and the fault.
-    for (place, octet, fault) in [
-        (0, 5, 2),
-        (1, 2, 2),
-        (1, 1, 2),
-        (2, 0x24, 4),
-        (2, 0xFB, 0),
-        (3, 0xFF, 0),
-        (4, 0x20, 3),
-        (4, 0x0F, 0),
-        (4, 0x10, 1),
-        (7, 0xFF, 0),
-        (8, 0xFF, 0),
-        (27, 2, 5),
-        (59, 0xFF, 0),
-        (63, 0xFF, 0),
-        (70, 0, 0),
-        (74, 1, 1),
-        (75, 0x55, 1),
-        (75, 0x53, 0),
-        (75, 20, 0),
-        (75, 19, 1),
-        (76, 1, 4),
-        (77, 1, 4),
-        (78, 1, 2),
-        (79, 1, 0),
-    ] {
-        let mut bytes = CALL;
-        let slice: &mut [u8] = &mut bytes;
-        if place < slice.len() {
-            slice[place] = octet;
-        }
-        assert_eq!(rt; call_fault(&bytes), fault, "place {place}");
+    for (place, octet, fault) in CHANGED {
+        let found = fault_with(place, octet);
+        same(&rt, &(place, octet, found), &(place, octet, fault));
     }
 }
 
@@ -190,58 +194,45 @@ fn each_length(rt: HostRuntime) {
     same(&rt, &call_fault(&CALL), &0);
 }
 
+/// Whether a call that can be read has blocks, and its ArgsMaximum.
+fn blocks_of(octets: &[u8]) -> Option<(bool, u32)> {
+    let call = read_call(Interface::Device, octets).ok()?;
+    Some((call.blocks.is_some(), call.args_maximum))
+}
+
+/// The same of the call whose ArgsLength and ActualCount are this number.
+fn counted(number: u8) -> Option<(bool, u32)> {
+    let octets = with(&CALL, 87, number);
+    blocks_of(with(octets.as_slice(), 99, number).as_slice())
+}
+
 #[test]
 fn blocks_are_counted_well(rt: HostRuntime) {
     // ArgsLength, Offset and ActualCount, each raised by one, and all of them at their greatest.
     for place in [87, 95, 99] {
-        let mut bytes = CALL;
-        let slice: &mut [u8] = &mut bytes;
-        if place < slice.len() {
-            slice[place] = 0x41;
-        }
-        assert!(rt;
-            matches!(
-                read_call(Interface::Device, &bytes),
-                Ok(Call {
-                    blocks: None,
-                    args_maximum: 1372,
-                    ..
-                })
-            )
-        );
+        let octets = with(&CALL, place, 0x41);
+        same(&rt, &blocks_of(octets.as_slice()), &Some((false, 1372)));
     }
-    let mut bytes = CALL;
-    bytes[87] = 0x41;
-    bytes[99] = 0x41;
-    assert!(rt;
-        matches!(
-            read_call(Interface::Device, &bytes),
-            Ok(Call { blocks: None, .. })
-        )
-    );
-    bytes[87] = 0x3F;
-    bytes[99] = 0x3F;
-    assert!(rt;
-        matches!(
-            read_call(Interface::Device, &bytes),
-            Ok(Call {
-                blocks: Some(_),
-                ..
-            })
-        )
-    );
+    same(&rt, &counted(0x41), &Some((false, 1372)));
+    same(&rt, &counted(0x3F), &Some((true, 1372)));
+}
+
+/// A call that was read, as it is written.
+fn written(octets: &[u8]) -> Option<Datagram> {
+    let call = read_call(Interface::Device, octets).ok()?;
+    if call.blocks?.len() > 1372 {
+        return None;
+    }
+    let mut datagram: Datagram = ArrayVec::new();
+    write_request(&call, &mut datagram);
+    Some(datagram)
 }
 
 #[test]
 fn writes_a_call(rt: HostRuntime) {
-    let mut datagram: Datagram = ArrayVec::new();
-    if let Ok(call) = read_call(Interface::Device, &CALL) {
-        if let Some(blocks) = call.blocks {
-            if blocks.len() <= 1372 {
-                write_request(&call, &mut datagram);
-            }
-        }
-    }
+    let Some(datagram) = written(&CALL) else {
+        panic!(rt; "not read");
+    };
     same(&rt, &datagram.as_slice(), &CALL.as_slice());
 }
 
@@ -254,16 +245,21 @@ fn writes_a_response(rt: HostRuntime) {
     same(&rt, &datagram.as_slice(), &ANSWER.as_slice());
 }
 
+/// The status of a response that can be read.
+fn status_of(octets: &[u8]) -> Option<Status> {
+    Some(read_response(octets).ok()?.status)
+}
+
 #[test]
 fn reads_a_response(rt: HostRuntime) {
-    assert!(rt; matches!(read_response(&ANSWER), Ok(response) if response.status == INVALID_INDEX));
+    same(&rt, &status_of(&ANSWER), &Some(INVALID_INDEX));
     same(&rt, &response_fault(&CALL), &2);
     same(&rt, &call_fault(&ANSWER), &2);
-    let mut bytes = ANSWER;
-    bytes[27] = 7;
-    assert_eq!(rt; response_fault(&bytes), 0, "to whatever interface");
-    bytes[99] = 1;
-    same(&rt, &response_fault(&bytes), &6);
+    // to whatever interface
+    let other = with(&ANSWER, 27, 7);
+    same(&rt, &response_fault(other.as_slice()), &0);
+    let longer = with(other.as_slice(), 99, 1);
+    same(&rt, &response_fault(longer.as_slice()), &6);
 }
 
 #[test]
@@ -276,7 +272,7 @@ fn a_status_turns_round(rt: HostRuntime) {
     bytes[81] = 0xB0;
     bytes[82] = 0x80;
     bytes[83] = 0xDE;
-    assert!(rt; matches!(read_response(&bytes), Ok(response) if response.status == INVALID_INDEX));
+    same(&rt, &status_of(&bytes), &Some(INVALID_INDEX));
 }
 
 #[test]
@@ -289,35 +285,45 @@ fn numbers_of_faults(rt: HostRuntime) {
     same(&rt, &RpcFault::Args.number(), &6);
 }
 
+/// Keeps a frame that begins with this octet as the answer to a call.
+fn keep<const N: usize>(cache: &mut CallCache<N>, activity: u8, sequence: u32, first: u8) {
+    let frame = frame_of(&[first, 0, 0, 0]);
+    cache.keep(&Uuid::from_bytes([activity; 16]), sequence, &frame);
+}
+
 #[test]
 fn answers_are_kept(rt: HostRuntime) {
     let mut cache: CallCache<2> = CallCache::new();
-    same(&rt, &seen(&cache, &[7; 16], 5), &0);
-    cache.keep(&Uuid::from_bytes([7; 16]), 5, &frame_of(&[70, 0, 0, 0]));
-    same(&rt, &seen(&cache, &[7; 16], 5), &70);
-    same(&rt, &seen(&cache, &[7; 16], 4), &1);
-    same(&rt, &seen(&cache, &[7; 16], 6), &0);
-    same(&rt, &seen(&cache, &[8; 16], 5), &0);
-    cache.keep(&Uuid::from_bytes([8; 16]), 1, &frame_of(&[80, 0, 0, 0]));
-    cache.keep(&Uuid::from_bytes([7; 16]), 9, &frame_of(&[79, 0, 0, 0]));
-    same(&rt, &seen(&cache, &[7; 16], 5), &1);
-    same(&rt, &seen(&cache, &[7; 16], 9), &79);
-    same(&rt, &seen(&cache, &[8; 16], 1), &80);
+    same(&rt, &seen(&cache, 7, 5), &0);
+    keep(&mut cache, 7, 5, 70);
+    same(&rt, &seen(&cache, 7, 5), &70);
+    same(&rt, &seen(&cache, 7, 4), &1);
+    same(&rt, &seen(&cache, 7, 6), &0);
+    same(&rt, &seen(&cache, 8, 5), &0);
+    keep(&mut cache, 8, 1, 80);
+    keep(&mut cache, 7, 9, 79);
+    same(&rt, &seen(&cache, 7, 5), &1);
+    same(&rt, &seen(&cache, 7, 9), &79);
+    same(&rt, &seen(&cache, 8, 1), &80);
 }
 
 #[test]
 fn the_oldest_is_replaced(rt: HostRuntime) {
     let mut cache: CallCache<2> = CallCache::new();
-    cache.keep(&Uuid::from_bytes([7; 16]), 5, &frame_of(&[70, 0, 0, 0]));
-    cache.keep(&Uuid::from_bytes([8; 16]), 1, &frame_of(&[80, 0, 0, 0]));
-    cache.keep(&Uuid::from_bytes([7; 16]), 6, &frame_of(&[71, 0, 0, 0]));
-    cache.keep(&Uuid::from_bytes([9; 16]), 0, &frame_of(&[90, 0, 0, 0]));
-    same(&rt, &seen(&cache, &[7; 16], 6), &71);
-    same(&rt, &seen(&cache, &[8; 16], 1), &0);
-    same(&rt, &seen(&cache, &[9; 16], 0), &90);
-    let mut single: CallCache<1> = CallCache::new();
-    single.keep(&Uuid::from_bytes([7; 16]), 5, &frame_of(&[70, 0, 0, 0]));
-    single.keep(&Uuid::from_bytes([8; 16]), 5, &frame_of(&[80, 0, 0, 0]));
-    same(&rt, &seen(&single, &[7; 16], 5), &0);
-    same(&rt, &seen(&single, &[8; 16], 5), &80);
+    keep(&mut cache, 7, 5, 70);
+    keep(&mut cache, 8, 1, 80);
+    keep(&mut cache, 7, 6, 71);
+    keep(&mut cache, 9, 0, 90);
+    same(&rt, &seen(&cache, 7, 6), &71);
+    same(&rt, &seen(&cache, 8, 1), &0);
+    same(&rt, &seen(&cache, 9, 0), &90);
+}
+
+#[test]
+fn a_place_for_one_answer(rt: HostRuntime) {
+    let mut cache: CallCache<1> = CallCache::new();
+    keep(&mut cache, 7, 5, 70);
+    keep(&mut cache, 8, 5, 80);
+    same(&rt, &seen(&cache, 7, 5), &0);
+    same(&rt, &seen(&cache, 8, 5), &80);
 }

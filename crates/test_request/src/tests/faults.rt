@@ -1,16 +1,16 @@
 // The first fault of a Connect, each once, and of two at a time the one that comes first.
 use super::blocks::{
-    ALARM, AR, Blocks, EXPECTED_0, EXPECTED_1, EXPECTED_2, INPUT, OUTPUT, all, joined, with,
+    ALARM, AR, Blocks, EXPECTED_0, EXPECTED_1, EXPECTED_2, INPUT, OUTPUT, all, joined, request_of,
+    with,
 };
 use super::same;
-use connect_requests::{ConnectRequest, refuse};
+use connect_requests::refuse;
 use pnio_status::CallFault;
 use uuid::Uuid;
 
 /// The first fault of these blocks, if there is one.
 fn fault(parts: &[&[u8]]) -> Option<CallFault> {
-    let mut request = ConnectRequest::new();
-    request.read(joined(parts).as_slice()).err()
+    request_of(joined(parts).as_slice()).err()
 }
 
 /// The first fault of the controller's blocks with this octet at a place.
@@ -173,35 +173,40 @@ fn layouts_that_are_none(rt: HostRuntime) {
     }
 }
 
+/// By what these blocks are refused while the relation of this ARUUID stands.
+fn refused(standing: &Uuid, blocks: &[u8]) -> CallFault {
+    refuse(standing, blocks)
+}
+
 #[test]
 fn a_relation_that_stands(rt: HostRuntime) {
-    let same = Uuid::from_bytes([
+    let standing = Uuid::from_bytes([
         0x11, 0x11, 0x11, 0x11, 0x22, 0x22, 0x33, 0x33, 0x44, 0x44, 0x55, 0x55, 0x55, 0x55, 0x55,
         0x55,
     ]);
     let other = Uuid::from_bytes([7; 16]);
     same(
         &rt,
-        &refuse(&same, all().as_slice()),
+        &refused(&standing, all().as_slice()),
         &CallFault::RelationExists,
     );
     same(
         &rt,
-        &refuse(&other, all().as_slice()),
+        &refused(&other, all().as_slice()),
         &CallFault::OtherRelationExists,
     );
     // before any fault of a later block, and behind those of its own
     same(
         &rt,
-        &refuse(&same, joined(&[&AR, &AR]).as_slice()),
+        &refused(&standing, joined(&[&AR, &AR]).as_slice()),
         &CallFault::RelationExists,
     );
     same(
         &rt,
-        &refuse(&same, with(&AR, 26, 3).as_slice()),
+        &refused(&standing, with(&AR, 26, 3).as_slice()),
         &CallFault::ArField(7),
     );
-    same(&rt, &refuse(&same, &INPUT), &CallFault::BlockType);
-    same(&rt, &refuse(&same, &[]), &CallFault::BlockMissing);
-    same(&rt, &refuse(&other, &AR[..2]), &CallFault::BlockHeader);
+    same(&rt, &refused(&standing, &INPUT), &CallFault::BlockType);
+    same(&rt, &refused(&standing, &[]), &CallFault::BlockMissing);
+    same(&rt, &refused(&other, &AR[..2]), &CallFault::BlockHeader);
 }

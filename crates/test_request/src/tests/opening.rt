@@ -1,5 +1,5 @@
 // What the numbers of a Connect that was read are for: each call that asks for a range takes them as they are.
-use super::blocks::all;
+use super::blocks::{all, request_of};
 use super::same;
 use connect_requests::ConnectRequest;
 use cyclic_data::{Consumer, Provider};
@@ -17,8 +17,9 @@ fn opened(request: &ConnectRequest) -> (Provider, Consumer, DeviceAlarms) {
 
 #[test]
 fn frames_are_due_and_wanted_by_the_numbers_of_a_connect(rt: HostRuntime) {
-    let mut request = ConnectRequest::new();
-    same(&rt, &request.read(all().as_slice()), &Ok(()));
+    let Ok(request) = request_of(all().as_slice()) else {
+        panic!(rt; "refused");
+    };
     let (mut provider, mut consumer, _alarms) = opened(&request);
     // an interval of 32 units, three of which the outputs may stay away
     for _unit in 1..32 {
@@ -31,10 +32,16 @@ fn frames_are_due_and_wanted_by_the_numbers_of_a_connect(rt: HostRuntime) {
     assert!(rt; consumer.expired());
 }
 
+/// What is due of an alarm as a unit ends.
+fn tick(alarms: &mut DeviceAlarms) -> Due {
+    alarms.tick()
+}
+
 #[test]
 fn alarms_are_repeated_by_the_numbers_of_a_connect(rt: HostRuntime) {
-    let mut request = ConnectRequest::new();
-    same(&rt, &request.read(all().as_slice()), &Ok(()));
+    let Ok(request) = request_of(all().as_slice()) else {
+        panic!(rt; "refused");
+    };
     let (_provider, _consumer, mut alarms) = opened(&request);
     let alarm = Alarm {
         slot_number: 1,
@@ -46,7 +53,7 @@ fn alarms_are_repeated_by_the_numbers_of_a_connect(rt: HostRuntime) {
     same(&rt, &alarms.raise(&alarm), &Ok(()));
     // an RTATimeoutFactor of 1 is 100 ms
     for _unit in 1..3200 {
-        same(&rt, &alarms.tick(), &Due::Nothing);
+        same(&rt, &tick(&mut alarms), &Due::Nothing);
     }
-    same(&rt, &alarms.tick(), &Due::Again);
+    same(&rt, &tick(&mut alarms), &Due::Again);
 }

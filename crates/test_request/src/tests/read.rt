@@ -1,10 +1,12 @@
 // What is read of a Connect.
 use super::blocks::{
-    ALARM, AR, EXPECTED_0, EXPECTED_1, EXPECTED_2, INPUT, OUTPUT, all, joined, with,
+    ALARM, AR, EXPECTED_0, EXPECTED_1, EXPECTED_2, INPUT, OUTPUT, all, joined, request_of, with,
 };
 use super::same;
+use arrayvec::ArrayVec;
 use connect_requests::{ConnectRequest, Iocr};
 use cyclic_data::{Place, PlaceKind};
+use pnio_status::CallFault;
 
 /// A place as its kind, slot, subslot, offset and size.
 fn place(kind: PlaceKind, slot: u16, subslot: u16, offset: u16, size: u16) -> Place {
@@ -31,8 +33,9 @@ fn numbers(iocr: &Iocr) -> [u16; 6] {
 
 #[test]
 fn the_relations_are_as_asked_for(rt: HostRuntime) {
-    let mut request = ConnectRequest::new();
-    same(&rt, &request.read(all().as_slice()), &Ok(()));
+    let Ok(request) = request_of(all().as_slice()) else {
+        panic!(rt; "refused");
+    };
     let ar = request.ar();
     same(&rt, &&ar.uuid.into_bytes()[..], &&AR[8..24]);
     same(&rt, &ar.session_key, &1);
@@ -61,8 +64,9 @@ fn the_relations_are_as_asked_for(rt: HostRuntime) {
 
 #[test]
 fn each_submodule_has_its_places(rt: HostRuntime) {
-    let mut request = ConnectRequest::new();
-    same(&rt, &request.read(all().as_slice()), &Ok(()));
+    let Ok(request) = request_of(all().as_slice()) else {
+        panic!(rt; "refused");
+    };
     let wanted = [
         place(PlaceKind::Data, 0, 1, 0, 1),
         place(PlaceKind::Data, 0, 0x8000, 1, 1),
@@ -83,6 +87,35 @@ fn each_submodule_has_its_places(rt: HostRuntime) {
     same(&rt, &request.output().layout.places(), &&wanted[..]);
 }
 
+/// Slot, ident number and number of submodules of each module that is expected.
+fn modules_of(request: &ConnectRequest) -> ArrayVec<(u16, u32, u16), 64> {
+    let mut list = ArrayVec::new();
+    for module in request.expected().modules.as_slice() {
+        let _ = list.try_push((
+            module.slot_number,
+            module.module_ident_number,
+            module.number_of_submodules,
+        ));
+    }
+    list
+}
+
+/// Subslot and ident number of each submodule that is expected.
+fn submodules_of(request: &ConnectRequest) -> ArrayVec<(u16, u32), 64> {
+    let mut list = ArrayVec::new();
+    for submodule in request.expected().submodules.as_slice() {
+        let _ = list.try_push((submodule.subslot_number, submodule.submodule_ident_number));
+    }
+    list
+}
+
+/// What is read of a second Connect with these blocks, over what the controller's left.
+fn read_again(blocks: &[u8]) -> Result<ConnectRequest, CallFault> {
+    let mut request = request_of(all().as_slice())?;
+    request.read(blocks)?;
+    Ok(request)
+}
+
 #[test]
 fn all_that_is_expected_stands_in_the_order_of_the_blocks(rt: HostRuntime) {
     // the blocks in another order, and read over what another Connect left
@@ -95,31 +128,33 @@ fn all_that_is_expected_stands_in_the_order_of_the_blocks(rt: HostRuntime) {
         &INPUT,
         &EXPECTED_1,
     ]);
-    let mut request = ConnectRequest::new();
-    same(&rt, &request.read(all().as_slice()), &Ok(()));
-    same(&rt, &request.read(blocks.as_slice()), &Ok(()));
+    let Ok(request) = read_again(blocks.as_slice()) else {
+        panic!(rt; "refused");
+    };
     assert!(rt; !request.input_first());
-    let modules = request.expected().modules.as_slice();
-    let wanted = [(2, 32, 1), (0, 1, 3), (1, 16, 1)];
-    same(&rt, &modules.len(), &3);
-    for (module, wanted) in modules.iter().zip(wanted) {
-        let found = (
-            module.slot_number,
-            module.module_ident_number,
-            module.number_of_submodules,
-        );
-        same(&rt, &found, &wanted);
-    }
-    let submodules = request.expected().submodules.as_slice();
-    let wanted = [(1, 32), (1, 1), (0x8000, 2), (0x8001, 3), (1, 16)];
-    same(&rt, &submodules.len(), &5);
-    for (submodule, wanted) in submodules.iter().zip(wanted) {
-        same(
-            &rt,
-            &(submodule.subslot_number, submodule.submodule_ident_number),
-            &wanted,
-        );
-    }
+    let modules = [(2, 32, 1), (0, 1, 3), (1, 16, 1)];
+    same(&rt, &modules_of(&request).as_slice(), &modules.as_slice());
+    let submodules = [(1, 32), (1, 1), (0x8000, 2), (0x8001, 3), (1, 16)];
+    same(
+        &rt,
+        &submodules_of(&request).as_slice(),
+        &submodules.as_slice(),
+    );
+}
+
+/// FrameIDs of the input and the output of a Connect with this IOCRBlockReq of outputs.
+fn frame_ids(output: &[u8]) -> Result<(u16, u16), CallFault> {
+    let blocks = joined(&[
+        &AR,
+        &INPUT,
+        output,
+        &ALARM,
+        &EXPECTED_0,
+        &EXPECTED_1,
+        &EXPECTED_2,
+    ]);
+    let request = request_of(blocks.as_slice())?;
+    Ok((request.input().frame_id, request.output().frame_id))
 }
 
 #[test]
@@ -127,23 +162,7 @@ fn the_frame_id_of_an_output_is_given(rt: HostRuntime) {
     // IOCRProperties ends with the octet 15 of the block, and FrameID is 18 and 19
     let class_2 = with(&OUTPUT, 15, 2);
     let kept = with(with(&OUTPUT, 18, 0xC1).as_slice(), 19, 0x02);
-    for (output, wanted) in [
-        (joined(&[&OUTPUT]), 0xC000),
-        (class_2, 0x8000),
-        (kept, 0xC102),
-    ] {
-        let blocks = joined(&[
-            &AR,
-            &INPUT,
-            output.as_slice(),
-            &ALARM,
-            &EXPECTED_0,
-            &EXPECTED_1,
-            &EXPECTED_2,
-        ]);
-        let mut request = ConnectRequest::new();
-        same(&rt, &request.read(blocks.as_slice()), &Ok(()));
-        same(&rt, &request.output().frame_id, &wanted);
-        same(&rt, &request.input().frame_id, &0xC001);
-    }
+    same(&rt, &frame_ids(&OUTPUT), &Ok((0xC001, 0xC000)));
+    same(&rt, &frame_ids(class_2.as_slice()), &Ok((0xC001, 0x8000)));
+    same(&rt, &frame_ids(kept.as_slice()), &Ok((0xC001, 0xC102)));
 }
