@@ -1,8 +1,10 @@
-//! Both ends of a network: what holds of the worlds that moves make. Laws, and no code.
+//! Both ends of a network: what holds of the worlds that moves make, and how such a world begins.
 #![tactic(auto)]
 
+mod meeting;
 mod start_up;
 mod texts;
 
+pub use meeting::{begin_world, can_meet};
 pub use start_up::worlds_start_up;
 pub use texts::plans_have_parameters;
