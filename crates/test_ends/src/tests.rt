@@ -1,6 +1,7 @@
 // Scripts in which both ends meet. Here is what the tests share; they stand in the modules below by what they are about.
 use script_runner::{RunFault, run};
 use std::alloc::{AllocError, Global};
+use std::fmt::Debug;
 use std::process::Abort;
 use std::test::Fail;
 
@@ -44,6 +45,20 @@ const TEXTS: &str =
         02020202020202020\nim4 00000000000000000000000000000000000000000000000000000000000000000000000000000000000000000000000000000000000\
         0\n";
 
+/// Two values are the same.
+fn same<T: PartialEq + Debug>(rt: &impl Abort, left: &T, right: &T) {
+    assert_eq!(rt; *left, *right);
+}
+
+/// These texts, one behind the other.
+fn joined(alloc: Global, parts: &[&str]) -> Result<String, AllocError> {
+    let mut text = String::new(alloc);
+    for part in parts {
+        text.push_str(part)?;
+    }
+    Ok(text)
+}
+
 fn output(alloc: Global, script: &[u8]) -> (Result<(), RunFault>, Vec<u8>) {
     let mut reader = script;
     let mut writer = Vec::new(alloc);
@@ -61,15 +76,24 @@ fn prints(rt: &impl Abort, alloc: Global, script: &str, wanted: &str) -> Result<
 
 /// A start-up to the exchange of data, and these lines behind it.
 fn started_up(alloc: Global, lines: &str) -> Result<String, AllocError> {
-    format!(in alloc;
-        "{SET_PUMP_1}\nconfig {PUMP}\n{START}\ndeliver\ndeliver\ndeliver\ndeliver\ndeliver\n{lines}"
+    joined(
+        alloc,
+        &[
+            SET_PUMP_1,
+            "\nconfig ",
+            PUMP,
+            "\n",
+            START,
+            "\ndeliver\ndeliver\ndeliver\ndeliver\ndeliver\n",
+            lines,
+        ],
     )
 }
 
 /// Behind a start-up these lines print this text.
 fn prints_behind(rt: &impl Abort, alloc: Global, lines: &str, wanted: &str) -> Result<(), Fail> {
     let script = started_up(alloc, lines)?;
-    let text = format!(in alloc; "boot ok\n{SET_DONE}{STARTED_UP}{wanted}")?;
+    let text = joined(alloc, &["boot ok\n", SET_DONE, STARTED_UP, wanted])?;
     prints(rt, alloc, script.as_str(), text.as_str())
 }
 
@@ -83,8 +107,25 @@ fn shown(
     phase: &str,
     state: &str,
 ) -> Result<String, AllocError> {
-    format!(in alloc;
-        "name {name}\nip {suite}\nstored-name {name}\nstored-ip 0.0.0.0 0.0.0.0 0.0.0.0\nim1 {im1}\n{TEXTS}phase {phase}\nlamp 0\noutput 2 \
-            1 0000\nstate {state}\n"
+    joined(
+        alloc,
+        &[
+            "name ",
+            name,
+            "\nip ",
+            suite,
+            "\nstored-name ",
+            name,
+            "\nstored-ip 0.0.0.0 0.0.0.0 0.0.0.0\nim1 ",
+            im1,
+            "\n",
+            TEXTS,
+            "phase ",
+            phase,
+            "\nlamp 0\noutput 2 \
+            1 0000\nstate ",
+            state,
+            "\n",
+        ],
     )
 }

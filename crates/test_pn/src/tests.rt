@@ -1,6 +1,7 @@
 // Scripts and what they print. Here is what the tests share; they stand in the modules below by what they are about.
 use script_runner::{RunFault, run};
 use std::alloc::{AllocError, Global};
+use std::fmt::Debug;
 use std::process::Abort;
 use std::test::Fail;
 
@@ -48,6 +49,20 @@ const SET_REFUSED: &str =
 /// The settings that are shown of a device with this name and no address, whose lamp is off.
 const TEXTS: &str =
     "im1 202020202020202020202020202020202020202020202020202020202020202020202020202020202020202020202020202020202020\nim2 20202020202020202020202020202020\nim3 202020202020202020202020202020202020202020202020202020202020202020202020202020202020202020202020202020202020\nim4 000000000000000000000000000000000000000000000000000000000000000000000000000000000000000000000000000000000000\nphase none\nlamp";
+
+/// Two values are the same.
+fn same<T: PartialEq + Debug>(rt: &impl Abort, left: &T, right: &T) {
+    assert_eq!(rt; *left, *right);
+}
+
+/// These texts, one behind the other.
+fn joined(alloc: Global, parts: &[&str]) -> Result<String, AllocError> {
+    let mut text = String::new(alloc);
+    for part in parts {
+        text.push_str(part)?;
+    }
+    Ok(text)
+}
 
 fn output(alloc: Global, script: &[u8]) -> (Result<(), RunFault>, Vec<u8>) {
     let mut reader = script;

@@ -9,5 +9,5 @@ pub use calls::{
 };
 pub use stations::{
     DONE, IDENTIFY, PUMP_1, SET, Station, UNNAMED, addressed, frame, is_filled, is_padded,
-    no_modules, octets, plugged, restart, set_address, set_pump, start, station, write_last,
+    no_modules, octets, plugged, restart, set_address, set_pump, start, station, step, write_last,
 };

@@ -1,7 +1,7 @@
 //! The station, over the smallest flash, and frames that were worked out by hand.
 use arrayvec::ArrayVec;
 use demo_station::identity;
-use device_core::{Device, Event};
+use device_core::{Device, Event, Note};
 use flash_model::{Flash, FlashFault, MemoryFlash, Sector};
 use frame_codec::{Bytes, Frame, Outbox};
 use pn_values::{Real, RealModule, RealSubmodule};
@@ -156,4 +156,9 @@ pub fn write_last(
     flash.program(Sector::First, 511, &[0])?;
     flash.program(Sector::First, 512, &[8, 0])?;
     flash.program(Sector::First, 767, &[0])
+}
+
+/// What a station makes of an event. It has no contract, so that what a step promises is read here, and not again in each test.
+pub fn step(device: &mut Station, event: &Event, outbox: &mut Outbox) -> Note {
+    device.step(event, outbox)
 }

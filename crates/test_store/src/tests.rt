@@ -1,4 +1,11 @@
-// A module for each crate, by what it is about.
+// A module for each crate, by what it is about. Here is what they share: a test hands over to a function what it does often, as
+// what the journal promises of each call is then read there once.
+use flash_model::{Lent, MemoryFlash, Order, Sector};
+use pn_values::Command;
+use settings_journal::{BootFault, CommitFault, Journal};
+use std::process::Abort;
+use std::test::Fail;
+
 mod faults;
 mod flash;
 mod journal;
@@ -6,3 +13,76 @@ mod names;
 mod sectors;
 mod store;
 mod values;
+
+/// A journal over a flash that stays where it is.
+type Stored<'a, const S: usize> = Journal<Lent<'a, MemoryFlash<S>>, S>;
+
+/// The journal that a flash keeps.
+#[inline(never)]
+fn start<const S: usize>(flash: &mut MemoryFlash<S>) -> Result<Stored<'_, S>, BootFault> {
+    match Journal::boot(Lent::new(flash)) {
+        Ok(journal) => Ok(journal),
+        Err((fault, _)) => Err(fault),
+    }
+}
+
+/// A name, permanent.
+fn set(name: &[u8]) -> Result<Command, Fail> {
+    Ok(Command::SetName {
+        permanent: true,
+        name: station_names::check(name)?,
+    })
+}
+
+/// What a commit of this name is answered.
+#[inline(never)]
+fn commit<const S: usize>(
+    journal: &mut Stored<'_, S>,
+    name: &[u8],
+) -> Result<Result<(), CommitFault>, Fail> {
+    Ok(journal.commit(&set(name)?))
+}
+
+/// Stores this name.
+fn keep<const S: usize>(journal: &mut Stored<'_, S>, name: &[u8]) -> Result<(), Fail> {
+    commit(journal, name)??;
+    Ok(())
+}
+
+/// Whether a commit of this name is stopped by a loss of power in the flash call behind `after` further ones.
+fn is_cut<const S: usize>(
+    journal: &mut Stored<'_, S>,
+    (after, mask): (u32, [u8; 8]),
+    name: &[u8],
+) -> Result<bool, Fail> {
+    journal.arm(Order::Cut { after, mask });
+    Ok(matches!(commit(journal, name)?, Err(CommitFault::FlashFault)))
+}
+
+/// This name is stored.
+fn is_named<const S: usize>(rt: &impl Abort, journal: &Stored<'_, S>, name: &[u8]) {
+    assert_eq!(rt; journal.settings().name.as_bytes(), name);
+}
+
+/// A start on this flash finds this name.
+fn is_left<const S: usize>(
+    rt: &impl Abort,
+    flash: &mut MemoryFlash<S>,
+    name: &[u8],
+) -> Result<(), Fail> {
+    let journal = start(flash)?;
+    is_named(rt, &journal, name);
+    Ok(())
+}
+
+/// These octets lie at a place of a sector.
+fn lie<const S: usize>(
+    rt: &impl Abort,
+    flash: &MemoryFlash<S>,
+    (sector, place): (Sector, usize),
+    octets: &[u8],
+) {
+    let rest = flash.sector(sector).get(place..).unwrap_or(&[]);
+    let there = rest.get(..octets.len());
+    assert_eq!(rt; there, Some(octets), "at {place}");
+}

@@ -6,10 +6,11 @@ use demo_station::identity;
 use device_core::Device;
 use flash_model::{MemoryFlash, Order};
 use frame_codec::Outbox;
-use network_world::World;
+use network_world::{Move, World};
+use plans::Plan;
 use pn_values::{ParameterRecord, Real, RealModule, RealSubmodule};
-use std::alloc::Global;
-use test_stations::{Station, set_pump};
+use std::alloc::{AllocError, Global};
+use test_stations::{Station, set_pump, step};
 use uuid::Uuid;
 
 /// The world: over the smallest flash.
@@ -58,20 +59,35 @@ fn copied(real: &Real) -> Real {
     Real { modules }
 }
 
-/// The station "pump-1" with the modules of a catalogue, and a controller of its plan that was just made. If it is asked for, the flash
-/// call behind so many further ones fails. None where the catalogue has no plan, or there is no memory to read it.
-pub fn fresh_world(alloc: Global, catalogue: &str, fault: Option<u32>) -> Option<Fresh> {
-    let plan = plan_from_json(alloc, catalogue.as_bytes()).ok()?;
-    let real = copied(plan.real());
-    let records = plan.records().len();
+/// The plan of a catalogue. Like the two functions behind it it has no contract, so that what such a call promises is read here alone.
+fn plan_of(alloc: Global, catalogue: &str) -> Option<Plan> {
+    plan_from_json(alloc, catalogue.as_bytes()).ok()
+}
+
+/// The station "pump-1" with these modules. If it is asked for, the flash call behind so many further ones fails.
+fn named(real: Real, fault: Option<u32>) -> Option<Station> {
     let mut device: Station = Device::boot(identity(), real, MemoryFlash::blank()).ok()?;
-    let _ = device.step(&set_pump(b'1'), &mut Outbox::new());
+    let _ = step(&mut device, &set_pump(b'1'), &mut Outbox::new());
     if let Some(after) = fault {
         device.arm(Order::Fault {
             after,
             mask: [0x55; 8],
         });
     }
+    Some(device)
+}
+
+/// Plays moves in a world.
+pub(crate) fn play(net: &mut Net, moves: &[Move]) -> Result<(), AllocError> {
+    net.play(moves)
+}
+
+/// The station "pump-1" with the modules of a catalogue, and a controller of its plan that was just made. If it is asked for, the flash
+/// call behind so many further ones fails. None where the catalogue has no plan, or there is no memory to read it.
+pub fn fresh_world(alloc: Global, catalogue: &str, fault: Option<u32>) -> Option<Fresh> {
+    let plan = plan_of(alloc, catalogue)?;
+    let records = plan.records().len();
+    let device = named(copied(plan.real()), fault)?;
     let controller = Controller::new(plan, Uuid::from_bytes([1; 16]), Uuid::from_bytes([2; 16]));
     Some(Fresh {
         net: World::new(alloc, device, controller),

@@ -1,5 +1,6 @@
 // PROFINET blocks, by the tables of IEC 61158-6-10, 5.2. The program table_block compares what each kind is with results of
 // a reference model; here is what its lines do not show.
+use super::same;
 use arrayvec::ArrayVec;
 use block_codec::{
     AlarmData, AlarmNotification, Block, BlockFault, BlockReader, BlockType, block_len, read_block,
@@ -117,26 +118,26 @@ fn three() -> ArrayVec<u8, 64> {
 fn blocks_are_read_one_behind_the_other(rt: HostRuntime) {
     let bytes = three();
     let mut reader = BlockReader::new(bytes.as_slice());
-    assert_eq!(rt; next_of(&mut reader), Some(Ok(BlockType::Im2)));
-    assert_eq!(rt; reader.rest().len(), 36);
-    assert_eq!(rt; next_of(&mut reader), Some(Ok(BlockType::PrmEnd)));
-    assert_eq!(rt; reader.rest().len(), 4);
+    same(&rt, &next_of(&mut reader), &Some(Ok(BlockType::Im2)));
+    same(&rt, &reader.rest().len(), &36);
+    same(&rt, &next_of(&mut reader), &Some(Ok(BlockType::PrmEnd)));
+    same(&rt, &reader.rest().len(), &4);
 }
 
 #[test]
 fn a_reader_stays_at_a_fault(rt: HostRuntime) {
     let mut reader = BlockReader::new(&[0xff, 0xff, 0, 0, 1, 2, 3]);
-    assert_eq!(rt; next_of(&mut reader), Some(Err(BlockFault::Kind)));
-    assert_eq!(rt; reader.rest().len(), 7);
-    assert_eq!(rt; next_of(&mut reader), None);
-    assert_eq!(rt; reader.rest().len(), 7);
+    same(&rt, &next_of(&mut reader), &Some(Err(BlockFault::Kind)));
+    same(&rt, &reader.rest().len(), &7);
+    same(&rt, &next_of(&mut reader), &None);
+    same(&rt, &reader.rest().len(), &7);
 }
 
 #[test]
 fn a_reader_ends_where_the_octets_do(rt: HostRuntime) {
     let mut reader = BlockReader::new(&PRM_END);
-    assert_eq!(rt; next_of(&mut reader), Some(Ok(BlockType::PrmEnd)));
-    assert_eq!(rt; next_of(&mut reader), None);
+    same(&rt, &next_of(&mut reader), &Some(Ok(BlockType::PrmEnd)));
+    same(&rt, &next_of(&mut reader), &None);
 }
 
 /// A process alarm with this data.
@@ -160,14 +161,14 @@ fn an_alarm_is_written(rt: HostRuntime) {
     if block_len(&block) <= 32 {
         write_block(&mut out, &block);
     }
-    assert_eq!(rt; out.as_slice(), ALARM_NOTIFICATION.as_slice());
+    same(&rt, &out.as_slice(), &ALARM_NOTIFICATION.as_slice());
 }
 
 #[test]
 fn an_alarm_has_at_most_65511_octets_of_data(rt: HostRuntime) {
     let octets = [0xa5; 65511];
     let block = Block::AlarmNotification(alarm(AlarmData::new(&octets)));
-    assert_eq!(rt; block_len(&block), 65539);
+    same(&rt, &block_len(&block), &65539);
 }
 
 /// A PrmEnd whose BlockLength, of all its octets or of few, is this, with these octets behind it.
@@ -180,10 +181,10 @@ fn cut(length: u8, body: &[u8]) -> Option<BlockFault> {
 
 #[test]
 fn a_version_is_judged_before_what_is_missing_behind_it(rt: HostRuntime) {
-    assert_eq!(rt; cut(1, &[2]), Some(BlockFault::Version(2)));
-    assert_eq!(rt; cut(1, &[1]), Some(BlockFault::Length));
-    assert_eq!(rt; cut(2, &[1, 7]), Some(BlockFault::Version(3)));
-    assert_eq!(rt; cut(2, &[1]), Some(BlockFault::Truncated));
+    same(&rt, &cut(1, &[2]), &Some(BlockFault::Version(2)));
+    same(&rt, &cut(1, &[1]), &Some(BlockFault::Length));
+    same(&rt, &cut(2, &[1, 7]), &Some(BlockFault::Version(3)));
+    same(&rt, &cut(2, &[1]), &Some(BlockFault::Truncated));
 }
 
 /// Why octets are no block.
@@ -302,9 +303,10 @@ fn fields_that_are_no_ranges(rt: HostRuntime) {
         (&EXPECTED, 62, 0x0100, 16),
     ];
     for (bytes, place, number, field) in cases {
-        assert_eq!(rt;
-            with_number(bytes, place, number),
-            Some(BlockFault::Field(field))
+        same(
+            &rt,
+            &with_number(bytes, place, number),
+            &Some(BlockFault::Field(field)),
         );
     }
 }
@@ -328,9 +330,9 @@ const REPEATED: [u8; 50] = [
 
 #[test]
 fn no_uuid_of_zeros_and_no_subslot_twice(rt: HostRuntime) {
-    assert_eq!(rt; fault_of(&without_uuid()), Some(BlockFault::Field(5)));
-    assert_eq!(rt; fault_of(&REPEATED), Some(BlockFault::Field(10)));
-    assert_eq!(rt; with_number(&REPEATED, 36, 2), None);
+    same(&rt, &fault_of(&without_uuid()), &Some(BlockFault::Field(5)));
+    same(&rt, &fault_of(&REPEATED), &Some(BlockFault::Field(10)));
+    same(&rt, &with_number(&REPEATED, 36, 2), &None);
 }
 
 /// An input IOCRBlockReq with so many data objects and no IOCS.
@@ -351,6 +353,10 @@ fn input_of(objects: u16) -> ArrayVec<u8, 2048> {
 
 #[test]
 fn a_257th_data_object_is_one_too_many(rt: HostRuntime) {
-    assert_eq!(rt; fault_of(input_of(256).as_slice()), None);
-    assert_eq!(rt; fault_of(input_of(257).as_slice()), Some(BlockFault::Count));
+    same(&rt, &fault_of(input_of(256).as_slice()), &None);
+    same(
+        &rt,
+        &fault_of(input_of(257).as_slice()),
+        &Some(BlockFault::Count),
+    );
 }

@@ -1,5 +1,6 @@
 // Which modules are not as a Connect expects them, octet by octet.
 use super::records::module;
+use super::same;
 use arrayvec::ArrayVec;
 use block_codec::{
     Block, ExpectedModule, ExpectedSubmodule, SubmoduleData, block_len, write_block,
@@ -67,7 +68,7 @@ fn lists_a_wrong_module_and_an_empty_slot(rt: HostRuntime) {
         (2, 33, &[(1, 33)]),
         (3, 48, &[(1, 48)]),
     ]);
-    assert_eq!(rt; block.as_slice(), DIFFERENT.as_slice());
+    same(&rt, &block.as_slice(), &DIFFERENT.as_slice());
 }
 
 #[test]
@@ -89,7 +90,7 @@ fn lists_of_a_proper_module_what_differs(rt: HostRuntime) {
         (0, 1, &[(1, 1), (0x8000, 7), (0x8001, 3), (2, 9)]),
         (1, 16, &[(1, 16)]),
     ]);
-    assert_eq!(rt; block.as_slice(), PROPER.as_slice());
+    same(&rt, &block.as_slice(), &PROPER.as_slice());
 }
 
 /// A wrong module with all that is expected of it: a submodule that has the expected ident number, and one that is not there.
@@ -102,5 +103,5 @@ const WRONG: [u8; 40] = [
 #[test]
 fn lists_all_of_a_wrong_module(rt: HostRuntime) {
     let block = block_of(&[(1, 17, &[(1, 16), (2, 16)])]);
-    assert_eq!(rt; block.as_slice(), WRONG.as_slice());
+    same(&rt, &block.as_slice(), &WRONG.as_slice());
 }

@@ -1,4 +1,5 @@
 // Lists of blocks, where they lie: in the octets that were read, or in lists that are lent to be written.
+use super::same;
 use arrayvec::ArrayVec;
 use block_codec::{
     Block, ExpectedModule, ExpectedModules, ExpectedSubmodule, ExpectedSubmoduleBlockReq, IoObject,
@@ -46,9 +47,9 @@ fn data_object(octets: &[u8], index: usize) -> Option<[u16; 3]> {
 
 #[test]
 fn places_are_given_by_their_numbers(rt: HostRuntime) {
-    assert_eq!(rt; data_object(&IOCR, 0), Some([0, 0x8000, 1]));
-    assert_eq!(rt; data_object(&IOCR, 1), Some([1, 1, 3]));
-    assert_eq!(rt; data_object(&IOCR, 2), None);
+    same(&rt, &data_object(&IOCR, 0), &Some([0, 0x8000, 1]));
+    same(&rt, &data_object(&IOCR, 1), &Some([1, 1, 3]));
+    same(&rt, &data_object(&IOCR, 2), &None);
 }
 
 /// The block of IOCR, of lists that are lent.
@@ -90,7 +91,7 @@ fn places_that_are_lent_are_written(rt: HostRuntime) {
     let mut statuses = ArrayVec::new();
     statuses.push(place(2, 1, 6));
     let block = input(IoObjects::lent(&data), IoObjects::lent(&statuses));
-    assert_eq!(rt; written(&block).as_slice(), IOCR.as_slice());
+    same(&rt, &written(&block).as_slice(), &IOCR.as_slice());
 }
 
 #[test]
@@ -102,8 +103,8 @@ fn modules_that_were_read_are_copied(rt: HostRuntime) {
     }
     let module = modules.as_slice().first().map(|it| it.slot_number);
     let input = submodules.as_slice().first().map(|it| it.io_data.input);
-    assert_eq!(rt; (modules.len(), module), (1, Some(1)));
-    assert_eq!(rt; (submodules.len(), input), (1, Some(Some(2))));
+    same(&rt, &(modules.len(), module), &(1, Some(1)));
+    same(&rt, &(submodules.len(), input), &(1, Some(Some(2))));
 }
 
 #[test]
@@ -131,5 +132,5 @@ fn modules_that_are_lent_are_written(rt: HostRuntime) {
     let mut wanted = EXPECTED;
     wanted[29] = 0x01;
     wanted[30] = 0x00;
-    assert_eq!(rt; written(&block).as_slice(), wanted.as_slice());
+    same(&rt, &written(&block).as_slice(), &wanted.as_slice());
 }

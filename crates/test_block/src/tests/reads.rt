@@ -1,5 +1,6 @@
 // Records that are read by a Read Implicit, octet by octet.
 use super::records::{module, settings};
+use super::same;
 use arrayvec::ArrayVec;
 use demo_station::identity;
 use pn_values::{ParameterRecord, Real, RealSubmodule};
@@ -109,9 +110,10 @@ fn answers_with_the_whole_record(rt: HostRuntime) {
     let Ok(answer) = answered(&GOOD.octets()) else {
         panic!(rt; "refused");
     };
-    assert_eq!(rt;
-        answer.as_slice().split_at_checked(64),
-        Some((HEADER.as_slice(), IM0.as_slice()))
+    same(
+        &rt,
+        &answer.as_slice().split_at_checked(64),
+        &Some((HEADER.as_slice(), IM0.as_slice())),
     );
 }
 
@@ -130,8 +132,8 @@ fn answers_with_as_much_as_is_asked_for(rt: HostRuntime) {
         let Some((record_data_length, record)) = sent(&answer) else {
             panic!(rt; "no header");
         };
-        assert_eq!(rt; record_data_length, [0, 0, 0, told].as_slice());
-        assert_eq!(rt; Some(record), IM0.get(..told as usize));
+        same(&rt, &record_data_length, &[0, 0, 0, told].as_slice());
+        same(&rt, &Some(record), &IM0.get(..told as usize));
     }
 }
 
@@ -181,7 +183,7 @@ fn tells_the_first_of_two_faults(rt: HostRuntime) {
     for (place, (first, status)) in ORDER.iter().enumerate() {
         for (second, _) in &ORDER[place..] {
             let octets = first.put(second.put(GOOD)).octets();
-            assert_eq!(rt; refused(&octets), Some(*status));
+            same(&rt, &refused(&octets), &Some(*status));
         }
     }
 }
@@ -194,14 +196,30 @@ fn judges_what_is_there_of_a_block_first(rt: HostRuntime) {
         ..GOOD
     }
     .octets();
-    assert_eq!(rt; refused(&[]), Some([0xDE, 0x81, 0x40, 0x01]));
+    same(&rt, &refused(&[]), &Some([0xDE, 0x81, 0x40, 0x01]));
     for length in 1..4 {
-        assert_eq!(rt; refused(&good[..length]), Some([0xDE, 0x81, 0x40, 0x00]));
-        assert_eq!(rt; refused(&other[..length]), Some([0xDE, 0x81, 0x40, 0x00]));
+        same(
+            &rt,
+            &refused(&good[..length]),
+            &Some([0xDE, 0x81, 0x40, 0x00]),
+        );
+        same(
+            &rt,
+            &refused(&other[..length]),
+            &Some([0xDE, 0x81, 0x40, 0x00]),
+        );
     }
     for length in 4..64 {
-        assert_eq!(rt; refused(&good[..length]), Some([0xDE, 0x81, 0x40, 0x00]));
-        assert_eq!(rt; refused(&other[..length]), Some([0xDE, 0x81, 0x40, 0x01]));
+        same(
+            &rt,
+            &refused(&good[..length]),
+            &Some([0xDE, 0x81, 0x40, 0x00]),
+        );
+        same(
+            &rt,
+            &refused(&other[..length]),
+            &Some([0xDE, 0x81, 0x40, 0x01]),
+        );
     }
 }
 
@@ -225,22 +243,34 @@ fn status_of(slot: u16, subslot: u16, index: u16) -> Option<[u8; 4]> {
 
 #[test]
 fn reads_no_parameter_record(rt: HostRuntime) {
-    assert_eq!(rt; status_of(2, 2, 1), Some([0xDE, 0x80, 0xB6, 0x00]));
-    assert_eq!(rt; status_of(2, 2, 700), Some([0xDE, 0x80, 0xB6, 0x00]));
+    same(&rt, &status_of(2, 2, 1), &Some([0xDE, 0x80, 0xB6, 0x00]));
+    same(&rt, &status_of(2, 2, 700), &Some([0xDE, 0x80, 0xB6, 0x00]));
     // they are known at their submodule alone
-    assert_eq!(rt; status_of(2, 2, 2), Some([0xDE, 0x80, 0xB0, 0x00]));
-    assert_eq!(rt; status_of(2, 1, 1), Some([0xDE, 0x80, 0xB0, 0x00]));
-    assert_eq!(rt; status_of(1, 2, 1), Some([0xDE, 0x80, 0xB2, 0x00]));
+    same(&rt, &status_of(2, 2, 2), &Some([0xDE, 0x80, 0xB0, 0x00]));
+    same(&rt, &status_of(2, 1, 1), &Some([0xDE, 0x80, 0xB0, 0x00]));
+    same(&rt, &status_of(1, 2, 1), &Some([0xDE, 0x80, 0xB2, 0x00]));
 }
 
 #[test]
 fn reads_what_is_plugged_in_from_any_place(rt: HostRuntime) {
-    assert_eq!(rt; status_of(0, 1, 0xF840), None);
-    assert_eq!(rt; status_of(9, 9, 0xF840), None);
+    same(&rt, &status_of(0, 1, 0xF840), &None);
+    same(&rt, &status_of(9, 9, 0xF840), &None);
     // the difference of a relation is read within the relation alone
-    assert_eq!(rt; status_of(0, 1, 0xE002), Some([0xDE, 0x80, 0xB0, 0x00]));
-    assert_eq!(rt; status_of(9, 9, 0xE002), Some([0xDE, 0x80, 0xB0, 0x00]));
+    same(
+        &rt,
+        &status_of(0, 1, 0xE002),
+        &Some([0xDE, 0x80, 0xB0, 0x00]),
+    );
+    same(
+        &rt,
+        &status_of(9, 9, 0xE002),
+        &Some([0xDE, 0x80, 0xB0, 0x00]),
+    );
     // the texts stand at the access point alone
-    assert_eq!(rt; status_of(0, 1, 0xAFF3), None);
-    assert_eq!(rt; status_of(1, 1, 0xAFF3), Some([0xDE, 0x80, 0xB0, 0x00]));
+    same(&rt, &status_of(0, 1, 0xAFF3), &None);
+    same(
+        &rt,
+        &status_of(1, 1, 0xAFF3),
+        &Some([0xDE, 0x80, 0xB0, 0x00]),
+    );
 }

@@ -1,4 +1,5 @@
 // The records of identification and maintenance.
+use super::same;
 use arrayvec::ArrayVec;
 use im_records::{RecordFault, read_record, read_write};
 use pn_values::{Identity, Mac, Padded, Real, RealModule, RealSubmodule, Settings};
@@ -122,9 +123,10 @@ const SPACES: [u8; 22] = *b"\x00\x22\x00\x12\x01\x00                ";
 #[test]
 fn reads_texts_of_spaces(rt: HostRuntime) {
     let found = read_record(0xAFF2, 0, 1, &identity(), &real(), &Settings::factory());
-    assert_eq!(rt;
-        found.map(|octets| octets.as_slice() == SPACES.as_slice()),
-        Some(true)
+    same(
+        &rt,
+        &found.map(|octets| octets.as_slice() == SPACES.as_slice()),
+        &Some(true),
     );
 }
 
@@ -139,9 +141,10 @@ fn lists_no_module_without_a_submodule(rt: HostRuntime) {
     modules.push(module(3, 32, &[(1, 33)]));
     modules.push(module(4, 48, &[]));
     let found = read_record(0xF840, 0, 1, &identity(), &Real { modules }, &settings());
-    assert_eq!(rt;
-        found.map(|octets| octets.as_slice() == FILTER_OF_ONE.as_slice()),
-        Some(true)
+    same(
+        &rt,
+        &found.map(|octets| octets.as_slice() == FILTER_OF_ONE.as_slice()),
+        &Some(true),
     );
 }
 
@@ -171,10 +174,10 @@ fn set_by(index: u16, bytes: &[u8]) -> Settings {
 
 #[test]
 fn sets_the_text_of_its_index(rt: HostRuntime) {
-    assert_eq!(rt; set_by(0xAFF1, &IM1).im1.as_bytes(), &IM1[6..]);
-    assert_eq!(rt; set_by(0xAFF2, &IM2).im2.as_bytes(), &IM2[6..]);
-    assert_eq!(rt; set_by(0xAFF3, &IM3).im3.as_bytes(), &IM3[6..]);
-    assert_eq!(rt; set_by(0xAFF4, &IM4).im4.as_bytes(), &IM4[6..]);
+    same(&rt, &set_by(0xAFF1, &IM1).im1.as_bytes(), &&IM1[6..]);
+    same(&rt, &set_by(0xAFF2, &IM2).im2.as_bytes(), &&IM2[6..]);
+    same(&rt, &set_by(0xAFF3, &IM3).im3.as_bytes(), &&IM3[6..]);
+    same(&rt, &set_by(0xAFF4, &IM4).im4.as_bytes(), &&IM4[6..]);
 }
 
 /// The number of the fault that a record has.
@@ -186,10 +189,10 @@ fn fault_of(index: u16, bytes: &[u8]) -> Option<u8> {
 fn takes_no_record_of_another_length(rt: HostRuntime) {
     let mut long = [0; 23];
     long[..22].copy_from_slice(&IM2);
-    assert_eq!(rt; fault_of(0xAFF2, &IM2[..21]), Some(2));
-    assert_eq!(rt; fault_of(0xAFF2, &long), Some(2));
-    assert_eq!(rt; fault_of(0xAFF1, &IM2), Some(2));
-    assert_eq!(rt; fault_of(0xAFF3, &[]), Some(2));
+    same(&rt, &fault_of(0xAFF2, &IM2[..21]), &Some(2));
+    same(&rt, &fault_of(0xAFF2, &long), &Some(2));
+    same(&rt, &fault_of(0xAFF1, &IM2), &Some(2));
+    same(&rt, &fault_of(0xAFF3, &[]), &Some(2));
 }
 
 #[test]
@@ -199,12 +202,16 @@ fn takes_no_block_of_another_kind(rt: HostRuntime) {
         other[place] = octet;
         assert_eq!(rt; fault_of(0xAFF2, &other), Some(3), "at {place}");
     }
-    assert_eq!(rt; fault_of(0xAFF3, &IM1), Some(3));
+    same(&rt, &fault_of(0xAFF3, &IM1), &Some(3));
 }
 
 #[test]
 fn takes_no_other_index(rt: HostRuntime) {
-    assert_eq!(rt; fault_of(0xAFF0, &IM0), Some(1));
-    assert_eq!(rt; fault_of(0xF840, &[]), Some(1));
-    assert_eq!(rt; read_write(0xAFF5, &IM3).err(), Some(RecordFault::Index));
+    same(&rt, &fault_of(0xAFF0, &IM0), &Some(1));
+    same(&rt, &fault_of(0xF840, &[]), &Some(1));
+    same(
+        &rt,
+        &read_write(0xAFF5, &IM3).err(),
+        &Some(RecordFault::Index),
+    );
 }

@@ -1,4 +1,5 @@
 // PNIOStatus of each fault of each call, octet by octet.
+use super::same;
 use pnio_status::{CallFault, Operation, Status, done};
 
 /// The four octets of a status.
@@ -34,10 +35,10 @@ const OPERATIONS: [(Operation, u16, u8); 6] = [
 #[test]
 fn names_each_operation(rt: HostRuntime) {
     for (operation, number, _code) in OPERATIONS {
-        assert_eq!(rt; Operation::of(number), Some(operation));
+        same(&rt, &Operation::of(number), &Some(operation));
     }
     for number in [6, 7, 0x0100, 0xFFFF] {
-        assert_eq!(rt; Operation::of(number), None);
+        same(&rt, &Operation::of(number), &None);
     }
 }
 
@@ -45,9 +46,10 @@ fn names_each_operation(rt: HostRuntime) {
 fn tells_the_faults_of_every_call(rt: HostRuntime) {
     for (operation, _number, code) in OPERATIONS {
         for (fault, [decode, code1, code2]) in OF_EACH {
-            assert_eq!(rt;
-                octets(fault.number(operation)),
-                [code, decode, code1, code2]
+            same(
+                &rt,
+                &octets(fault.number(operation)),
+                &[code, decode, code1, code2],
             );
         }
     }
@@ -80,7 +82,7 @@ const OF_CONNECT: [(CallFault, [u8; 4]); 20] = [
 #[test]
 fn tells_the_faults_of_a_connect(rt: HostRuntime) {
     for (fault, status) in OF_CONNECT {
-        assert_eq!(rt; octets(fault.number(Operation::Connect)), status);
+        same(&rt, &octets(fault.number(Operation::Connect)), &status);
     }
 }
 
@@ -126,7 +128,7 @@ const OF_OTHERS: [(Operation, CallFault, [u8; 4]); 7] = [
 #[test]
 fn tells_the_faults_of_other_calls(rt: HostRuntime) {
     for (operation, fault, status) in OF_OTHERS {
-        assert_eq!(rt; octets(fault.number(operation)), status);
+        same(&rt, &octets(fault.number(operation)), &status);
     }
-    assert_eq!(rt; octets(done()), [0, 0, 0, 0]);
+    same(&rt, &octets(done()), &[0, 0, 0, 0]);
 }

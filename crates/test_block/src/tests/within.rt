@@ -3,6 +3,7 @@ ghost use Rattle.std.specs.Prelude.{◌≤◌, length};
 
 use super::reads::{Asked, GOOD, plugged};
 use super::records::settings;
+use super::same;
 use block_fields::Uuid;
 use demo_station::identity;
 use pnio_status::{CallFault, Operation};
@@ -48,7 +49,11 @@ fn reads_what_differs(rt: HostRuntime) {
             panic!(rt; "refused");
         };
         let told = [0, 0, 0, size as u8];
-        assert_eq!(rt; sent(&answer), Some((told.as_slice(), &differing[..size])));
+        same(
+            &rt,
+            &sent(&answer),
+            &Some((told.as_slice(), &differing[..size])),
+        );
     }
 }
 
@@ -58,7 +63,7 @@ fn reads_within_its_relation_alone(rt: HostRuntime) {
         let fault = answered(8, &[], asked).err();
         let status = fault.map(|fault| fault.number(Operation::Read));
         let octets = status.map(|status| [status.code, status.decode, status.code1, status.code2]);
-        assert_eq!(rt; octets, Some([0xDE, 0x81, 0x40, 0x05]));
+        same(&rt, &octets, &Some([0xDE, 0x81, 0x40, 0x05]));
     }
     assert!(rt; answered(7, &[], GOOD).is_ok());
 }

@@ -1,5 +1,6 @@
 // Records that are written within a relation, octet by octet.
 use super::reads::{Asked, plugged};
+use super::same;
 use arrayvec::ArrayVec;
 use block_fields::Uuid;
 use pn_values::{Command, Settings};
@@ -70,38 +71,44 @@ fn refuses_what_is_not_written_there(rt: HostRuntime) {
         index,
         ..GOOD
     };
-    assert_eq!(rt;
-        refused(at(1, 1, 0xAFF1), &[0; 4]),
-        Some([0xDF, 0x80, 0xB0, 0x00])
+    same(
+        &rt,
+        &refused(at(1, 1, 0xAFF1), &[0; 4]),
+        &Some([0xDF, 0x80, 0xB0, 0x00]),
     );
-    assert_eq!(rt;
-        refused(at(0, 1, 0xAFF0), &[0; 4]),
-        Some([0xDF, 0x80, 0xB6, 0x00])
+    same(
+        &rt,
+        &refused(at(0, 1, 0xAFF0), &[0; 4]),
+        &Some([0xDF, 0x80, 0xB6, 0x00]),
     );
-    assert_eq!(rt;
-        refused(at(9, 9, 0xF840), &[0; 4]),
-        Some([0xDF, 0x80, 0xB6, 0x00])
+    same(
+        &rt,
+        &refused(at(9, 9, 0xF840), &[0; 4]),
+        &Some([0xDF, 0x80, 0xB6, 0x00]),
     );
-    assert_eq!(rt;
-        refused(at(9, 9, 0xE002), &[0; 4]),
-        Some([0xDF, 0x80, 0xB6, 0x00])
+    same(
+        &rt,
+        &refused(at(9, 9, 0xE002), &[0; 4]),
+        &Some([0xDF, 0x80, 0xB6, 0x00]),
     );
-    assert_eq!(rt;
-        refused(at(9, 9, 0xAFF0), &[0; 4]),
-        Some([0xDF, 0x80, 0xB2, 0x00])
+    same(
+        &rt,
+        &refused(at(9, 9, 0xAFF0), &[0; 4]),
+        &Some([0xDF, 0x80, 0xB2, 0x00]),
     );
-    assert_eq!(rt;
-        refused(at(2, 1, 1), &[0; 4]),
-        Some([0xDF, 0x80, 0xB0, 0x00])
+    same(
+        &rt,
+        &refused(at(2, 1, 1), &[0; 4]),
+        &Some([0xDF, 0x80, 0xB0, 0x00]),
     );
 }
 
 #[test]
 fn refuses_a_write_of_another_relation(rt: HostRuntime) {
     let fault = judged_in(8, GOOD, &[0; 4]).err();
-    assert_eq!(rt; fault.map(octets_of), Some([0xDF, 0x81, 0x40, 0x05]));
+    same(&rt, &fault.map(octets_of), &Some([0xDF, 0x81, 0x40, 0x05]));
     let alone = judge_write(&GOOD.octets(), None, &plugged()).err();
-    assert_eq!(rt; alone.map(octets_of), Some([0xDF, 0x81, 0x40, 0x05]));
+    same(&rt, &alone.map(octets_of), &Some([0xDF, 0x81, 0x40, 0x05]));
 }
 
 #[test]
@@ -109,13 +116,21 @@ fn keeps_a_record_of_its_exact_length(rt: HostRuntime) {
     let Some(taken) = kept(GOOD, &[1, 2, 3, 4, 5]) else {
         panic!(rt; "refused");
     };
-    assert_eq!(rt; (taken.slot, taken.subslot, taken.index), (2, 2, 1));
-    assert_eq!(rt; taken.value.as_slice(), [1, 2, 3, 4].as_slice());
+    same(&rt, &(taken.slot, taken.subslot, taken.index), &(2, 2, 1));
+    same(&rt, &taken.value.as_slice(), &[1, 2, 3, 4].as_slice());
     for length in [0, 3, 5] {
         let asked = Asked { length, ..GOOD };
-        assert_eq!(rt; refused(asked, &[0; 9]), Some([0xDF, 0x80, 0xB1, 0x00]));
+        same(
+            &rt,
+            &refused(asked, &[0; 9]),
+            &Some([0xDF, 0x80, 0xB1, 0x00]),
+        );
     }
-    assert_eq!(rt; refused(GOOD, &[0; 3]), Some([0xDF, 0x80, 0xB1, 0x00]));
+    same(
+        &rt,
+        &refused(GOOD, &[0; 3]),
+        &Some([0xDF, 0x80, 0xB1, 0x00]),
+    );
 }
 
 #[test]
@@ -124,14 +139,15 @@ fn stores_a_whole_text(rt: HostRuntime) {
     let Some(settings) = stored(DATE, &whole) else {
         panic!(rt; "refused");
     };
-    assert_eq!(rt; settings.im2.as_bytes(), &whole[6..]);
+    same(&rt, &settings.im2.as_bytes(), &&whole[6..]);
     let short = Asked { length: 21, ..DATE };
-    assert_eq!(rt;
-        refused(short, &whole[..21]),
-        Some([0xDF, 0x80, 0xB1, 0x00])
+    same(
+        &rt,
+        &refused(short, &whole[..21]),
+        &Some([0xDF, 0x80, 0xB1, 0x00]),
     );
     let other = *b"\x00\x23\x00\x12\x01\x002024-05-06 07:08";
-    assert_eq!(rt; refused(DATE, &other), Some([0xDF, 0x80, 0xB1, 0x00]));
+    same(&rt, &refused(DATE, &other), &Some([0xDF, 0x80, 0xB1, 0x00]));
 }
 
 #[test]
@@ -143,7 +159,7 @@ fn answers_with_what_was_asked_for(rt: HostRuntime) {
     put_write_answer(&mut answer, &write.request);
     let mut octets = GOOD.octets();
     octets[0] = 0x80;
-    assert_eq!(rt; answer.as_slice(), octets.as_slice());
+    same(&rt, &answer.as_slice(), &octets.as_slice());
 }
 
 #[test]
@@ -153,17 +169,17 @@ fn takes_sixty_four_records(rt: HostRuntime) {
         let Some(taken) = kept(GOOD, &[place, 0, 0, 0]) else {
             panic!(rt; "refused");
         };
-        assert_eq!(rt; records.keep(taken), Ok(()));
+        same(&rt, &records.keep(taken), &Ok(()));
     }
     let fault = records.keep(TakenRecord::default()).err();
-    assert_eq!(rt; fault.map(octets_of), Some([0xDF, 0x80, 0xB5, 0x06]));
+    same(&rt, &fault.map(octets_of), &Some([0xDF, 0x80, 0xB5, 0x06]));
     for (place, taken) in records.as_slice().iter().enumerate() {
         let first = taken
             .value
             .as_slice()
             .first()
             .map(|first| usize::from(*first));
-        assert_eq!(rt; first, Some(place));
+        same(&rt, &first, &Some(place));
     }
-    assert_eq!(rt; records.as_slice().len(), 64);
+    same(&rt, &records.as_slice().len(), &64);
 }

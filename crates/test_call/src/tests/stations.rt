@@ -8,7 +8,7 @@ use frame_codec::Outbox;
 use std::alloc::{AllocError, Global};
 use std::process::Abort;
 use std::test::Fail;
-use test_stations::{Station, plugged, station};
+use test_stations::{Station, plugged, station, step};
 
 /// A Read Implicit of I&M0 by the activity whose octets are all this number.
 fn call(alloc: Global, activity: u8, sequence: u32) -> Result<Event, Fail> {
@@ -103,7 +103,7 @@ impl Trial {
                 note,
                 "activity {activity}"
             );
-            let _ = other.step(&event, &mut wanted);
+            let _ = step(&mut other, &event, &mut wanted);
             let came = octets_of(alloc, &outbox)?;
             assert!(rt;
                 came.as_slice() == octets_of(alloc, &wanted)?.as_slice(),

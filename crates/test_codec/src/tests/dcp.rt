@@ -1,4 +1,5 @@
 // Frames that other stations sent, and what this one answers. Each is given from behind its FrameID.
+use super::same;
 use arrayvec::ArrayVec;
 use dcp_core::{
     DcpFault, Kind, Outcome, ResponseBlock, ResponseBlocks, Service, get_answer, identify_answer,
@@ -31,8 +32,8 @@ fn fault(frame_id: u16, bytes: &[u8]) -> Option<DcpFault> {
 #[test]
 fn answers_identify_all(rt: HostRuntime) {
     let request = read_request(IDENTIFY, &ALL).ok().expect(&rt, "a request");
-    assert_eq!(rt; request.service, Service::Identify);
-    assert_eq!(rt; request.xid, 1);
+    same(&rt, &request.service, &Service::Identify);
+    same(&rt, &request.xid, &1);
     assert!(rt; identify_matches(&identity(), &Settings::factory(), &request));
     let answer = identify_answer(&identity(), &Settings::factory(), request.xid);
     let expected = [
@@ -145,9 +146,9 @@ fn plans_a_signal(rt: HostRuntime) -> Result<(), Fail> {
 
 #[test]
 fn faults_are_numbered(rt: HostRuntime) {
-    assert_eq!(rt; DcpFault::Length.number(), 1);
-    assert_eq!(rt; DcpFault::Service.number(), 2);
-    assert_eq!(rt; DcpFault::Block.number(), 3);
+    same(&rt, &DcpFault::Length.number(), &1);
+    same(&rt, &DcpFault::Service.number(), &2);
+    same(&rt, &DcpFault::Block.number(), &3);
 }
 
 #[test]
@@ -183,27 +184,29 @@ fn reads_no_seventeenth_pair(rt: HostRuntime) {
     bytes[1] = 0;
     bytes[8] = 0;
     bytes[9] = 32;
-    assert_eq!(rt; fault(GET_SET, &bytes), None);
+    same(&rt, &fault(GET_SET, &bytes), &None);
     bytes[9] = 34;
-    assert_eq!(rt; fault(GET_SET, &bytes), Some(DcpFault::Block));
+    same(&rt, &fault(GET_SET, &bytes), &Some(DcpFault::Block));
 }
 
 #[test]
 fn tells_faults_apart(rt: HostRuntime) {
     let mut bytes = ALL;
     bytes[9] = 0;
-    assert_eq!(rt; fault(IDENTIFY, &bytes), None);
+    same(&rt, &fault(IDENTIFY, &bytes), &None);
     bytes[9] = 5;
-    assert_eq!(rt; fault(IDENTIFY, &bytes), Some(DcpFault::Block));
-    assert_eq!(rt; fault(IDENTIFY, &bytes[..14]), Some(DcpFault::Length));
-    assert_eq!(rt; fault(GET_SET, &ALL), Some(DcpFault::Service));
-    assert_eq!(rt;
-        fault(GET_SET, &[4, 0, 0, 0, 0, 2, 0, 0, 0, 5, 2, 2, 0, 1, 0]),
-        Some(DcpFault::Block)
+    same(&rt, &fault(IDENTIFY, &bytes), &Some(DcpFault::Block));
+    same(&rt, &fault(IDENTIFY, &bytes[..14]), &Some(DcpFault::Length));
+    same(&rt, &fault(GET_SET, &ALL), &Some(DcpFault::Service));
+    same(
+        &rt,
+        &fault(GET_SET, &[4, 0, 0, 0, 0, 2, 0, 0, 0, 5, 2, 2, 0, 1, 0]),
+        &Some(DcpFault::Block),
     );
-    assert_eq!(rt;
-        fault(GET_SET, &[4, 5, 0, 0, 0, 2, 0, 0, 0, 4, 2, 2, 0, 0]),
-        Some(DcpFault::Service)
+    same(
+        &rt,
+        &fault(GET_SET, &[4, 5, 0, 0, 0, 2, 0, 0, 0, 4, 2, 2, 0, 0]),
+        &Some(DcpFault::Service),
     );
 }
 
@@ -242,29 +245,35 @@ fn answer_fault(frame_id: u16, bytes: &[u8]) -> Option<DcpFault> {
 #[test]
 fn reads_an_answer_to_identify(rt: HostRuntime) {
     let answer = read_answer(IDENTIFIED, &DEMO).ok().expect(&rt, "an answer");
-    assert_eq!(rt; answer.service, Service::Identify);
+    same(&rt, &answer.service, &Service::Identify);
     assert!(rt; answer.is_supported);
-    assert_eq!(rt; answer.xid, 1);
-    assert_eq!(rt; count_of(answer.blocks), 7);
-    assert_eq!(rt;
-        answer.value(Kind::StationType),
-        Some(b"pn-demo".as_slice())
+    same(&rt, &answer.xid, &1);
+    same(&rt, &count_of(answer.blocks), &7);
+    same(
+        &rt,
+        &answer.value(Kind::StationType),
+        &Some(b"pn-demo".as_slice()),
     );
-    assert_eq!(rt; answer.value(Kind::NameOfStation), Some(b"".as_slice()));
-    assert_eq!(rt;
-        answer.value(Kind::DeviceId),
-        Some([1, 0x23, 4, 0x56].as_slice())
+    same(
+        &rt,
+        &answer.value(Kind::NameOfStation),
+        &Some(b"".as_slice()),
     );
-    assert_eq!(rt; answer.value(Kind::IpSuite), Some([0; 12].as_slice()));
-    assert_eq!(rt; answer.value(Kind::MacAddress), None);
+    same(
+        &rt,
+        &answer.value(Kind::DeviceId),
+        &Some([1, 0x23, 4, 0x56].as_slice()),
+    );
+    same(&rt, &answer.value(Kind::IpSuite), &Some([0; 12].as_slice()));
+    same(&rt, &answer.value(Kind::MacAddress), &None);
     assert!(rt; answer.is_positive());
 }
 
 #[test]
 fn reads_an_answer_to_a_set(rt: HostRuntime) {
     let answer = read_answer(GET_SET, &SET).ok().expect(&rt, "an answer");
-    assert_eq!(rt; answer.service, Service::Set);
-    assert_eq!(rt; answer.xid, 2);
+    same(&rt, &answer.service, &Service::Set);
+    same(&rt, &answer.xid, &2);
     let mut blocks = answer.blocks;
     let is_name_done = match blocks.next() {
         Some(ResponseBlock::Outcome { kind, outcome }) => {
@@ -295,15 +304,19 @@ fn a_set_that_is_not_supported(rt: HostRuntime) {
         .expect(&rt, "an answer");
     assert!(rt; !answer.is_supported);
     assert!(rt; !answer.is_positive());
-    assert_eq!(rt; count_of(answer.blocks), 0);
+    same(&rt, &count_of(answer.blocks), &0);
 }
 
 #[test]
 fn reads_an_answer_to_a_get(rt: HostRuntime) {
     let answer = read_answer(GET_SET, &GOT).ok().expect(&rt, "an answer");
-    assert_eq!(rt; answer.service, Service::Get);
-    assert_eq!(rt; answer.value(Kind::NameOfStation), Some(b"".as_slice()));
-    assert_eq!(rt; answer.value(Kind::IpSuite), Some([0; 12].as_slice()));
+    same(&rt, &answer.service, &Service::Get);
+    same(
+        &rt,
+        &answer.value(Kind::NameOfStation),
+        &Some(b"".as_slice()),
+    );
+    same(&rt, &answer.value(Kind::IpSuite), &Some([0; 12].as_slice()));
     assert!(rt; !answer.is_positive());
     let mut blocks = answer.blocks;
     let _name = blocks.next();
@@ -334,32 +347,43 @@ fn reads_seventeen_blocks_of_an_answer(rt: HostRuntime) {
         bytes[13 + 6 * block] = 2;
     }
     let answer = read_answer(GET_SET, &bytes).ok().expect(&rt, "an answer");
-    assert_eq!(rt; count_of(answer.blocks), 17);
+    same(&rt, &count_of(answer.blocks), &17);
 }
 
 #[test]
 fn tells_faults_of_answers_apart(rt: HostRuntime) {
-    assert_eq!(rt;
-        answer_fault(IDENTIFIED, &DEMO[..103]),
-        Some(DcpFault::Length)
+    same(
+        &rt,
+        &answer_fault(IDENTIFIED, &DEMO[..103]),
+        &Some(DcpFault::Length),
     );
-    assert_eq!(rt;
-        answer_fault(IDENTIFIED, &DEMO[..9]),
-        Some(DcpFault::Length)
+    same(
+        &rt,
+        &answer_fault(IDENTIFIED, &DEMO[..9]),
+        &Some(DcpFault::Length),
     );
-    assert_eq!(rt; answer_fault(IDENTIFY, &DEMO), Some(DcpFault::Service));
-    assert_eq!(rt; answer_fault(GET_SET, &ALL), Some(DcpFault::Service));
+    same(
+        &rt,
+        &answer_fault(IDENTIFY, &DEMO),
+        &Some(DcpFault::Service),
+    );
+    same(&rt, &answer_fault(GET_SET, &ALL), &Some(DcpFault::Service));
     let mut bytes = SET;
     bytes[1] = 2;
     bytes[13] = 4;
-    assert_eq!(rt; answer_fault(GET_SET, &bytes), Some(DcpFault::Service));
+    same(
+        &rt,
+        &answer_fault(GET_SET, &bytes),
+        &Some(DcpFault::Service),
+    );
     bytes[1] = 1;
-    assert_eq!(rt; answer_fault(GET_SET, &bytes), Some(DcpFault::Block));
+    same(&rt, &answer_fault(GET_SET, &bytes), &Some(DcpFault::Block));
     bytes[9] = 9;
     bytes[13] = 3;
-    assert_eq!(rt; answer_fault(GET_SET, &bytes), Some(DcpFault::Block));
-    assert_eq!(rt;
-        answer_fault(GET_SET, &[3, 1, 0, 0, 0, 3, 0, 0, 0, 6, 2, 2, 0, 1, 0, 0]),
-        Some(DcpFault::Block)
+    same(&rt, &answer_fault(GET_SET, &bytes), &Some(DcpFault::Block));
+    same(
+        &rt,
+        &answer_fault(GET_SET, &[3, 1, 0, 0, 0, 3, 0, 0, 0, 6, 2, 2, 0, 1, 0, 0]),
+        &Some(DcpFault::Block),
     );
 }

@@ -3,6 +3,7 @@ ghost use Rattle.std.specs.Prelude.{◌≡◌, ◌+◌, length};
 ghost use Rattle.frame_codec.specs.Meaning.{meaning_of};
 ghost use Rattle.frame_codec.specs.Frame.{content_size};
 
+use super::same;
 use frame_codec::{
     ALARM_HIGH, ALARM_LOW, DCP_GET_SET, DCP_IDENTIFY_REQUEST, DCP_IDENTIFY_RESPONSE, FrameFault,
     Layered, Outbox, Payload, RPC_PORT, is_alarm, is_cyclic, read, write,
@@ -48,14 +49,14 @@ fn identify(tag: Option<u16>, body: &[u8]) -> Layered<'_>
 
 #[test]
 fn reads_with_and_without_tag(rt: HostRuntime) {
-    assert_eq!(rt; read(&IDENTIFY), Ok(identify(None, &BODY)));
-    assert_eq!(rt; read(&TAGGED), Ok(identify(Some(0), &BODY)));
+    same(&rt, &read(&IDENTIFY), &Ok(identify(None, &BODY)));
+    same(&rt, &read(&TAGGED), &Ok(identify(Some(0), &BODY)));
     assert_eq!(rt;
         read(&IDENTIFY[..20]),
         Ok(identify(None, &BODY[..4])),
         "only the link layer is judged here"
     );
-    assert_eq!(rt; read(&IDENTIFY[..16]), Ok(identify(None, &[])));
+    same(&rt, &read(&IDENTIFY[..16]), &Ok(identify(None, &[])));
 }
 
 #[test]
@@ -82,7 +83,7 @@ fn long_frames(rt: HostRuntime) {
     long[12] = 0x88;
     long[13] = 0x92;
     assert!(rt; read(&long[..1514]).is_ok());
-    assert_eq!(rt; read(&long[..1515]), Err(FrameFault::TooLong));
+    same(&rt, &read(&long[..1515]), &Err(FrameFault::TooLong));
     long[13] = 0x93;
     assert_eq!(rt;
         read(&long[..1515]),
@@ -94,7 +95,7 @@ fn long_frames(rt: HostRuntime) {
     long[16] = 0x88;
     long[17] = 0x92;
     assert!(rt; read(&long[..1518]).is_ok());
-    assert_eq!(rt; read(&long[..1519]), Err(FrameFault::TooLong));
+    same(&rt, &read(&long[..1519]), &Err(FrameFault::TooLong));
 }
 
 #[test]
@@ -102,8 +103,8 @@ fn two_tags(rt: HostRuntime) {
     let mut long = [0; 1520];
     long[12] = 0x81;
     long[16] = 0x81;
-    assert_eq!(rt; read(&long), Err(FrameFault::TooLong));
-    assert_eq!(rt; read(&long[..1518]), Err(FrameFault::Tag));
+    same(&rt, &read(&long), &Err(FrameFault::TooLong));
+    same(&rt, &read(&long[..1518]), &Err(FrameFault::Tag));
     assert_eq!(rt;
         read(&long[..18]),
         Err(FrameFault::Tag),
@@ -123,7 +124,7 @@ fn other_ether_types(rt: HostRuntime) {
         let mut frame = IDENTIFY;
         frame[12] = ether_type[0];
         frame[13] = ether_type[1];
-        assert_eq!(rt; read(&frame), Err(FrameFault::EtherType));
+        same(&rt, &read(&frame), &Err(FrameFault::EtherType));
         assert_eq!(rt;
             read(&frame[..15]),
             Err(FrameFault::EtherType),
@@ -136,17 +137,22 @@ fn other_ether_types(rt: HostRuntime) {
 fn writes_padded(rt: HostRuntime) {
     let mut padded = [0; 60];
     padded[..30].copy_from_slice(&IDENTIFY);
-    assert_eq!(rt; write(&identify(None, &BODY)).as_slice(), padded.as_slice());
+    same(
+        &rt,
+        &write(&identify(None, &BODY)).as_slice(),
+        &padded.as_slice(),
+    );
     padded[..34].copy_from_slice(&TAGGED);
-    assert_eq!(rt;
-        write(&identify(Some(0), &BODY)).as_slice(),
-        padded.as_slice()
+    same(
+        &rt,
+        &write(&identify(Some(0), &BODY)).as_slice(),
+        &padded.as_slice(),
     );
     let body = [7; 1498];
-    assert_eq!(rt; write(&identify(None, &body[..44])).len(), 60);
-    assert_eq!(rt; write(&identify(None, &body[..45])).len(), 61);
-    assert_eq!(rt; write(&identify(None, &body)).len(), 1514);
-    assert_eq!(rt; write(&identify(Some(0xC000), &body)).len(), 1518);
+    same(&rt, &write(&identify(None, &body[..44])).len(), &60);
+    same(&rt, &write(&identify(None, &body[..45])).len(), &61);
+    same(&rt, &write(&identify(None, &body)).len(), &1514);
+    same(&rt, &write(&identify(Some(0xC000), &body)).len(), &1518);
 }
 
 /// What is read of the frame at this place of a box.
@@ -161,21 +167,34 @@ fn read_at(outbox: &Outbox, place: usize) -> Option<Result<Layered<'_>, FrameFau
 fn four_frames_in_a_box(rt: HostRuntime) {
     let body = [7; 100];
     let mut outbox = Outbox::new();
-    assert_eq!(rt; outbox.len(), 0);
+    same(&rt, &outbox.len(), &0);
     outbox.put(&identify(None, &body[..90]));
     outbox.put(&identify(Some(0), &body[..91]));
     outbox.put(&identify(None, &body[..92]));
     assert!(rt; !outbox.is_full());
     outbox.put(&identify(Some(7), &body));
     assert!(rt; outbox.is_full());
-    assert_eq!(rt; read_at(&outbox, 0), Some(Ok(identify(None, &body[..90]))));
-    assert_eq!(rt;
-        read_at(&outbox, 1),
-        Some(Ok(identify(Some(0), &body[..91])))
+    same(
+        &rt,
+        &read_at(&outbox, 0),
+        &Some(Ok(identify(None, &body[..90]))),
     );
-    assert_eq!(rt; read_at(&outbox, 2), Some(Ok(identify(None, &body[..92]))));
-    assert_eq!(rt; read_at(&outbox, 3), Some(Ok(identify(Some(7), &body))));
-    assert_eq!(rt; read_at(&outbox, 4), None);
+    same(
+        &rt,
+        &read_at(&outbox, 1),
+        &Some(Ok(identify(Some(0), &body[..91]))),
+    );
+    same(
+        &rt,
+        &read_at(&outbox, 2),
+        &Some(Ok(identify(None, &body[..92]))),
+    );
+    same(
+        &rt,
+        &read_at(&outbox, 3),
+        &Some(Ok(identify(Some(7), &body))),
+    );
+    same(&rt, &read_at(&outbox, 4), &None);
 }
 
 #[test]
@@ -185,10 +204,14 @@ fn a_box_that_is_used_again(rt: HostRuntime) {
     outbox.put(&identify(Some(0), &body));
     outbox.put(&identify(None, &body));
     outbox.clear();
-    assert_eq!(rt; read_at(&outbox, 0), None);
+    same(&rt, &read_at(&outbox, 0), &None);
     outbox.put(&identify(None, &body[..45]));
-    assert_eq!(rt; outbox.len(), 1);
-    assert_eq!(rt; read_at(&outbox, 0), Some(Ok(identify(None, &body[..45]))));
+    same(&rt, &outbox.len(), &1);
+    same(
+        &rt,
+        &read_at(&outbox, 0),
+        &Some(Ok(identify(None, &body[..45]))),
+    );
 }
 
 #[test]
@@ -220,7 +243,7 @@ fn numbers_of_the_standard(rt: HostRuntime) {
         (DCP_IDENTIFY_RESPONSE, [0xFE, 0xFF]),
         (RPC_PORT, [0x88, 0x94]),
     ] {
-        assert_eq!(rt; number.to_be_bytes(), wanted);
+        same(&rt, &number.to_be_bytes(), &wanted);
     }
     for (number, alarm, cyclic) in [
         (0xFC01, true, false),
@@ -234,6 +257,10 @@ fn numbers_of_the_standard(rt: HostRuntime) {
         (0xF7FF, false, true),
         (0xF800, false, false),
     ] {
-        assert_eq!(rt; (is_alarm(number), is_cyclic(number)), (alarm, cyclic));
+        same(
+            &rt,
+            &(is_alarm(number), is_cyclic(number)),
+            &(alarm, cyclic),
+        );
     }
 }

@@ -3,6 +3,7 @@ ghost use Rattle.std.specs.Prelude.{◌≡◌, ◌+◌, length};
 ghost use Rattle.frame_codec.specs.Meaning.{meaning_of};
 ghost use Rattle.frame_codec.specs.Frame.{content_size};
 
+use super::same;
 use frame_codec::{
     Arp, ArpOperation, Endpoint, FrameFault, Holder, Layered, Payload, RPC_PORT, Udp, ones_sum,
     read, write,
@@ -116,30 +117,31 @@ fn datagram(tag: Option<u16>, body: &[u8]) -> Layered<'_>
 
 #[test]
 fn reads_address_resolution(rt: HostRuntime) {
-    assert_eq!(rt; read(&REQUEST), Ok(request()));
-    assert_eq!(rt; read(&REPLY), Ok(reply()));
+    same(&rt, &read(&REQUEST), &Ok(request()));
+    same(&rt, &read(&REPLY), &Ok(reply()));
 }
 
 #[test]
 fn writes_address_resolution(rt: HostRuntime) {
     let mut padded = [0; 60];
     padded[..42].copy_from_slice(&REQUEST);
-    assert_eq!(rt; write(&request()).as_slice(), padded.as_slice());
+    same(&rt, &write(&request()).as_slice(), &padded.as_slice());
     padded[..42].copy_from_slice(&REPLY);
-    assert_eq!(rt; write(&reply()).as_slice(), padded.as_slice());
+    same(&rt, &write(&reply()).as_slice(), &padded.as_slice());
 }
 
 #[test]
 fn writes_a_header_of_the_internet(rt: HostRuntime) {
     let body = [7; 100];
     let frame = write(&datagram(None, &body));
-    assert_eq!(rt; &frame.as_slice()[12..14], [0x08, 0x00].as_slice());
-    assert_eq!(rt; &frame.as_slice()[14..34], HEADER.as_slice());
-    assert_eq!(rt;
-        &frame.as_slice()[34..40],
-        [0x88, 0x94, 0xC0, 0x00, 0x00, 0x6C].as_slice()
+    same(&rt, &&frame.as_slice()[12..14], &[0x08, 0x00].as_slice());
+    same(&rt, &&frame.as_slice()[14..34], &HEADER.as_slice());
+    same(
+        &rt,
+        &&frame.as_slice()[34..40],
+        &[0x88, 0x94, 0xC0, 0x00, 0x00, 0x6C].as_slice(),
     );
-    assert_eq!(rt; &frame.as_slice()[42..], body.as_slice());
+    same(&rt, &&frame.as_slice()[42..], &body.as_slice());
 }
 
 #[test]
@@ -161,32 +163,34 @@ fn reads_what_it_writes(rt: HostRuntime) {
 fn sends_all_ones_for_no_checksum(rt: HostRuntime) {
     // The complement of the sum of this datagram is 0.
     let frame = write(&datagram(None, &[0x35, 0xF1]));
-    assert_eq!(rt;
-        &frame.as_slice()[40..44],
-        [0xFF, 0xFF, 0x35, 0xF1].as_slice()
+    same(
+        &rt,
+        &&frame.as_slice()[40..44],
+        &[0xFF, 0xFF, 0x35, 0xF1].as_slice(),
     );
 }
 
 #[test]
 fn reads_without_a_checksum(rt: HostRuntime) {
     let body = [0, 1, 2, 3, 4, 5, 6, 7, 8, 9];
-    assert_eq!(rt; read(&UNSUMMED), Ok(datagram(None, &body)));
+    same(&rt, &read(&UNSUMMED), &Ok(datagram(None, &body)));
     let mut octets = UNSUMMED;
     octets[41] = 1;
-    assert_eq!(rt; read(&octets), Err(FrameFault::UdpChecksum));
+    same(&rt, &read(&octets), &Err(FrameFault::UdpChecksum));
 }
 
 #[test]
 fn sums_of_words(rt: HostRuntime) {
-    assert_eq!(rt; ones_sum(&[]), 0);
-    assert_eq!(rt; ones_sum(&[0, 0, 0]), 0);
-    assert_eq!(rt; ones_sum(&[1]), 0x0100);
-    assert_eq!(rt; ones_sum(&[0xFF, 0xFF]), 0xFFFF);
-    assert_eq!(rt; ones_sum(&[0xFF, 0xFF, 0, 1]), 1);
+    same(&rt, &ones_sum(&[]), &0);
+    same(&rt, &ones_sum(&[0, 0, 0]), &0);
+    same(&rt, &ones_sum(&[1]), &0x0100);
+    same(&rt, &ones_sum(&[0xFF, 0xFF]), &0xFFFF);
+    same(&rt, &ones_sum(&[0xFF, 0xFF, 0, 1]), &1);
     // The worked example of RFC 1071, section 3.
-    assert_eq!(rt;
-        ones_sum(&[0x00, 0x01, 0xF2, 0x03, 0xF4, 0xF5, 0xF6, 0xF7]),
-        0xDDF2
+    same(
+        &rt,
+        &ones_sum(&[0x00, 0x01, 0xF2, 0x03, 0xF4, 0xF5, 0xF6, 0xF7]),
+        &0xDDF2,
     );
-    assert_eq!(rt; ones_sum(&HEADER), 0xFFFF);
+    same(&rt, &ones_sum(&HEADER), &0xFFFF);
 }

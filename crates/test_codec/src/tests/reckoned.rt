@@ -1,6 +1,7 @@
 // What frames are by the RFCs, reckoned by the places of their fields, against what is read of them.
 ghost use Rattle.std.specs.Prelude.{◌≡◌, ◌+◌, ◌≤◌, length};
 
+use super::same;
 use frame_codec::{Arp, ArpOperation, Endpoint, FrameFault, Holder, Layered, Payload, Udp, read};
 use pn_values::Mac;
 
@@ -289,30 +290,30 @@ fn samples_are_read(rt: HostRuntime) {
 #[test]
 fn cut_frames(rt: HostRuntime) {
     for sample in &[ASKS, PLAIN, TAGGED, UNSUMMED, REAL_TIME] {
-        assert_eq!(rt; first_miscut(sample), None);
+        same(&rt, &first_miscut(sample), &None);
     }
 }
 
 #[test]
 fn changed_packets_of_arp(rt: HostRuntime) {
-    assert_eq!(rt; first_misread(&ASKS, None), None);
+    same(&rt, &first_misread(&ASKS, None), &None);
 }
 
 #[test]
 fn changed_datagrams(rt: HostRuntime) {
-    assert_eq!(rt; first_misread(&PLAIN, None), None);
-    assert_eq!(rt; first_misread(&TAGGED, None), None);
-    assert_eq!(rt; first_misread(&UNSUMMED, None), None);
+    same(&rt, &first_misread(&PLAIN, None), &None);
+    same(&rt, &first_misread(&TAGGED, None), &None);
+    same(&rt, &first_misread(&UNSUMMED, None), &None);
 }
 
 #[test]
 fn changed_datagrams_under_a_right_header(rt: HostRuntime) {
-    assert_eq!(rt; first_misread(&PLAIN, Some(14)), None);
-    assert_eq!(rt; first_misread(&TAGGED, Some(18)), None);
-    assert_eq!(rt; first_misread(&UNSUMMED, Some(14)), None);
+    same(&rt, &first_misread(&PLAIN, Some(14)), &None);
+    same(&rt, &first_misread(&TAGGED, Some(18)), &None);
+    same(&rt, &first_misread(&UNSUMMED, Some(14)), &None);
 }
 
 #[test]
 fn changed_frames_of_real_time(rt: HostRuntime) {
-    assert_eq!(rt; first_misread(&REAL_TIME, None), None);
+    same(&rt, &first_misread(&REAL_TIME, None), &None);
 }

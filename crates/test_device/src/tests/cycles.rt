@@ -1,4 +1,5 @@
 //! A cycle of the device, and the start after it.
+use crate::tests::{is_named, same};
 use demo_station::identity;
 use device_core::{Event, Sink, cycle};
 use flash_model::{MemoryFlash, Sector};
@@ -54,11 +55,11 @@ fn a_cycle_with_a_loss(rt: HostRuntime) -> Result<(), Fail> {
     )
     .ok()
     .ok_or("starts again")?;
-    assert_eq!(rt; device.running().name.as_bytes(), b"pump-1".as_slice());
+    is_named(&rt, &device, b"pump-1");
     let first = device.flash().sector(Sector::First);
-    assert_eq!(rt; first.get(767).copied(), Some(0xAA));
-    assert_eq!(rt; device.lamp(), 0);
-    assert_eq!(rt; sink.frames.len(), 1);
+    same(&rt, &first.get(767).copied(), &Some(0xAA));
+    same(&rt, &device.lamp(), &0);
+    same(&rt, &sink.frames.len(), &1);
     let sent = sink.frames.first();
     assert!(rt; sent.is_some_and(|sent| sent.as_slice().starts_with(&DONE)));
     Ok(())

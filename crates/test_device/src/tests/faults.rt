@@ -1,4 +1,5 @@
 //! What a station goes on with after a flash call that failed, and a start that cannot read.
+use crate::tests::{is_named, is_stored, notes, same, sends, sends_none};
 use demo_station::identity;
 use device_core::{Device, Event, Note};
 use flash_model::{MemoryFlash, Order};
@@ -8,6 +9,7 @@ use std::process::Abort;
 use std::test::Fail;
 use test_stations::{
     DONE, IDENTIFY, PUMP_1, SET, Station, frame, is_padded, no_modules, restart, set_pump, start,
+    step,
 };
 
 // The answer "local application error" to a Set of a name.
@@ -18,12 +20,12 @@ const REFUSED: [u8; 34] =
 // A station "pump-1" in which a flash call of the next commit failed.
 fn faulted(outbox: &mut Outbox) -> Option<Station> {
     let mut device = start(MemoryFlash::blank())?;
-    let _ = device.step(&frame(&SET), outbox);
+    let _ = step(&mut device, &frame(&SET), outbox);
     device.arm(Order::Fault {
         after: 0,
         mask: [0xFF; 8],
     });
-    let _ = device.step(&set_pump(b'2'), outbox);
+    let _ = step(&mut device, &set_pump(b'2'), outbox);
     Some(device)
 }
 
@@ -34,14 +36,12 @@ fn a_set_is_refused_until_the_next_start(rt: HostRuntime) -> Result<(), Fail> {
     let mut device = faulted(&mut outbox).ok_or("starts")?;
     assert!(rt; is_padded(&outbox, &REFUSED));
     assert!(rt; !device.is_lost());
-    assert_eq!(rt; device.step(&set_pump(b'3'), &mut outbox), Note::Done);
-    assert!(rt; is_padded(&outbox, &REFUSED));
-    assert_eq!(rt; device.running().name.as_bytes(), b"pump-1".as_slice());
-    assert_eq!(rt; device.stored().name.as_bytes(), b"pump-1".as_slice());
+    sends(&rt, &mut device, &set_pump(b'3'), &mut outbox, &REFUSED);
+    is_named(&rt, &device, b"pump-1");
+    is_stored(&rt, &device, b"pump-1");
     let mut device = restart(device).ok_or("starts again")?;
-    assert_eq!(rt; device.running().name.as_bytes(), b"pump-1".as_slice());
-    assert_eq!(rt; device.step(&set_pump(b'3'), &mut outbox), Note::Done);
-    assert!(rt; is_padded(&outbox, &DONE));
+    is_named(&rt, &device, b"pump-1");
+    sends(&rt, &mut device, &set_pump(b'3'), &mut outbox, &DONE);
     Ok(())
 }
 
@@ -49,10 +49,8 @@ fn a_set_is_refused_until_the_next_start(rt: HostRuntime) -> Result<(), Fail> {
 fn all_else_goes_on(rt: HostRuntime) -> Result<(), Fail> {
     let mut outbox = Outbox::new();
     let mut device = faulted(&mut outbox).ok_or("starts")?;
-    assert_eq!(rt; device.step(&frame(&IDENTIFY), &mut outbox), Note::Done);
-    assert!(rt; is_padded(&outbox, &PUMP_1));
-    assert_eq!(rt; device.step(&Event::Tick, &mut outbox), Note::Done);
-    assert_eq!(rt; outbox.len(), 0);
+    sends(&rt, &mut device, &frame(&IDENTIFY), &mut outbox, &PUMP_1);
+    sends_none(&rt, &mut device, &Event::Tick, &mut outbox, Note::Done);
     Ok(())
 }
 
@@ -60,14 +58,14 @@ fn all_else_goes_on(rt: HostRuntime) -> Result<(), Fail> {
 fn a_start_that_cannot_read_hands_the_flash_back(rt: HostRuntime) -> Result<(), Fail> {
     let mut outbox = Outbox::new();
     let mut device = start(MemoryFlash::blank()).ok_or("starts")?;
-    assert_eq!(rt; device.step(&frame(&SET), &mut outbox), Note::Done);
+    notes(&rt, &mut device, &frame(&SET), &mut outbox, Note::Done);
     let mut flash = device.into_flash();
     flash.fault_read(0);
     let refused = Device::boot(identity(), no_modules(), flash).err();
     let (fault, flash) = refused.ok_or("a read failed")?;
-    assert_eq!(rt; fault, BootFault::FlashFault);
+    same(&rt, &fault, &BootFault::FlashFault);
     let device = start(flash).ok_or("starts again")?;
-    assert_eq!(rt; device.running().name.as_bytes(), b"pump-1".as_slice());
+    is_named(&rt, &device, b"pump-1");
     Ok(())
 }
 
@@ -83,6 +81,6 @@ fn the_numbers_of_notes(rt: HostRuntime) {
         (Note::StaleCycle, 6),
         (Note::Refused, 7),
     ] {
-        assert_eq!(rt; note.number(), number);
+        same(&rt, &note.number(), &number);
     }
 }

@@ -1,22 +1,20 @@
 //! Frames that are answered, and frames that are not taken.
+use crate::tests::{notes, same, sends, sends_none};
 use device_core::Note;
 use flash_model::MemoryFlash;
 use frame_codec::{Bytes, Outbox};
 use std::process::Abort;
 use std::test::Fail;
-use test_stations::{DONE, IDENTIFY, PUMP_1, SET, UNNAMED, frame, is_padded, restart, start};
+use test_stations::{DONE, IDENTIFY, PUMP_1, SET, UNNAMED, frame, restart, start, step};
 
 #[test]
 fn a_name_is_set_kept_and_found(rt: HostRuntime) -> Result<(), Fail> {
     let mut outbox = Outbox::new();
     let mut device = start(MemoryFlash::blank()).ok_or("starts")?;
-    assert_eq!(rt; device.step(&frame(&IDENTIFY), &mut outbox), Note::Done);
-    assert!(rt; is_padded(&outbox, &UNNAMED));
-    assert_eq!(rt; device.step(&frame(&SET), &mut outbox), Note::Done);
-    assert!(rt; is_padded(&outbox, &DONE));
+    sends(&rt, &mut device, &frame(&IDENTIFY), &mut outbox, &UNNAMED);
+    sends(&rt, &mut device, &frame(&SET), &mut outbox, &DONE);
     let mut device = restart(device).ok_or("starts again")?;
-    assert_eq!(rt; device.step(&frame(&IDENTIFY), &mut outbox), Note::Done);
-    assert!(rt; is_padded(&outbox, &PUMP_1));
+    sends(&rt, &mut device, &frame(&IDENTIFY), &mut outbox, &PUMP_1);
     Ok(())
 }
 
@@ -32,8 +30,7 @@ fn frames_that_are_not_taken(rt: HostRuntime) -> Result<(), Fail> {
         (&elsewhere, Note::NotMine),
     ];
     for (bytes, note) in cases {
-        assert_eq!(rt; device.step(&frame(bytes), &mut outbox), note);
-        assert_eq!(rt; outbox.len(), 0);
+        sends_none(&rt, &mut device, &frame(bytes), &mut outbox, note);
     }
     Ok(())
 }
@@ -46,8 +43,7 @@ fn a_tagged_request_gets_the_untagged_answer(rt: HostRuntime) -> Result<(), Fail
     tagged[..12].copy_from_slice(&IDENTIFY[..12]);
     tagged[12..16].copy_from_slice(&[0x81, 0, 0, 0]);
     tagged[16..].copy_from_slice(&IDENTIFY[12..]);
-    assert_eq!(rt; device.step(&frame(&tagged), &mut outbox), Note::Done);
-    assert!(rt; is_padded(&outbox, &UNNAMED));
+    sends(&rt, &mut device, &frame(&tagged), &mut outbox, &UNNAMED);
     Ok(())
 }
 
@@ -63,7 +59,7 @@ fn numbers_of_notes(rt: HostRuntime) {
         (Note::StaleCycle, 6),
         (Note::Refused, 7),
     ] {
-        assert_eq!(rt; note as u8, number);
+        same(&rt, &(note as u8), &number);
     }
 }
 
@@ -71,8 +67,8 @@ fn numbers_of_notes(rt: HostRuntime) {
 fn is_noted<R: Abort>(rt: &R, bytes: &[u8], note: Note) -> Result<(), Fail> {
     let mut outbox = Outbox::new();
     let mut device = start(MemoryFlash::blank()).ok_or("starts")?;
-    assert_eq!(rt; device.step(&frame(bytes), &mut outbox), note);
-    assert_eq!(rt; outbox.len(), usize::from(note == Note::Done));
+    notes(rt, &mut device, &frame(bytes), &mut outbox, note);
+    same(rt, &outbox.len(), &usize::from(note == Note::Done));
     Ok(())
 }
 
@@ -110,14 +106,14 @@ fn signals(count: u8) -> Bytes {
 fn sixteen_blocks_are_answered_and_seventeen_are_not_read(rt: HostRuntime) -> Result<(), Fail> {
     let mut outbox = Outbox::new();
     let mut device = start(MemoryFlash::blank()).ok_or("starts")?;
-    let note = device.step(&frame(signals(16).as_slice()), &mut outbox);
-    assert_eq!(rt; note, Note::Done);
+    let note = step(&mut device, &frame(signals(16).as_slice()), &mut outbox);
+    same(&rt, &note, &Note::Done);
     let answer = outbox.as_slice().first().ok_or("is answered")?;
     let (head, blocks) = answer.as_slice().split_at_checked(26).ok_or("whole")?;
     assert!(rt; head.ends_with(&[0, 0, 0, 0x80]));
-    assert_eq!(rt; blocks.len(), 128);
+    same(&rt, &blocks.len(), &128);
     for block in blocks.chunks_exact(8) {
-        assert_eq!(rt; block, [5, 4, 0, 3, 5, 3, 0, 0].as_slice());
+        same(&rt, &block, &[5, 4, 0, 3, 5, 3, 0, 0].as_slice());
     }
     is_noted(&rt, signals(17).as_slice(), Note::Fault)
 }

@@ -1,5 +1,5 @@
 // Readers and writers that fail somewhere in a start-up.
-use super::{output, started_up};
+use super::{output, same, started_up};
 use script_runner::{RunFault, run};
 use std::alloc::Global;
 use std::io::{self, ErrorKind, Read, Write};
@@ -65,8 +65,12 @@ fn each_of_the_first_reads_fails(rt: HostRuntime) -> Result<(), Fail> {
             reads,
         };
         let mut writer = Vec::new(alloc);
-        assert_eq!(rt; run(alloc, &mut reader, &mut writer), Err(RunFault::Read));
-        assert_eq!(rt; writer.len(), 0);
+        same(
+            &rt,
+            &run(alloc, &mut reader, &mut writer),
+            &Err(RunFault::Read),
+        );
+        same(&rt, &writer.len(), &0);
     }
     Ok(())
 }
@@ -84,8 +88,12 @@ fn fills(
         room,
     };
     let mut reader = script;
-    assert_eq!(rt; run(alloc, &mut reader, &mut writer), Err(RunFault::Write));
-    assert_eq!(rt; Some(writer.taken.as_slice()), whole.get(..room));
+    same(
+        rt,
+        &run(alloc, &mut reader, &mut writer),
+        &Err(RunFault::Write),
+    );
+    same(rt, &Some(writer.taken.as_slice()), &whole.get(..room));
     Ok(())
 }
 
@@ -93,7 +101,7 @@ fn fills(
 fn refused_between(rt: &impl Abort, alloc: Global, first: usize, last: usize) -> Result<(), Fail> {
     let script = long(alloc)?;
     let (result, whole) = output(alloc, script.as_bytes());
-    assert_eq!(rt; result, Ok(()));
+    same(rt, &result, &Ok(()));
     assert!(rt; whole.len() > last);
     for room in first..last {
         fills(rt, alloc, script.as_bytes(), whole.as_slice(), room)?;

@@ -1,6 +1,6 @@
 // Start-ups, and what may come behind them.
 use super::{
-    BLANK, OTHER_MODULES, SET_DONE, SET_PUMP_1, START, TEXTS, prints, prints_behind, shown,
+    BLANK, OTHER_MODULES, SET_DONE, SET_PUMP_1, START, TEXTS, joined, prints, prints_behind, shown,
 };
 use std::test::Fail;
 
@@ -46,8 +46,12 @@ fn a_start_up(rt: HostRuntime) -> Result<(), Fail> {
 #[test]
 fn a_reset_ends_both_ends(rt: HostRuntime) -> Result<(), Fail> {
     let alloc = rt.alloc();
-    let lines = format!(in alloc;
-        "{WRITE_IM1}\ndeliver\nframe 0200000000010200000000028892fefd04000000000200000006050600020004\ndeliver\nshow\n"
+    let lines = joined(
+        alloc,
+        &[
+            WRITE_IM1,
+            "\ndeliver\nframe 0200000000010200000000028892fefd04000000000200000006050600020004\ndeliver\nshow\n",
+        ],
     )?;
     let after = shown(
         alloc,
@@ -57,8 +61,12 @@ fn a_reset_ends_both_ends(rt: HostRuntime) -> Result<(), Fail> {
         "none",
         "ended 5",
     )?;
-    let wanted = format!(in alloc;
-        "note done\nmoved 0 1\nstate exchanging\nnote done\nmoved 0 2\nstate ended 5\n{after}"
+    let wanted = joined(
+        alloc,
+        &[
+            "note done\nmoved 0 1\nstate exchanging\nnote done\nmoved 0 2\nstate ended 5\n",
+            after.as_str(),
+        ],
     )?;
     prints_behind(&rt, alloc, lines.as_str(), wanted.as_str())
 }
@@ -70,7 +78,10 @@ fn a_reset_that_is_refused_ends_nothing(rt: HostRuntime) -> Result<(), Fail> {
     let lines =
         "frame 0200000000010200000000028892fefd0400000000020000000605060002000e\ndeliver\nshow\n";
     let after = shown(alloc, "pump-1", SUITE, BLANK, "exchanging", "exchanging")?;
-    let wanted = format!(in alloc; "note done\nmoved 0 1\nstate exchanging\n{after}")?;
+    let wanted = joined(
+        alloc,
+        &["note done\nmoved 0 1\nstate exchanging\n", after.as_str()],
+    )?;
     prints_behind(&rt, alloc, lines, wanted.as_str())
 }
 
@@ -78,11 +89,17 @@ fn a_reset_that_is_refused_ends_nothing(rt: HostRuntime) -> Result<(), Fail> {
 fn a_name_is_set_behind_a_stop_alone(rt: HostRuntime) -> Result<(), Fail> {
     let alloc = rt.alloc();
     let set = "frame 0200000000010200000000028892fefd0400000000020000000c02020008000170756d702d39";
-    let lines = format!(in alloc; "{set}\nshow\nstop\ndeliver\n{set}\nshow\n")?;
+    let lines = joined(alloc, &[set, "\nshow\nstop\ndeliver\n", set, "\nshow\n"])?;
     let before = shown(alloc, "pump-1", SUITE, BLANK, "exchanging", "exchanging")?;
     let after = shown(alloc, "pump-9", SUITE, BLANK, "none", "ended 7")?;
-    let wanted = format!(in alloc;
-        "note done\n{before}state ended 7\nmoved 1 2\nstate ended 7\nnote done\n{after}"
+    let wanted = joined(
+        alloc,
+        &[
+            "note done\n",
+            before.as_str(),
+            "state ended 7\nmoved 1 2\nstate ended 7\nnote done\n",
+            after.as_str(),
+        ],
     )?;
     prints_behind(&rt, alloc, lines.as_str(), wanted.as_str())
 }
@@ -90,13 +107,27 @@ fn a_name_is_set_behind_a_stop_alone(rt: HostRuntime) -> Result<(), Fail> {
 #[test]
 fn other_modules_end_the_controller(rt: HostRuntime) -> Result<(), Fail> {
     let alloc = rt.alloc();
-    let script = format!(in alloc;
-        "{SET_PUMP_1}\nconfig {OTHER_MODULES}\n{START}\ndeliver\ndeliver\ndeliver\ndeliver\nshow\n"
+    let script = joined(
+        alloc,
+        &[
+            SET_PUMP_1,
+            "\nconfig ",
+            OTHER_MODULES,
+            "\n",
+            START,
+            "\ndeliver\ndeliver\ndeliver\ndeliver\nshow\n",
+        ],
     )?;
     let after = shown(alloc, "pump-1", SUITE, BLANK, "none", "ended 3")?;
-    let wanted = format!(in alloc;
-        "boot ok\n{SET_DONE}plan ok\nstate looking\nmoved 1 1\nstate addressing\nmoved 1 1\nstate connecting\nmoved 1 1\nstate ended 3\nmo\
-            ved 1 1\nstate ended 3\n{after}"
+    let wanted = joined(
+        alloc,
+        &[
+            "boot ok\n",
+            SET_DONE,
+            "plan ok\nstate looking\nmoved 1 1\nstate addressing\nmoved 1 1\nstate connecting\nmoved 1 1\nstate ended 3\nmo\
+            ved 1 1\nstate ended 3\n",
+            after.as_str(),
+        ],
     )?;
     prints(&rt, alloc, script.as_str(), wanted.as_str())
 }
@@ -105,13 +136,28 @@ fn other_modules_end_the_controller(rt: HostRuntime) -> Result<(), Fail> {
 #[test]
 fn data_hold_runs_out(rt: HostRuntime) -> Result<(), Fail> {
     let alloc = rt.alloc();
-    let lines = format!(in alloc;
-        "{CYCLE}fff03500\n{CYCLE}00103500\n{CYCLE}fff03500\ntick 95\nshow\ntick 1\nshow\ndeliver\n"
+    let lines = joined(
+        alloc,
+        &[
+            CYCLE,
+            "fff03500\n",
+            CYCLE,
+            "00103500\n",
+            CYCLE,
+            "fff03500\ntick 95\nshow\ntick 1\nshow\ndeliver\n",
+        ],
     )?;
     let before = shown(alloc, "pump-1", SUITE, BLANK, "exchanging", "exchanging")?;
     let after = shown(alloc, "pump-1", SUITE, BLANK, "none", "ended 4")?;
-    let wanted = format!(in alloc;
-        "note done\nnote done\nnote stale-cycle\nnote done\n{before}note done\n{after}moved 3 3\nstate ended 4\n"
+    let wanted = joined(
+        alloc,
+        &[
+            "note done\nnote done\nnote stale-cycle\nnote done\n",
+            before.as_str(),
+            "note done\n",
+            after.as_str(),
+            "moved 3 3\nstate ended 4\n",
+        ],
     )?;
     prints_behind(&rt, alloc, lines.as_str(), wanted.as_str())
 }
@@ -120,12 +166,27 @@ fn data_hold_runs_out(rt: HostRuntime) -> Result<(), Fail> {
 #[test]
 fn a_fault_of_the_flash_ends_nothing(rt: HostRuntime) -> Result<(), Fail> {
     let alloc = rt.alloc();
-    let lines = format!(in alloc;
-        "fault 0 ff\n{WRITE_IM2}\n{CYCLE}fff03500\n{CYCLE}00103500\n{CYCLE}fff03500\ntick 32\ndeliver\nshow\n"
+    let lines = joined(
+        alloc,
+        &[
+            "fault 0 ff\n",
+            WRITE_IM2,
+            "\n",
+            CYCLE,
+            "fff03500\n",
+            CYCLE,
+            "00103500\n",
+            CYCLE,
+            "fff03500\ntick 32\ndeliver\nshow\n",
+        ],
     )?;
     let after = shown(alloc, "pump-1", SUITE, BLANK, "exchanging", "exchanging")?;
-    let wanted = format!(in alloc;
-        "note done\nnote done\nnote done\nnote stale-cycle\nnote done\nmoved 1 2\nstate exchanging\n{after}"
+    let wanted = joined(
+        alloc,
+        &[
+            "note done\nnote done\nnote done\nnote stale-cycle\nnote done\nmoved 1 2\nstate exchanging\n",
+            after.as_str(),
+        ],
     )?;
     prints_behind(&rt, alloc, lines.as_str(), wanted.as_str())
 }
@@ -142,9 +203,18 @@ fn an_alarm_is_over_with_its_answer(rt: HostRuntime) -> Result<(), Fail> {
 fn values_go_both_ways(rt: HostRuntime) -> Result<(), Fail> {
     let alloc = rt.alloc();
     let lines = "give 2 1 0011\ninput 1 1 1234\ntick 32\ndeliver\nshow\n";
-    let wanted = format!(in alloc;
-        "state exchanging\nnote done\nnote done\nmoved 1 1\nstate exchanging\nname pump-1\nip {SUITE}\nstored-name pump-1\nstored-ip 0.0.0\
-            .0 0.0.0.0 0.0.0.0\nim1 {BLANK}\n{TEXTS}phase exchanging\nlamp 0\noutput 2 1 0011\nstate exchanging\n"
+    let wanted = joined(
+        alloc,
+        &[
+            "state exchanging\nnote done\nnote done\nmoved 1 1\nstate exchanging\nname pump-1\nip ",
+            SUITE,
+            "\nstored-name pump-1\nstored-ip 0.0.0\
+            .0 0.0.0.0 0.0.0.0\nim1 ",
+            BLANK,
+            "\n",
+            TEXTS,
+            "phase exchanging\nlamp 0\noutput 2 1 0011\nstate exchanging\n",
+        ],
     )?;
     prints_behind(&rt, alloc, lines, wanted.as_str())
 }

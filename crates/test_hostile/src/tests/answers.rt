@@ -6,18 +6,18 @@ use frame_codec::{Bytes, Outbox};
 use relations::Phase;
 use std::process::Abort;
 use std::test::Fail;
-use test_stations::{frame, mend, response, shortened};
+use test_stations::{frame, mend, response, same, shortened, step};
 
 // A broken answer, and then the right one.
 fn are_heard(rt: &impl Abort, broken: &Bytes) -> Result<(), Fail> {
     let mut device = at(Some(Phase::Awaiting)).ok_or("starts")?;
     is_noted(rt, &mut device, broken, Note::Fault);
-    assert_eq!(rt; device.phase(), Some(Phase::Awaiting));
+    same(rt, &device.phase(), &Some(Phase::Awaiting));
     let mut outbox = Outbox::new();
-    let note = device.step(&frame(response().as_slice()), &mut outbox);
-    assert_eq!(rt; note, Note::Done);
-    assert_eq!(rt; outbox.len(), 0);
-    assert_eq!(rt; device.phase(), Some(Phase::Exchanging));
+    let note = step(&mut device, &frame(response().as_slice()), &mut outbox);
+    same(rt, &note, &Note::Done);
+    same(rt, &outbox.len(), &0);
+    same(rt, &device.phase(), &Some(Phase::Exchanging));
     Ok(())
 }
 

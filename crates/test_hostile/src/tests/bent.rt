@@ -5,7 +5,7 @@ use device_core::Note;
 use frame_codec::Outbox;
 use relations::Phase;
 use std::test::Fail;
-use test_stations::{frame, octets, set};
+use test_stations::{frame, octets, same, set, step};
 
 // VarPartLen, and BlockLength of the AlarmAck.
 const LENGTHS: [(&[u8], usize); 5] = [
@@ -70,15 +70,19 @@ const TAKEN: [u8; 32] =
 fn alarms_under_the_other_frame_id(rt: HostRuntime) -> Result<(), Fail> {
     let mut device = at(Some(Phase::Exchanging)).ok_or("starts")?;
     let mut outbox = Outbox::new();
-    assert_eq!(rt; device.step(&alarm(), &mut outbox), Note::Done);
+    same(&rt, &step(&mut device, &alarm(), &mut outbox), &Note::Done);
     is_noted(&rt, &mut device, &elsewhere(&NACK), Note::Filter);
     is_noted(&rt, &mut device, &elsewhere(&ACK), Note::Done);
     let acknowledged = frame(elsewhere(&ALARM_ACK).as_slice());
-    assert_eq!(rt; device.step(&acknowledged, &mut outbox), Note::Done);
+    same(
+        &rt,
+        &step(&mut device, &acknowledged, &mut outbox),
+        &Note::Done,
+    );
     let sent = outbox.as_slice().first().ok_or("is answered")?;
     assert!(rt; sent.as_slice().starts_with(&TAKEN));
-    assert_eq!(rt; device.step(&alarm(), &mut outbox), Note::Done);
+    same(&rt, &step(&mut device, &alarm(), &mut outbox), &Note::Done);
     is_noted(&rt, &mut device, &elsewhere(&ERR), Note::Done);
-    assert_eq!(rt; device.phase(), None);
+    same(&rt, &device.phase(), &None);
     Ok(())
 }

@@ -7,7 +7,7 @@ use relations::Phase;
 use std::process::Abort;
 use std::test::Fail;
 use test_stations::{
-    CONNECT, CONTROL, PRM_END, READ, Station, WRITE, frame, mend, octets, shortened,
+    CONNECT, CONTROL, PRM_END, READ, Station, WRITE, frame, mend, octets, same, shortened, step,
 };
 
 // Cut at each length, with all lengths as they were; and cut within the headers, with the lengths lowered to what is there.
@@ -48,7 +48,7 @@ fn blocks_cut_short(rt: HostRuntime) -> Result<(), Fail> {
                 sequence,
                 blocks.get(..length).ok_or("is longer")?,
             );
-            assert_eq!(rt; served(&mut device, &part), (142, wanted));
+            same(&rt, &served(&mut device, &part), &(142, wanted));
             sequence = sequence.wrapping_add(1);
         }
     }
@@ -58,8 +58,8 @@ fn blocks_cut_short(rt: HostRuntime) -> Result<(), Fail> {
 
 // The relation is where it was, and no date is stored.
 fn is_as_it_was(rt: &impl Abort, device: &Station) {
-    assert_eq!(rt; device.phase(), Some(Phase::Started));
-    assert_eq!(rt; device.running().im2.as_bytes(), [b' '; 16].as_slice());
+    same(rt, &device.phase(), &Some(Phase::Started));
+    same(rt, &device.running().im2.as_bytes(), &[b' '; 16].as_slice());
 }
 
 // The end of each block of a Connect; ErrorCode1 of its fields; and both codes where the blocks end in front of it: there is no
@@ -104,7 +104,7 @@ fn connects_cut_short(rt: HostRuntime) -> Result<(), Fail> {
         );
         sequence = sequence.wrapping_add(1);
     }
-    assert_eq!(rt; device.phase(), None);
+    same(&rt, &device.phase(), &None);
     Ok(())
 }
 
@@ -141,7 +141,7 @@ fn counts_in_calls(rt: HostRuntime) -> Result<(), Fail> {
                 };
                 let whole = call(operation, sequence, blocks);
                 let other = bent(whole.as_slice(), place, size, number);
-                assert_eq!(rt; served(&mut device, &other), (142, wanted));
+                same(&rt, &served(&mut device, &other), &(142, wanted));
                 sequence = sequence.wrapping_add(1);
             }
         }
@@ -160,9 +160,10 @@ fn counts_alike(rt: HostRuntime) -> Result<(), Fail> {
             let whole = call(operation, sequence, blocks);
             let other = bent(whole.as_slice(), 126, 4, number);
             let other = bent(other.as_slice(), 138, 4, number);
-            assert_eq!(rt;
-                served(&mut device, &other),
-                (142, [code, 0x81, 0x40, wanted])
+            same(
+                &rt,
+                &served(&mut device, &other),
+                &(142, [code, 0x81, 0x40, wanted]),
             );
             sequence = sequence.wrapping_add(1);
         }
@@ -178,16 +179,21 @@ fn lengths_of_records(rt: HostRuntime) -> Result<(), Fail> {
     let mut sequence: u16 = 1;
     for (number, read) in NUMBERS.into_iter().zip([0, 1, 22usize]) {
         let written = bent(call(WRITE, sequence, &GIVEN).as_slice(), 178, 4, number);
-        assert_eq!(rt; served(&mut device, &written), (142, [0xDF, 0x80, 0xB1, 0]));
+        same(
+            &rt,
+            &served(&mut device, &written),
+            &(142, [0xDF, 0x80, 0xB1, 0]),
+        );
         let asked = bent(
             call(READ, sequence.wrapping_add(1), &ASKED).as_slice(),
             178,
             4,
             number,
         );
-        assert_eq!(rt;
-            served(&mut device, &asked),
-            (read.saturating_add(206), [0; 4])
+        same(
+            &rt,
+            &served(&mut device, &asked),
+            &(read.saturating_add(206), [0; 4]),
         );
         sequence = sequence.wrapping_add(2);
     }
@@ -215,7 +221,7 @@ fn offsets_of_blocks(rt: HostRuntime) -> Result<(), Fail> {
             } else {
                 (142, [code, 0x81, 0x40, 0])
             };
-            assert_eq!(rt; served(&mut device, &other), wanted);
+            same(&rt, &served(&mut device, &other), &wanted);
         }
     }
     Ok(())
@@ -231,12 +237,16 @@ fn room_for_the_answer(rt: HostRuntime) -> Result<(), Fail> {
                 let mut device = at(phase).ok_or("starts")?;
                 let mut outbox = Outbox::new();
                 let other = bent(whole.as_slice(), place, 4, number);
-                let note = device.step(&frame(other.as_slice()), &mut outbox);
-                assert_eq!(rt; note, Note::Done);
+                let note = step(&mut device, &frame(other.as_slice()), &mut outbox);
+                same(&rt, &note, &Note::Done);
                 let sent = outbox.as_slice().first().ok_or("is answered")?;
-                assert_eq!(rt; sent.len(), length);
-                assert_eq!(rt; sent.as_slice().get(122..126), Some([0; 4].as_slice()));
-                assert_eq!(rt; sent.as_slice().get(130..134), other.get(122..126));
+                same(&rt, &sent.len(), &length);
+                same(
+                    &rt,
+                    &sent.as_slice().get(122..126),
+                    &Some([0; 4].as_slice()),
+                );
+                same(&rt, &sent.as_slice().get(130..134), &other.get(122..126));
             }
         }
     }

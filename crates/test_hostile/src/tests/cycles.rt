@@ -6,7 +6,7 @@ use frame_codec::Bytes;
 use relations::Phase;
 use std::process::Abort;
 use std::test::Fail;
-use test_stations::{Station, octets, set};
+use test_stations::{Station, octets, same, set};
 
 // DataStatus without its bit 'valid', and TransferStatus.
 #[test]
@@ -74,9 +74,9 @@ fn frames_of_class_2(rt: HostRuntime) -> Result<(), Fail> {
         let part = octets(whole.get(..length).ok_or("is longer")?);
         is_noted(&rt, &mut device, &part, Note::Fault);
     }
-    assert_eq!(rt; device.output(2, 1), Some([0, 0].as_slice()));
+    same(&rt, &device.output(2, 1), &Some([0, 0].as_slice()));
     is_noted(&rt, &mut device, &whole, Note::Done);
-    assert_eq!(rt; device.output(2, 1), Some([0xAA, 0x55].as_slice()));
+    same(&rt, &device.output(2, 1), &Some([0xAA, 0x55].as_slice()));
     Ok(())
 }
 
@@ -142,7 +142,7 @@ fn octets_behind_a_cyclic_frame(rt: HostRuntime) -> Result<(), Fail> {
         for _ in 64..length {
             let _ = bytes.try_push(0xFF);
         }
-        assert_eq!(rt; bytes.len(), length);
+        same(&rt, &bytes.len(), &length);
         is_noted(&rt, &mut device, &bytes, note);
         if note == Note::Done {
             is_counted(&rt, &mut device, 32, Note::StaleCycle);

@@ -6,6 +6,7 @@ use script_runner::run;
 use std::alloc::{AllocError, Global};
 use std::process::Abort;
 use std::test::Fail;
+use test_stations::same;
 
 /// A station's answer to Identify asks each of its blocks to be one of these: Option, Suboption, value.
 const VALUES: [(u8, u8, &[u8]); 8] = [
@@ -137,7 +138,7 @@ fn hand_in(
     let script = format!(in alloc; "{NAMED}{frames}")?;
     let mut reader = script.as_bytes();
     let mut text = Vec::new(alloc);
-    assert_eq!(rt; run(alloc, &mut reader, &mut text), Ok(()));
+    same(rt, &run(alloc, &mut reader, &mut text), &Ok(()));
     let fates = fates(rt, alloc, text.as_slice())?;
     let named = fates.as_slice().strip_prefix(&[Answered]);
     assert!(rt;

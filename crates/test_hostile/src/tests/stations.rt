@@ -7,7 +7,7 @@ use relations::Phase;
 use std::process::Abort;
 use std::test::Fail;
 use test_stations::{
-    CONNECT, CONTROL, PRM_END, READ, Station, frame, octets, plugged, response, station,
+    CONNECT, CONTROL, PRM_END, READ, Station, frame, octets, plugged, response, same, station, step,
 };
 
 /// Without a relation, and in each phase of one.
@@ -31,7 +31,7 @@ pub(crate) fn asked_for(blocks: &[u8], phase: Option<Phase>) -> Option<Station> 
         if device.phase() == phase {
             break;
         }
-        let _ = device.step(&frame(bytes.as_slice()), &mut outbox);
+        let _ = step(&mut device, &frame(bytes.as_slice()), &mut outbox);
     }
     if device.phase() == phase {
         Some(device)
@@ -52,15 +52,15 @@ pub(crate) fn alarm() -> Event {
 /// Nothing is sent for a frame, and this becomes of it.
 pub(crate) fn is_noted(rt: &impl Abort, device: &mut Station, bytes: &Bytes, note: Note) {
     let mut outbox = Outbox::new();
-    let came = device.step(&frame(bytes.as_slice()), &mut outbox);
+    let came = step(device, &frame(bytes.as_slice()), &mut outbox);
     assert_eq!(rt; came, note, "{:?}", bytes.as_slice());
-    assert_eq!(rt; outbox.len(), 0);
+    same(rt, &outbox.len(), &0);
 }
 
 /// Hands a call in. How many octets the one answer has, and its status.
 pub(crate) fn served(device: &mut Station, bytes: &Bytes) -> (usize, [u8; 4]) {
     let mut outbox = Outbox::new();
-    let _ = device.step(&frame(bytes.as_slice()), &mut outbox);
+    let _ = step(device, &frame(bytes.as_slice()), &mut outbox);
     let mut status = [0xFF; 4];
     match outbox.as_slice() {
         [sent, ..] if sent.len() >= 126 => {
@@ -74,17 +74,18 @@ pub(crate) fn served(device: &mut Station, bytes: &Bytes) -> (usize, [u8; 4]) {
 /// Two stations answer an event alike, and show the same behind it.
 fn is_alike(rt: &impl Abort, (device, other): (&mut Station, &mut Station), event: &Event) {
     let (mut outbox, mut wanted) = (Outbox::new(), Outbox::new());
-    let note = device.step(event, &mut outbox);
-    assert_eq!(rt; note, other.step(event, &mut wanted));
-    assert_eq!(rt; outbox.len(), wanted.len());
+    let note = step(device, event, &mut outbox);
+    same(rt, &note, &step(other, event, &mut wanted));
+    same(rt, &outbox.len(), &wanted.len());
     for (sent, same) in outbox.as_slice().iter().zip(wanted.as_slice()) {
-        assert_eq!(rt; sent.as_slice(), same.as_slice());
+        same(rt, &sent.as_slice(), &same.as_slice());
     }
-    assert_eq!(rt; device.phase(), other.phase());
-    assert_eq!(rt; device.output(2, 1), other.output(2, 1));
-    assert_eq!(rt;
-        device.running().im2.as_bytes(),
-        other.running().im2.as_bytes()
+    same(rt, &device.phase(), &other.phase());
+    same(rt, &device.output(2, 1), &other.output(2, 1));
+    same(
+        rt,
+        &device.running().im2.as_bytes(),
+        &other.running().im2.as_bytes(),
     );
 }
 
@@ -114,10 +115,10 @@ pub(crate) fn is_untouched(
     for event in &events {
         is_alike(rt, (&mut device, &mut other), event);
     }
-    assert_eq!(rt; device.phase(), Some(Phase::Exchanging));
+    same(rt, &device.phase(), &Some(Phase::Exchanging));
     for _ in 0..97 {
         is_alike(rt, (&mut device, &mut other), &Event::Tick);
     }
-    assert_eq!(rt; device.phase(), None);
+    same(rt, &device.phase(), &None);
     Ok(())
 }

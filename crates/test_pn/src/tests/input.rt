@@ -1,5 +1,5 @@
 // What is read and written: long and endless input, readers and writers that fail, and the texts of the faults.
-use super::IDENTIFY;
+use super::{IDENTIFY, same};
 use arrayvec::ArrayVec;
 use script_runner::{RunFault, run};
 use std::io::{self, ErrorKind, Read, Write};
@@ -87,8 +87,12 @@ fn long_input(rt: HostRuntime) -> Result<(), Fail> {
         };
         let mut writer = Vec::new(rt.alloc());
         let result = run(rt.alloc(), &mut reader, &mut writer);
-        assert_eq!(rt; result, wanted);
-        assert_eq!(rt; writer.as_slice() == b"boot ok\n".as_slice(), starts);
+        same(&rt, &result, &wanted);
+        same(
+            &rt,
+            &(writer.as_slice() == b"boot ok\n".as_slice()),
+            &starts,
+        );
     }
     Ok(())
 }
@@ -103,9 +107,9 @@ fn endless_input(rt: HostRuntime) -> Result<(), Fail> {
     };
     let mut writer = Vec::new(rt.alloc());
     let result = run(rt.alloc(), &mut reader, &mut writer);
-    assert_eq!(rt; result, Err(RunFault::EndlessInput));
-    assert_eq!(rt; reader.reads, 16_777_217);
-    assert_eq!(rt; writer.len(), 0);
+    same(&rt, &result, &Err(RunFault::EndlessInput));
+    same(&rt, &reader.reads, &16_777_217);
+    same(&rt, &writer.len(), &0);
     Ok(())
 }
 
@@ -113,16 +117,16 @@ fn endless_input(rt: HostRuntime) -> Result<(), Fail> {
 fn failing_ends(rt: HostRuntime) -> Result<(), Fail> {
     let mut writer = Vec::new(rt.alloc());
     let result = run(rt.alloc(), &mut Broken { is_first: true }, &mut writer);
-    assert_eq!(rt; result, Err(RunFault::Read));
-    assert_eq!(rt; writer.len(), 0);
+    same(&rt, &result, &Err(RunFault::Read));
+    same(&rt, &writer.len(), &0);
 
     let mut narrow = Narrow {
         taken: ArrayVec::new(),
     };
     let mut reader = IDENTIFY.as_bytes();
     let result = run(rt.alloc(), &mut reader, &mut narrow);
-    assert_eq!(rt; result, Err(RunFault::Write));
-    assert_eq!(rt; narrow.taken.as_slice(), b"boot ok\nou".as_slice());
+    same(&rt, &result, &Err(RunFault::Write));
+    same(&rt, &narrow.taken.as_slice(), &b"boot ok\nou".as_slice());
     Ok(())
 }
 
@@ -138,8 +142,8 @@ fn texts(rt: HostRuntime) -> Result<(), Fail> {
     ];
     for (fault, number, text) in cases {
         let shown = format!(in rt.alloc(); "{fault}")?;
-        assert_eq!(rt; shown.as_str(), text);
-        assert_eq!(rt; fault.number(), number);
+        same(&rt, &shown.as_str(), &text);
+        same(&rt, &fault.number(), &number);
     }
     Ok(())
 }

@@ -1,28 +1,41 @@
 // The lines of a script, and what each prints.
 use super::{
-    IDENTIFIED, IDENTIFIED_PUMP_1, IDENTIFY, NO_SUITE, SET_DONE, SET_PUMP_1, TEXTS, output, prints,
+    IDENTIFIED, IDENTIFIED_PUMP_1, IDENTIFY, NO_SUITE, SET_DONE, SET_PUMP_1, TEXTS, joined, output,
+    prints, same,
 };
 use script_runner::RunFault;
 use std::test::Fail;
 
 #[test]
 fn an_identify_request_is_answered(rt: HostRuntime) -> Result<(), Fail> {
-    let wanted = format!(in rt.alloc(); "boot ok\n{IDENTIFIED}\nnote done\n")?;
+    let wanted = joined(rt.alloc(), &["boot ok\n", IDENTIFIED, "\nnote done\n"])?;
     prints(&rt, rt.alloc(), IDENTIFY, wanted.as_str())
 }
 
 #[test]
 fn a_tag_that_bears_no_priority_is_read_over(rt: HostRuntime) -> Result<(), Fail> {
     let script = "frame 010ecf000000020000000002810000008892fefe05000000000100010004ffff0000\n";
-    let wanted = format!(in rt.alloc(); "boot ok\n{IDENTIFIED}\nnote done\n")?;
+    let wanted = joined(rt.alloc(), &["boot ok\n", IDENTIFIED, "\nnote done\n"])?;
     prints(&rt, rt.alloc(), script, wanted.as_str())
 }
 
 #[test]
 fn a_name_is_kept_over_a_restart(rt: HostRuntime) -> Result<(), Fail> {
     let alloc = rt.alloc();
-    let script = format!(in alloc; "{SET_PUMP_1}\r\nrestart\n# a comment\n\n{IDENTIFY}")?;
-    let wanted = format!(in alloc; "boot ok\n{SET_DONE}boot ok\n{IDENTIFIED_PUMP_1}\nnote done\n")?;
+    let script = joined(
+        alloc,
+        &[SET_PUMP_1, "\r\nrestart\n# a comment\n\n", IDENTIFY],
+    )?;
+    let wanted = joined(
+        alloc,
+        &[
+            "boot ok\n",
+            SET_DONE,
+            "boot ok\n",
+            IDENTIFIED_PUMP_1,
+            "\nnote done\n",
+        ],
+    )?;
     prints(&rt, alloc, script.as_str(), wanted.as_str())
 }
 
@@ -133,8 +146,8 @@ fn refused_lines(rt: HostRuntime) -> Result<(), Fail> {
     ];
     for case in cases {
         let (result, text) = output(rt.alloc(), case);
-        assert_eq!(rt; result, Err(RunFault::Line(1)));
-        assert_eq!(rt; text.as_slice(), b"boot ok\n".as_slice());
+        same(&rt, &result, &Err(RunFault::Line(1)));
+        same(&rt, &text.as_slice(), &b"boot ok\n".as_slice());
     }
     Ok(())
 }
@@ -142,8 +155,8 @@ fn refused_lines(rt: HostRuntime) -> Result<(), Fail> {
 #[test]
 fn a_refused_line_is_counted_with_the_skipped_ones(rt: HostRuntime) -> Result<(), Fail> {
     let (result, text) = output(rt.alloc(), b"# one\r\n\nrestart\nx\nrestart\n");
-    assert_eq!(rt; result, Err(RunFault::Line(4)));
-    assert_eq!(rt; text.as_slice(), b"boot ok\nboot ok\n".as_slice());
+    same(&rt, &result, &Err(RunFault::Line(4)));
+    same(&rt, &text.as_slice(), &b"boot ok\nboot ok\n".as_slice());
     Ok(())
 }
 
@@ -152,14 +165,39 @@ fn flashing_lamp(rt: HostRuntime) -> Result<(), Fail> {
     let alloc = rt.alloc();
     let signal = "frame 0200000000010200000000028892fefd040000000002000000080503000400000100";
     let answer = "out 0200000000020200000000018892fefd040100000002000000080504000305030000";
-    let script = format!(in alloc; "{signal}\nshow\ntick 1\nshow\nrestart\nshow\n")?;
-    let shown = format!(in alloc;
-        "name -\nip {NO_SUITE}\nstored-name -\nstored-ip {NO_SUITE}\n{TEXTS}"
+    let script = joined(alloc, &[signal, "\nshow\ntick 1\nshow\nrestart\nshow\n"])?;
+    let shown = joined(
+        alloc,
+        &[
+            "name -\nip ",
+            NO_SUITE,
+            "\nstored-name -\nstored-ip ",
+            NO_SUITE,
+            "\n",
+            TEXTS,
+        ],
     )?;
     let padding = "0000000000000000000000000000000000000000000000000000";
     let output = "output 2 1 0000\n";
-    let wanted = format!(in alloc;
-        "boot ok\n{answer}{padding}\nnote done\n{shown} 96000\n{output}note done\n{shown} 95999\n{output}boot ok\n{shown} 0\n{output}"
+    let wanted = joined(
+        alloc,
+        &[
+            "boot ok\n",
+            answer,
+            padding,
+            "\nnote done\n",
+            shown.as_str(),
+            " 96000\n",
+            output,
+            "note done\n",
+            shown.as_str(),
+            " 95999\n",
+            output,
+            "boot ok\n",
+            shown.as_str(),
+            " 0\n",
+            output,
+        ],
     )?;
     prints(&rt, alloc, script.as_str(), wanted.as_str())
 }

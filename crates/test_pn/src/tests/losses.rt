@@ -1,5 +1,5 @@
 // Each flash call of forty Sets fails in turn, with power lost or there.
-use super::{NO_SUITE, SET_DONE, SET_REFUSED, TEXTS, output, prints, request};
+use super::{NO_SUITE, SET_DONE, SET_REFUSED, TEXTS, joined, output, prints, request, same};
 use std::alloc::{AllocError, Global};
 use std::process::Abort;
 use std::test::Fail;
@@ -78,8 +78,21 @@ fn name(alloc: Global, number: u32) -> Result<String, AllocError> {
 /// What `show` prints where the name of this number runs and is stored.
 fn named(alloc: Global, number: u32) -> Result<String, AllocError> {
     let name = name(alloc, number)?;
-    format!(in alloc;
-        "name {name}\nip {NO_SUITE}\nstored-name {name}\nstored-ip {NO_SUITE}\n{TEXTS} 0\noutput 2 1 0000\n"
+    joined(
+        alloc,
+        &[
+            "name ",
+            name.as_str(),
+            "\nip ",
+            NO_SUITE,
+            "\nstored-name ",
+            name.as_str(),
+            "\nstored-ip ",
+            NO_SUITE,
+            "\n",
+            TEXTS,
+            " 0\noutput 2 1 0000\n",
+        ],
     )
 }
 
@@ -106,7 +119,7 @@ fn lose(
         let answered = next.saturating_sub(1);
         let script = format!(in alloc; "{order} {calls} {mask}\n{sets}restart\nshow\n")?;
         let (result, text) = output(alloc, script.as_bytes());
-        assert_eq!(rt; result, Ok(()));
+        same(rt, &result, &Ok(()));
         let answers = answers(alloc, strike, answered)?;
         let old = named(alloc, answered)?;
         let new = named(alloc, next)?;
@@ -166,9 +179,12 @@ fn no_call_is_left_to_strike(rt: HostRuntime) -> Result<(), Fail> {
     let left = named(alloc, SETS)?;
     for strike in [CUT, FAULT] {
         let order = strike.order;
-        let script = format!(in alloc; "{order} 83 ff\n{sets}restart\nshow\n")?;
+        let script = joined(
+            alloc,
+            &[order, " 83 ff\n", sets.as_str(), "restart\nshow\n"],
+        )?;
         let answers = answers(alloc, strike, SETS)?;
-        let wanted = format!(in alloc; "{answers}{left}")?;
+        let wanted = joined(alloc, &[answers.as_str(), left.as_str()])?;
         prints(&rt, alloc, script.as_str(), wanted.as_str())?;
     }
     Ok(())

@@ -1,5 +1,6 @@
 // The plan of a catalogue as text: what is read and written. What it is of which catalogue is in `table_plan`.
 use super::input::{Broken, Narrow, Repeated};
+use super::same;
 use arrayvec::ArrayVec;
 use script_runner::{RunFault, plan_text};
 use std::io::{self, Read, Write};
@@ -46,8 +47,12 @@ impl Write for Sipping {
 fn pump(rt: HostRuntime) -> Result<(), Fail> {
     let mut reader = PUMP.as_bytes();
     let mut writer = Vec::new(rt.alloc());
-    assert_eq!(rt; plan_text(rt.alloc(), &mut reader, &mut writer), Ok(()));
-    assert_eq!(rt; writer.as_slice(), LAYOUTS.as_bytes());
+    same(
+        &rt,
+        &plan_text(rt.alloc(), &mut reader, &mut writer),
+        &Ok(()),
+    );
+    same(&rt, &writer.as_slice(), &LAYOUTS.as_bytes());
     Ok(())
 }
 
@@ -62,8 +67,12 @@ fn no_plan(rt: HostRuntime) -> Result<(), Fail> {
     for (text, wanted) in cases {
         let mut reader = text.as_bytes();
         let mut writer = Vec::new(rt.alloc());
-        assert_eq!(rt; plan_text(rt.alloc(), &mut reader, &mut writer), wanted);
-        assert_eq!(rt; writer.len(), 0);
+        same(
+            &rt,
+            &plan_text(rt.alloc(), &mut reader, &mut writer),
+            &wanted,
+        );
+        same(&rt, &writer.len(), &0);
     }
     Ok(())
 }
@@ -73,16 +82,16 @@ fn failing_ends(rt: HostRuntime) -> Result<(), Fail> {
     let mut writer = Vec::new(rt.alloc());
     let mut broken = Broken { is_first: true };
     let result = plan_text(rt.alloc(), &mut broken, &mut writer);
-    assert_eq!(rt; result, Err(RunFault::Read));
-    assert_eq!(rt; writer.len(), 0);
+    same(&rt, &result, &Err(RunFault::Read));
+    same(&rt, &writer.len(), &0);
 
     let mut narrow = Narrow {
         taken: ArrayVec::new(),
     };
     let mut reader = PUMP.as_bytes();
     let result = plan_text(rt.alloc(), &mut reader, &mut narrow);
-    assert_eq!(rt; result, Err(RunFault::Write));
-    assert_eq!(rt; narrow.taken.as_slice(), b"input 40\nd".as_slice());
+    same(&rt, &result, &Err(RunFault::Write));
+    same(&rt, &narrow.taken.as_slice(), &b"input 40\nd".as_slice());
     Ok(())
 }
 
@@ -94,8 +103,12 @@ fn few_bytes_at_a_time(rt: HostRuntime) -> Result<(), Fail> {
     let mut writer = Sipping {
         taken: Vec::new(rt.alloc()),
     };
-    assert_eq!(rt; plan_text(rt.alloc(), &mut reader, &mut writer), Ok(()));
-    assert_eq!(rt; writer.taken.as_slice(), LAYOUTS.as_bytes());
+    same(
+        &rt,
+        &plan_text(rt.alloc(), &mut reader, &mut writer),
+        &Ok(()),
+    );
+    same(&rt, &writer.taken.as_slice(), &LAYOUTS.as_bytes());
     Ok(())
 }
 
@@ -114,8 +127,8 @@ fn endless_catalogue(rt: HostRuntime) -> Result<(), Fail> {
         };
         let mut writer = Vec::new(rt.alloc());
         let result = plan_text(rt.alloc(), &mut reader, &mut writer);
-        assert_eq!(rt; result, Err(wanted));
-        assert_eq!(rt; writer.len(), 0);
+        same(&rt, &result, &Err(wanted));
+        same(&rt, &writer.len(), &0);
     }
     Ok(())
 }

@@ -1,5 +1,7 @@
 // What a station is asked by DCP and answers, byte by byte.
-use super::{IDENTIFIED_PUMP_1, NO_SUITE, SET_DONE, SET_PUMP_1, answer, prints, request, shown};
+use super::{
+    IDENTIFIED_PUMP_1, NO_SUITE, SET_DONE, SET_PUMP_1, answer, joined, prints, request, shown,
+};
 use std::alloc::Global;
 use std::process::Abort;
 use std::test::Fail;
@@ -33,9 +35,26 @@ fn set_of_one(alloc: Global, block: &str, response: &str) -> Result<(String, Str
 fn a_station_is_found_by_its_stored_name_alone(rt: HostRuntime) -> Result<(), Fail> {
     let alloc = rt.alloc();
     let identify = "frame 010ecf0000000200000000028892fefe0500000000010001000a0202000670756d702d";
-    let script = format!(in alloc; "{SET_PUMP_1}\nrestart\n{identify}31\n{identify}32\n")?;
-    let wanted = format!(in alloc;
-        "boot ok\n{SET_DONE}boot ok\n{IDENTIFIED_PUMP_1}\nnote done\nnote filter\n"
+    let script = joined(
+        alloc,
+        &[
+            SET_PUMP_1,
+            "\nrestart\n",
+            identify,
+            "31\n",
+            identify,
+            "32\n",
+        ],
+    )?;
+    let wanted = joined(
+        alloc,
+        &[
+            "boot ok\n",
+            SET_DONE,
+            "boot ok\n",
+            IDENTIFIED_PUMP_1,
+            "\nnote done\nnote filter\n",
+        ],
     )?;
     prints(&rt, alloc, script.as_str(), wanted.as_str())
 }
@@ -49,11 +68,32 @@ fn a_temporary_name_runs_until_the_restart_and_empties_the_stored_one(
     let get = request(alloc, GET, "0202")?;
     let has_test = answer(alloc, GOT, "02020006000074657374")?;
     let has_none = answer(alloc, GOT, "020200020000")?;
-    let script = format!(in alloc; "{SET_PUMP_1}\n{set}{get}show\nrestart\n{get}show\n")?;
+    let script = joined(
+        alloc,
+        &[
+            SET_PUMP_1,
+            "\n",
+            set.as_str(),
+            get.as_str(),
+            "show\nrestart\n",
+            get.as_str(),
+            "show\n",
+        ],
+    )?;
     let running = shown(alloc, ("test", NO_SUITE), ("-", NO_SUITE))?;
     let restarted = shown(alloc, ("-", NO_SUITE), ("-", NO_SUITE))?;
-    let wanted = format!(in alloc;
-        "boot ok\n{SET_DONE}{SET_DONE}{has_test}{running}boot ok\n{has_none}{restarted}"
+    let wanted = joined(
+        alloc,
+        &[
+            "boot ok\n",
+            SET_DONE,
+            SET_DONE,
+            has_test.as_str(),
+            running.as_str(),
+            "boot ok\n",
+            has_none.as_str(),
+            restarted.as_str(),
+        ],
     )?;
     prints(&rt, alloc, script.as_str(), wanted.as_str())
 }
@@ -67,14 +107,23 @@ fn blocks_are_carried_out_each_by_itself(rt: HostRuntime) -> Result<(), Fail> {
     let set = request(alloc, SET, data.as_str())?;
     let has_set = answer(alloc, HAS_SET, "05040003020200000504000301020300")?;
     let named = shown(alloc, ("pump-1", NO_SUITE), ("pump-1", NO_SUITE))?;
-    let script = format!(in alloc; "{set}show\nrestart\nshow\n")?;
-    let wanted = format!(in alloc; "boot ok\n{has_set}{named}boot ok\n{named}")?;
+    let script = joined(alloc, &[set.as_str(), "show\nrestart\nshow\n"])?;
+    let wanted = joined(
+        alloc,
+        &[
+            "boot ok\n",
+            has_set.as_str(),
+            named.as_str(),
+            "boot ok\n",
+            named.as_str(),
+        ],
+    )?;
     prints(&rt, alloc, script.as_str(), wanted.as_str())
 }
 
 /// A Set of a name and a suite in one frame: two commits, of three flash calls and of two.
 fn set_of_both(alloc: Global) -> Result<String, Fail> {
-    let data = format!(in alloc; "{PUMP_1}{SET_SUITE}")?;
+    let data = joined(alloc, &[PUMP_1, SET_SUITE])?;
     Ok(request(alloc, SET, data.as_str())?)
 }
 
@@ -89,7 +138,10 @@ fn lose(rt: &impl Abort, alloc: Global, mask: &str, commits: [usize; 5]) -> Resu
         let stored = STATES[done % 3];
         let left = shown(alloc, stored, stored)?;
         let script = format!(in alloc; "cut {calls} {mask}\n{set}show\nrestart\nshow\n")?;
-        let wanted = format!(in alloc; "boot ok\npower lost\noff\nboot ok\n{left}")?;
+        let wanted = joined(
+            alloc,
+            &["boot ok\npower lost\noff\nboot ok\n", left.as_str()],
+        )?;
         prints(rt, alloc, script.as_str(), wanted.as_str())?;
     }
     Ok(())
@@ -116,8 +168,20 @@ fn a_loss_behind_both_commits_does_not_strike(rt: HostRuntime) -> Result<(), Fai
     let set = set_of_both(alloc)?;
     let done = answer(alloc, HAS_SET, "05040003020200000504000301020000")?;
     let left = shown(alloc, STATES[2], STATES[2])?;
-    let script = format!(in alloc; "cut 5 ff\n{set}show\nrestart\nshow\n")?;
-    let wanted = format!(in alloc; "boot ok\n{done}{left}boot ok\n{left}")?;
+    let script = joined(
+        alloc,
+        &["cut 5 ff\n", set.as_str(), "show\nrestart\nshow\n"],
+    )?;
+    let wanted = joined(
+        alloc,
+        &[
+            "boot ok\n",
+            done.as_str(),
+            left.as_str(),
+            "boot ok\n",
+            left.as_str(),
+        ],
+    )?;
     prints(&rt, alloc, script.as_str(), wanted.as_str())
 }
 
@@ -153,7 +217,7 @@ fn resets(rt: HostRuntime) -> Result<(), Fail> {
         let left = shown(alloc, (name, suite), (name, suite))?;
         script.push_str(set.as_str())?;
         script.push_str("show\nrestart\nshow\n")?;
-        let printed = format!(in alloc; "{has_set}{left}boot ok\n{left}")?;
+        let printed = joined(alloc, &[has_set, left.as_str(), "boot ok\n", left.as_str()])?;
         wanted.push_str(printed.as_str())?;
     }
     prints(&rt, alloc, script.as_str(), wanted.as_str())

@@ -3,7 +3,9 @@ use crate::tests::connects::{Blocks, Plan, connect};
 use device_core::Event;
 use flash_model::MemoryFlash;
 use frame_codec::{Bytes, Outbox};
-use test_stations::{CONNECT, CONTROL, PRM_END, Station, call, frame, plugged, response, station};
+use test_stations::{
+    CONNECT, CONTROL, PRM_END, Station, call, frame, plugged, response, station, step,
+};
 
 /// A Write of a record in that relation.
 pub(crate) fn write(sequence: u8, slot: u16, subslot: u16, index: u16, record: &[u8]) -> Blocks {
@@ -25,7 +27,7 @@ pub(crate) fn write(sequence: u8, slot: u16, subslot: u16, index: u16, record: &
 /// Hands a call in. How many frames are sent, how long the first of them is, and its status.
 pub(crate) fn served(device: &mut Station, bytes: &Bytes) -> (usize, usize, [u8; 4]) {
     let mut outbox = Outbox::new();
-    let _ = device.step(&frame(bytes.as_slice()), &mut outbox);
+    let _ = step(device, &frame(bytes.as_slice()), &mut outbox);
     let sent = outbox.as_slice();
     let mut status = [0xFF; 4];
     match sent.first() {
@@ -64,7 +66,7 @@ pub(crate) fn sent_in(device: &mut Station, units: u32) -> usize {
     let mut outbox = Outbox::new();
     let mut sent: usize = 0;
     for _ in 0..units {
-        let _ = device.step(&Event::Tick, &mut outbox);
+        let _ = step(device, &Event::Tick, &mut outbox);
         sent = sent.wrapping_add(outbox.len());
     }
     sent

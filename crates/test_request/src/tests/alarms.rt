@@ -1,6 +1,7 @@
 // PDUs of alarms: the octets are worked out by hand from the formats, and those of the first alarm are a worked frame's.
 ghost use Rattle.std.specs.Prelude.{◌≡◌};
 
+use super::same;
 use alarm_exchange::{Exchange, Kept, Move};
 use arrayvec::ArrayVec;
 use block_codec::AlarmAck;
@@ -78,7 +79,7 @@ fn fault_of(octets: &[u8]) -> Option<AlarmFault> {
 
 #[test]
 fn first_alarm(rt: HostRuntime) {
-    assert_eq!(rt; sent(&alarmed()).as_slice(), ALARM.as_slice());
+    same(&rt, &sent(&alarmed()).as_slice(), &ALARM.as_slice());
 }
 
 #[test]
@@ -99,19 +100,27 @@ fn alarm_is_read(rt: HostRuntime) {
 fn one_stands_at_a_time(rt: HostRuntime) {
     let mut alarms = alarmed();
     let refused = alarms.raise(&alarm_of(&[])).err();
-    assert_eq!(rt; refused, Some(RaiseFault::Busy));
-    assert_eq!(rt; RaiseFault::Busy.number(), 1);
-    assert_eq!(rt; heard(&mut alarms, &ACK), Some(PduFate::Data(Taken::New)));
+    same(&rt, &refused, &Some(RaiseFault::Busy));
+    same(&rt, &RaiseFault::Busy.number(), &1);
+    same(
+        &rt,
+        &heard(&mut alarms, &ACK),
+        &Some(PduFate::Data(Taken::New)),
+    );
     assert!(rt; alarms.standing().is_none());
     // again it is acknowledged, and ends nothing
     assert!(rt; alarms.raise(&alarm_of(&[])).is_ok());
-    assert_eq!(rt; heard(&mut alarms, &ACK), Some(PduFate::Data(Taken::Again)));
+    same(
+        &rt,
+        &heard(&mut alarms, &ACK),
+        &Some(PduFate::Data(Taken::Again)),
+    );
     assert!(rt; alarms.standing().is_some());
     // number 0 and AlarmSpecifier 1; the AlarmAck was number 0xFFFF
     let octets = sent(&alarms);
-    assert_eq!(rt; number_at(octets.as_slice(), 6), 0);
-    assert_eq!(rt; number_at(octets.as_slice(), 8), 0xFFFF);
-    assert_eq!(rt; number_at(octets.as_slice(), 36), 1);
+    same(&rt, &number_at(octets.as_slice(), 6), &0);
+    same(&rt, &number_at(octets.as_slice(), 8), &0xFFFF);
+    same(&rt, &number_at(octets.as_slice(), 36), &1);
 }
 
 #[test]
@@ -130,25 +139,26 @@ fn sent_again_until_it_is_spent(rt: HostRuntime) {
             }
         }
     }
-    assert_eq!(rt; again.as_slice(), [3_200, 6_400, 9_600].as_slice());
-    assert_eq!(rt; spent.as_slice(), [12_800].as_slice());
+    same(&rt, &again.as_slice(), &[3_200, 6_400, 9_600].as_slice());
+    same(&rt, &spent.as_slice(), &[12_800].as_slice());
 }
 
 #[test]
 fn acknowledged(rt: HostRuntime) {
     let mut alarms = alarmed();
-    assert_eq!(rt; alarms.hear(&Message::Nack), PduFate::Ignored);
-    assert_eq!(rt; alarms.hear(&Message::Ack(0)), PduFate::Ignored);
-    assert_eq!(rt; alarms.hear(&Message::Ack(0xFFFF)), PduFate::Done);
+    same(&rt, &alarms.hear(&Message::Nack), &PduFate::Ignored);
+    same(&rt, &alarms.hear(&Message::Ack(0)), &PduFate::Ignored);
+    same(&rt, &alarms.hear(&Message::Ack(0xFFFF)), &PduFate::Done);
     let mut is_due = false;
     for _ in 0..20_000_u32 {
         is_due = is_due || alarms.tick() != Due::Nothing;
     }
     assert!(rt; !is_due);
-    assert_eq!(rt; alarms.hear(&Message::Abort), PduFate::Aborted);
-    assert_eq!(rt;
-        DeviceAlarms::new(1, 3).hear(&Message::Ack(0xFFFF)),
-        PduFate::Ignored
+    same(&rt, &alarms.hear(&Message::Abort), &PduFate::Aborted);
+    same(
+        &rt,
+        &DeviceAlarms::new(1, 3).hear(&Message::Ack(0xFFFF)),
+        &PduFate::Ignored,
     );
 }
 
@@ -194,15 +204,15 @@ fn faults_in_their_order(rt: HostRuntime) {
         }
         assert_eq!(rt; fault_of(&bytes), fault, "place {place}");
     }
-    assert_eq!(rt; fault_of(&ALARM), Some(AlarmFault::Block));
+    same(&rt, &fault_of(&ALARM), &Some(AlarmFault::Block));
 }
 
 #[test]
 fn each_length(rt: HostRuntime) {
     for length in 0..34 {
-        assert_eq!(rt; fault_of(&ACK[..length]), Some(AlarmFault::Short));
+        same(&rt, &fault_of(&ACK[..length]), &Some(AlarmFault::Short));
     }
-    assert_eq!(rt; fault_of(&ACK), None);
+    same(&rt, &fault_of(&ACK), &None);
 }
 
 #[test]
@@ -218,15 +228,15 @@ fn relation_is_ended(rt: HostRuntime) {
         ];
         let mut written = ArrayVec::<u8, 16>::new();
         write_pdu(&mut written, &reason.pdu(2, 1, 0xFFFF, 0xFFFE));
-        assert_eq!(rt; written.as_slice(), octets.as_slice());
-        assert_eq!(rt; fault_of(&octets), None);
+        same(&rt, &written.as_slice(), &octets.as_slice());
+        same(&rt, &fault_of(&octets), &None);
         // with fewer than four octets behind the header
         let mut short = octets;
         let slice: &mut [u8] = &mut short;
         if slice.len() > 11 {
             slice[11] = 3;
         }
-        assert_eq!(rt; fault_of(&short), Some(AlarmFault::Cause));
+        same(&rt, &fault_of(&short), &Some(AlarmFault::Cause));
     }
 }
 
@@ -282,7 +292,7 @@ fn alarms_come_in_order_over_a_network_that_repeats_them(rt: HostRuntime) {
         taken = told(exchange.taken());
         heard = exchange.heard().len();
     }
-    assert_eq!(rt; raised.as_slice(), [(0, 0xAA), (1, 0xBB)].as_slice());
-    assert_eq!(rt; taken.as_slice(), [(0, 0xAA), (1, 0xBB)].as_slice());
-    assert_eq!(rt; heard, 1);
+    same(&rt, &raised.as_slice(), &[(0, 0xAA), (1, 0xBB)].as_slice());
+    same(&rt, &taken.as_slice(), &[(0, 0xAA), (1, 0xBB)].as_slice());
+    same(&rt, &heard, &1);
 }

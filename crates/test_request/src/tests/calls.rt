@@ -1,4 +1,5 @@
 // The octets are those of a reference model that shares no line with this repository.
+use super::same;
 use arrayvec::ArrayVec;
 use frame_codec::Frame;
 use rpc_core::{
@@ -184,9 +185,9 @@ fn faults_in_their_order(rt: HostRuntime) {
 #[test]
 fn each_length(rt: HostRuntime) {
     for length in 0..164 {
-        assert_eq!(rt; call_fault(&CALL[..length]), 1);
+        same(&rt, &call_fault(&CALL[..length]), &1);
     }
-    assert_eq!(rt; call_fault(&CALL), 0);
+    same(&rt, &call_fault(&CALL), &0);
 }
 
 #[test]
@@ -241,7 +242,7 @@ fn writes_a_call(rt: HostRuntime) {
             }
         }
     }
-    assert_eq!(rt; datagram.as_slice(), CALL.as_slice());
+    same(&rt, &datagram.as_slice(), &CALL.as_slice());
 }
 
 #[test]
@@ -250,19 +251,19 @@ fn writes_a_response(rt: HostRuntime) {
     if let Ok(call) = read_call(Interface::Device, &CALL) {
         write_response(&call.response(INVALID_INDEX, &[]), &mut datagram);
     }
-    assert_eq!(rt; datagram.as_slice(), ANSWER.as_slice());
+    same(&rt, &datagram.as_slice(), &ANSWER.as_slice());
 }
 
 #[test]
 fn reads_a_response(rt: HostRuntime) {
     assert!(rt; matches!(read_response(&ANSWER), Ok(response) if response.status == INVALID_INDEX));
-    assert_eq!(rt; response_fault(&CALL), 2);
-    assert_eq!(rt; call_fault(&ANSWER), 2);
+    same(&rt, &response_fault(&CALL), &2);
+    same(&rt, &call_fault(&ANSWER), &2);
     let mut bytes = ANSWER;
     bytes[27] = 7;
     assert_eq!(rt; response_fault(&bytes), 0, "to whatever interface");
     bytes[99] = 1;
-    assert_eq!(rt; response_fault(&bytes), 6);
+    same(&rt, &response_fault(&bytes), &6);
 }
 
 #[test]
@@ -280,28 +281,28 @@ fn a_status_turns_round(rt: HostRuntime) {
 
 #[test]
 fn numbers_of_faults(rt: HostRuntime) {
-    assert_eq!(rt; RpcFault::Short.number(), 1);
-    assert_eq!(rt; RpcFault::Version.number(), 2);
-    assert_eq!(rt; RpcFault::Representation.number(), 3);
-    assert_eq!(rt; RpcFault::Fragment.number(), 4);
-    assert_eq!(rt; RpcFault::Interface.number(), 5);
-    assert_eq!(rt; RpcFault::Args.number(), 6);
+    same(&rt, &RpcFault::Short.number(), &1);
+    same(&rt, &RpcFault::Version.number(), &2);
+    same(&rt, &RpcFault::Representation.number(), &3);
+    same(&rt, &RpcFault::Fragment.number(), &4);
+    same(&rt, &RpcFault::Interface.number(), &5);
+    same(&rt, &RpcFault::Args.number(), &6);
 }
 
 #[test]
 fn answers_are_kept(rt: HostRuntime) {
     let mut cache: CallCache<2> = CallCache::new();
-    assert_eq!(rt; seen(&cache, &[7; 16], 5), 0);
+    same(&rt, &seen(&cache, &[7; 16], 5), &0);
     cache.keep(&Uuid::from_bytes([7; 16]), 5, &frame_of(&[70, 0, 0, 0]));
-    assert_eq!(rt; seen(&cache, &[7; 16], 5), 70);
-    assert_eq!(rt; seen(&cache, &[7; 16], 4), 1);
-    assert_eq!(rt; seen(&cache, &[7; 16], 6), 0);
-    assert_eq!(rt; seen(&cache, &[8; 16], 5), 0);
+    same(&rt, &seen(&cache, &[7; 16], 5), &70);
+    same(&rt, &seen(&cache, &[7; 16], 4), &1);
+    same(&rt, &seen(&cache, &[7; 16], 6), &0);
+    same(&rt, &seen(&cache, &[8; 16], 5), &0);
     cache.keep(&Uuid::from_bytes([8; 16]), 1, &frame_of(&[80, 0, 0, 0]));
     cache.keep(&Uuid::from_bytes([7; 16]), 9, &frame_of(&[79, 0, 0, 0]));
-    assert_eq!(rt; seen(&cache, &[7; 16], 5), 1);
-    assert_eq!(rt; seen(&cache, &[7; 16], 9), 79);
-    assert_eq!(rt; seen(&cache, &[8; 16], 1), 80);
+    same(&rt, &seen(&cache, &[7; 16], 5), &1);
+    same(&rt, &seen(&cache, &[7; 16], 9), &79);
+    same(&rt, &seen(&cache, &[8; 16], 1), &80);
 }
 
 #[test]
@@ -311,12 +312,12 @@ fn the_oldest_is_replaced(rt: HostRuntime) {
     cache.keep(&Uuid::from_bytes([8; 16]), 1, &frame_of(&[80, 0, 0, 0]));
     cache.keep(&Uuid::from_bytes([7; 16]), 6, &frame_of(&[71, 0, 0, 0]));
     cache.keep(&Uuid::from_bytes([9; 16]), 0, &frame_of(&[90, 0, 0, 0]));
-    assert_eq!(rt; seen(&cache, &[7; 16], 6), 71);
-    assert_eq!(rt; seen(&cache, &[8; 16], 1), 0);
-    assert_eq!(rt; seen(&cache, &[9; 16], 0), 90);
+    same(&rt, &seen(&cache, &[7; 16], 6), &71);
+    same(&rt, &seen(&cache, &[8; 16], 1), &0);
+    same(&rt, &seen(&cache, &[9; 16], 0), &90);
     let mut single: CallCache<1> = CallCache::new();
     single.keep(&Uuid::from_bytes([7; 16]), 5, &frame_of(&[70, 0, 0, 0]));
     single.keep(&Uuid::from_bytes([8; 16]), 5, &frame_of(&[80, 0, 0, 0]));
-    assert_eq!(rt; seen(&single, &[7; 16], 5), 0);
-    assert_eq!(rt; seen(&single, &[8; 16], 5), 80);
+    same(&rt, &seen(&single, &[7; 16], 5), &0);
+    same(&rt, &seen(&single, &[8; 16], 5), &80);
 }

@@ -2,6 +2,7 @@
 use super::blocks::{
     ALARM, AR, Blocks, EXPECTED_0, EXPECTED_1, EXPECTED_2, INPUT, OUTPUT, all, joined, with,
 };
+use super::same;
 use connect_requests::{ConnectRequest, refuse};
 use pnio_status::CallFault;
 use uuid::Uuid;
@@ -45,7 +46,7 @@ fn blocks_that_do_not_belong_there(rt: HostRuntime) {
         ),
     ];
     for (found, wanted) in cases {
-        assert_eq!(rt; found, Some(wanted));
+        same(&rt, &found, &Some(wanted));
     }
 }
 
@@ -72,7 +73,7 @@ fn fields_that_are_not_accepted(rt: HostRuntime) {
         ),
     ];
     for (found, wanted) in cases {
-        assert_eq!(rt; found, Some(wanted));
+        same(&rt, &found, &Some(wanted));
     }
 }
 
@@ -100,7 +101,7 @@ fn blocks_that_are_missing(rt: HostRuntime) {
         ),
     ];
     for (found, wanted) in cases {
-        assert_eq!(rt; found, Some(wanted));
+        same(&rt, &found, &Some(wanted));
     }
 }
 
@@ -168,7 +169,7 @@ fn layouts_that_are_none(rt: HostRuntime) {
         ),
     ];
     for (found, wanted) in cases {
-        assert_eq!(rt; found, wanted);
+        same(&rt, &found, &wanted);
     }
 }
 
@@ -179,21 +180,28 @@ fn a_relation_that_stands(rt: HostRuntime) {
         0x55,
     ]);
     let other = Uuid::from_bytes([7; 16]);
-    assert_eq!(rt; refuse(&same, all().as_slice()), CallFault::RelationExists);
-    assert_eq!(rt;
-        refuse(&other, all().as_slice()),
-        CallFault::OtherRelationExists
+    same(
+        &rt,
+        &refuse(&same, all().as_slice()),
+        &CallFault::RelationExists,
+    );
+    same(
+        &rt,
+        &refuse(&other, all().as_slice()),
+        &CallFault::OtherRelationExists,
     );
     // before any fault of a later block, and behind those of its own
-    assert_eq!(rt;
-        refuse(&same, joined(&[&AR, &AR]).as_slice()),
-        CallFault::RelationExists
+    same(
+        &rt,
+        &refuse(&same, joined(&[&AR, &AR]).as_slice()),
+        &CallFault::RelationExists,
     );
-    assert_eq!(rt;
-        refuse(&same, with(&AR, 26, 3).as_slice()),
-        CallFault::ArField(7)
+    same(
+        &rt,
+        &refuse(&same, with(&AR, 26, 3).as_slice()),
+        &CallFault::ArField(7),
     );
-    assert_eq!(rt; refuse(&same, &INPUT), CallFault::BlockType);
-    assert_eq!(rt; refuse(&same, &[]), CallFault::BlockMissing);
-    assert_eq!(rt; refuse(&other, &AR[..2]), CallFault::BlockHeader);
+    same(&rt, &refuse(&same, &INPUT), &CallFault::BlockType);
+    same(&rt, &refuse(&same, &[]), &CallFault::BlockMissing);
+    same(&rt, &refuse(&other, &AR[..2]), &CallFault::BlockHeader);
 }

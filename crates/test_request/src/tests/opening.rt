@@ -1,5 +1,6 @@
 // What the numbers of a Connect that was read are for: each call that asks for a range takes them as they are.
 use super::blocks::all;
+use super::same;
 use connect_requests::ConnectRequest;
 use cyclic_data::{Consumer, Provider};
 use pn_alarms::{Alarm, DeviceAlarms, Due};
@@ -17,7 +18,7 @@ fn opened(request: &ConnectRequest) -> (Provider, Consumer, DeviceAlarms) {
 #[test]
 fn frames_are_due_and_wanted_by_the_numbers_of_a_connect(rt: HostRuntime) {
     let mut request = ConnectRequest::new();
-    assert_eq!(rt; request.read(all().as_slice()), Ok(()));
+    same(&rt, &request.read(all().as_slice()), &Ok(()));
     let (mut provider, mut consumer, _alarms) = opened(&request);
     // an interval of 32 units, three of which the outputs may stay away
     for _unit in 1..32 {
@@ -33,7 +34,7 @@ fn frames_are_due_and_wanted_by_the_numbers_of_a_connect(rt: HostRuntime) {
 #[test]
 fn alarms_are_repeated_by_the_numbers_of_a_connect(rt: HostRuntime) {
     let mut request = ConnectRequest::new();
-    assert_eq!(rt; request.read(all().as_slice()), Ok(()));
+    same(&rt, &request.read(all().as_slice()), &Ok(()));
     let (_provider, _consumer, mut alarms) = opened(&request);
     let alarm = Alarm {
         slot_number: 1,
@@ -42,10 +43,10 @@ fn alarms_are_repeated_by_the_numbers_of_a_connect(rt: HostRuntime) {
         submodule_ident_number: 16,
         alarm_data: &[7],
     };
-    assert_eq!(rt; alarms.raise(&alarm), Ok(()));
+    same(&rt, &alarms.raise(&alarm), &Ok(()));
     // an RTATimeoutFactor of 1 is 100 ms
     for _unit in 1..3200 {
-        assert_eq!(rt; alarms.tick(), Due::Nothing);
+        same(&rt, &alarms.tick(), &Due::Nothing);
     }
-    assert_eq!(rt; alarms.tick(), Due::Again);
+    same(&rt, &alarms.tick(), &Due::Again);
 }

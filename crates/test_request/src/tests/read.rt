@@ -2,6 +2,7 @@
 use super::blocks::{
     ALARM, AR, EXPECTED_0, EXPECTED_1, EXPECTED_2, INPUT, OUTPUT, all, joined, with,
 };
+use super::same;
 use connect_requests::{ConnectRequest, Iocr};
 use cyclic_data::{Place, PlaceKind};
 
@@ -31,28 +32,37 @@ fn numbers(iocr: &Iocr) -> [u16; 6] {
 #[test]
 fn the_relations_are_as_asked_for(rt: HostRuntime) {
     let mut request = ConnectRequest::new();
-    assert_eq!(rt; request.read(all().as_slice()), Ok(()));
+    same(&rt, &request.read(all().as_slice()), &Ok(()));
     let ar = request.ar();
-    assert_eq!(rt; &ar.uuid.into_bytes()[..], &AR[8..24]);
-    assert_eq!(rt; ar.session_key, 1);
-    assert_eq!(rt; ar.initiator.octets, [2, 0, 0, 0, 0, 2]);
-    assert_eq!(rt; &ar.object.into_bytes()[..], &AR[32..48]);
-    assert_eq!(rt; ar.timeout_factor, 600);
+    same(&rt, &&ar.uuid.into_bytes()[..], &&AR[8..24]);
+    same(&rt, &ar.session_key, &1);
+    same(&rt, &ar.initiator.octets, &[2, 0, 0, 0, 0, 2]);
+    same(&rt, &&ar.object.into_bytes()[..], &&AR[32..48]);
+    same(&rt, &ar.timeout_factor, &600);
     assert!(rt; request.input_first());
-    assert_eq!(rt; numbers(request.input()), [1, 0xC001, 32, 1, 3, 0xC000]);
-    assert_eq!(rt; numbers(request.output()), [2, 0xC000, 32, 1, 3, 0xC000]);
-    let alarm = request.alarm();
-    assert_eq!(rt;
-        [alarm.timeout_factor, alarm.retries, alarm.reference],
-        [1, 3, 1]
+    same(
+        &rt,
+        &numbers(request.input()),
+        &[1, 0xC001, 32, 1, 3, 0xC000],
     );
-    assert_eq!(rt; [alarm.tag_high, alarm.tag_low], [0xC000, 0xA000]);
+    same(
+        &rt,
+        &numbers(request.output()),
+        &[2, 0xC000, 32, 1, 3, 0xC000],
+    );
+    let alarm = request.alarm();
+    same(
+        &rt,
+        &[alarm.timeout_factor, alarm.retries, alarm.reference],
+        &[1, 3, 1],
+    );
+    same(&rt, &[alarm.tag_high, alarm.tag_low], &[0xC000, 0xA000]);
 }
 
 #[test]
 fn each_submodule_has_its_places(rt: HostRuntime) {
     let mut request = ConnectRequest::new();
-    assert_eq!(rt; request.read(all().as_slice()), Ok(()));
+    same(&rt, &request.read(all().as_slice()), &Ok(()));
     let wanted = [
         place(PlaceKind::Data, 0, 1, 0, 1),
         place(PlaceKind::Data, 0, 0x8000, 1, 1),
@@ -60,8 +70,8 @@ fn each_submodule_has_its_places(rt: HostRuntime) {
         place(PlaceKind::Data, 1, 1, 3, 3),
         place(PlaceKind::Iocs, 2, 1, 6, 1),
     ];
-    assert_eq!(rt; request.input().layout.data_length(), 40);
-    assert_eq!(rt; request.input().layout.places(), &wanted[..]);
+    same(&rt, &request.input().layout.data_length(), &40);
+    same(&rt, &request.input().layout.places(), &&wanted[..]);
     let wanted = [
         place(PlaceKind::Data, 2, 1, 0, 3),
         place(PlaceKind::Iocs, 0, 1, 3, 1),
@@ -69,8 +79,8 @@ fn each_submodule_has_its_places(rt: HostRuntime) {
         place(PlaceKind::Iocs, 0, 0x8001, 5, 1),
         place(PlaceKind::Iocs, 1, 1, 6, 1),
     ];
-    assert_eq!(rt; request.output().layout.data_length(), 40);
-    assert_eq!(rt; request.output().layout.places(), &wanted[..]);
+    same(&rt, &request.output().layout.data_length(), &40);
+    same(&rt, &request.output().layout.places(), &&wanted[..]);
 }
 
 #[test]
@@ -86,27 +96,28 @@ fn all_that_is_expected_stands_in_the_order_of_the_blocks(rt: HostRuntime) {
         &EXPECTED_1,
     ]);
     let mut request = ConnectRequest::new();
-    assert_eq!(rt; request.read(all().as_slice()), Ok(()));
-    assert_eq!(rt; request.read(blocks.as_slice()), Ok(()));
+    same(&rt, &request.read(all().as_slice()), &Ok(()));
+    same(&rt, &request.read(blocks.as_slice()), &Ok(()));
     assert!(rt; !request.input_first());
     let modules = request.expected().modules.as_slice();
     let wanted = [(2, 32, 1), (0, 1, 3), (1, 16, 1)];
-    assert_eq!(rt; modules.len(), 3);
+    same(&rt, &modules.len(), &3);
     for (module, wanted) in modules.iter().zip(wanted) {
         let found = (
             module.slot_number,
             module.module_ident_number,
             module.number_of_submodules,
         );
-        assert_eq!(rt; found, wanted);
+        same(&rt, &found, &wanted);
     }
     let submodules = request.expected().submodules.as_slice();
     let wanted = [(1, 32), (1, 1), (0x8000, 2), (0x8001, 3), (1, 16)];
-    assert_eq!(rt; submodules.len(), 5);
+    same(&rt, &submodules.len(), &5);
     for (submodule, wanted) in submodules.iter().zip(wanted) {
-        assert_eq!(rt;
-            (submodule.subslot_number, submodule.submodule_ident_number),
-            wanted
+        same(
+            &rt,
+            &(submodule.subslot_number, submodule.submodule_ident_number),
+            &wanted,
         );
     }
 }
@@ -131,8 +142,8 @@ fn the_frame_id_of_an_output_is_given(rt: HostRuntime) {
             &EXPECTED_2,
         ]);
         let mut request = ConnectRequest::new();
-        assert_eq!(rt; request.read(blocks.as_slice()), Ok(()));
-        assert_eq!(rt; request.output().frame_id, wanted);
-        assert_eq!(rt; request.input().frame_id, 0xC001);
+        same(&rt, &request.read(blocks.as_slice()), &Ok(()));
+        same(&rt, &request.output().frame_id, &wanted);
+        same(&rt, &request.input().frame_id, &0xC001);
     }
 }

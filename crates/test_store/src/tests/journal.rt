@@ -1,8 +1,10 @@
 // Images whose bytes were worked out by hand from the layout, and calls at a flash in memory.
-use flash_model::{FlashFault, Lent, MemoryFlash, Order, Sector};
+use super::{Stored, commit, is_cut, is_left, is_named, keep, lie, start};
+use flash_model::{FlashFault, MemoryFlash, Sector};
 use pn_values::{Command, ImValue, Padded};
-use settings_journal::{BootFault, CommitFault, Journal};
-use station_names::NameFault;
+use settings_journal::{BootFault, CommitFault};
+use std::process::Abort;
+use std::test::Fail;
 
 /// The smallest size: room for one slot.
 const SIZE: usize = 768;
@@ -16,22 +18,20 @@ const SECOND: &[u8; 13] = b"PNJ\x02\xFF\xFD\x06pump-2";
 // The kind and a length that is one short.
 const I_AND_M_4: [u8; 2] = [0x0B, 53];
 
-/// A journal over a flash that stays where it is.
-type Stored<'a> = Journal<Lent<'a, MemoryFlash<SIZE>>, SIZE>;
-
-fn set(name: &[u8]) -> Result<Command, NameFault> {
-    Ok(Command::SetName {
-        permanent: true,
-        name: station_names::check(name)?,
-    })
+/// What lies in a sector.
+#[derive(Clone, Copy)]
+enum Image {
+    /// This byte over and over.
+    All(u8),
+    /// This front and gate, and zeros between them: no address, and texts of zeros. The slot is blank.
+    Base(&'static [u8; 13], u8),
+    /// A base whose gate is open, with this entry in its slot, whose gate is open too.
+    Slot(&'static [u8; 13], &'static [u8]),
 }
 
-fn start(flash: &mut MemoryFlash<SIZE>) -> Result<Stored<'_>, BootFault> {
-    Journal::boot(Lent::new(flash)).map_err(|refused| refused.0)
-}
+use Image::{All, Base, Slot};
 
-// A sector with this front and gate, and zeros between them: no address, and texts of zeros. Its slot is blank.
-fn sector(front: &[u8; 13], gate: u8) -> [u8; SIZE] {
+fn base(front: &[u8; 13], gate: u8) -> [u8; SIZE] {
     let mut bytes = [0xFF; SIZE];
     bytes[..511].copy_from_slice(&[0; 511]);
     bytes[..13].copy_from_slice(front);
@@ -39,341 +39,332 @@ fn sector(front: &[u8; 13], gate: u8) -> [u8; SIZE] {
     bytes
 }
 
-// The same with an entry in its slot, whose gate is open.
-fn with_slot(front: &[u8; 13], entry: &[u8]) -> [u8; SIZE] {
-    let mut bytes = sector(front, 0);
+fn with_slot(front: &[u8; 13], entry: &[u8], gate: u8) -> [u8; SIZE] {
+    let mut bytes = base(front, 0);
     for (byte, written) in bytes.iter_mut().skip(512).zip(entry) {
         *byte = *written;
     }
-    bytes[767] = 0;
+    bytes[767] = gate;
     bytes
 }
 
+impl Image {
+    fn bytes(self) -> [u8; SIZE] {
+        match self {
+            All(byte) => [byte; SIZE],
+            Base(front, gate) => base(front, gate),
+            Slot(front, entry) => with_slot(front, entry, 0),
+        }
+    }
+}
+
+/// A flash in whose sectors these lie.
+#[inline(never)]
+fn flash_of(first: Image, second: Image) -> MemoryFlash<SIZE> {
+    MemoryFlash::from_sectors(first.bytes(), second.bytes())
+}
+
+/// Each byte of a sector is FF.
+fn is_blank(rt: &impl Abort, flash: &MemoryFlash<SIZE>, sector: Sector) {
+    lie(rt, flash, (sector, 0), &[0xFF; SIZE]);
+}
+
 #[test]
-fn the_first_name_goes_to_the_first_sector(rt: HostRuntime) -> Result<(), std::test::Fail> {
-    let mut flash = MemoryFlash::blank();
+fn the_first_name_goes_to_the_first_sector(rt: HostRuntime) -> Result<(), Fail> {
+    let mut flash = MemoryFlash::<SIZE>::blank();
     let mut journal = start(&mut flash)?;
-    assert_eq!(rt; journal.settings().name.as_bytes().len(), 0);
-    journal.commit(&set(b"pump-1")?)?;
+    is_named(&rt, &journal, b"");
+    keep(&mut journal, b"pump-1")?;
     drop(journal);
-    assert!(rt; flash.sector(Sector::First).starts_with(FIRST));
-    assert_eq!(rt; flash.sector(Sector::First)[511], 0x00);
-    assert_eq!(rt; flash.sector(Sector::Second), [0xFF; SIZE].as_slice());
+    lie(&rt, &flash, (Sector::First, 0), FIRST);
+    lie(&rt, &flash, (Sector::First, 511), &[0x00]);
+    is_blank(&rt, &flash, Sector::Second);
     Ok(())
 }
 
 #[test]
-fn the_next_name_goes_into_the_slot(rt: HostRuntime) -> Result<(), std::test::Fail> {
-    let mut flash = MemoryFlash::blank();
+fn the_next_name_goes_into_the_slot(rt: HostRuntime) -> Result<(), Fail> {
+    let mut flash = MemoryFlash::<SIZE>::blank();
     let mut journal = start(&mut flash)?;
-    journal.commit(&set(b"pump-1")?)?;
-    journal.commit(&set(b"pump-2")?)?;
+    keep(&mut journal, b"pump-1")?;
+    keep(&mut journal, b"pump-2")?;
     drop(journal);
-    assert!(rt; flash.sector(Sector::First).starts_with(FIRST));
-    assert!(rt; flash.sector(Sector::First)[512..].starts_with(b"\x01\x06pump-2"));
-    assert_eq!(rt; flash.sector(Sector::First)[767], 0x00);
-    assert_eq!(rt; flash.sector(Sector::Second), [0xFF; SIZE].as_slice());
+    lie(&rt, &flash, (Sector::First, 0), FIRST);
+    lie(&rt, &flash, (Sector::First, 512), b"\x01\x06pump-2");
+    lie(&rt, &flash, (Sector::First, 767), &[0x00]);
+    is_blank(&rt, &flash, Sector::Second);
     let again = start(&mut flash)?;
-    assert_eq!(rt; again.settings().name.as_bytes(), b"pump-2".as_slice());
+    is_named(&rt, &again, b"pump-2");
     assert!(rt; !again.is_exhausted());
     assert!(rt; !again.has_failed());
     Ok(())
 }
 
 #[test]
-fn without_a_slot_the_next_name_goes_to_the_other_sector(
-    rt: HostRuntime,
-) -> Result<(), std::test::Fail> {
-    let mut flash = MemoryFlash::blank();
+fn without_a_slot_the_next_name_goes_to_the_other_sector(rt: HostRuntime) -> Result<(), Fail> {
+    let mut flash = MemoryFlash::<SIZE>::blank();
     let mut journal = start(&mut flash)?;
-    journal.commit(&set(b"n1")?)?;
-    journal.commit(&set(b"n2")?)?;
-    journal.commit(&set(b"n3")?)?;
+    keep(&mut journal, b"n1")?;
+    keep(&mut journal, b"n2")?;
+    keep(&mut journal, b"n3")?;
     drop(journal);
-    assert!(rt;
-        flash
-            .sector(Sector::First)
-            .starts_with(b"PNJ\x02\xFF\xFE\x02n1")
-    );
-    assert!(rt;
-        flash
-            .sector(Sector::Second)
-            .starts_with(b"PNJ\x02\xFF\xFD\x02n3")
-    );
-    assert_eq!(rt; flash.sector(Sector::Second)[511], 0x00);
-    assert!(rt; flash.sector(Sector::Second)[512..] == [0xFF; 256]);
-    let again = start(&mut flash)?;
-    assert_eq!(rt; again.settings().name.as_bytes(), b"n3".as_slice());
-    Ok(())
+    lie(&rt, &flash, (Sector::First, 0), b"PNJ\x02\xFF\xFE\x02n1");
+    lie(&rt, &flash, (Sector::Second, 0), b"PNJ\x02\xFF\xFD\x02n3");
+    lie(&rt, &flash, (Sector::Second, 511), &[0x00]);
+    lie(&rt, &flash, (Sector::Second, 512), &[0xFF; 256]);
+    is_left(&rt, &mut flash, b"n3")
 }
 
 #[test]
-fn a_gate_that_half_opens_is_closed(rt: HostRuntime) -> Result<(), std::test::Fail> {
-    let mut flash = MemoryFlash::blank();
+fn a_gate_that_half_opens_is_closed(rt: HostRuntime) -> Result<(), Fail> {
+    let mut flash = MemoryFlash::<SIZE>::blank();
     let mut journal = start(&mut flash)?;
-    journal.commit(&set(b"pump-1")?)?;
-    let mask = [0x55; 8];
-    journal.arm(Order::Cut { after: 1, mask });
-    let cut = journal.commit(&set(b"pump-2")?);
-    assert!(rt; matches!(cut, Err(CommitFault::FlashFault)));
+    keep(&mut journal, b"pump-1")?;
+    assert!(rt; is_cut(&mut journal, (1, [0x55; 8]), b"pump-2")?);
     drop(journal);
-    assert_eq!(rt; flash.sector(Sector::First)[767], 0xAA);
+    lie(&rt, &flash, (Sector::First, 767), &[0xAA]);
     flash.power_up();
     let mut journal = start(&mut flash)?;
-    assert_eq!(rt; journal.settings().name.as_bytes(), b"pump-1".as_slice());
-    journal.commit(&set(b"pump-3")?)?;
+    is_named(&rt, &journal, b"pump-1");
+    keep(&mut journal, b"pump-3")?;
     drop(journal);
-    assert!(rt;
-        flash
-            .sector(Sector::Second)
-            .starts_with(b"PNJ\x02\xFF\xFD\x06pump-3")
-    );
-    let again = start(&mut flash)?;
-    assert_eq!(rt; again.settings().name.as_bytes(), b"pump-3".as_slice());
-    Ok(())
+    let base = b"PNJ\x02\xFF\xFD\x06pump-3";
+    lie(&rt, &flash, (Sector::Second, 0), base);
+    is_left(&rt, &mut flash, b"pump-3")
 }
 
 // A slot that no byte was programmed into is still the next one.
 #[test]
-fn a_slot_that_stayed_blank_is_used(rt: HostRuntime) -> Result<(), std::test::Fail> {
-    let mut flash = MemoryFlash::blank();
+fn a_slot_that_stayed_blank_is_used(rt: HostRuntime) -> Result<(), Fail> {
+    let mut flash = MemoryFlash::<SIZE>::blank();
     let mut journal = start(&mut flash)?;
-    journal.commit(&set(b"pump-1")?)?;
-    let mask = [0x00; 8];
-    journal.arm(Order::Cut { after: 0, mask });
-    let cut = journal.commit(&set(b"pump-2")?);
-    assert!(rt; matches!(cut, Err(CommitFault::FlashFault)));
+    keep(&mut journal, b"pump-1")?;
+    assert!(rt; is_cut(&mut journal, (0, [0x00; 8]), b"pump-2")?);
     drop(journal);
     flash.power_up();
     let mut journal = start(&mut flash)?;
-    journal.commit(&set(b"pump-3")?)?;
+    keep(&mut journal, b"pump-3")?;
     drop(journal);
-    assert!(rt; flash.sector(Sector::First)[512..].starts_with(b"\x01\x06pump-3"));
+    lie(&rt, &flash, (Sector::First, 512), b"\x01\x06pump-3");
     Ok(())
 }
 
 #[test]
-fn after_a_fault_nothing_is_stored_until_a_start(rt: HostRuntime) -> Result<(), std::test::Fail> {
-    let mut flash = MemoryFlash::blank();
+fn after_a_fault_nothing_is_stored_until_a_start(rt: HostRuntime) -> Result<(), Fail> {
+    let mut flash = MemoryFlash::<SIZE>::blank();
     let mut journal = start(&mut flash)?;
-    let mask = [0x55; 8];
-    journal.arm(Order::Cut { after: 2, mask });
-    let cut = journal.commit(&set(b"pump-2")?);
-    assert!(rt; matches!(cut, Err(CommitFault::FlashFault)));
-    assert!(rt; matches!(journal.commit(&set(b"pump-2")?), Err(CommitFault::Failed)));
+    assert!(rt; is_cut(&mut journal, (2, [0x55; 8]), b"pump-2")?);
+    let refused = commit(&mut journal, b"pump-2")?;
+    assert!(rt; matches!(refused, Err(CommitFault::Failed)));
     assert!(rt; journal.has_failed());
     drop(journal);
     flash.power_up();
     let mut journal = start(&mut flash)?;
-    journal.commit(&set(b"pump-3")?)?;
-    assert_eq!(rt; journal.settings().name.as_bytes(), b"pump-3".as_slice());
+    keep(&mut journal, b"pump-3")?;
+    is_named(&rt, &journal, b"pump-3");
     Ok(())
 }
 
-#[test]
-fn an_erase_that_is_cut_short_leaves_the_last_settings(
-    rt: HostRuntime,
-) -> Result<(), std::test::Fail> {
-    let masks = [
-        [0x00; 8],
-        [0x55; 8],
-        [0xFF; 8],
-        [0x00, 0x00, 0x00, 0x00, 0xFF, 0xFF, 0x00, 0x00],
-    ];
-    for mask in masks {
-        let full = with_slot(SECOND, b"\x08\x00");
-        let mut flash = MemoryFlash::from_sectors(sector(FIRST, 0), full);
-        let mut journal = start(&mut flash)?;
-        journal.arm(Order::Cut { after: 0, mask });
-        let cut = journal.commit(&set(b"pump-3")?);
-        assert!(rt; matches!(cut, Err(CommitFault::FlashFault)), "at {mask:?}");
-        drop(journal);
-        let without = start(&mut flash);
-        assert!(rt;
-            matches!(without, Err(BootFault::FlashFault)),
-            "at {mask:?}"
-        );
-        drop(without);
-        flash.power_up();
-        let again = start(&mut flash)?;
-        let name = again.settings().name.as_bytes();
-        assert_eq!(rt; name, b"pump-2".as_slice(), "at {mask:?}");
-    }
-    Ok(())
+/// An erase of the first sector, in a commit of a third name, is cut short at this mask: without power there is no start, and
+/// with power again the second name is there.
+fn outlives_an_erase(rt: &impl Abort, mask: [u8; 8]) -> Result<(), Fail> {
+    let mut flash = flash_of(Base(FIRST, 0), Slot(SECOND, b"\x08\x00"));
+    let mut journal = start(&mut flash)?;
+    let cut = is_cut(&mut journal, (0, mask), b"pump-3")?;
+    assert!(rt; cut, "at {mask:?}");
+    drop(journal);
+    let without = start(&mut flash);
+    assert!(rt;
+        matches!(without, Err(BootFault::FlashFault)),
+        "at {mask:?}"
+    );
+    drop(without);
+    flash.power_up();
+    is_left(rt, &mut flash, b"pump-2")
 }
+
+#[test]
+fn an_erase_that_is_cut_short_leaves_the_last_settings(rt: HostRuntime) -> Result<(), Fail> {
+    outlives_an_erase(&rt, [0x00; 8])?;
+    outlives_an_erase(&rt, [0x55; 8])?;
+    outlives_an_erase(&rt, [0xFF; 8])?;
+    outlives_an_erase(&rt, [0x00, 0x00, 0x00, 0x00, 0xFF, 0xFF, 0x00, 0x00])
+}
+
+/// Images that no journal left, and why.
+const FOREIGN: [(Image, Image, &str); 12] = [
+    (Base(FIRST, 0), Base(FIRST, 0), "one generation twice"),
+    (
+        Base(b"PNS\x01\xFF\xFE\x06pump-1", 0),
+        All(0xFF),
+        "a layout of snapshots",
+    ),
+    (
+        All(0xFF),
+        Base(b"PNJ\x03\xFF\xFE\x06pump-1", 0),
+        "another version",
+    ),
+    (
+        Base(b"PNJ\x02\xFF\xFF\x06pump-1", 0),
+        All(0xFF),
+        "the generation 0",
+    ),
+    (Base(b"PNJ\x02\xFF\xFE\x06pump_1", 0), All(0xFF), "no name"),
+    (
+        Base(b"PNJ\x02\xFF\xFE\xF1pump-1", 0),
+        All(0xFF),
+        "a name of 241 bytes",
+    ),
+    (
+        Base(b"PNJ\x02\xFF\xFE\x04pump-1", 0),
+        All(0xFF),
+        "bytes behind the name",
+    ),
+    (All(0), All(0), "zeros"),
+    (Slot(FIRST, b"\x0C\x00"), All(0xFF), "no kind"),
+    (
+        Slot(FIRST, b"\x08\x01"),
+        All(0xFF),
+        "a reset with a payload",
+    ),
+    (
+        Slot(FIRST, b"\x01\x06pump_1"),
+        All(0xFF),
+        "a slot with no name",
+    ),
+    (Slot(FIRST, &I_AND_M_4), All(0xFF), "an I&M4 that is short"),
+];
 
 #[test]
 fn what_no_journal_left_is_foreign(rt: HostRuntime) {
-    let blank = [0xFF; SIZE];
-    let images = [
-        (sector(FIRST, 0), sector(FIRST, 0), "one generation twice"),
-        (
-            sector(b"PNS\x01\xFF\xFE\x06pump-1", 0),
-            blank,
-            "a layout of snapshots",
-        ),
-        (
-            blank,
-            sector(b"PNJ\x03\xFF\xFE\x06pump-1", 0),
-            "another version",
-        ),
-        (
-            sector(b"PNJ\x02\xFF\xFF\x06pump-1", 0),
-            blank,
-            "the generation 0",
-        ),
-        (sector(b"PNJ\x02\xFF\xFE\x06pump_1", 0), blank, "no name"),
-        (
-            sector(b"PNJ\x02\xFF\xFE\xF1pump-1", 0),
-            blank,
-            "a name of 241 bytes",
-        ),
-        (
-            sector(b"PNJ\x02\xFF\xFE\x04pump-1", 0),
-            blank,
-            "bytes behind the name",
-        ),
-        ([0; SIZE], [0; SIZE], "zeros"),
-        (with_slot(FIRST, b"\x0C\x00"), blank, "no kind"),
-        (
-            with_slot(FIRST, b"\x08\x01"),
-            blank,
-            "a reset with a payload",
-        ),
-        (
-            with_slot(FIRST, b"\x01\x06pump_1"),
-            blank,
-            "a slot with no name",
-        ),
-        (with_slot(FIRST, &I_AND_M_4), blank, "an I&M4 that is short"),
-    ];
-    for (first, second, what) in images {
-        let mut flash = MemoryFlash::from_sectors(first, second);
+    for (first, second, what) in FOREIGN {
+        let mut flash = flash_of(first, second);
         let answer = start(&mut flash);
         assert!(rt; matches!(answer, Err(BootFault::Foreign)), "at {what}");
     }
 }
 
+/// Images, and the name that a start on them finds.
+const NEWEST: [(Image, Image, &[u8; 6]); 5] = [
+    (Base(FIRST, 0), Base(SECOND, 0), b"pump-2"),
+    (Base(SECOND, 0), Base(FIRST, 0), b"pump-2"),
+    (Base(FIRST, 0), Base(SECOND, 1), b"pump-1"),
+    (All(0xFF), Base(FIRST, 0), b"pump-1"),
+    (
+        Base(FIRST, 0),
+        Base(b"PNS\x01\xFF\xFD\x06pump-2", 0),
+        b"pump-1",
+    ),
+];
+
 #[test]
-fn the_newest_sector_is_read(rt: HostRuntime) -> Result<(), std::test::Fail> {
-    let blank = [0xFF; SIZE];
-    let images = [
-        (sector(FIRST, 0), sector(SECOND, 0), b"pump-2"),
-        (sector(SECOND, 0), sector(FIRST, 0), b"pump-2"),
-        (sector(FIRST, 0), sector(SECOND, 1), b"pump-1"),
-        (blank, sector(FIRST, 0), b"pump-1"),
-        (
-            sector(FIRST, 0),
-            sector(b"PNS\x01\xFF\xFD\x06pump-2", 0),
-            b"pump-1",
-        ),
-    ];
-    for (first, second, name) in images {
-        let mut flash = MemoryFlash::from_sectors(first, second);
-        let journal = start(&mut flash)?;
-        assert_eq!(rt; journal.settings().name.as_bytes(), name.as_slice());
+fn the_newest_sector_is_read(rt: HostRuntime) -> Result<(), Fail> {
+    for (first, second, name) in NEWEST {
+        is_left(&rt, &mut flash_of(first, second), name)?;
     }
     Ok(())
 }
 
 #[test]
-fn the_last_generation_is_kept(rt: HostRuntime) -> Result<(), std::test::Fail> {
-    let last = with_slot(b"PNJ\x02\x00\x01\x06pump-1", b"\x08\x00");
-    let mut flash = MemoryFlash::from_sectors(last, [0xFF; SIZE]);
+fn the_last_generation_is_kept(rt: HostRuntime) -> Result<(), Fail> {
+    let last = Slot(b"PNJ\x02\x00\x01\x06pump-1", b"\x08\x00");
+    let mut flash = flash_of(last, All(0xFF));
     let mut journal = start(&mut flash)?;
     assert!(rt; !journal.is_exhausted());
-    journal.commit(&set(b"pump-1")?)?;
+    keep(&mut journal, b"pump-1")?;
     assert!(rt; !journal.is_exhausted());
-    journal.commit(&set(b"pump-2")?)?;
+    keep(&mut journal, b"pump-2")?;
     assert!(rt; journal.is_exhausted());
-    let refused = journal.commit(&set(b"pump-3")?);
+    let refused = commit(&mut journal, b"pump-3")?;
     assert!(rt; matches!(refused, Err(CommitFault::Exhausted)));
     assert!(rt; !journal.has_failed());
     drop(journal);
-    let again = start(&mut flash)?;
-    assert_eq!(rt; again.settings().name.as_bytes(), b"pump-2".as_slice());
-    Ok(())
+    is_left(&rt, &mut flash, b"pump-2")
 }
 
 const OLD: &[u8; 13] = b"PNJ\x01\xFF\xFE\x06pump-1";
 
-#[test]
-fn version_1_is_read_and_not_written(rt: HostRuntime) -> Result<(), std::test::Fail> {
-    let mut flash = MemoryFlash::from_sectors(sector(OLD, 0), [0xFF; SIZE]);
-    let mut journal = start(&mut flash)?;
-    assert_eq!(rt; journal.settings().name.as_bytes(), b"pump-1".as_slice());
-    assert_eq!(rt; journal.settings().im4.as_bytes(), [0; 54].as_slice());
-    journal.commit(&set(b"pump-2")?)?;
+/// The I&M4 that is stored is this octet over and over.
+fn has_im4(rt: &impl Abort, journal: &Stored<'_, SIZE>, octet: u8) {
+    assert_eq!(rt; journal.settings().im4.as_bytes(), [octet; 54].as_slice());
+}
+
+/// Stores an I&M4 of fours.
+fn store_im4(journal: &mut Stored<'_, SIZE>) -> Result<(), Fail> {
     let im4 = Padded::new([b'4'; 54]);
     journal.commit(&Command::SetIm(ImValue::Im4(im4)))?;
-    drop(journal);
-    assert_eq!(rt; flash.sector(Sector::First), sector(OLD, 0).as_slice());
-    assert!(rt; flash.sector(Sector::Second).starts_with(SECOND));
-    assert!(rt; flash.sector(Sector::Second)[383..437] == [0; 54]);
-    assert_eq!(rt; flash.sector(Sector::Second)[511], 0x00);
-    assert!(rt; flash.sector(Sector::Second)[512..].starts_with(b"\x0B\x36444"));
-    let again = start(&mut flash)?;
-    assert_eq!(rt; again.settings().im4.as_bytes(), [b'4'; 54].as_slice());
     Ok(())
 }
 
 #[test]
-fn a_move_from_version_1_that_is_cut_short(rt: HostRuntime) -> Result<(), std::test::Fail> {
+fn version_1_is_read_and_not_written(rt: HostRuntime) -> Result<(), Fail> {
+    let mut flash = flash_of(Base(OLD, 0), All(0xFF));
+    let mut journal = start(&mut flash)?;
+    is_named(&rt, &journal, b"pump-1");
+    has_im4(&rt, &journal, 0);
+    keep(&mut journal, b"pump-2")?;
+    store_im4(&mut journal)?;
+    drop(journal);
+    lie(&rt, &flash, (Sector::First, 0), &base(OLD, 0));
+    lie(&rt, &flash, (Sector::Second, 0), SECOND);
+    lie(&rt, &flash, (Sector::Second, 383), &[0; 54]);
+    lie(&rt, &flash, (Sector::Second, 511), &[0x00]);
+    lie(&rt, &flash, (Sector::Second, 512), b"\x0B\x36444");
+    let again = start(&mut flash)?;
+    has_im4(&rt, &again, b'4');
+    Ok(())
+}
+
+/// The move from version 1 is cut short in the flash call behind `after` further ones: this name is left.
+fn is_moved(rt: &impl Abort, after: u32, byte: u8, name: &[u8]) -> Result<(), Fail> {
+    let mut flash = flash_of(Base(OLD, 0), All(0xFF));
+    let mut journal = start(&mut flash)?;
+    let cut = is_cut(&mut journal, (after, [byte; 8]), b"pump-2")?;
+    assert!(rt; cut, "at {after} {byte}");
+    drop(journal);
+    flash.power_up();
+    is_left(rt, &mut flash, name)
+}
+
+#[test]
+fn a_move_from_version_1_that_is_cut_short(rt: HostRuntime) -> Result<(), Fail> {
     for after in 0..3 {
         for byte in [0x00, 0x55, 0xFF] {
-            let mut flash = MemoryFlash::from_sectors(sector(OLD, 0), [0xFF; SIZE]);
-            let mut journal = start(&mut flash)?;
-            let mask = [byte; 8];
-            journal.arm(Order::Cut { after, mask });
-            let cut = journal.commit(&set(b"pump-2")?);
-            assert!(rt; matches!(cut, Err(CommitFault::FlashFault)));
-            drop(journal);
-            flash.power_up();
-            let again = start(&mut flash)?;
             let whole = after == 2 && byte == 0xFF;
             let name = if whole { b"pump-2" } else { b"pump-1" };
-            assert_eq!(rt;
-                again.settings().name.as_bytes(),
-                name.as_slice(),
-                "at {after} {byte}"
-            );
+            is_moved(&rt, after, byte, name)?;
         }
     }
     Ok(())
 }
 
 #[test]
-fn the_last_generation_of_version_1_has_no_room(rt: HostRuntime) -> Result<(), std::test::Fail> {
-    let last = sector(b"PNJ\x01\x00\x00\x06pump-1", 0);
-    let mut flash = MemoryFlash::from_sectors(last, [0xFF; SIZE]);
+fn the_last_generation_of_version_1_has_no_room(rt: HostRuntime) -> Result<(), Fail> {
+    let mut flash = flash_of(Base(b"PNJ\x01\x00\x00\x06pump-1", 0), All(0xFF));
     let mut journal = start(&mut flash)?;
     assert!(rt; journal.is_exhausted());
-    let refused = journal.commit(&set(b"pump-3")?);
+    let refused = commit(&mut journal, b"pump-3")?;
     assert!(rt; matches!(refused, Err(CommitFault::Exhausted)));
     Ok(())
 }
 
-// I&M4 in a slot: its kind, its length and 54 octets.
-fn im4_slot(front: &[u8; 13], gate: u8) -> [u8; SIZE] {
+// I&M4 in a slot, with this gate: its kind, its length and 54 octets.
+#[inline(never)]
+fn with_im4(front: &[u8; 13], gate: u8) -> MemoryFlash<SIZE> {
     let mut entry = [b'4'; 56];
     entry[0] = 0x0B;
     entry[1] = 54;
-    let mut bytes = with_slot(front, &entry);
-    bytes[767] = gate;
-    bytes
+    MemoryFlash::from_sectors(with_slot(front, &entry, gate), [0xFF; SIZE])
 }
 
 #[test]
-fn version_1_has_no_slot_of_im4(rt: HostRuntime) -> Result<(), std::test::Fail> {
-    let mut flash = MemoryFlash::from_sectors(im4_slot(OLD, 0), [0xFF; SIZE]);
+fn version_1_has_no_slot_of_im4(rt: HostRuntime) -> Result<(), Fail> {
+    let mut flash = with_im4(OLD, 0);
     assert!(rt; matches!(start(&mut flash), Err(BootFault::Foreign)));
-    let mut flash = MemoryFlash::from_sectors(im4_slot(OLD, 1), [0xFF; SIZE]);
-    let journal = start(&mut flash)?;
-    assert_eq!(rt; journal.settings().im4.as_bytes(), [0; 54].as_slice());
-    drop(journal);
-    let mut flash = MemoryFlash::from_sectors(im4_slot(FIRST, 0), [0xFF; SIZE]);
-    let journal = start(&mut flash)?;
-    assert_eq!(rt; journal.settings().im4.as_bytes(), [b'4'; 54].as_slice());
+    let mut flash = with_im4(OLD, 1);
+    has_im4(&rt, &start(&mut flash)?, 0);
+    let mut flash = with_im4(FIRST, 0);
+    has_im4(&rt, &start(&mut flash)?, b'4');
     Ok(())
 }
 

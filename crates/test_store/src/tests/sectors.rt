@@ -1,9 +1,11 @@
 // Sectors of 4,096 bytes, which have fourteen slots, until the next one is needed and until no commit has room. The bytes
 // were worked out by hand from the layout.
-use flash_model::{Flash, FlashFault, Lent, MemoryFlash, Order, Sector};
+use super::{Stored, commit, is_cut, is_left, is_named, keep, lie, set, start};
+use flash_model::{Flash, FlashFault, MemoryFlash, Order, Sector};
 use pn_values::{Command, ImValue, IpSuite, Padded, StationName};
-use settings_journal::{BootFault, CommitFault, Journal};
+use settings_journal::CommitFault;
 use std::alloc::Global;
+use std::process::Abort;
 use std::test::Fail;
 
 /// The size of a sector of the demo device.
@@ -15,26 +17,11 @@ const SMALLEST: usize = 768;
 /// How many names fill two sectors: a base, and fourteen slots, in each.
 const FULL: u32 = 30;
 
-/// A journal over a flash that stays where it is.
-type Stored<'a, const S: usize> = Journal<Lent<'a, MemoryFlash<S>>, S>;
-
-fn start<const S: usize>(flash: &mut MemoryFlash<S>) -> Result<Stored<'_, S>, BootFault> {
-    Journal::boot(Lent::new(flash)).map_err(|refused| refused.0)
-}
-
-/// A name, permanent.
-fn set(name: &[u8]) -> Result<Command, Fail> {
-    Ok(Command::SetName {
-        permanent: true,
-        name: station_names::check(name)?,
-    })
-}
-
 /// Sets the names `n1` up to that of this number, each by one commit.
 fn set_names(alloc: Global, journal: &mut Stored<'_, SIZE>, last: u32) -> Result<(), Fail> {
     for number in 1..=last {
         let name = format!(in alloc; "n{number}")?;
-        journal.commit(&set(name.as_bytes())?)?;
+        keep(journal, name.as_bytes())?;
     }
     Ok(())
 }
@@ -45,52 +32,57 @@ fn thirty_names_fill_both_sectors(rt: HostRuntime) -> Result<(), Fail> {
     let mut journal = start(&mut flash)?;
     set_names(rt.alloc(), &mut journal, FULL)?;
     drop(journal);
-    let (first, second) = (flash.sector(Sector::First), flash.sector(Sector::Second));
-    assert!(rt; first.starts_with(b"PNJ\x02\xFF\xFE\x02n1"));
-    assert!(rt; first[512..].starts_with(b"\x01\x02n2"));
-    assert!(rt; first[3840..].starts_with(b"\x01\x03n15"));
-    assert!(rt; second.starts_with(b"PNJ\x02\xFF\xFD\x03n16"));
-    assert!(rt; second[512..].starts_with(b"\x01\x03n17"));
-    assert!(rt; second[3840..].starts_with(b"\x01\x03n30"));
+    lie(&rt, &flash, (Sector::First, 0), b"PNJ\x02\xFF\xFE\x02n1");
+    lie(&rt, &flash, (Sector::First, 512), b"\x01\x02n2");
+    lie(&rt, &flash, (Sector::First, 3840), b"\x01\x03n15");
+    lie(&rt, &flash, (Sector::Second, 0), b"PNJ\x02\xFF\xFD\x03n16");
+    lie(&rt, &flash, (Sector::Second, 512), b"\x01\x03n17");
+    lie(&rt, &flash, (Sector::Second, 3840), b"\x01\x03n30");
     for gate in [511, 767, 4095] {
-        assert_eq!(rt; (first[gate], second[gate]), (0, 0), "at {gate}");
+        lie(&rt, &flash, (Sector::First, gate), &[0]);
+        lie(&rt, &flash, (Sector::Second, gate), &[0]);
     }
     Ok(())
 }
+
+/// In a flash that is erased first, a commit behind the names that fill both sectors is cut short: this name is left.
+fn outlives(
+    rt: &impl Abort,
+    alloc: Global,
+    flash: &mut MemoryFlash<SIZE>,
+    (after, mask, name): (u32, [u8; 8], &[u8]),
+) -> Result<(), Fail> {
+    flash.erase(Sector::First)?;
+    flash.erase(Sector::Second)?;
+    let mut journal = start(flash)?;
+    set_names(alloc, &mut journal, FULL)?;
+    let cut = is_cut(&mut journal, (after, mask), b"n31")?;
+    assert!(rt; cut, "at {after} {mask:?}");
+    drop(journal);
+    flash.power_up();
+    is_left(rt, flash, name)
+}
+
+/// A flash call of the commit behind the thirtieth name that is cut short, its mask, and the name that is left.
+const CUTS: [(u32, [u8; 8], &[u8]); 9] = [
+    (0, [0x00; 8], b"n30"),
+    (0, [0x55; 8], b"n30"),
+    (0, [0xFF; 8], b"n30"),
+    (0, [0, 0, 0, 0, 0xFF, 0xFF, 0, 0], b"n30"),
+    (1, [0x00; 8], b"n30"),
+    (1, [0x55; 8], b"n30"),
+    (1, [0xFF; 8], b"n30"),
+    (2, [0x55; 8], b"n30"),
+    (2, [0xFF; 8], b"n31"),
+];
 
 // The next command erases the first sector, programs a base there and opens its gate. Whichever of the three calls is cut
 // short, the last name is there, unless the gate is open whole.
 #[test]
 fn a_full_sector_outlives_its_follower(rt: HostRuntime) -> Result<(), Fail> {
-    let last = b"n30".as_slice();
-    let cases = [
-        (0, [0x00; 8], last),
-        (0, [0x55; 8], last),
-        (0, [0xFF; 8], last),
-        (0, [0, 0, 0, 0, 0xFF, 0xFF, 0, 0], last),
-        (1, [0x00; 8], last),
-        (1, [0x55; 8], last),
-        (1, [0xFF; 8], last),
-        (2, [0x55; 8], last),
-        (2, [0xFF; 8], b"n31".as_slice()),
-    ];
     let mut flash = MemoryFlash::<SIZE>::blank();
-    for (after, mask, name) in cases {
-        flash.erase(Sector::First)?;
-        flash.erase(Sector::Second)?;
-        let mut journal = start(&mut flash)?;
-        set_names(rt.alloc(), &mut journal, FULL)?;
-        journal.arm(Order::Cut { after, mask });
-        let cut = journal.commit(&set(b"n31")?);
-        assert!(rt; matches!(cut, Err(CommitFault::FlashFault)));
-        drop(journal);
-        flash.power_up();
-        let again = start(&mut flash)?;
-        assert_eq!(rt;
-            again.settings().name.as_bytes(),
-            name,
-            "at {after} {mask:?}"
-        );
+    for cut in CUTS {
+        outlives(&rt, rt.alloc(), &mut flash, cut)?;
     }
     Ok(())
 }
@@ -100,23 +92,27 @@ fn a_full_sector_outlives_its_follower(rt: HostRuntime) -> Result<(), Fail> {
 fn the_slot_behind_one_that_was_cut_short_is_used(rt: HostRuntime) -> Result<(), Fail> {
     let mut flash = MemoryFlash::<SIZE>::blank();
     let mut journal = start(&mut flash)?;
-    journal.commit(&set(b"pump-1")?)?;
-    let mask = [0x55; 8];
-    journal.arm(Order::Cut { after: 1, mask });
-    let cut = journal.commit(&set(b"pump-2")?);
-    assert!(rt; matches!(cut, Err(CommitFault::FlashFault)));
+    keep(&mut journal, b"pump-1")?;
+    assert!(rt; is_cut(&mut journal, (1, [0x55; 8]), b"pump-2")?);
     drop(journal);
     flash.power_up();
     let mut journal = start(&mut flash)?;
-    assert_eq!(rt; journal.settings().name.as_bytes(), b"pump-1".as_slice());
-    journal.commit(&set(b"pump-3")?)?;
+    is_named(&rt, &journal, b"pump-1");
+    keep(&mut journal, b"pump-3")?;
     drop(journal);
-    assert_eq!(rt; flash.sector(Sector::First)[767], 0xAA);
-    assert!(rt; flash.sector(Sector::First)[768..].starts_with(b"\x01\x06pump-3"));
-    assert_eq!(rt; flash.sector(Sector::First)[1023], 0x00);
-    let again = start(&mut flash)?;
-    assert_eq!(rt; again.settings().name.as_bytes(), b"pump-3".as_slice());
-    Ok(())
+    lie(&rt, &flash, (Sector::First, 767), &[0xAA]);
+    lie(&rt, &flash, (Sector::First, 768), b"\x01\x06pump-3");
+    lie(&rt, &flash, (Sector::First, 1023), &[0x00]);
+    is_left(&rt, &mut flash, b"pump-3")
+}
+
+/// The commit of a date is cut short in its last call, and all of it reached the flash.
+fn is_dated(journal: &mut Stored<'_, SIZE>) -> bool {
+    let mask = [0xFF; 8];
+    journal.arm(Order::Cut { after: 1, mask });
+    let date = Padded::new(*b"2024-05-06 07:08");
+    let cut = journal.commit(&Command::SetIm(ImValue::Im2(date)));
+    matches!(cut, Err(CommitFault::FlashFault))
 }
 
 // The gate's byte is the last that a commit programs: where it is 00, the command counts, though power was lost in the call.
@@ -124,12 +120,8 @@ fn the_slot_behind_one_that_was_cut_short_is_used(rt: HostRuntime) -> Result<(),
 fn a_date_whose_gate_opened_is_kept(rt: HostRuntime) -> Result<(), Fail> {
     let mut flash = MemoryFlash::<SIZE>::blank();
     let mut journal = start(&mut flash)?;
-    journal.commit(&set(b"pump-1")?)?;
-    let mask = [0xFF; 8];
-    journal.arm(Order::Cut { after: 1, mask });
-    let date = Padded::new(*b"2024-05-06 07:08");
-    let cut = journal.commit(&Command::SetIm(ImValue::Im2(date)));
-    assert!(rt; matches!(cut, Err(CommitFault::FlashFault)));
+    keep(&mut journal, b"pump-1")?;
+    assert!(rt; is_dated(&mut journal));
     drop(journal);
     flash.power_up();
     let again = start(&mut flash)?;
@@ -137,7 +129,7 @@ fn a_date_whose_gate_opened_is_kept(rt: HostRuntime) -> Result<(), Fail> {
         again.settings().im2.as_bytes(),
         b"2024-05-06 07:08".as_slice()
     );
-    assert_eq!(rt; again.settings().name.as_bytes(), b"pump-1".as_slice());
+    is_named(&rt, &again, b"pump-1");
     Ok(())
 }
 
@@ -179,20 +171,26 @@ fn commands() -> Result<[Command; 8], Fail> {
     ])
 }
 
+/// There is no room for a command of any kind, and each leaves the journal as it was.
+fn has_no_room(rt: &impl Abort, journal: &mut Stored<'_, SIZE>) -> Result<(), Fail> {
+    assert!(rt; journal.is_exhausted());
+    for command in commands()? {
+        let refused = journal.commit(&command);
+        assert!(rt; matches!(refused, Err(CommitFault::Exhausted)));
+    }
+    assert!(rt; !journal.has_failed());
+    assert_eq!(rt; journal.settings().im1.as_bytes(), [b' '; 54].as_slice());
+    Ok(())
+}
+
 #[test]
 fn a_full_sector_of_the_last_generation_has_no_room(rt: HostRuntime) -> Result<(), Fail> {
     for version in [1, 2] {
         let mut flash = MemoryFlash::<SIZE>::blank();
         write_last(&mut flash, version)?;
         let mut journal = start(&mut flash)?;
-        assert!(rt; journal.is_exhausted(), "at {version}");
-        for command in commands()? {
-            let refused = journal.commit(&command);
-            assert!(rt; matches!(refused, Err(CommitFault::Exhausted)));
-        }
-        assert!(rt; !journal.has_failed());
-        assert_eq!(rt; journal.settings().name.as_bytes(), b"pump-1".as_slice());
-        assert_eq!(rt; journal.settings().im1.as_bytes(), [b' '; 54].as_slice());
+        has_no_room(&rt, &mut journal)?;
+        is_named(&rt, &journal, b"pump-1");
         drop(journal);
         let mut untouched = MemoryFlash::<SIZE>::blank();
         write_last(&mut untouched, version)?;
@@ -212,16 +210,40 @@ fn each_generation_has_a_base_and_its_slots(rt: HostRuntime) -> Result<(), Fail>
     base[..13].copy_from_slice(b"PNJ\x02\x00\x64\x06pump-1");
     flash.program(Sector::First, 0, &base)?;
     flash.program(Sector::First, 511, &[0])?;
-    let command = set(b"pump-2")?;
     for _ in 0..201 {
         let mut journal = start(&mut flash)?;
         assert!(rt; !journal.is_exhausted());
-        journal.commit(&command)?;
+        keep(&mut journal, b"pump-2")?;
     }
     let mut journal = start(&mut flash)?;
     assert!(rt; journal.is_exhausted());
-    assert!(rt; matches!(journal.commit(&command), Err(CommitFault::Exhausted)));
-    assert_eq!(rt; journal.settings().name.as_bytes(), b"pump-2".as_slice());
+    let refused = commit(&mut journal, b"pump-2")?;
+    assert!(rt; matches!(refused, Err(CommitFault::Exhausted)));
+    is_named(&rt, &journal, b"pump-2");
+    Ok(())
+}
+
+/// A commit behind so many others changes the sector `here` and not the one `there`: of a slot's commit, that slot alone.
+fn is_beside(
+    rt: &impl Abort,
+    alloc: Global,
+    flash: &mut MemoryFlash<SIZE>,
+    (number, here, there): (usize, Sector, Sector),
+) -> Result<(), Fail> {
+    let was = Vec::from_slice(alloc, flash.sector(here))?;
+    let other = Vec::from_slice(alloc, flash.sector(there))?;
+    let mut journal = start(flash)?;
+    keep(&mut journal, b"pump-1")?;
+    drop(journal);
+    assert!(rt; flash.sector(there) == other.as_slice(), "at {number}");
+    let now = flash.sector(here);
+    assert!(rt; now != was.as_slice(), "at {number}");
+    let slot = number % 15;
+    if slot > 0 {
+        let place = 256 + 256 * slot;
+        assert!(rt; now[..place] == was[..place], "at {number}");
+        assert!(rt; now[place + 256..] == was[place + 256..], "at {number}");
+    }
     Ok(())
 }
 
@@ -230,25 +252,12 @@ fn each_generation_has_a_base_and_its_slots(rt: HostRuntime) -> Result<(), Fail>
 fn a_commit_leaves_what_is_stored_where_it_lies(rt: HostRuntime) -> Result<(), Fail> {
     let mut flash = MemoryFlash::<SIZE>::blank();
     for number in 0..32usize {
-        let (here, there) = if number / 15 % 2 == 0 {
-            (Sector::First, Sector::Second)
+        let place = if number / 15 % 2 == 0 {
+            (number, Sector::First, Sector::Second)
         } else {
-            (Sector::Second, Sector::First)
+            (number, Sector::Second, Sector::First)
         };
-        let was = Vec::from_slice(rt.alloc(), flash.sector(here))?;
-        let other = Vec::from_slice(rt.alloc(), flash.sector(there))?;
-        let mut journal = start(&mut flash)?;
-        journal.commit(&set(b"pump-1")?)?;
-        drop(journal);
-        assert!(rt; flash.sector(there) == other.as_slice(), "at {number}");
-        let now = flash.sector(here);
-        assert!(rt; now != was.as_slice(), "at {number}");
-        let slot = number % 15;
-        if slot > 0 {
-            let place = 256 + 256 * slot;
-            assert!(rt; now[..place] == was[..place], "at {number}");
-            assert!(rt; now[place + 256..] == was[place + 256..], "at {number}");
-        }
+        is_beside(&rt, rt.alloc(), &mut flash, place)?;
     }
     Ok(())
 }

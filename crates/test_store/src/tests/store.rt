@@ -4,57 +4,80 @@ use flash_model::{Lent, MemoryFlash, Order};
 use pn_values::{BlockError, Command, ImValue, Padded, SetItem};
 use settings_journal::BootFault;
 use settings_store::Store;
+use std::process::Abort;
+use std::test::Fail;
 
 /// The smallest size: room for one slot.
 const SIZE: usize = 768;
+
+/// A store over a flash that stays where it is.
+type Kept<'a> = Store<Lent<'a, MemoryFlash<SIZE>>, SIZE>;
 
 fn date(byte: u8) -> SetItem {
     SetItem::Ask(Command::SetIm(ImValue::Im2(Padded::new([byte; 16]))))
 }
 
-fn start(
-    flash: &mut MemoryFlash<SIZE>,
-) -> Result<Store<Lent<'_, MemoryFlash<SIZE>>, SIZE>, BootFault> {
-    Store::boot(Lent::new(flash)).map_err(|refused| refused.0)
+fn start(flash: &mut MemoryFlash<SIZE>) -> Result<Kept<'_>, BootFault> {
+    match Store::boot(Lent::new(flash)) {
+        Ok(store) => Ok(store),
+        Err((fault, _)) => Err(fault),
+    }
+}
+
+/// An item is carried out, and answered so.
+fn carries(rt: &impl Abort, store: &mut Kept<'_>, item: &SetItem, answer: BlockError) {
+    assert_eq!(rt; store.carry(item), answer);
+}
+
+/// The date that runs is this octet over and over.
+fn runs(rt: &impl Abort, store: &Kept<'_>, octet: u8) {
+    assert_eq!(rt; store.running().im2.as_bytes(), [octet; 16].as_slice());
+}
+
+/// The same of the date that is stored.
+fn is_stored(rt: &impl Abort, store: &Kept<'_>, octet: u8) {
+    assert_eq!(rt; store.stored().im2.as_bytes(), [octet; 16].as_slice());
 }
 
 #[test]
-fn what_is_done_is_shown_and_found_again(rt: HostRuntime) -> Result<(), std::test::Fail> {
+fn what_is_done_is_shown_and_found_again(rt: HostRuntime) -> Result<(), Fail> {
     let mut flash = MemoryFlash::blank();
     let mut store = start(&mut flash)?;
-    assert_eq!(rt; store.carry(&date(b'1')), BlockError::Done);
+    carries(&rt, &mut store, &date(b'1'), BlockError::Done);
     let answer = SetItem::Answer(BlockError::Value);
-    assert_eq!(rt; store.carry(&answer), BlockError::Value);
-    assert_eq!(rt; store.carry(&date(b'2')), BlockError::Done);
-    assert_eq!(rt; store.running().im2.as_bytes(), [b'2'; 16].as_slice());
+    carries(&rt, &mut store, &answer, BlockError::Value);
+    carries(&rt, &mut store, &date(b'2'), BlockError::Done);
+    runs(&rt, &store, b'2');
     drop(store);
     let store = start(&mut flash)?;
-    assert_eq!(rt; store.stored().im2.as_bytes(), [b'2'; 16].as_slice());
-    assert_eq!(rt; store.running().im2.as_bytes(), [b'2'; 16].as_slice());
+    is_stored(&rt, &store, b'2');
+    runs(&rt, &store, b'2');
     Ok(())
 }
 
 #[test]
-fn a_loss_of_power_that_was_armed_ends_it(rt: HostRuntime) -> Result<(), std::test::Fail> {
+fn a_loss_of_power_that_was_armed_ends_it(rt: HostRuntime) -> Result<(), Fail> {
     let mut flash = MemoryFlash::blank();
     let mut store = start(&mut flash)?;
-    store.arm(Order::Cut {
-        after: 0,
-        mask: [0; 8],
-    });
-    assert_eq!(rt; store.carry(&date(b'1')), BlockError::Local);
-    assert_eq!(rt; store.carry(&date(b'2')), BlockError::Local);
+    let mask = [0; 8];
+    store.arm(Order::Cut { after: 0, mask });
+    carries(&rt, &mut store, &date(b'1'), BlockError::Local);
+    carries(&rt, &mut store, &date(b'2'), BlockError::Local);
     assert!(rt; store.is_lost());
-    assert_eq!(rt; store.running().im2.as_bytes(), [b' '; 16].as_slice());
+    runs(&rt, &store, b' ');
     drop(store);
     flash.power_up();
-    let store = start(&mut flash)?;
-    assert_eq!(rt; store.stored().im2.as_bytes(), [b' '; 16].as_slice());
+    is_stored(&rt, &start(&mut flash)?, b' ');
     Ok(())
 }
 
+/// What four items are answered.
+fn answers(store: &mut Kept<'_>, items: &[SetItem; 4]) -> ArrayVec<BlockError, 4> {
+    store.carry_out(items)
+}
+
 #[test]
-fn items_are_carried_out_in_order(rt: HostRuntime) -> Result<(), std::test::Fail> {
+fn items_are_carried_out_in_order(rt: HostRuntime) -> Result<(), Fail> {
     let mut flash = MemoryFlash::blank();
     let mut store = start(&mut flash)?;
     let items = [
@@ -63,17 +86,13 @@ fn items_are_carried_out_in_order(rt: HostRuntime) -> Result<(), std::test::Fail
         SetItem::Answer(BlockError::Suboption),
         date(b'2'),
     ];
-    let answers: ArrayVec<BlockError, 4> = store.carry_out(&items);
-    assert_eq!(rt;
-        answers.as_slice(),
-        [
-            BlockError::Done,
-            BlockError::Done,
-            BlockError::Suboption,
-            BlockError::Done
-        ]
-        .as_slice()
-    );
-    assert_eq!(rt; store.running().im2.as_bytes(), [b'2'; 16].as_slice());
+    let wanted = [
+        BlockError::Done,
+        BlockError::Done,
+        BlockError::Suboption,
+        BlockError::Done,
+    ];
+    assert_eq!(rt; answers(&mut store, &items).as_slice(), wanted.as_slice());
+    runs(&rt, &store, b'2');
     Ok(())
 }
