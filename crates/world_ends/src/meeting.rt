@@ -1,5 +1,5 @@
 //! How a world begins as the law of a start-up asks.
-ghost use Rattle.std.specs.Prelude.{◌≡◌, true, IfOk};
+ghost use Rattle.std.specs.Prelude.{◌≡◌, true, [], None};
 ghost use Rattle.std.specs.List.{AllByRecursion};
 ghost use Rattle.connect_blocks.specs.ArBlock.{is_some_uuid};
 ghost use Rattle.world_ends.specs.Played.{Begins, CanMeet, IsParameter};
@@ -10,8 +10,7 @@ use device_core::Device;
 use flash_model::Flash;
 use network_world::World;
 use plans::PlanRecord;
-use pn_values::{Identity, Real};
-use settings_journal::BootFault;
+use pn_values::Identity;
 use std::alloc::Global;
 use uuid::Uuid;
 
@@ -44,23 +43,20 @@ pub fn can_meet(setup: &Setup, identity: &Identity) -> bool
         && are_parameters(setup.plan.records())
 }
 
-/// The world of a device that has just started from what this flash keeps, and of a controller that was just made of this set-up. It
-/// begins as the law of a start-up asks. A refusal hands the flash back.
+/// The world of a device that answered no call since its start and has no relation, and of a controller that was just made of this
+/// set-up. It begins as the law of a start-up asks.
 pub fn begin_world<F: Flash<S>, const S: usize>(
     alloc: Global,
-    identity: Identity,
-    real: Real,
-    flash: F,
+    device: Device<F, S>,
     setup: Setup,
-) -> Result<World<F, S>, (BootFault, F)>
-    ensures { IfOk result (λ world. Begins setup identity world) }
+) -> World<F, S>
+    requires uncalled { device.live.rest.calls ≡ [] }
+    requires unrelated { device.live.rest.link ≡ None }
+    ensures { Begins setup device.station.identity result }
 {
-    match Device::boot(identity, real, flash) {
-        Ok(device) => Ok(World::new(
-            alloc,
-            device,
-            Controller::new(setup.plan, setup.ar, setup.activity),
-        )),
-        Err(refused) => Err(refused),
-    }
+    World::new(
+        alloc,
+        device,
+        Controller::new(setup.plan, setup.ar, setup.activity),
+    )
 }
