@@ -1,16 +1,23 @@
 //! The station of a catalogue over the smallest flash, and its controller.
+ghost use Rattle.std.specs.Prelude.{◌≡◌, IfSome};
+ghost use Rattle.demo_station.specs.Demo.{demo};
+ghost use Rattle.world_ends.specs.Played.{Begins};
+ghost use Rattle.test_worlds.specs.Lawful.{IsLawful};
+
 use arrayvec::ArrayVec;
 use configurator::plan_from_json;
-use controller_core::Controller;
+use controller_frames::Setup;
 use demo_station::identity;
 use device_core::Device;
 use flash_model::{MemoryFlash, Order};
 use frame_codec::Outbox;
-use network_world::World;
+use network_world::{Move, World};
+use plans::Plan;
 use pn_values::{ParameterRecord, Real, RealModule, RealSubmodule};
-use std::alloc::Global;
-use test_stations::{Station, set_pump};
+use std::alloc::{AllocError, Global};
+use test_stations::{Station, no_modules, set_pump, step};
 use uuid::Uuid;
+use world_ends::{begin_world, can_meet};
 
 /// The world: over the smallest flash.
 pub type Net = World<MemoryFlash<768>, 768>;
@@ -58,23 +65,69 @@ fn copied(real: &Real) -> Real {
     Real { modules }
 }
 
-/// The station "pump-1" with the modules of a catalogue, and a controller of its plan that was just made. If it is asked for, the flash
-/// call behind so many further ones fails. None where the catalogue has no plan, or there is no memory to read it.
-pub fn fresh_world(alloc: Global, catalogue: &str, fault: Option<u32>) -> Option<Fresh> {
-    let plan = plan_from_json(alloc, catalogue.as_bytes()).ok()?;
-    let real = copied(plan.real());
-    let records = plan.records().len();
-    let mut device: Station = Device::boot(identity(), real, MemoryFlash::blank()).ok()?;
-    let _ = device.step(&set_pump(b'1'), &mut Outbox::new());
-    if let Some(after) = fault {
-        device.arm(Order::Fault {
+/// The plan of a catalogue. Like the two functions behind it it has no contract, so that what such a call promises is read here alone.
+fn plan_of(alloc: Global, catalogue: &str) -> Option<Plan> {
+    plan_from_json(alloc, catalogue.as_bytes()).ok()
+}
+
+/// A flash that keeps the station name "pump-1".
+fn named_flash() -> Option<MemoryFlash<768>> {
+    let mut device: Station = Device::boot(identity(), no_modules(), MemoryFlash::blank()).ok()?;
+    let _ = step(&mut device, &set_pump(b'1'), &mut Outbox::new());
+    Some(device.into_flash())
+}
+
+/// Has the flash call behind so many further ones fail, if it is asked for.
+fn arm(device: &mut Station, fault: Option<u32>)
+    ensures live { device.new.live ≡ device.old.live }
+    ensures station { device.new.station ≡ device.old.station }
+{
+    match fault {
+        None => (),
+        Some(after) => device.arm(Order::Fault {
             after,
             mask: [0x55; 8],
-        });
+        }),
     }
-    let controller = Controller::new(plan, Uuid::from_bytes([1; 16]), Uuid::from_bytes([2; 16]));
-    Some(Fresh {
-        net: World::new(alloc, device, controller),
-        records,
-    })
+}
+
+/// The world of a station that starts with these modules from what this flash keeps, and of a controller that was just made.
+fn begun(
+    alloc: Global,
+    real: Real,
+    flash: MemoryFlash<768>,
+    fault: Option<u32>,
+    setup: Setup,
+) -> Option<Net>
+    ensures begins { IfSome result (λ world. Begins setup demo world) }
+{
+    let mut device: Station = Device::boot(identity(), real, flash).ok()?;
+    arm(&mut device, fault);
+    Some(begin_world(alloc, device, setup))
+}
+
+/// Plays moves in a world.
+pub(crate) fn play(net: &mut Net, moves: &[Move]) -> Result<(), AllocError> {
+    net.play(moves)
+}
+
+/// The station "pump-1" with the modules of a catalogue, and a controller of its plan that was just made. If it is asked for, the flash
+/// call behind so many further ones fails. None where the catalogue has no plan, or none of which the law of a start-up speaks, or there
+/// is no memory to read it.
+pub fn fresh_world(alloc: Global, catalogue: &str, fault: Option<u32>) -> Option<Fresh>
+    // What the law of a start-up asks of a world at its beginning, and of both ends.
+    ensures begins { IfSome result (λ fresh. IsLawful demo fresh.net) }
+{
+    let plan = plan_of(alloc, catalogue)?;
+    let (records, real) = (plan.records().len(), copied(plan.real()));
+    let setup = Setup {
+        plan,
+        ar: Uuid::from_bytes([1; 16]),
+        activity: Uuid::from_bytes([2; 16]),
+    };
+    if !can_meet(&setup, &identity()) {
+        return None;
+    }
+    let net = begun(alloc, real, named_flash()?, fault, setup)?;
+    Some(Fresh { net, records })
 }

@@ -1,10 +1,13 @@
 //! Rows of moves that were worked out by hand, each frame by its number, and that a world begins as the laws of both ends ask.
+use crate::station::play;
 use crate::{Kind, Net, Told, fresh_world};
 use controller_core::{Cause, State};
 use demo_station::identity;
 use network_world::{End, Move};
 use relations::Phase;
 use std::alloc::{AllocError, Global};
+use std::fmt::Debug;
+use std::process::Abort;
 use std::test::Fail;
 use test_stations::octets;
 
@@ -14,34 +17,43 @@ const PUMP: &str =
 
 /// Up to the Connect, frame 4: Identify and the Set of the address are answered.
 fn ask(net: &mut Net) -> Result<(), AllocError> {
-    net.play(&[
-        Move::Deliver(End::Device, 0),
-        Move::Deliver(End::Controller, 1),
-        Move::Deliver(End::Device, 2),
-        Move::Deliver(End::Controller, 3),
-    ])
+    play(
+        net,
+        &[
+            Move::Deliver(End::Device, 0),
+            Move::Deliver(End::Controller, 1),
+            Move::Deliver(End::Device, 2),
+            Move::Deliver(End::Controller, 3),
+        ],
+    )
 }
 
 /// The Connect is answered, by frame 5, and PrmEnd sent, frame 6.
 fn connect(net: &mut Net) -> Result<(), AllocError> {
-    net.play(&[
-        Move::Deliver(End::Device, 4),
-        Move::Deliver(End::Controller, 5),
-    ])
+    play(
+        net,
+        &[
+            Move::Deliver(End::Device, 4),
+            Move::Deliver(End::Controller, 5),
+        ],
+    )
 }
 
 /// PrmEnd is answered, by frame 7; ApplicationReady, frame 8, comes, and is answered by frame 9.
 fn end_parameters(net: &mut Net) -> Result<(), AllocError> {
-    net.play(&[
-        Move::Deliver(End::Device, 6),
-        Move::Deliver(End::Controller, 7),
-        Move::Deliver(End::Controller, 8),
-    ])
+    play(
+        net,
+        &[
+            Move::Deliver(End::Device, 6),
+            Move::Deliver(End::Controller, 7),
+            Move::Deliver(End::Controller, 8),
+        ],
+    )
 }
 
 /// The answer to ApplicationReady comes.
 fn confirm(net: &mut Net) -> Result<(), AllocError> {
-    net.play(&[Move::Deliver(End::Device, 9)])
+    play(net, &[Move::Deliver(End::Device, 9)])
 }
 
 fn world(alloc: Global) -> Result<Net, Fail> {
@@ -80,30 +92,53 @@ fn are_equal(net: &Net, one: usize, other: usize) -> bool {
     }
 }
 
+/// Two values are the same.
+fn same<T: PartialEq + Debug>(rt: &impl Abort, left: &T, right: &T) {
+    assert_eq!(rt; *left, *right);
+}
+
+/// How far the controller is.
+fn is_at(rt: &impl Abort, net: &Net, state: State) {
+    same(rt, &net.controller().state(), &state);
+}
+
+/// What the relation of the device waits for, if there is one.
+fn is_related(rt: &impl Abort, net: &Net, phase: Option<Phase>) {
+    same(rt, &net.device().phase(), &phase);
+}
+
+/// What the frame of this number is.
+fn is_kind(rt: &impl Abort, net: &Net, number: usize, kind: Kind) {
+    same(rt, &kind_of(net, number), &Some(kind));
+}
+
+/// The first frame is the controller's Identify, which comes from its own address.
+fn is_opened(rt: &impl Abort, net: &Net) -> Result<(), Fail> {
+    is_kind(rt, net, 0, Kind::Identify);
+    let frame = net.sent(0).ok_or("a frame")?;
+    assert!(rt; frame.as_slice() == net.controller().opening().as_slice());
+    same(
+        rt,
+        &frame.as_slice().get(6..12),
+        &Some([2, 0, 0, 0, 0, 2].as_slice()),
+    );
+    Ok(())
+}
+
 // What the laws ask of a world in which nothing happened: the controller was just made, of an ARUUID that is not zero, and nothing but its
 // Identify was sent, from another address than that of the device; the device has no relation.
 #[test]
 fn a_world_begins_as_the_laws_ask(rt: HostRuntime) -> Result<(), Fail> {
     let net = world(rt.alloc())?;
-    assert_eq!(rt; net.controller().state(), State::Looking);
+    is_at(&rt, &net, State::Looking);
     assert!(rt; net.controller().alarm().is_none());
     assert!(rt; *net.controller().ar().as_bytes() != [0; 16]);
     assert!(rt; are_sent(&net, 1));
-    assert_eq!(rt; kind_of(&net, 0), Some(Kind::Identify));
-    match net.sent(0) {
-        Some(frame) => {
-            assert!(rt; frame.as_slice() == net.controller().opening().as_slice());
-            assert_eq!(rt;
-                frame.as_slice().get(6..12),
-                Some([2, 0, 0, 0, 0, 2].as_slice())
-            );
-        }
-        None => panic!(&rt; "a frame"),
-    }
-    assert_eq!(rt; identity().mac.octets, [2, 0, 0, 0, 0, 1]);
-    assert_eq!(rt; net.device().phase(), None);
+    is_opened(&rt, &net)?;
+    same(&rt, &identity().mac.octets, &[2, 0, 0, 0, 0, 1]);
+    is_related(&rt, &net, None);
     assert!(rt; net.device().ar().is_none());
-    assert_eq!(rt; net.device().taken().len(), 0);
+    same(&rt, &net.device().taken().len(), &0);
     Ok(())
 }
 
@@ -112,18 +147,18 @@ fn a_world_begins_as_the_laws_ask(rt: HostRuntime) -> Result<(), Fail> {
 fn a_start_up_as_moves(rt: HostRuntime) -> Result<(), Fail> {
     let mut net = world(rt.alloc())?;
     ask(&mut net)?;
-    assert_eq!(rt; net.controller().state(), State::Connecting);
-    assert_eq!(rt; kind_of(&net, 4), Some(Kind::Connect));
+    is_at(&rt, &net, State::Connecting);
+    is_kind(&rt, &net, 4, Kind::Connect);
     assert!(rt; are_sent(&net, 5));
     connect(&mut net)?;
-    assert_eq!(rt; net.controller().state(), State::Ending);
-    assert_eq!(rt; net.device().phase(), Some(Phase::Started));
+    is_at(&rt, &net, State::Ending);
+    is_related(&rt, &net, Some(Phase::Started));
     end_parameters(&mut net)?;
-    assert_eq!(rt; net.controller().state(), State::Exchanging);
-    assert_eq!(rt; net.device().phase(), Some(Phase::Awaiting));
+    is_at(&rt, &net, State::Exchanging);
+    is_related(&rt, &net, Some(Phase::Awaiting));
     confirm(&mut net)?;
-    assert_eq!(rt; net.controller().state(), State::Exchanging);
-    assert_eq!(rt; net.device().phase(), Some(Phase::Exchanging));
+    is_at(&rt, &net, State::Exchanging);
+    is_related(&rt, &net, Some(Phase::Exchanging));
     assert!(rt; are_sent(&net, 10));
     Ok(())
 }
@@ -133,11 +168,14 @@ fn a_start_up_as_moves(rt: HostRuntime) -> Result<(), Fail> {
 fn a_connect_that_comes_twice(rt: HostRuntime) -> Result<(), Fail> {
     let mut net = world(rt.alloc())?;
     ask(&mut net)?;
-    net.play(&[Move::Deliver(End::Device, 4), Move::Deliver(End::Device, 4)])?;
+    play(
+        &mut net,
+        &[Move::Deliver(End::Device, 4), Move::Deliver(End::Device, 4)],
+    )?;
     assert!(rt; are_sent(&net, 7));
-    assert_eq!(rt; kind_of(&net, 5), Some(Kind::Positive));
+    is_kind(&rt, &net, 5, Kind::Positive);
     assert!(rt; are_equal(&net, 5, 6));
-    assert_eq!(rt; net.device().phase(), Some(Phase::Started));
+    is_related(&rt, &net, Some(Phase::Started));
     assert!(rt; Told::by(&net).is_own);
     Ok(())
 }
@@ -148,25 +186,28 @@ fn every_frame_comes_again(rt: HostRuntime) -> Result<(), Fail> {
     let mut net = exchanging(rt.alloc())?;
     let taken = net.device().taken().len();
     for number in [9, 8, 7, 6, 5, 4, 3, 2, 1, 0] {
-        net.play(&[
-            Move::Deliver(End::Device, number),
-            Move::Deliver(End::Controller, number),
-        ])?;
+        play(
+            &mut net,
+            &[
+                Move::Deliver(End::Device, number),
+                Move::Deliver(End::Controller, number),
+            ],
+        )?;
     }
-    assert_eq!(rt; net.controller().state(), State::Exchanging);
-    assert_eq!(rt; net.device().phase(), Some(Phase::Exchanging));
-    assert_eq!(rt; net.device().taken().len(), taken);
+    is_at(&rt, &net, State::Exchanging);
+    is_related(&rt, &net, Some(Phase::Exchanging));
+    same(&rt, &net.device().taken().len(), &taken);
     Ok(())
 }
 
 /// An interval is over at both ends: the outputs are frame 10, the inputs 11.
 fn cycle(net: &mut Net) -> Result<(), AllocError> {
-    net.play(&[Move::Give(2, 1, octets(&[7, 9]))])?;
+    play(net, &[Move::Give(2, 1, octets(&[7, 9]))])?;
     for _ in 0..32 {
-        net.play(&[Move::Tick(End::Controller)])?;
+        play(net, &[Move::Tick(End::Controller)])?;
     }
     for _ in 0..32 {
-        net.play(&[Move::Tick(End::Device)])?;
+        play(net, &[Move::Tick(End::Device)])?;
     }
     Ok(())
 }
@@ -177,22 +218,25 @@ fn what_comes_to_an_end_that_left(rt: HostRuntime) -> Result<(), Fail> {
     let mut net = exchanging(rt.alloc())?;
     cycle(&mut net)?;
     assert!(rt; are_sent(&net, 12));
-    assert_eq!(rt; kind_of(&net, 10), Some(Kind::Outputs));
-    assert_eq!(rt; kind_of(&net, 11), Some(Kind::Inputs));
-    net.play(&[Move::Deliver(End::Device, 10)])?;
-    assert_eq!(rt; net.device().output(2, 1), Some([7, 9].as_slice()));
-    net.play(&[Move::Stop, Move::Deliver(End::Device, 12)])?;
-    assert_eq!(rt; kind_of(&net, 12), Some(Kind::Release));
-    assert_eq!(rt; net.controller().state(), State::Ended(Cause::Stopped));
-    assert_eq!(rt; net.device().phase(), None);
+    is_kind(&rt, &net, 10, Kind::Outputs);
+    is_kind(&rt, &net, 11, Kind::Inputs);
+    play(&mut net, &[Move::Deliver(End::Device, 10)])?;
+    same(&rt, &net.device().output(2, 1), &Some([7, 9].as_slice()));
+    play(&mut net, &[Move::Stop, Move::Deliver(End::Device, 12)])?;
+    is_kind(&rt, &net, 12, Kind::Release);
+    is_at(&rt, &net, State::Ended(Cause::Stopped));
+    is_related(&rt, &net, None);
     assert!(rt; are_sent(&net, 14));
     let told = Told::by(&net);
-    net.play(&[
-        Move::Deliver(End::Device, 10),
-        Move::Deliver(End::Controller, 11),
-        Move::Deliver(End::Device, 14),
-        Move::Deliver(End::Controller, 1_000),
-    ])?;
+    play(
+        &mut net,
+        &[
+            Move::Deliver(End::Device, 10),
+            Move::Deliver(End::Controller, 11),
+            Move::Deliver(End::Device, 14),
+            Move::Deliver(End::Controller, 1_000),
+        ],
+    )?;
     assert!(rt; Told::by(&net) == told);
     assert!(rt; are_sent(&net, 14));
     Ok(())

@@ -2,7 +2,7 @@
 use crate::kind::{Kind, counter_of, output_at, send_number_of, sum_of};
 use crate::law::{Law, is_newer, is_row_of_controller, is_row_of_device};
 use crate::schedule::Choice;
-use crate::station::{Fresh, Net};
+use crate::station::{Fresh, Net, play};
 use crate::told::{Outputs, Told, ZEROS};
 use controller_core::State;
 use network_world::End;
@@ -185,7 +185,7 @@ impl Watched {
     pub fn make(&mut self, choice: Choice) -> Result<Option<Law>, AllocError> {
         let before = self.told;
         let count = self.seen.len();
-        if let Err(error) = self.net.play(&[choice.to_move()]) {
+        if let Err(error) = play(&mut self.net, &[choice.to_move()]) {
             return self.without_memory(error);
         }
         self.told = Told::by(&self.net);

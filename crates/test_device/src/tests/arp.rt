@@ -1,9 +1,10 @@
 //! Who holds the device's address.
+use crate::tests::{notes, sends, sends_none};
 use device_core::Note;
 use flash_model::MemoryFlash;
 use frame_codec::Outbox;
 use std::test::Fail;
-use test_stations::{addressed, frame, is_padded, same, start, step};
+use test_stations::{addressed, frame, start};
 
 // The station 02-00-00-00-00-02 at 192.168.0.1 asks all stations who holds 192.168.0.2.
 const REQUEST: [u8; 42] = *b"\xff\xff\xff\xff\xff\xff\x02\x00\x00\x00\x00\x02\x08\x06\
@@ -17,12 +18,7 @@ const REPLY: [u8; 42] = *b"\x02\x00\x00\x00\x00\x02\x02\x00\x00\x00\x00\x01\x08\
 fn the_running_address_is_told(rt: HostRuntime) -> Result<(), Fail> {
     let mut outbox = Outbox::new();
     let mut device = addressed().ok_or("starts")?;
-    same(
-        &rt,
-        &step(&mut device, &frame(&REQUEST), &mut outbox),
-        &Note::Done,
-    );
-    assert!(rt; is_padded(&outbox, &REPLY));
+    sends(&rt, &mut device, &frame(&REQUEST), &mut outbox, &REPLY);
     Ok(())
 }
 
@@ -32,12 +28,7 @@ fn a_request_to_the_device_alone_is_answered(rt: HostRuntime) -> Result<(), Fail
     let mut device = addressed().ok_or("starts")?;
     let mut request = REQUEST;
     request[..6].copy_from_slice(&[2, 0, 0, 0, 0, 1]);
-    same(
-        &rt,
-        &step(&mut device, &frame(&request), &mut outbox),
-        &Note::Done,
-    );
-    assert!(rt; is_padded(&outbox, &REPLY));
+    sends(&rt, &mut device, &frame(&request), &mut outbox, &REPLY);
     Ok(())
 }
 
@@ -51,12 +42,13 @@ fn packets_that_are_not_answered(rt: HostRuntime) -> Result<(), Fail> {
         if let Some(there) = packet.get_mut(place) {
             *there = octet;
         }
-        same(
+        sends_none(
             &rt,
-            &step(&mut device, &frame(&packet), &mut outbox),
-            &Note::NotMine,
+            &mut device,
+            &frame(&packet),
+            &mut outbox,
+            Note::NotMine,
         );
-        same(&rt, &outbox.len(), &0);
     }
     Ok(())
 }
@@ -67,15 +59,13 @@ fn without_an_address_none_is_told(rt: HostRuntime) -> Result<(), Fail> {
     let mut device = start(MemoryFlash::blank()).ok_or("starts")?;
     let mut zero = REQUEST;
     zero[38..].copy_from_slice(&[0; 4]);
-    same(
+    notes(&rt, &mut device, &frame(&zero), &mut outbox, Note::NotMine);
+    notes(
         &rt,
-        &step(&mut device, &frame(&zero), &mut outbox),
-        &Note::NotMine,
-    );
-    same(
-        &rt,
-        &step(&mut device, &frame(&REQUEST), &mut outbox),
-        &Note::NotMine,
+        &mut device,
+        &frame(&REQUEST),
+        &mut outbox,
+        Note::NotMine,
     );
     Ok(())
 }

@@ -1,10 +1,12 @@
 //! Calls, answered, answered again, and not answered. Their octets and those of the answers were made by another program from
 //! RFC 768 and 791, C706 and IEC 61158-6-10.
+use crate::tests::{notes, same};
 use device_core::Note;
 use flash_model::MemoryFlash;
 use frame_codec::Outbox;
+use std::process::Abort;
 use std::test::Fail;
-use test_stations::{Station, addressed, frame, same, start, step};
+use test_stations::{Station, addressed, frame, start, step};
 
 // A Read Implicit of I&M0 at slot 0, subslot 1, asked for from 192.168.0.1, its sequence number 7.
 const CALL: [u8; 206] = *b"\x02\x00\x00\x00\x00\x01\x02\x00\x00\x00\x00\x02\x08\x00\
@@ -84,11 +86,11 @@ fn changed(changes: &[(usize, u8)]) -> [u8; 206] {
     bytes
 }
 
-// What becomes of a call, and how many frames are sent.
-fn heard(device: &mut Station, bytes: &[u8]) -> (Note, usize) {
+// This becomes of a call, and so many frames are sent.
+fn is_heard(rt: &impl Abort, device: &mut Station, bytes: &[u8], note: Note, frames: usize) {
     let mut outbox = Outbox::new();
-    let note = step(device, &frame(bytes), &mut outbox);
-    (note, outbox.len())
+    notes(rt, device, &frame(bytes), &mut outbox, note);
+    same(rt, &outbox.len(), &frames);
 }
 
 // Whether the one frame that answers a call is these octets.
@@ -115,6 +117,11 @@ fn answer_of(device: &mut Station, bytes: &[u8]) -> (usize, [u8; 4]) {
     }
 }
 
+// A call is refused with this status, in a frame without blocks.
+fn is_refused(rt: &impl Abort, device: &mut Station, bytes: &[u8], status: [u8; 4]) {
+    same(rt, &answer_of(device, bytes), &(142, status));
+}
+
 #[test]
 fn a_record_is_read(rt: HostRuntime) -> Result<(), Fail> {
     let mut device = addressed().ok_or("starts")?;
@@ -127,11 +134,7 @@ fn as_much_of_a_record_is_read_as_is_asked_for(rt: HostRuntime) -> Result<(), Fa
     let mut device = addressed().ok_or("starts")?;
     let mut outbox = Outbox::new();
     let ten = changed(&[(LENGTH, 0), (LENGTH + 1, 10)]);
-    same(
-        &rt,
-        &step(&mut device, &frame(&ten), &mut outbox),
-        &Note::Done,
-    );
+    notes(&rt, &mut device, &frame(&ten), &mut outbox, Note::Done);
     let sent = outbox.as_slice().first().ok_or("is answered")?.as_slice();
     same(&rt, &sent.len(), &216);
     same(
@@ -153,17 +156,9 @@ fn a_record_that_there_is_not(rt: HostRuntime) -> Result<(), Fail> {
 fn places_that_there_are_not(rt: HostRuntime) -> Result<(), Fail> {
     let mut device = addressed().ok_or("starts")?;
     let slot = changed(&[(SEQUENCE, 1), (SLOT, 3)]);
-    same(
-        &rt,
-        &answer_of(&mut device, &slot),
-        &(142, [0xDE, 0x80, 0xB2, 0]),
-    );
+    is_refused(&rt, &mut device, &slot, [0xDE, 0x80, 0xB2, 0]);
     let api = changed(&[(SEQUENCE, 2), (API, 1)]);
-    same(
-        &rt,
-        &answer_of(&mut device, &api),
-        &(142, [0xDE, 0x80, 0xB4, 0]),
-    );
+    is_refused(&rt, &mut device, &api, [0xDE, 0x80, 0xB4, 0]);
     Ok(())
 }
 
@@ -187,11 +182,13 @@ fn a_call_again_gets_the_same_frame(rt: HostRuntime) -> Result<(), Fail> {
 #[test]
 fn an_older_call_is_not_answered(rt: HostRuntime) -> Result<(), Fail> {
     let mut device = addressed().ok_or("starts")?;
-    same(&rt, &heard(&mut device, &CALL), &(Note::Done, 1));
-    same(
+    is_heard(&rt, &mut device, &CALL, Note::Done, 1);
+    is_heard(
         &rt,
-        &heard(&mut device, &changed(&[(SEQUENCE, 6)])),
-        &(Note::OldCall, 0),
+        &mut device,
+        &changed(&[(SEQUENCE, 6)]),
+        Note::OldCall,
+        0,
     );
     Ok(())
 }
@@ -199,10 +196,10 @@ fn an_older_call_is_not_answered(rt: HostRuntime) -> Result<(), Fail> {
 #[test]
 fn four_other_activities_later_a_call_is_new(rt: HostRuntime) -> Result<(), Fail> {
     let mut device = addressed().ok_or("starts")?;
-    same(&rt, &heard(&mut device, &CALL), &(Note::Done, 1));
+    is_heard(&rt, &mut device, &CALL, Note::Done, 1);
     for other in [1, 2, 3, 4u8] {
         let call = changed(&[(ACTIVITY, other)]);
-        same(&rt, &heard(&mut device, &call), &(Note::Done, 1));
+        is_heard(&rt, &mut device, &call, Note::Done, 1);
     }
     let again = changed(&[(INDEX, 0xF5)]);
     assert!(rt; is_answered(&mut device, &again, &NO_RECORD));
@@ -212,19 +209,11 @@ fn four_other_activities_later_a_call_is_new(rt: HostRuntime) -> Result<(), Fail
 #[test]
 fn blocks_that_are_not_counted_well_are_answered_and_not_kept(rt: HostRuntime) -> Result<(), Fail> {
     let mut device = addressed().ok_or("starts")?;
-    same(&rt, &heard(&mut device, &CALL), &(Note::Done, 1));
+    is_heard(&rt, &mut device, &CALL, Note::Done, 1);
     let older = changed(&[(SEQUENCE, 6), (OFFSET, 1)]);
-    same(
-        &rt,
-        &answer_of(&mut device, &older),
-        &(142, [0xDE, 0x81, 0x40, 0]),
-    );
+    is_refused(&rt, &mut device, &older, [0xDE, 0x81, 0x40, 0]);
     let newer = changed(&[(SEQUENCE, 8), (OFFSET, 1)]);
-    same(
-        &rt,
-        &answer_of(&mut device, &newer),
-        &(142, [0xDE, 0x81, 0x40, 0]),
-    );
+    is_refused(&rt, &mut device, &newer, [0xDE, 0x81, 0x40, 0]);
     assert!(rt; is_answered(&mut device, &CALL, &ANSWER));
     Ok(())
 }
@@ -234,13 +223,15 @@ fn calls_that_can_not_be_read(rt: HostRuntime) -> Result<(), Fail> {
     let mut device = addressed().ok_or("starts")?;
     let mut sum = CALL;
     sum[CHECKSUM + 1] = 0x41;
-    same(&rt, &heard(&mut device, &sum), &(Note::Fault, 0));
-    same(
+    is_heard(&rt, &mut device, &sum, Note::Fault, 0);
+    is_heard(
         &rt,
-        &heard(&mut device, &changed(&[(REPRESENTATION, 0x20)])),
-        &(Note::Fault, 0),
+        &mut device,
+        &changed(&[(REPRESENTATION, 0x20)]),
+        Note::Fault,
+        0,
     );
-    same(&rt, &heard(&mut device, &CALL[..205]), &(Note::Fault, 0));
+    is_heard(&rt, &mut device, &CALL[..205], Note::Fault, 0);
     Ok(())
 }
 
@@ -249,7 +240,7 @@ fn operations_that_are_not_served(rt: HostRuntime) -> Result<(), Fail> {
     let mut device = addressed().ok_or("starts")?;
     for operation in [6, 7, 255u8] {
         let call = changed(&[(OPERATION, operation), (OFFSET, 1)]);
-        same(&rt, &heard(&mut device, &call), &(Note::Fault, 0));
+        is_heard(&rt, &mut device, &call, Note::Fault, 0);
     }
     Ok(())
 }
@@ -266,7 +257,7 @@ fn operations_of_a_relation_that_there_is_not(rt: HostRuntime) -> Result<(), Fai
     ] {
         let mut device = addressed().ok_or("starts")?;
         let call = changed(&[(OPERATION, operation)]);
-        same(&rt, &answer_of(&mut device, &call), &(142, status));
+        is_refused(&rt, &mut device, &call, status);
     }
     Ok(())
 }
@@ -277,7 +268,7 @@ fn a_response_that_nobody_waits_for(rt: HostRuntime) -> Result<(), Fail> {
     let mut response = NO_RECORD;
     response[..6].copy_from_slice(&CALL[..6]);
     response[26..34].copy_from_slice(&CALL[26..34]);
-    same(&rt, &heard(&mut device, &response), &(Note::NoRelation, 0));
+    is_heard(&rt, &mut device, &response, Note::NoRelation, 0);
     Ok(())
 }
 
@@ -285,21 +276,21 @@ fn a_response_that_nobody_waits_for(rt: HostRuntime) -> Result<(), Fail> {
 fn datagrams_to_somebody_else(rt: HostRuntime) -> Result<(), Fail> {
     let mut device = addressed().ok_or("starts")?;
     let port = changed(&[(37, 0x95)]);
-    same(&rt, &heard(&mut device, &port), &(Note::NotMine, 0));
+    is_heard(&rt, &mut device, &port, Note::NotMine, 0);
     let station = changed(&[(5, 9)]);
-    same(&rt, &heard(&mut device, &station), &(Note::NotMine, 0));
+    is_heard(&rt, &mut device, &station, Note::NotMine, 0);
     // the header's checksum goes along with the address
     let address = changed(&[(33, 3), (25, 0xD8)]);
-    same(&rt, &heard(&mut device, &address), &(Note::NotMine, 0));
+    is_heard(&rt, &mut device, &address, Note::NotMine, 0);
     Ok(())
 }
 
 #[test]
 fn no_call_is_answered_without_an_address(rt: HostRuntime) -> Result<(), Fail> {
     let mut device = start(MemoryFlash::blank()).ok_or("starts")?;
-    same(&rt, &heard(&mut device, &CALL), &(Note::NotMine, 0));
+    is_heard(&rt, &mut device, &CALL, Note::NotMine, 0);
     // to the address of zeros
     let zero = changed(&[(24, 0x79), (25, 0x84), (30, 0), (31, 0), (33, 0)]);
-    same(&rt, &heard(&mut device, &zero), &(Note::NotMine, 0));
+    is_heard(&rt, &mut device, &zero, Note::NotMine, 0);
     Ok(())
 }

@@ -1,11 +1,12 @@
 //! A cycle of the device, and the start after it.
+use crate::tests::{is_named, same};
 use demo_station::identity;
 use device_core::{Event, Sink, cycle};
 use flash_model::{MemoryFlash, Sector};
 use frame_codec::Frame;
 use std::process::Abort;
 use std::test::Fail;
-use test_stations::{DONE, IDENTIFY, frame, no_modules, same, set_pump};
+use test_stations::{DONE, IDENTIFY, frame, no_modules, set_pump};
 
 // What is handed on, kept in memory.
 #[derive(Drop)]
@@ -54,11 +55,7 @@ fn a_cycle_with_a_loss(rt: HostRuntime) -> Result<(), Fail> {
     )
     .ok()
     .ok_or("starts again")?;
-    same(
-        &rt,
-        &device.running().name.as_bytes(),
-        &b"pump-1".as_slice(),
-    );
+    is_named(&rt, &device, b"pump-1");
     let first = device.flash().sector(Sector::First);
     same(&rt, &first.get(767).copied(), &Some(0xAA));
     same(&rt, &device.lamp(), &0);

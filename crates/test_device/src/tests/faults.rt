@@ -1,4 +1,5 @@
 //! What a station goes on with after a flash call that failed, and a start that cannot read.
+use crate::tests::{is_named, is_stored, notes, same, sends, sends_none};
 use demo_station::identity;
 use device_core::{Device, Event, Note};
 use flash_model::{MemoryFlash, Order};
@@ -7,8 +8,8 @@ use settings_journal::BootFault;
 use std::process::Abort;
 use std::test::Fail;
 use test_stations::{
-    DONE, IDENTIFY, PUMP_1, SET, Station, frame, is_padded, no_modules, restart, same, set_pump,
-    start, step,
+    DONE, IDENTIFY, PUMP_1, SET, Station, frame, is_padded, no_modules, restart, set_pump, start,
+    step,
 };
 
 // The answer "local application error" to a Set of a name.
@@ -35,30 +36,12 @@ fn a_set_is_refused_until_the_next_start(rt: HostRuntime) -> Result<(), Fail> {
     let mut device = faulted(&mut outbox).ok_or("starts")?;
     assert!(rt; is_padded(&outbox, &REFUSED));
     assert!(rt; !device.is_lost());
-    same(
-        &rt,
-        &step(&mut device, &set_pump(b'3'), &mut outbox),
-        &Note::Done,
-    );
-    assert!(rt; is_padded(&outbox, &REFUSED));
-    same(
-        &rt,
-        &device.running().name.as_bytes(),
-        &b"pump-1".as_slice(),
-    );
-    same(&rt, &device.stored().name.as_bytes(), &b"pump-1".as_slice());
+    sends(&rt, &mut device, &set_pump(b'3'), &mut outbox, &REFUSED);
+    is_named(&rt, &device, b"pump-1");
+    is_stored(&rt, &device, b"pump-1");
     let mut device = restart(device).ok_or("starts again")?;
-    same(
-        &rt,
-        &device.running().name.as_bytes(),
-        &b"pump-1".as_slice(),
-    );
-    same(
-        &rt,
-        &step(&mut device, &set_pump(b'3'), &mut outbox),
-        &Note::Done,
-    );
-    assert!(rt; is_padded(&outbox, &DONE));
+    is_named(&rt, &device, b"pump-1");
+    sends(&rt, &mut device, &set_pump(b'3'), &mut outbox, &DONE);
     Ok(())
 }
 
@@ -66,18 +49,8 @@ fn a_set_is_refused_until_the_next_start(rt: HostRuntime) -> Result<(), Fail> {
 fn all_else_goes_on(rt: HostRuntime) -> Result<(), Fail> {
     let mut outbox = Outbox::new();
     let mut device = faulted(&mut outbox).ok_or("starts")?;
-    same(
-        &rt,
-        &step(&mut device, &frame(&IDENTIFY), &mut outbox),
-        &Note::Done,
-    );
-    assert!(rt; is_padded(&outbox, &PUMP_1));
-    same(
-        &rt,
-        &step(&mut device, &Event::Tick, &mut outbox),
-        &Note::Done,
-    );
-    same(&rt, &outbox.len(), &0);
+    sends(&rt, &mut device, &frame(&IDENTIFY), &mut outbox, &PUMP_1);
+    sends_none(&rt, &mut device, &Event::Tick, &mut outbox, Note::Done);
     Ok(())
 }
 
@@ -85,22 +58,14 @@ fn all_else_goes_on(rt: HostRuntime) -> Result<(), Fail> {
 fn a_start_that_cannot_read_hands_the_flash_back(rt: HostRuntime) -> Result<(), Fail> {
     let mut outbox = Outbox::new();
     let mut device = start(MemoryFlash::blank()).ok_or("starts")?;
-    same(
-        &rt,
-        &step(&mut device, &frame(&SET), &mut outbox),
-        &Note::Done,
-    );
+    notes(&rt, &mut device, &frame(&SET), &mut outbox, Note::Done);
     let mut flash = device.into_flash();
     flash.fault_read(0);
     let refused = Device::boot(identity(), no_modules(), flash).err();
     let (fault, flash) = refused.ok_or("a read failed")?;
     same(&rt, &fault, &BootFault::FlashFault);
     let device = start(flash).ok_or("starts again")?;
-    same(
-        &rt,
-        &device.running().name.as_bytes(),
-        &b"pump-1".as_slice(),
-    );
+    is_named(&rt, &device, b"pump-1");
     Ok(())
 }
 

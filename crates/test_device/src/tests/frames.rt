@@ -1,36 +1,20 @@
 //! Frames that are answered, and frames that are not taken.
+use crate::tests::{notes, same, sends, sends_none};
 use device_core::Note;
 use flash_model::MemoryFlash;
 use frame_codec::{Bytes, Outbox};
 use std::process::Abort;
 use std::test::Fail;
-use test_stations::{
-    DONE, IDENTIFY, PUMP_1, SET, UNNAMED, frame, is_padded, restart, same, start, step,
-};
+use test_stations::{DONE, IDENTIFY, PUMP_1, SET, UNNAMED, frame, restart, start, step};
 
 #[test]
 fn a_name_is_set_kept_and_found(rt: HostRuntime) -> Result<(), Fail> {
     let mut outbox = Outbox::new();
     let mut device = start(MemoryFlash::blank()).ok_or("starts")?;
-    same(
-        &rt,
-        &step(&mut device, &frame(&IDENTIFY), &mut outbox),
-        &Note::Done,
-    );
-    assert!(rt; is_padded(&outbox, &UNNAMED));
-    same(
-        &rt,
-        &step(&mut device, &frame(&SET), &mut outbox),
-        &Note::Done,
-    );
-    assert!(rt; is_padded(&outbox, &DONE));
+    sends(&rt, &mut device, &frame(&IDENTIFY), &mut outbox, &UNNAMED);
+    sends(&rt, &mut device, &frame(&SET), &mut outbox, &DONE);
     let mut device = restart(device).ok_or("starts again")?;
-    same(
-        &rt,
-        &step(&mut device, &frame(&IDENTIFY), &mut outbox),
-        &Note::Done,
-    );
-    assert!(rt; is_padded(&outbox, &PUMP_1));
+    sends(&rt, &mut device, &frame(&IDENTIFY), &mut outbox, &PUMP_1);
     Ok(())
 }
 
@@ -46,8 +30,7 @@ fn frames_that_are_not_taken(rt: HostRuntime) -> Result<(), Fail> {
         (&elsewhere, Note::NotMine),
     ];
     for (bytes, note) in cases {
-        same(&rt, &step(&mut device, &frame(bytes), &mut outbox), &note);
-        same(&rt, &outbox.len(), &0);
+        sends_none(&rt, &mut device, &frame(bytes), &mut outbox, note);
     }
     Ok(())
 }
@@ -60,12 +43,7 @@ fn a_tagged_request_gets_the_untagged_answer(rt: HostRuntime) -> Result<(), Fail
     tagged[..12].copy_from_slice(&IDENTIFY[..12]);
     tagged[12..16].copy_from_slice(&[0x81, 0, 0, 0]);
     tagged[16..].copy_from_slice(&IDENTIFY[12..]);
-    same(
-        &rt,
-        &step(&mut device, &frame(&tagged), &mut outbox),
-        &Note::Done,
-    );
-    assert!(rt; is_padded(&outbox, &UNNAMED));
+    sends(&rt, &mut device, &frame(&tagged), &mut outbox, &UNNAMED);
     Ok(())
 }
 
@@ -89,7 +67,7 @@ fn numbers_of_notes(rt: HostRuntime) {
 fn is_noted<R: Abort>(rt: &R, bytes: &[u8], note: Note) -> Result<(), Fail> {
     let mut outbox = Outbox::new();
     let mut device = start(MemoryFlash::blank()).ok_or("starts")?;
-    same(rt, &step(&mut device, &frame(bytes), &mut outbox), &note);
+    notes(rt, &mut device, &frame(bytes), &mut outbox, note);
     same(rt, &outbox.len(), &usize::from(note == Note::Done));
     Ok(())
 }

@@ -1,14 +1,12 @@
 //! A station whose flash has no room for one more commit, and a flash that another layout was written to.
+use crate::tests::{same, sends};
 use demo_station::identity;
-use device_core::{Device, Note};
+use device_core::Device;
 use flash_model::{Flash, MemoryFlash, Sector};
 use frame_codec::Outbox;
 use settings_journal::BootFault;
 use std::test::Fail;
-use test_stations::{
-    IDENTIFY, PUMP_1, Station, frame, is_padded, no_modules, same, set_pump, start, step,
-    write_last,
-};
+use test_stations::{IDENTIFY, PUMP_1, Station, frame, no_modules, set_pump, start, write_last};
 
 // A reset of DCP without its block, and the answer without how the block came out.
 const RESET: [u8; 26] =
@@ -46,31 +44,16 @@ fn no_setting_and_no_reset_is_carried_out_without_room(rt: HostRuntime) -> Resul
     for version in [1, 2] {
         let mut outbox = Outbox::new();
         let mut device = full(version).ok_or("starts")?;
-        same(
-            &rt,
-            &step(&mut device, &set_pump(b'2'), &mut outbox),
-            &Note::Done,
-        );
-        assert!(rt; is_padded(&outbox, &FULL));
+        sends(&rt, &mut device, &set_pump(b'2'), &mut outbox, &FULL);
         for block in [
             *b"\x05\x06\x00\x02\x00\x02",
             *b"\x05\x06\x00\x02\x00\x04",
             *b"\x05\x05\x00\x02\x00\x00",
         ] {
             let (request, answer) = reset(block);
-            same(
-                &rt,
-                &step(&mut device, &frame(&request), &mut outbox),
-                &Note::Done,
-            );
-            assert!(rt; is_padded(&outbox, &answer));
+            sends(&rt, &mut device, &frame(&request), &mut outbox, &answer);
         }
-        same(
-            &rt,
-            &step(&mut device, &frame(&IDENTIFY), &mut outbox),
-            &Note::Done,
-        );
-        assert!(rt; is_padded(&outbox, &PUMP_1));
+        sends(&rt, &mut device, &frame(&IDENTIFY), &mut outbox, &PUMP_1);
         let flash = device.into_flash();
         let mut untouched = MemoryFlash::blank();
         write_last(&mut untouched, version, [0; 12])?;

@@ -1,10 +1,11 @@
 //! Where names lie in the flash, and what is left of them where power is lost in a commit.
+use crate::tests::{is_named, is_stored, notes, same};
 use device_core::Note;
 use flash_model::{MemoryFlash, Order, Sector};
 use frame_codec::Outbox;
 use std::process::Abort;
 use std::test::Fail;
-use test_stations::{Station, restart, same, set_pump, start, step};
+use test_stations::{Station, restart, set_pump, start, step};
 
 // A station that was named "pump-1", and then "pump-2".
 fn named_twice(outbox: &mut Outbox) -> Option<Station> {
@@ -14,16 +15,34 @@ fn named_twice(outbox: &mut Outbox) -> Option<Station> {
     Some(device)
 }
 
+// A sector of the station's flash.
+fn sector(device: &Station, sector: Sector) -> &[u8] {
+    device.flash().sector(sector)
+}
+
+// It begins with these octets.
+fn begins(rt: &impl Abort, device: &Station, at: Sector, octets: &[u8]) {
+    assert!(rt; sector(device, at).starts_with(octets));
+}
+
+// At this place of it lies this octet.
+fn lies_at(rt: &impl Abort, device: &Station, at: Sector, place: usize, octet: u8) {
+    same(rt, &sector(device, at).get(place).copied(), &Some(octet));
+}
+
+// Nothing was written to it.
+fn is_erased(rt: &impl Abort, device: &Station, at: Sector) {
+    assert!(rt; sector(device, at).iter().all(|x| *x == 0xFF));
+}
+
 #[test]
 fn the_first_name_lies_in_the_first_sector(rt: HostRuntime) -> Result<(), Fail> {
     let mut outbox = Outbox::new();
     let mut device = start(MemoryFlash::blank()).ok_or("starts")?;
     let _ = step(&mut device, &set_pump(b'1'), &mut outbox);
-    let first = device.flash().sector(Sector::First);
-    assert!(rt; first.starts_with(b"PNJ\x02\xff\xfe\x06pump-1"));
-    same(&rt, &first.get(511).copied(), &Some(0));
-    let second = device.flash().sector(Sector::Second);
-    assert!(rt; second.iter().all(|x| *x == 0xFF));
+    begins(&rt, &device, Sector::First, b"PNJ\x02\xff\xfe\x06pump-1");
+    lies_at(&rt, &device, Sector::First, 511, 0);
+    is_erased(&rt, &device, Sector::Second);
     Ok(())
 }
 
@@ -31,14 +50,12 @@ fn the_first_name_lies_in_the_first_sector(rt: HostRuntime) -> Result<(), Fail> 
 fn the_second_name_lies_in_the_slot_behind_it(rt: HostRuntime) -> Result<(), Fail> {
     let mut outbox = Outbox::new();
     let device = named_twice(&mut outbox).ok_or("starts")?;
-    let first = device.flash().sector(Sector::First);
-    assert!(rt; first.starts_with(b"PNJ\x02\xff\xfe\x06pump-1"));
-    same(&rt, &first.get(512).copied(), &Some(0x01));
-    same(&rt, &first.get(513).copied(), &Some(0x06));
-    same(&rt, &first.get(519).copied(), &Some(b'2'));
-    same(&rt, &first.get(767).copied(), &Some(0));
-    let second = device.flash().sector(Sector::Second);
-    assert!(rt; second.iter().all(|x| *x == 0xFF));
+    begins(&rt, &device, Sector::First, b"PNJ\x02\xff\xfe\x06pump-1");
+    lies_at(&rt, &device, Sector::First, 512, 0x01);
+    lies_at(&rt, &device, Sector::First, 513, 0x06);
+    lies_at(&rt, &device, Sector::First, 519, b'2');
+    lies_at(&rt, &device, Sector::First, 767, 0);
+    is_erased(&rt, &device, Sector::Second);
     Ok(())
 }
 
@@ -47,9 +64,8 @@ fn the_third_name_lies_in_the_other_sector(rt: HostRuntime) -> Result<(), Fail> 
     let mut outbox = Outbox::new();
     let mut device = named_twice(&mut outbox).ok_or("starts")?;
     let _ = step(&mut device, &set_pump(b'3'), &mut outbox);
-    let second = device.flash().sector(Sector::Second);
-    assert!(rt; second.starts_with(b"PNJ\x02\xff\xfd\x06pump-3"));
-    same(&rt, &second.get(511).copied(), &Some(0));
+    begins(&rt, &device, Sector::Second, b"PNJ\x02\xff\xfd\x06pump-3");
+    lies_at(&rt, &device, Sector::Second, 511, 0);
     Ok(())
 }
 
@@ -76,14 +92,10 @@ fn after_loss(after: u32, mask: [u8; 8]) -> Option<Station> {
 // It is named as it was left, and takes and keeps another name.
 fn goes_on<R: Abort>(rt: &R, mut device: Station, left: &[u8]) -> Result<(), Fail> {
     let mut outbox = Outbox::new();
-    same(rt, &device.running().name.as_bytes(), &left);
-    same(
-        rt,
-        &step(&mut device, &set_pump(b'4'), &mut outbox),
-        &Note::Done,
-    );
+    is_named(rt, &device, left);
+    notes(rt, &mut device, &set_pump(b'4'), &mut outbox, Note::Done);
     let device = restart(device).ok_or("starts a third time")?;
-    same(rt, &device.stored().name.as_bytes(), &b"pump-4".as_slice());
+    is_stored(rt, &device, b"pump-4");
     Ok(())
 }
 

@@ -8,6 +8,7 @@ use flash_model::{MemoryFlash, Order};
 use frame_codec::{Bytes, Frame, Outbox};
 use relations::Phase;
 use std::alloc::Global;
+use std::process::Abort;
 use std::test::Fail;
 use test_stations::{
     DONE, SET, Station, WRITE, call, frame, is_filled, is_padded, octets, plugged, set_pump, step,
@@ -66,15 +67,19 @@ fn controller(alloc: Global, catalogue: &str, octet: u8) -> Result<Controller, F
     ))
 }
 
-/// The controller hears frames. The last one that it sends then stays.
-fn hear(controller: &mut Controller, frames: &[Frame], sent: &mut Bytes) {
+/// What a controller sends of an event. As for a device, what such a step promises is read here, and not again in each test.
+fn told(controller: &mut Controller, event: &ControllerEvent) -> Outbox {
     let mut outbox = Outbox::new();
-    for frame in frames {
-        let event = ControllerEvent::Frame(octets(frame.as_slice()));
-        controller.step(&event, &mut outbox);
-        if let Some(last) = outbox.as_slice().last() {
-            *sent = octets(last.as_slice());
-        }
+    controller.step(event, &mut outbox);
+    outbox
+}
+
+/// The controller hears a frame. The last one that it sends then stays.
+fn hear(controller: &mut Controller, frame: &Frame, sent: &mut Bytes) {
+    let event = ControllerEvent::Frame(octets(frame.as_slice()));
+    let outbox = told(controller, &event);
+    if let Some(last) = outbox.as_slice().last() {
+        *sent = octets(last.as_slice());
     }
 }
 
@@ -100,11 +105,9 @@ impl Ends {
     fn turn(&mut self) {
         let event = frame(self.sent.as_slice());
         let _ = step(&mut self.device, &event, &mut self.answers);
-        hear(
-            &mut self.controller,
-            self.answers.as_slice(),
-            &mut self.sent,
-        );
+        for frame in self.answers.as_slice() {
+            hear(&mut self.controller, frame, &mut self.sent);
+        }
     }
 
     /// The same, so many times.
@@ -114,16 +117,53 @@ impl Ends {
         }
     }
 
-    /// What the controller is at.
-    fn state(&self) -> State {
-        self.controller.state()
-    }
-
     /// Both ends exchange data.
     fn started(alloc: Global) -> Result<Ends, Fail> {
         let mut ends = Ends::new(alloc, PUMP)?;
         ends.turns(5);
         Ok(ends)
+    }
+
+    /// What the controller is at.
+    fn is_at(&self, rt: &impl Abort, state: State) {
+        same(rt, &self.controller.state(), &state);
+    }
+
+    /// What the relation of the device waits for, if there is one.
+    fn is_related(&self, rt: &impl Abort, phase: Option<Phase>) {
+        same(rt, &self.device.phase(), &phase);
+    }
+
+    /// This becomes of an event at the device.
+    fn notes(&mut self, rt: &impl Abort, event: &Event, note: Note) {
+        same(rt, &step(&mut self.device, event, &mut self.answers), &note);
+    }
+
+    /// The device sent one frame, of so many octets.
+    fn is_answer_long(&self, rt: &impl Abort, length: usize) -> Result<(), Fail> {
+        let answer = one(&self.answers).ok_or("an answer")?;
+        same(rt, &answer.len(), &length);
+        Ok(())
+    }
+
+    /// The device sent one frame: these octets, filled up.
+    fn is_answer(&self, rt: &impl Abort, octets: &[u8]) {
+        assert!(rt; is_padded(&self.answers, octets));
+    }
+
+    /// The device answered a call with this status.
+    fn has_status(&self, rt: &impl Abort, status: [u8; 4]) {
+        same(rt, &status_of(&self.answers), &Some(status.as_slice()));
+    }
+
+    /// The date of installation under which the device runs.
+    fn has_date(&self, rt: &impl Abort, date: &[u8; 16]) {
+        same(rt, &self.device.running().im2.as_bytes(), &date.as_slice());
+    }
+
+    /// The name under which it runs.
+    fn is_named(&self, rt: &impl Abort, name: &[u8]) {
+        same(rt, &self.device.running().name.as_bytes(), &name);
     }
 }
 
@@ -136,13 +176,18 @@ fn reset(mode: u8) -> Bytes {
 
 /// Whether these octets, cut at any place, are no frame to the device.
 fn is_none_where_cut(device: &mut Station, octets: &[u8]) -> bool {
-    let mut outbox = Outbox::new();
     let mut is_none = true;
     for length in 0..octets.len() {
-        let note = step(device, &frame(&octets[..length]), &mut outbox);
-        is_none = is_none && note == Note::Fault && outbox.len() == 0;
+        is_none = is_none && is_fault(device, &octets[..length]);
     }
     is_none
+}
+
+/// Whether these octets are no frame to the device.
+fn is_fault(device: &mut Station, octets: &[u8]) -> bool {
+    let mut outbox = Outbox::new();
+    let note = step(device, &frame(octets), &mut outbox);
+    note == Note::Fault && outbox.len() == 0
 }
 
 /// The one frame in a box.
@@ -199,21 +244,23 @@ fn is_alarm_shown(controller: &Controller) -> bool {
     }
 }
 
+// What the controller is at behind each turn of a start-up.
+const STATES: [State; 5] = [
+    State::Addressing,
+    State::Connecting,
+    State::Ending,
+    State::Exchanging,
+    State::Exchanging,
+];
+
 #[test]
 fn a_start_up(rt: HostRuntime) -> Result<(), Fail> {
     let mut ends = Ends::new(rt.alloc(), PUMP)?;
-    let states = [
-        State::Addressing,
-        State::Connecting,
-        State::Ending,
-        State::Exchanging,
-        State::Exchanging,
-    ];
-    for state in states {
+    for state in STATES {
         ends.turn();
-        same(&rt, &ends.state(), &state);
+        ends.is_at(&rt, state);
     }
-    same(&rt, &ends.device.phase(), &Some(Phase::Exchanging));
+    ends.is_related(&rt, Some(Phase::Exchanging));
     Ok(())
 }
 
@@ -225,9 +272,8 @@ fn a_connect_that_is_cut_is_none(rt: HostRuntime) -> Result<(), Fail> {
     same(&rt, &ends.sent.len(), &533);
     assert!(rt; is_none_where_cut(&mut ends.device, ends.sent.as_slice()));
     ends.turn();
-    let answer = one(&ends.answers).ok_or("an answer")?;
-    same(&rt, &answer.len(), &212);
-    same(&rt, &ends.state(), &State::Ending);
+    ends.is_answer_long(&rt, 212)?;
+    ends.is_at(&rt, State::Ending);
     Ok(())
 }
 
@@ -235,13 +281,12 @@ fn a_connect_that_is_cut_is_none(rt: HostRuntime) -> Result<(), Fail> {
 fn other_modules_are_told(rt: HostRuntime) -> Result<(), Fail> {
     let mut ends = Ends::new(rt.alloc(), OTHER_MODULES)?;
     ends.turns(3);
-    let answer = one(&ends.answers).ok_or("an answer")?;
-    same(&rt, &answer.len(), &262);
+    ends.is_answer_long(&rt, 262)?;
     assert!(rt; ends_with(&ends.answers, 212, &DIFFERENCES));
-    same(&rt, &ends.state(), &State::Ended(Cause::ModuleDiff));
-    same(&rt, &ends.device.phase(), &Some(Phase::Started));
+    ends.is_at(&rt, State::Ended(Cause::ModuleDiff));
+    ends.is_related(&rt, Some(Phase::Started));
     ends.turn();
-    same(&rt, &ends.device.phase(), &None);
+    ends.is_related(&rt, None);
     Ok(())
 }
 
@@ -251,8 +296,8 @@ fn a_reset_that_is_refused_is_an_answer(rt: HostRuntime) -> Result<(), Fail> {
     let mut ends = Ends::started(rt.alloc())?;
     ends.sent = reset(7);
     ends.turn();
-    assert!(rt; is_padded(&ends.answers, &REFUSED));
-    same(&rt, &ends.state(), &State::Exchanging);
+    ends.is_answer(&rt, &REFUSED);
+    ends.is_at(&rt, State::Exchanging);
     Ok(())
 }
 
@@ -263,8 +308,8 @@ fn a_reset_is_an_err_and_an_answer(rt: HostRuntime) -> Result<(), Fail> {
     ends.sent = reset(2);
     ends.turn();
     assert!(rt; are_filled(&ends.answers, &ABORT, &RESET));
-    same(&rt, &ends.state(), &State::Ended(Cause::Aborted));
-    same(&rt, &ends.device.running().name.as_bytes(), &b"".as_slice());
+    ends.is_at(&rt, State::Ended(Cause::Aborted));
+    ends.is_named(&rt, b"");
     Ok(())
 }
 
@@ -273,23 +318,14 @@ fn no_name_is_set_before_the_release(rt: HostRuntime) -> Result<(), Fail> {
     let mut ends = Ends::started(rt.alloc())?;
     let mut refused = DONE;
     refused[32] = 6;
-    same(
-        &rt,
-        &step(&mut ends.device, &set_pump(b'9'), &mut ends.answers),
-        &Note::Done,
-    );
-    assert!(rt; is_padded(&ends.answers, &refused));
-    let mut outbox = Outbox::new();
-    ends.controller.step(&ControllerEvent::Stop, &mut outbox);
-    ends.sent = one(&outbox).ok_or("a Release")?;
+    ends.notes(&rt, &set_pump(b'9'), Note::Done);
+    ends.is_answer(&rt, &refused);
+    let stopped = told(&mut ends.controller, &ControllerEvent::Stop);
+    ends.sent = one(&stopped).ok_or("a Release")?;
     ends.turn();
-    same(&rt, &ends.device.phase(), &None);
-    same(
-        &rt,
-        &step(&mut ends.device, &set_pump(b'9'), &mut ends.answers),
-        &Note::Done,
-    );
-    assert!(rt; is_padded(&ends.answers, &DONE));
+    ends.is_related(&rt, None);
+    ends.notes(&rt, &set_pump(b'9'), Note::Done);
+    ends.is_answer(&rt, &DONE);
     Ok(())
 }
 
@@ -298,38 +334,16 @@ fn no_name_is_set_before_the_release(rt: HostRuntime) -> Result<(), Fail> {
 fn an_alarm_is_taken(rt: HostRuntime) -> Result<(), Fail> {
     let mut ends = Ends::started(rt.alloc())?;
     let raised = Event::Alarm(1, 1, octets(&[0xAA, 0xBB]));
-    same(
-        &rt,
-        &step(&mut ends.device, &raised, &mut ends.answers),
-        &Note::Done,
-    );
+    ends.notes(&rt, &raised, Note::Done);
     let alarm = one(&ends.answers).ok_or("an alarm")?;
-    let mut acks = Outbox::new();
-    ends.controller
-        .step(&ControllerEvent::Frame(alarm), &mut acks);
+    let acks = told(&mut ends.controller, &ControllerEvent::Frame(alarm));
     assert!(rt; is_alarm_shown(&ends.controller));
     let again = Event::Alarm(1, 1, octets(&[0xCC]));
-    same(
-        &rt,
-        &step(&mut ends.device, &again, &mut ends.answers),
-        &Note::Refused,
-    );
+    ends.notes(&rt, &again, Note::Refused);
     let (ack, alarm_ack) = two(&acks).ok_or("an ACK and an AlarmAck")?;
-    same(
-        &rt,
-        &step(&mut ends.device, &ack, &mut ends.answers),
-        &Note::Done,
-    );
-    same(
-        &rt,
-        &step(&mut ends.device, &alarm_ack, &mut ends.answers),
-        &Note::Done,
-    );
-    same(
-        &rt,
-        &step(&mut ends.device, &again, &mut ends.answers),
-        &Note::Done,
-    );
+    ends.notes(&rt, &ack, Note::Done);
+    ends.notes(&rt, &alarm_ack, Note::Done);
+    ends.notes(&rt, &again, Note::Done);
     Ok(())
 }
 
@@ -338,37 +352,16 @@ fn an_alarm_is_taken(rt: HostRuntime) -> Result<(), Fail> {
 fn a_write_that_is_repeated_is_one_command(rt: HostRuntime) -> Result<(), Fail> {
     let mut ends = Ends::started(rt.alloc())?;
     let first = call(WRITE, 9, 5, &WRITE_DATE);
-    same(
-        &rt,
-        &step(
-            &mut ends.device,
-            &frame(first.as_slice()),
-            &mut ends.answers,
-        ),
-        &Note::Done,
-    );
-    same(&rt, &status_of(&ends.answers), &Some([0; 4].as_slice()));
-    let mut again = Outbox::new();
-    same(
-        &rt,
-        &step(&mut ends.device, &frame(first.as_slice()), &mut again),
-        &Note::Done,
-    );
+    ends.notes(&rt, &frame(first.as_slice()), Note::Done);
+    ends.has_status(&rt, [0; 4]);
     let answer = one(&ends.answers).ok_or("an answer")?;
-    let repeated = one(&again).ok_or("the answer again")?;
+    ends.notes(&rt, &frame(first.as_slice()), Note::Done);
+    let repeated = one(&ends.answers).ok_or("the answer again")?;
     same(&rt, &repeated.as_slice(), &answer.as_slice());
     let older = call(WRITE, 9, 4, &WRITE_DATE);
-    same(
-        &rt,
-        &step(&mut ends.device, &frame(older.as_slice()), &mut again),
-        &Note::OldCall,
-    );
-    same(&rt, &again.len(), &0);
-    same(
-        &rt,
-        &ends.device.running().im2.as_bytes(),
-        &b"2024-05-06 07:08".as_slice(),
-    );
+    ends.notes(&rt, &frame(older.as_slice()), Note::OldCall);
+    same(&rt, &ends.answers.len(), &0);
+    ends.has_date(&rt, b"2024-05-06 07:08");
     Ok(())
 }
 
@@ -381,19 +374,9 @@ fn a_fault_of_the_flash_is_a_status(rt: HostRuntime) -> Result<(), Fail> {
         mask: [0xFF; 8],
     });
     let write = call(WRITE, 9, 0, &WRITE_DATE);
-    same(
-        &rt,
-        &ends
-            .device
-            .step(&frame(write.as_slice()), &mut ends.answers),
-        &Note::Done,
-    );
-    same(
-        &rt,
-        &status_of(&ends.answers),
-        &Some([0xDF, 0x80, 0xB5, 5].as_slice()),
-    );
-    same(&rt, &ends.device.phase(), &Some(Phase::Exchanging));
+    ends.notes(&rt, &frame(write.as_slice()), Note::Done);
+    ends.has_status(&rt, [0xDF, 0x80, 0xB5, 5]);
+    ends.is_related(&rt, Some(Phase::Exchanging));
     Ok(())
 }
 
@@ -405,16 +388,11 @@ fn a_second_controller_is_refused(rt: HostRuntime) -> Result<(), Fail> {
     ends.sent = octets(other.opening().as_slice());
     ends.controller = other;
     ends.turn();
-    same(&rt, &ends.state(), &State::Connecting);
+    ends.is_at(&rt, State::Connecting);
     ends.turn();
-    same(
-        &rt,
-        &status_of(&ends.answers),
-        &Some([0xDB, 0x81, 0x40, 4].as_slice()),
-    );
-    let answer = one(&ends.answers).ok_or("an answer")?;
-    same(&rt, &answer.len(), &142);
-    same(&rt, &ends.state(), &State::Ended(Cause::Refused));
-    same(&rt, &ends.device.phase(), &Some(Phase::Exchanging));
+    ends.has_status(&rt, [0xDB, 0x81, 0x40, 4]);
+    ends.is_answer_long(&rt, 142)?;
+    ends.is_at(&rt, State::Ended(Cause::Refused));
+    ends.is_related(&rt, Some(Phase::Exchanging));
     Ok(())
 }

@@ -1,10 +1,10 @@
 //! Units of time at a station that exchanges, up to the first that sends something.
-use crate::tests::stations::{booted, kind, number};
+use crate::tests::stations::{booted, kind};
+use crate::tests::{calls, same};
 use device_port::Port;
 use std::alloc::Global;
 use std::process::Abort;
 use std::test::Fail;
-use test_stations::same;
 
 /// A Set of the address 192.168.0.2, and a Connect whose inputs are sent each millisecond, 32 units, as Scapy 2.5.0 builds them.
 const OPENING: [&str; 2] = [
@@ -23,24 +23,30 @@ fn take_all(port: &mut Port) {
 fn connected(alloc: Global) -> Result<Port, Fail> {
     let mut port = booted();
     for text in OPENING {
-        let octets = hex::decode(alloc, text.as_bytes())?;
-        let _ = port.frame(octets.as_slice());
-        take_all(&mut port);
+        hear(alloc, &mut port, text)?;
     }
     Ok(port)
+}
+
+// A frame comes, and all work of it is taken.
+fn hear(alloc: Global, port: &mut Port, text: &str) -> Result<(), Fail> {
+    let octets = hex::decode(alloc, text.as_bytes())?;
+    let _ = calls::frame(port, octets.as_slice());
+    take_all(port);
+    Ok(())
 }
 
 #[test]
 fn stops_behind_a_unit_that_sends(rt: HostRuntime) -> Result<(), Fail> {
     let mut port = connected(rt.alloc())?;
-    let left = port.tick(1000).ok().ok_or("time goes by")?;
+    let left = calls::left(&mut port, 1000).ok_or("time goes by")?;
     assert!(rt; left > 0);
     same(&rt, &kind(&port), &3);
-    same(&rt, &number(port.tick(left)), &7);
+    same(&rt, &calls::tick(&mut port, left), &7);
     port.advance();
-    assert!(rt; matches!(port.tick(31), Ok(0)));
+    same(&rt, &calls::left(&mut port, 31), &Some(0));
     same(&rt, &kind(&port), &0);
-    assert!(rt; matches!(port.tick(5), Ok(4)));
+    same(&rt, &calls::left(&mut port, 5), &Some(4));
     same(&rt, &kind(&port), &3);
     Ok(())
 }

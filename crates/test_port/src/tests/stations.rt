@@ -1,6 +1,7 @@
 //! The ports that are tried.
+use crate::tests::calls;
 use demo_station::identity;
-use device_port::{Port, Refusal, Work};
+use device_port::{Port, Work};
 use flash_model::Sector;
 use pn_values::Real;
 use recorded_flash::Recorded;
@@ -32,32 +33,24 @@ pub(crate) fn made() -> Port {
 /// One that started from a chip that was never written.
 pub(crate) fn booted() -> Port {
     let mut port = made();
-    let _ = port.fill(Sector::First, &[0xFF; 4096]);
-    let _ = port.fill(Sector::Second, &[0xFF; 4096]);
-    let _ = port.boot();
+    let _ = calls::fill(&mut port, Sector::First, &[0xFF; 4096]);
+    let _ = calls::fill(&mut port, Sector::Second, &[0xFF; 4096]);
+    let _ = calls::boot(&mut port);
     port
 }
 
 /// One that was given the name "pump-1", of which nothing is carried out yet.
 pub(crate) fn busy() -> Port {
     let mut port = booted();
-    let _ = port.frame(&SET);
+    let _ = calls::frame(&mut port, &SET);
     port
 }
 
 /// One of which a call failed as it was carried out.
 pub(crate) fn lost() -> Port {
     let mut port = busy();
-    let _ = port.lose();
+    let _ = calls::lose(&mut port);
     port
-}
-
-/// The number of what came of a call: 0 where it was carried out.
-pub(crate) fn number<T: Drop>(outcome: Result<T, Refusal>) -> u32 {
-    match outcome {
-        Ok(_) => 0,
-        Err(refusal) => refusal.number(),
-    }
 }
 
 /// What kind of work is next: 1 is a program call, 2 an erase, 3 a frame, and 0 nothing.

@@ -1,12 +1,13 @@
 //! What a relation exchanges: cyclic frames each way, and an alarm. The octets were worked out by hand from IEC 61158-6-10.
 use crate::tests::connects::{THREE, connect};
 use crate::tests::requests::{exchanging, exchanging_by, related, sent_in};
+use crate::tests::{is_at, notes, passes, same, sends, sends_none};
 use device_core::{Event, Note};
 use frame_codec::Outbox;
 use relations::Phase;
 use std::process::Abort;
 use std::test::Fail;
-use test_stations::{Station, frame, is_filled, is_padded, octets, same, set, step};
+use test_stations::{Station, frame, is_filled, is_padded, octets, set, step};
 
 // The first cyclic frame of the device, for which the application gave 12 34.
 const INPUTS: [u8; 64] =
@@ -77,11 +78,10 @@ fn inputs_are_sent_each_interval(rt: HostRuntime) -> Result<(), Fail> {
         (&[], Note::Refused),
     ] {
         let given = Event::Input(1, 1, octets(value));
-        same(&rt, &step(&mut device, &given, &mut outbox), &note);
-        same(&rt, &outbox.len(), &0);
+        sends_none(&rt, &mut device, &given, &mut outbox, note);
     }
     assert!(rt; is_interval_sent(&mut device, [0x12, 0x34]));
-    same(&rt, &sent_in(&mut device, 32), &1);
+    passes(&rt, &mut device, 32, 1);
     Ok(())
 }
 
@@ -89,39 +89,30 @@ fn inputs_are_sent_each_interval(rt: HostRuntime) -> Result<(), Fail> {
 fn one_alarm_stands_at_a_time(rt: HostRuntime) -> Result<(), Fail> {
     let mut device = exchanging().ok_or("starts")?;
     let mut outbox = Outbox::new();
-    same(
+    sends(
         &rt,
-        &step(&mut device, &alarm(&[0xAA, 0xBB]), &mut outbox),
-        &Note::Done,
+        &mut device,
+        &alarm(&[0xAA, 0xBB]),
+        &mut outbox,
+        &NOTIFIED,
     );
-    assert!(rt; is_padded(&outbox, &NOTIFIED));
-    same(
+    notes(
         &rt,
-        &step(&mut device, &alarm(&[0xCC]), &mut outbox),
-        &Note::Refused,
+        &mut device,
+        &alarm(&[0xCC]),
+        &mut outbox,
+        Note::Refused,
     );
-    same(
+    sends_none(&rt, &mut device, &frame(&ACK), &mut outbox, Note::Done);
+    notes(
         &rt,
-        &step(&mut device, &frame(&ACK), &mut outbox),
-        &Note::Done,
+        &mut device,
+        &alarm(&[0xCC]),
+        &mut outbox,
+        Note::Refused,
     );
-    same(&rt, &outbox.len(), &0);
-    same(
-        &rt,
-        &step(&mut device, &alarm(&[0xCC]), &mut outbox),
-        &Note::Refused,
-    );
-    same(
-        &rt,
-        &step(&mut device, &frame(&ALARM_ACK), &mut outbox),
-        &Note::Done,
-    );
-    assert!(rt; is_padded(&outbox, &TAKEN));
-    same(
-        &rt,
-        &step(&mut device, &alarm(&[0xCC]), &mut outbox),
-        &Note::Done,
-    );
+    sends(&rt, &mut device, &frame(&ALARM_ACK), &mut outbox, &TAKEN);
+    notes(&rt, &mut device, &alarm(&[0xCC]), &mut outbox, Note::Done);
     same(&rt, &outbox.len(), &1);
     Ok(())
 }
@@ -151,40 +142,47 @@ fn is_notified_again(outbox: &Outbox, with_inputs: bool) -> bool {
 }
 
 // An alarm that is raised so many units behind the Connect and that nobody acknowledges: it is sent again three times, each 3,200
-// units behind the one before, and the fourth time ends the relation, with nothing beside the ERR.
+// units behind the one before, with so many frames of inputs between, and the fourth time ends the relation, with nothing beside the ERR.
+fn is_spent(rt: &impl Abort, first: u32, between: usize) -> Result<(), Fail> {
+    let mut device = patient().ok_or("starts")?;
+    let mut outbox = Outbox::new();
+    passes(rt, &mut device, first, 0);
+    notes(
+        rt,
+        &mut device,
+        &alarm(&[0xAA, 0xBB]),
+        &mut outbox,
+        Note::Done,
+    );
+    assert!(rt; is_notified_again(&outbox, false));
+    for _ in 0..3 {
+        notifies_again(rt, &mut device, &mut outbox, between, first == 0);
+    }
+    passes(rt, &mut device, 3199, between);
+    is_at(rt, &device, Some(Phase::Exchanging));
+    sends(rt, &mut device, &Event::Tick, &mut outbox, &SPENT);
+    is_at(rt, &device, None);
+    passes(rt, &mut device, 32, 0);
+    Ok(())
+}
+
+// 3,200 units go by, with so many frames in all but the last of them, and in that one the alarm is sent again.
+fn notifies_again(
+    rt: &impl Abort,
+    device: &mut Station,
+    outbox: &mut Outbox,
+    between: usize,
+    with_inputs: bool,
+) {
+    passes(rt, device, 3199, between);
+    notes(rt, device, &Event::Tick, outbox, Note::Done);
+    assert!(rt; is_notified_again(outbox, with_inputs));
+}
+
 #[test]
 fn an_alarm_that_nobody_acknowledges(rt: HostRuntime) -> Result<(), Fail> {
-    for (first, between) in [(0, 99), (5, 100)] {
-        let mut device = patient().ok_or("starts")?;
-        let mut outbox = Outbox::new();
-        same(&rt, &sent_in(&mut device, first), &0);
-        same(
-            &rt,
-            &step(&mut device, &alarm(&[0xAA, 0xBB]), &mut outbox),
-            &Note::Done,
-        );
-        assert!(rt; is_notified_again(&outbox, false));
-        for _ in 0..3 {
-            same(&rt, &sent_in(&mut device, 3199), &between);
-            same(
-                &rt,
-                &step(&mut device, &Event::Tick, &mut outbox),
-                &Note::Done,
-            );
-            assert!(rt; is_notified_again(&outbox, first == 0));
-        }
-        same(&rt, &sent_in(&mut device, 3199), &between);
-        same(&rt, &device.phase(), &Some(Phase::Exchanging));
-        same(
-            &rt,
-            &step(&mut device, &Event::Tick, &mut outbox),
-            &Note::Done,
-        );
-        assert!(rt; is_padded(&outbox, &SPENT));
-        same(&rt, &device.phase(), &None);
-        same(&rt, &sent_in(&mut device, 32), &0);
-    }
-    Ok(())
+    is_spent(&rt, 0, 99)?;
+    is_spent(&rt, 5, 100)
 }
 
 /// A cyclic frame with this CycleCounter and this output.
@@ -197,29 +195,33 @@ pub(crate) fn outputs(counter: u16, [first, second]: [u8; 2]) -> Event {
     Event::Frame(bytes)
 }
 
-fn is_output<R: Abort>(rt: &R, device: &Station, value: [u8; 2]) {
+fn is_output(rt: &impl Abort, device: &Station, value: [u8; 2]) {
     same(rt, &device.output(2, 1), &Some(value.as_slice()));
 }
+
+// Cyclic frames by their CycleCounter and their output, what becomes of each, and the output behind it.
+const NEWER_AND_OLDER: [(u16, [u8; 2], Note, [u8; 2]); 6] = [
+    (65_520, [1, 0], Note::Done, [1, 0]),
+    (16, [0, 2], Note::Done, [0, 2]),
+    (65_520, [3, 3], Note::StaleCycle, [0, 2]),
+    (16, [4, 4], Note::StaleCycle, [0, 2]),
+    (61_456, [5, 0], Note::Done, [5, 0]),
+    (57_361, [6, 6], Note::StaleCycle, [5, 0]),
+];
 
 #[test]
 fn outputs_are_those_of_the_newest_frame(rt: HostRuntime) -> Result<(), Fail> {
     let mut device = exchanging().ok_or("starts")?;
     let mut outbox = Outbox::new();
     is_output(&rt, &device, [0, 0]);
-    for (counter, value, note, shown) in [
-        (65_520, [1, 0], Note::Done, [1, 0]),
-        (16, [0, 2], Note::Done, [0, 2]),
-        (65_520, [3, 3], Note::StaleCycle, [0, 2]),
-        (16, [4, 4], Note::StaleCycle, [0, 2]),
-        (61_456, [5, 0], Note::Done, [5, 0]),
-        (57_361, [6, 6], Note::StaleCycle, [5, 0]),
-    ] {
-        same(
+    for (counter, value, note, shown) in NEWER_AND_OLDER {
+        sends_none(
             &rt,
-            &step(&mut device, &outputs(counter, value), &mut outbox),
-            &note,
+            &mut device,
+            &outputs(counter, value),
+            &mut outbox,
+            note,
         );
-        same(&rt, &outbox.len(), &0);
         is_output(&rt, &device, shown);
     }
     Ok(())
@@ -229,30 +231,25 @@ fn outputs_are_those_of_the_newest_frame(rt: HostRuntime) -> Result<(), Fail> {
 fn silence_of_three_intervals_ends_the_exchange(rt: HostRuntime) -> Result<(), Fail> {
     let mut device = exchanging().ok_or("starts")?;
     let mut outbox = Outbox::new();
-    same(&rt, &sent_in(&mut device, 95), &2);
-    same(
+    passes(&rt, &mut device, 95, 2);
+    notes(&rt, &mut device, &frame(&OUTPUTS), &mut outbox, Note::Done);
+    passes(&rt, &mut device, 95, 3);
+    notes(
         &rt,
-        &step(&mut device, &frame(&OUTPUTS), &mut outbox),
-        &Note::Done,
+        &mut device,
+        &frame(&OUTPUTS),
+        &mut outbox,
+        Note::StaleCycle,
     );
-    same(&rt, &sent_in(&mut device, 95), &3);
-    same(
+    is_at(&rt, &device, Some(Phase::Exchanging));
+    sends(&rt, &mut device, &Event::Tick, &mut outbox, &SILENT);
+    is_at(&rt, &device, None);
+    notes(
         &rt,
-        &step(&mut device, &frame(&OUTPUTS), &mut outbox),
-        &Note::StaleCycle,
-    );
-    same(&rt, &device.phase(), &Some(Phase::Exchanging));
-    same(
-        &rt,
-        &step(&mut device, &Event::Tick, &mut outbox),
-        &Note::Done,
-    );
-    assert!(rt; is_padded(&outbox, &SILENT));
-    same(&rt, &device.phase(), &None);
-    same(
-        &rt,
-        &step(&mut device, &frame(&OUTPUTS), &mut outbox),
-        &Note::NoRelation,
+        &mut device,
+        &frame(&OUTPUTS),
+        &mut outbox,
+        Note::NoRelation,
     );
     Ok(())
 }

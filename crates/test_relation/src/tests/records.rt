@@ -3,16 +3,17 @@
 use crate::tests::connects::{Blocks, THREE, connect};
 use crate::tests::exchange::{is_interval_sent, outputs};
 use crate::tests::requests::{exchanging, related, served, write};
+use crate::tests::{is_at, notes, same, sends_none, serves};
 use demo_station::identity;
 use device_core::{Device, Note};
 use flash_model::{MemoryFlash, Order};
 use frame_codec::Outbox;
 use pn_values::{ParameterRecord, Real, RealModule, RealSubmodule};
 use relations::Phase;
+use std::process::Abort;
 use std::test::Fail;
 use test_stations::{
-    CONNECT, Station, WRITE, call, frame, no_modules, plugged, restart, same, station, step,
-    write_last,
+    CONNECT, Station, WRITE, call, frame, no_modules, plugged, restart, station, write_last,
 };
 
 // I&M2, the date of installation.
@@ -29,30 +30,44 @@ fn status_of(device: &mut Station, sequence: u8, place: (u16, u16, u16), record:
     .2
 }
 
+// A Write gets this status.
+fn has_status(
+    rt: &impl Abort,
+    device: &mut Station,
+    sequence: u8,
+    place: (u16, u16, u16),
+    record: &[u8],
+    status: [u8; 4],
+) {
+    same(rt, &status_of(device, sequence, place, record), &status);
+}
+
+// The date of installation under which the station runs.
+fn has_date(rt: &impl Abort, device: &Station, date: &[u8; 16]) {
+    same(rt, &device.running().im2.as_bytes(), &date.as_slice());
+}
+
 #[test]
 fn a_write_that_is_repeated_is_one_command(rt: HostRuntime) -> Result<(), Fail> {
     let mut device = related(600, THREE).ok_or("starts")?;
     let written = call(WRITE, 7, 2, write(2, 0, 1, 0xAFF2, &DATE).as_slice());
-    same(&rt, &served(&mut device, &written), &(1, 206, [0; 4]));
-    same(
-        &rt,
-        &device.running().im2.as_bytes(),
-        &b"2024-05-06 07:08".as_slice(),
-    );
+    serves(&rt, &mut device, &written, (1, 206, [0; 4]));
+    has_date(&rt, &device, b"2024-05-06 07:08");
     // A second commit would fail.
     device.arm(Order::Fault {
         after: 0,
         mask: [0xFF; 8],
     });
-    same(&rt, &served(&mut device, &written), &(1, 206, [0; 4]));
+    serves(&rt, &mut device, &written, (1, 206, [0; 4]));
     let mut outbox = Outbox::new();
     let older = call(WRITE, 7, 1, write(1, 0, 1, 0xAFF2, &DATE).as_slice());
-    same(
+    sends_none(
         &rt,
-        &step(&mut device, &frame(older.as_slice()), &mut outbox),
-        &Note::OldCall,
+        &mut device,
+        &frame(older.as_slice()),
+        &mut outbox,
+        Note::OldCall,
     );
-    same(&rt, &outbox.len(), &0);
     Ok(())
 }
 
@@ -68,33 +83,39 @@ fn write_elsewhere(sequence: u8) -> Blocks {
 #[test]
 fn what_is_not_written_is_refused(rt: HostRuntime) -> Result<(), Fail> {
     let mut device = related(600, THREE).ok_or("starts")?;
-    same(
+    has_status(
         &rt,
-        &status_of(&mut device, 1, (1, 1, 0xAFF1), &[0; 60]),
-        &[0xDF, 0x80, 0xB0, 0],
+        &mut device,
+        1,
+        (1, 1, 0xAFF1),
+        &[0; 60],
+        [0xDF, 0x80, 0xB0, 0],
     );
-    same(
+    has_status(
         &rt,
-        &status_of(&mut device, 2, (0, 1, 0xAFF0), &[0; 60]),
-        &[0xDF, 0x80, 0xB6, 0],
+        &mut device,
+        2,
+        (0, 1, 0xAFF0),
+        &[0; 60],
+        [0xDF, 0x80, 0xB6, 0],
     );
     // a date of fifteen octets
-    same(
+    has_status(
         &rt,
-        &status_of(&mut device, 3, (0, 1, 0xAFF2), &DATE[..21]),
-        &[0xDF, 0x80, 0xB1, 0],
+        &mut device,
+        3,
+        (0, 1, 0xAFF2),
+        &DATE[..21],
+        [0xDF, 0x80, 0xB1, 0],
     );
     let other = write_elsewhere(4);
-    same(
+    serves(
         &rt,
-        &served(&mut device, &call(WRITE, 7, 4, other.as_slice())),
-        &(1, 142, [0xDF, 0x81, 0x40, 5]),
+        &mut device,
+        &call(WRITE, 7, 4, other.as_slice()),
+        (1, 142, [0xDF, 0x81, 0x40, 5]),
     );
-    same(
-        &rt,
-        &device.running().im2.as_bytes(),
-        &[b' '; 16].as_slice(),
-    );
+    has_date(&rt, &device, &[b' '; 16]);
     Ok(())
 }
 
@@ -110,12 +131,8 @@ fn power_is_lost_as_a_date_is_stored(rt: HostRuntime) -> Result<(), Fail> {
     let _ = served(&mut device, &call(WRITE, 7, 1, blocks.as_slice()));
     assert!(rt; device.is_lost());
     let device = restart(device).ok_or("starts again")?;
-    same(
-        &rt,
-        &device.running().im2.as_bytes(),
-        &b"2024-05-06 07:08".as_slice(),
-    );
-    same(&rt, &device.phase(), &None);
+    has_date(&rt, &device, b"2024-05-06 07:08");
+    is_at(&rt, &device, None);
     Ok(())
 }
 
@@ -127,10 +144,11 @@ fn a_date_is_refused_after_a_fault(rt: HostRuntime) -> Result<(), Fail> {
         mask: [0xFF; 8],
     });
     let blocks = write(0, 0, 1, 0xAFF2, &DATE);
-    same(
+    serves(
         &rt,
-        &served(&mut device, &call(WRITE, 8, 0, blocks.as_slice())),
-        &(1, 142, [0xDF, 0x80, 0xB5, 5]),
+        &mut device,
+        &call(WRITE, 8, 0, blocks.as_slice()),
+        (1, 142, [0xDF, 0x80, 0xB5, 5]),
     );
     // cyclic frames go on, each way
     let mut outbox = Outbox::new();
@@ -140,11 +158,10 @@ fn a_date_is_refused_after_a_fault(rt: HostRuntime) -> Result<(), Fail> {
         (65_520, Note::StaleCycle),
     ] {
         let event = outputs(counter, [0xAA, 0x55]);
-        same(&rt, &step(&mut device, &event, &mut outbox), &note);
-        same(&rt, &outbox.len(), &0);
+        sends_none(&rt, &mut device, &event, &mut outbox, note);
     }
     assert!(rt; is_interval_sent(&mut device, [0, 0]));
-    same(&rt, &device.phase(), &Some(Phase::Exchanging));
+    is_at(&rt, &device, Some(Phase::Exchanging));
     Ok(())
 }
 
@@ -159,6 +176,14 @@ fn full() -> Option<Station> {
     Some(device)
 }
 
+// The BlockError in the one frame of a box, an answer of DCP.
+fn block_error(outbox: &Outbox) -> Option<u8> {
+    match outbox.as_slice() {
+        [sent] => sent.as_slice().get(32).copied(),
+        _ => None,
+    }
+}
+
 // A reset and a date are refused, the relation stays, and no ERR is sent.
 #[test]
 fn without_room_the_relation_stays(rt: HostRuntime) -> Result<(), Fail> {
@@ -167,23 +192,17 @@ fn without_room_the_relation_stays(rt: HostRuntime) -> Result<(), Fail> {
     let reset =
         *b"\x02\x00\x00\x00\x00\x01\x02\x00\x00\x00\x00\x02\x88\x92\xfe\xfd\x04\x00\x00\x00\x00\x03\x00\x00\x00\x06\
         \x05\x06\x00\x02\x00\x04";
-    same(
+    notes(&rt, &mut device, &frame(&reset), &mut outbox, Note::Done);
+    same(&rt, &block_error(&outbox), &Some(4));
+    has_status(
         &rt,
-        &step(&mut device, &frame(&reset), &mut outbox),
-        &Note::Done,
+        &mut device,
+        1,
+        (0, 1, 0xAFF2),
+        &DATE,
+        [0xDF, 0x80, 0xB5, 4],
     );
-    same(&rt, &outbox.len(), &1);
-    let sent = outbox
-        .as_slice()
-        .first()
-        .and_then(|sent| sent.as_slice().get(32));
-    same(&rt, &sent.copied(), &Some(4));
-    same(
-        &rt,
-        &status_of(&mut device, 1, (0, 1, 0xAFF2), &DATE),
-        &[0xDF, 0x80, 0xB5, 4],
-    );
-    same(&rt, &device.phase(), &Some(Phase::Started));
+    is_at(&rt, &device, Some(Phase::Started));
     Ok(())
 }
 
@@ -217,29 +236,34 @@ fn many() -> Real {
     real
 }
 
+// A Write of the parameter record of this number, which is its value too, gets this status.
+fn is_written(rt: &impl Abort, device: &mut Station, number: u8, status: [u8; 4]) {
+    let place = (
+        u16::from(number / 8),
+        u16::from(number / 2 % 4) + 1,
+        u16::from(number % 2) + 1,
+    );
+    has_status(rt, device, number.wrapping_add(1), place, &[number], status);
+}
+
+// 64 parameter records are kept, the last of them in slot 7.
+fn are_kept(rt: &impl Abort, device: &Station) -> Result<(), Fail> {
+    let kept = device.taken();
+    same(rt, &kept.len(), &64);
+    let last = kept.last().ok_or("is kept")?;
+    same(rt, &(last.slot, last.subslot, last.index), &(7, 4, 2));
+    same(rt, &last.value.as_slice(), &[63].as_slice());
+    Ok(())
+}
+
 #[test]
 fn sixty_four_parameter_records_are_kept(rt: HostRuntime) -> Result<(), Fail> {
     let mut device = station(many(), MemoryFlash::blank()).ok_or("starts")?;
     let blocks = connect(0x11, 600, THREE);
     let _ = served(&mut device, &call(CONNECT, 7, 0, blocks.as_slice()));
-    for number in 0..65u8 {
-        let place = (
-            u16::from(number / 8),
-            u16::from(number / 2 % 4) + 1,
-            u16::from(number % 2) + 1,
-        );
-        let status = status_of(&mut device, number + 1, place, &[number]);
-        let wanted = if number < 64 {
-            [0; 4]
-        } else {
-            [0xDF, 0x80, 0xB5, 6]
-        };
-        same(&rt, &status, &wanted);
+    for number in 0..64 {
+        is_written(&rt, &mut device, number, [0; 4]);
     }
-    let kept = device.taken();
-    same(&rt, &kept.len(), &64);
-    let last = kept.last().ok_or("is kept")?;
-    same(&rt, &(last.slot, last.subslot, last.index), &(7, 4, 2));
-    same(&rt, &last.value.as_slice(), &[63].as_slice());
-    Ok(())
+    is_written(&rt, &mut device, 64, [0xDF, 0x80, 0xB5, 6]);
+    are_kept(&rt, &device)
 }

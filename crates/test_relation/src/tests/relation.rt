@@ -1,16 +1,17 @@
 //! A relation: made by a Connect, or refused with a status, and ended. The octets that have to come were worked out by hand
 //! from IEC 61158-6-10 and checked with another program.
 use crate::tests::connects::{FOUR, THREE, connect};
-use crate::tests::requests::{exchanging, related, sent_in, served};
+use crate::tests::requests::{exchanging, related, served};
+use crate::tests::{is_at, notes, passes, same, sends, sends_none, serves};
 use device_core::{Event, Note};
 use flash_model::MemoryFlash;
-use frame_codec::{Bytes, Outbox};
+use frame_codec::{Bytes, Frame, Outbox};
 use relations::Phase;
 use std::process::Abort;
 use std::test::Fail;
 use test_stations::{
     CONNECT, CONTROL, DONE, END, PRM_END, RELEASE, Station, call, frame, is_filled, is_padded,
-    plugged, same, set, set_pump, station, step,
+    plugged, set, set_pump, station, step,
 };
 
 // The blocks of the answer to the Connect of three modules: ARBlockRes, an IOCRBlockRes each, AlarmCRBlockRes.
@@ -39,7 +40,7 @@ fn three() -> Bytes {
 }
 
 // The one answer to a Connect is of so many octets and has these blocks.
-fn is_made<R: Abort>(rt: &R, bytes: &Bytes, length: usize, blocks: &[&[u8]]) -> Result<(), Fail> {
+fn is_made(rt: &impl Abort, bytes: &Bytes, length: usize, blocks: &[&[u8]]) -> Result<(), Fail> {
     let mut device = fresh().ok_or("starts")?;
     let mut outbox = Outbox::new();
     let _ = step(&mut device, &frame(bytes.as_slice()), &mut outbox);
@@ -48,12 +49,17 @@ fn is_made<R: Abort>(rt: &R, bytes: &Bytes, length: usize, blocks: &[&[u8]]) -> 
     same(rt, &sent.len(), &length);
     let mut place: usize = 142;
     for block in blocks {
-        let rest = sent.as_slice().get(place..).unwrap_or(&[]);
-        assert!(rt; rest.starts_with(block));
+        stands_at(rt, sent, place, block);
         place = place.wrapping_add(block.len());
     }
-    same(rt, &device.phase(), &Some(Phase::Started));
+    is_at(rt, &device, Some(Phase::Started));
     Ok(())
+}
+
+// A block stands at this place of a frame.
+fn stands_at(rt: &impl Abort, sent: &Frame, place: usize, block: &[u8]) {
+    let rest = sent.as_slice().get(place..).unwrap_or(&[]);
+    assert!(rt; rest.starts_with(block));
 }
 
 #[test]
@@ -63,28 +69,36 @@ fn a_connect_makes_a_relation(rt: HostRuntime) -> Result<(), Fail> {
     is_made(&rt, &three(), 212, &[&MADE])
 }
 
+// Where the numbers of a call stand whose octets go the other way round in little endian: from, to.
+const NUMBERS: [(usize, usize); 12] = [
+    (50, 54),
+    (54, 56),
+    (56, 58),
+    (66, 70),
+    (70, 72),
+    (72, 74),
+    (102, 106),
+    (116, 118),
+    (122, 126),
+    (126, 130),
+    (130, 134),
+    (138, 142),
+];
+
+// Turns a number round.
+fn turn(bytes: &mut Bytes, first: usize, end: usize) {
+    if let Some(part) = bytes.as_mut_slice().get_mut(first..end) {
+        part.reverse();
+    }
+}
+
 // The same in little endian.
 #[test]
 fn a_connect_in_little_endian_gets_the_same_answer(rt: HostRuntime) -> Result<(), Fail> {
     let mut bytes = three();
     set(&mut bytes, 46, 0x10);
-    for (first, end) in [
-        (50, 54),
-        (54, 56),
-        (56, 58),
-        (66, 70),
-        (70, 72),
-        (72, 74),
-        (102, 106),
-        (116, 118),
-        (122, 126),
-        (126, 130),
-        (130, 134),
-        (138, 142),
-    ] {
-        if let Some(part) = bytes.as_mut_slice().get_mut(first..end) {
-            part.reverse();
-        }
+    for (first, end) in NUMBERS {
+        turn(&mut bytes, first, end);
     }
     is_made(&rt, &bytes, 212, &[&MADE])
 }
@@ -103,14 +117,9 @@ fn a_connect_that_is_cut_is_none(rt: HostRuntime) -> Result<(), Fail> {
     let bytes = three();
     for length in 0..533 {
         let part = bytes.get(..length).ok_or("is longer")?;
-        same(
-            &rt,
-            &step(&mut device, &frame(part), &mut outbox),
-            &Note::Fault,
-        );
-        same(&rt, &outbox.len(), &0);
+        sends_none(&rt, &mut device, &frame(part), &mut outbox, Note::Fault);
     }
-    same(&rt, &device.phase(), &None);
+    is_at(&rt, &device, None);
     Ok(())
 }
 
@@ -133,26 +142,19 @@ fn sent_to(changes: &[(usize, u8)]) -> Option<(usize, usize, [u8; 4])> {
     }
 }
 
+// Such a Connect gets this status, and makes no relation.
+fn is_none(rt: &impl Abort, changes: &[(usize, u8)], status: [u8; 4]) {
+    same(rt, &sent_to(changes), &Some((1, 142, status)));
+}
+
 #[test]
 fn a_connect_with_a_fault_is_refused(rt: HostRuntime) {
     // ArgsLength one less than ActualCount
-    same(
-        &rt,
-        &sent_to(&[(129, 0x86)]),
-        &Some((1, 142, [0xDB, 0x81, 0x40, 0])),
-    );
+    is_none(&rt, &[(129, 0x86)], [0xDB, 0x81, 0x40, 0]);
     // BlockLength of the ARBlockReq
-    same(
-        &rt,
-        &sent_to(&[(144, 0xFF), (145, 0xFF)]),
-        &Some((1, 142, [0xDB, 0x81, 1, 1])),
-    );
+    is_none(&rt, &[(144, 0xFF), (145, 0xFF)], [0xDB, 0x81, 1, 1]);
     // NumberOfIODataObjects of the input
-    same(
-        &rt,
-        &sent_to(&[(253, 0xFF), (254, 0xFF)]),
-        &Some((1, 142, [0xDB, 0x81, 2, 1])),
-    );
+    is_none(&rt, &[(253, 0xFF), (254, 0xFF)], [0xDB, 0x81, 2, 1]);
 }
 
 // The checksum of UDP is the one that Scapy computes, and then one more; and a representation that there is not.
@@ -163,23 +165,29 @@ fn a_connect_that_can_not_be_read_is_a_fault(rt: HostRuntime) -> Result<(), Fail
     let mut bytes = three();
     set(&mut bytes, 40, CHECKSUM[0]);
     set(&mut bytes, 41, CHECKSUM[1].wrapping_add(1));
-    same(
+    notes(
         &rt,
-        &step(&mut device, &frame(bytes.as_slice()), &mut outbox),
-        &Note::Fault,
+        &mut device,
+        &frame(bytes.as_slice()),
+        &mut outbox,
+        Note::Fault,
     );
     set(&mut bytes, 41, CHECKSUM[1]);
     set(&mut bytes, 46, 0x20);
-    same(
+    notes(
         &rt,
-        &step(&mut device, &frame(bytes.as_slice()), &mut outbox),
-        &Note::Fault,
+        &mut device,
+        &frame(bytes.as_slice()),
+        &mut outbox,
+        Note::Fault,
     );
     set(&mut bytes, 46, 0);
-    same(
+    notes(
         &rt,
-        &step(&mut device, &frame(bytes.as_slice()), &mut outbox),
-        &Note::Done,
+        &mut device,
+        &frame(bytes.as_slice()),
+        &mut outbox,
+        Note::Done,
     );
     same(&rt, &outbox.len(), &1);
     Ok(())
@@ -187,21 +195,18 @@ fn a_connect_that_can_not_be_read_is_a_fault(rt: HostRuntime) -> Result<(), Fail
 
 const CHECKSUM: [u8; 2] = [0x30, 0x24];
 
+// A Connect for the relation of this ARUUID gets this status where a relation stands.
+fn is_refused(rt: &impl Abort, device: &mut Station, octet: u8, status: [u8; 4]) {
+    same(rt, &refused(device, octet, &[]), &(1, 142, status));
+}
+
 #[test]
 fn a_second_connect_is_refused(rt: HostRuntime) -> Result<(), Fail> {
     let mut device = related(600, THREE).ok_or("starts")?;
-    same(
-        &rt,
-        &refused(&mut device, 0x12, &[]),
-        &(1, 142, [0xDB, 0x81, 0x40, 4]),
-    );
+    is_refused(&rt, &mut device, 0x12, [0xDB, 0x81, 0x40, 4]);
     let mut device = related(600, THREE).ok_or("starts")?;
-    same(
-        &rt,
-        &refused(&mut device, 0x11, &[]),
-        &(1, 142, [0xDB, 0x81, 0x40, 6]),
-    );
-    same(&rt, &device.phase(), &Some(Phase::Started));
+    is_refused(&rt, &mut device, 0x11, [0xDB, 0x81, 0x40, 6]);
+    is_at(&rt, &device, Some(Phase::Started));
     Ok(())
 }
 
@@ -209,19 +214,23 @@ fn a_second_connect_is_refused(rt: HostRuntime) -> Result<(), Fail> {
 fn silence_ends_a_relation(rt: HostRuntime) -> Result<(), Fail> {
     let mut device = related(1, THREE).ok_or("starts")?;
     // a cyclic frame each interval of 32 units
-    same(&rt, &sent_in(&mut device, 3199), &99);
-    same(&rt, &device.phase(), &Some(Phase::Started));
+    passes(&rt, &mut device, 3199, 99);
+    is_at(&rt, &device, Some(Phase::Started));
     let mut outbox = Outbox::new();
-    same(
-        &rt,
-        &step(&mut device, &Event::Tick, &mut outbox),
-        &Note::Done,
-    );
+    notes(&rt, &mut device, &Event::Tick, &mut outbox, Note::Done);
     let mut silent = ABORT;
     silent[35] = 6;
     assert!(rt; is_padded(&outbox, &silent));
-    same(&rt, &device.phase(), &None);
+    is_at(&rt, &device, None);
     Ok(())
+}
+
+// The two frames in a box are these octets, each filled up.
+fn are_filled(outbox: &Outbox, first: &[u8], second: &[u8]) -> bool {
+    match outbox.as_slice() {
+        [one, other] => is_filled(one, first) && is_filled(other, second),
+        _ => false,
+    }
 }
 
 // ResetToFactory of the communication, and a Set of a name, which is judged as the frame comes.
@@ -232,23 +241,13 @@ fn a_reset_ends_a_relation(rt: HostRuntime) -> Result<(), Fail> {
     let request =
         *b"\x02\x00\x00\x00\x00\x01\x02\x00\x00\x00\x00\x02\x88\x92\xfe\xfd\x04\x00\x00\x00\x00\x02\x00\x00\x00\x12\
         \x05\x06\x00\x02\x00\x04\x02\x02\x00\x08\x00\x01pump-9";
-    same(
-        &rt,
-        &step(&mut device, &frame(&request), &mut outbox),
-        &Note::Done,
-    );
+    notes(&rt, &mut device, &frame(&request), &mut outbox, Note::Done);
     let answer =
         *b"\x02\x00\x00\x00\x00\x02\x02\x00\x00\x00\x00\x01\x88\x92\xfe\xfd\x04\x01\x00\x00\x00\x02\x00\x00\x00\x10\
         \x05\x04\x00\x03\x05\x06\x00\x00\x05\x04\x00\x03\x02\x02\x06\x00";
-    match outbox.as_slice() {
-        [first, second] => {
-            assert!(rt; is_filled(first, &ABORT));
-            assert!(rt; is_filled(second, &answer));
-        }
-        _ => panic!(&rt; "an ERR, and an answer"),
-    }
+    assert!(rt; are_filled(&outbox, &ABORT, &answer));
     same(&rt, &device.running().name.as_bytes(), &b"".as_slice());
-    same(&rt, &device.phase(), &None);
+    is_at(&rt, &device, None);
     Ok(())
 }
 
@@ -258,24 +257,15 @@ fn no_name_is_set_before_the_release(rt: HostRuntime) -> Result<(), Fail> {
     let mut outbox = Outbox::new();
     let mut refused = DONE;
     refused[32] = 6;
-    same(
+    sends(&rt, &mut device, &set_pump(b'9'), &mut outbox, &refused);
+    serves(
         &rt,
-        &step(&mut device, &set_pump(b'9'), &mut outbox),
-        &Note::Done,
+        &mut device,
+        &call(RELEASE, 7, 1, &END),
+        (1, 174, [0; 4]),
     );
-    assert!(rt; is_padded(&outbox, &refused));
-    same(
-        &rt,
-        &served(&mut device, &call(RELEASE, 7, 1, &END)),
-        &(1, 174, [0; 4]),
-    );
-    same(&rt, &device.phase(), &None);
-    same(
-        &rt,
-        &step(&mut device, &set_pump(b'9'), &mut outbox),
-        &Note::Done,
-    );
-    assert!(rt; is_padded(&outbox, &DONE));
+    is_at(&rt, &device, None);
+    sends(&rt, &mut device, &set_pump(b'9'), &mut outbox, &DONE);
     Ok(())
 }
 
@@ -283,17 +273,13 @@ fn no_name_is_set_before_the_release(rt: HostRuntime) -> Result<(), Fail> {
 fn the_parameters_end_once(rt: HostRuntime) -> Result<(), Fail> {
     let mut device = related(600, THREE).ok_or("starts")?;
     let ends = call(CONTROL, 7, 1, &PRM_END);
-    same(&rt, &served(&mut device, &ends), &(2, 174, [0; 4]));
-    same(&rt, &device.phase(), &Some(Phase::Awaiting));
+    serves(&rt, &mut device, &ends, (2, 174, [0; 4]));
+    is_at(&rt, &device, Some(Phase::Awaiting));
     let again = call(CONTROL, 7, 2, &PRM_END);
-    same(
-        &rt,
-        &served(&mut device, &again),
-        &(1, 142, [0xDD, 0x81, 0x40, 6]),
-    );
+    serves(&rt, &mut device, &again, (1, 142, [0xDD, 0x81, 0x40, 6]));
     // ApplicationReady again, beside a cyclic frame each interval
-    same(&rt, &sent_in(&mut device, 32_000), &1001);
+    passes(&rt, &mut device, 32_000, 1001);
     let device = exchanging().ok_or("starts")?;
-    same(&rt, &device.phase(), &Some(Phase::Exchanging));
+    is_at(&rt, &device, Some(Phase::Exchanging));
     Ok(())
 }
