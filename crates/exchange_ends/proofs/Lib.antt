@@ -1,0 +1,12 @@
+pub mod Read
+pub mod Brings
+pub mod Turns
+pub mod Six
+pub mod Walk
+pub mod Shows
+pub mod Held
+pub mod Values
+pub mod Moves
+pub mod Worlds
+pub mod OneFrame
+pub mod Placed

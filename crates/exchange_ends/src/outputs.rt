@@ -1,0 +1,42 @@
+//! The law of outputs, of the worlds that moves make.
+ghost use Rattle.std.specs.Prelude.{◌≡◌, List, ℕ, Some, false, true};
+ghost use Rattle.relations.specs.Exchanged.{output_in};
+ghost use Rattle.relations.specs.Link.{Link};
+ghost use Rattle.network_world.specs.declared.moves.Move.{Move};
+ghost use Rattle.network_world.specs.World.{World};
+ghost use Rattle.world_ends.specs.Played.{AreMade, Begins, CanMeet, last_world};
+ghost use Rattle.exchange_ends.specs.Given.{AreOfOneFrame, zero_for};
+ghost use Rattle.exchange_ends.specs.Shown.{has_accepted};
+
+use both_ends::outputs_are_given;
+use controller_frames::Setup;
+use cyclic_data::Image;
+use flash_model::Flash;
+use frame_codec::formats_are_sound;
+use hearing_laws::stations_are_real;
+use plans::packed_places_are_asked;
+use pn_values::Identity;
+use world_ends::worlds_start_up;
+
+/// Outputs of this set-up at this device, over the worlds of any moves, whatever the flash of the device does.
+pub fn worlds_show_what_is_given<F: Flash<S>, const S: usize>(setup: &Setup, identity: &Identity)
+    // All outputs that the device shows are zeros while it has accepted no cyclic frame in its relation.
+    ensures zeros { CanMeet setup.now identity.now →
+        (first : World F) (run : List (Move × World F)) → Begins setup.now identity.now first
+        → AreMade F.image F.failures F.asked first run
+        → (link : Link) → (last_world first run).device.live.rest.link ≡ Some link → has_accepted link ≡ false
+        → (slot subslot : ℕ) → output_in slot subslot (Some link) ≡ zero_for setup.now slot subslot }
+    // From then on all of them come from one frame, which the controller sent with an earlier move, and each is the value that was
+    // given last for its submodule then, or zeros where none was.
+    ensures values { CanMeet setup.now identity.now →
+        (first : World F) (run : List (Move × World F)) → Begins setup.now identity.now first
+        → AreMade F.image F.failures F.asked first run
+        → (link : Link) → (last_world first run).device.live.rest.link ≡ Some link → has_accepted link ≡ true
+        → AreOfOneFrame setup.now identity.now first run link }
+{
+    packed_places_are_asked();
+    stations_are_real(setup, identity);
+    formats_are_sound();
+    worlds_start_up::<F, S>(setup, identity);
+    outputs_are_given::<Image, Image>();
+}
