@@ -196,8 +196,10 @@ fn each_length(rt: HostRuntime) {
 
 /// Whether a call that can be read has blocks, and its ArgsMaximum.
 fn blocks_of(octets: &[u8]) -> Option<(bool, u32)> {
-    let call = read_call(Interface::Device, octets).ok()?;
-    Some((call.blocks.is_some(), call.args_maximum))
+    match read_call(Interface::Device, octets) {
+        Ok(call) => Some((call.blocks.is_some(), call.args_maximum)),
+        Err(_) => None,
+    }
 }
 
 /// The same of the call whose ArgsLength and ActualCount are this number.
@@ -218,22 +220,21 @@ fn blocks_are_counted_well(rt: HostRuntime) {
 }
 
 /// A call that was read, as it is written.
-fn written(octets: &[u8]) -> Option<Datagram> {
-    let call = read_call(Interface::Device, octets).ok()?;
-    if call.blocks?.len() > 1372 {
-        return None;
-    }
+fn written(octets: &[u8]) -> Datagram {
     let mut datagram: Datagram = ArrayVec::new();
-    write_request(&call, &mut datagram);
-    Some(datagram)
+    if let Ok(call) = read_call(Interface::Device, octets) {
+        if let Some(blocks) = call.blocks {
+            if blocks.len() <= 1372 {
+                write_request(&call, &mut datagram);
+            }
+        }
+    }
+    datagram
 }
 
 #[test]
 fn writes_a_call(rt: HostRuntime) {
-    let Some(datagram) = written(&CALL) else {
-        panic!(rt; "not read");
-    };
-    same(&rt, &datagram.as_slice(), &CALL.as_slice());
+    same(&rt, &written(&CALL).as_slice(), &CALL.as_slice());
 }
 
 #[test]
@@ -247,7 +248,10 @@ fn writes_a_response(rt: HostRuntime) {
 
 /// The status of a response that can be read.
 fn status_of(octets: &[u8]) -> Option<Status> {
-    Some(read_response(octets).ok()?.status)
+    match read_response(octets) {
+        Ok(response) => Some(response.status),
+        Err(_) => None,
+    }
 }
 
 #[test]
