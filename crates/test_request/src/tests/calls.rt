@@ -290,7 +290,7 @@ fn numbers_of_faults(rt: HostRuntime) {
 }
 
 /// Keeps a frame that begins with this octet as the answer to a call.
-fn keep<const N: usize>(cache: &mut CallCache<N>, activity: u8, sequence: u32, first: u8) {
+fn keep(cache: &mut CallCache<2>, activity: u8, sequence: u32, first: u8) {
     let frame = frame_of(&[first, 0, 0, 0]);
     cache.keep(&Uuid::from_bytes([activity; 16]), sequence, &frame);
 }
@@ -326,8 +326,8 @@ fn the_oldest_is_replaced(rt: HostRuntime) {
 #[test]
 fn a_place_for_one_answer(rt: HostRuntime) {
     let mut cache: CallCache<1> = CallCache::new();
-    keep(&mut cache, 7, 5, 70);
-    keep(&mut cache, 8, 5, 80);
+    cache.keep(&Uuid::from_bytes([7; 16]), 5, &frame_of(&[70, 0, 0, 0]));
+    cache.keep(&Uuid::from_bytes([8; 16]), 5, &frame_of(&[80, 0, 0, 0]));
     same(&rt, &seen(&cache, 7, 5), &0);
     same(&rt, &seen(&cache, 8, 5), &80);
 }
