@@ -76,9 +76,8 @@ fn ends(
 }
 
 /// The script has no line that is refused, and prints this text.
-fn prints(rt: &impl Abort, alloc: Global, script: &str, wanted: &str) -> Result<(), Fail> {
+fn prints(rt: &impl Abort, alloc: Global, script: &str, wanted: &str) {
     ends(rt, alloc, script.as_bytes(), Ok(()), wanted.as_bytes());
-    Ok(())
 }
 
 /// The line of this number, counted from 1, is refused, and up to there this text is printed.
@@ -99,18 +98,26 @@ const WORDS: [(&str, &str); 8] = [
 ];
 
 /// What a line stands for that is no word of the table, by the word that it begins with: a Set or a Get with these data, or the
-/// answer to one; what `show` prints of a name that runs and is stored, without an address or with `SUITE`, of a name that only
-/// runs, or of a lamp that flashes for so many units. Any other line is itself.
+/// answer to one; or what `show` prints. Any other line is itself.
 fn line_of(alloc: Global, line: &str) -> Result<String, AllocError> {
     match line.split_once(' ') {
         Some(("set", data)) => request(alloc, "fefd0400", data),
         Some(("get", data)) => request(alloc, "fefd0300", data),
         Some(("answer", data)) => answer(alloc, "fefd0401", data),
         Some(("got", data)) => answer(alloc, "fefd0301", data),
-        Some(("named", name)) => shown(alloc, (name, NO_SUITE), (name, NO_SUITE), "0"),
-        Some(("addressed", name)) => shown(alloc, (name, SUITE), (name, SUITE), "0"),
-        Some(("running", name)) => shown(alloc, (name, NO_SUITE), NOTHING, "0"),
-        Some(("flashing", left)) => shown(alloc, NOTHING, NOTHING, left),
+        Some((kind, what)) => shown_as(alloc, kind, what, line),
+        None => String::from_str(alloc, line),
+    }
+}
+
+/// What `show` prints of a name that runs and is stored, without an address or with `SUITE`, of a name that only runs, or of a lamp
+/// that flashes for so many units.
+fn shown_as(alloc: Global, kind: &str, what: &str, line: &str) -> Result<String, AllocError> {
+    match kind {
+        "named" => shown(alloc, (what, NO_SUITE), (what, NO_SUITE), "0"),
+        "addressed" => shown(alloc, (what, SUITE), (what, SUITE), "0"),
+        "running" => shown(alloc, (what, NO_SUITE), NOTHING, "0"),
+        "flashing" => shown(alloc, NOTHING, NOTHING, what),
         _ => String::from_str(alloc, line),
     }
 }
@@ -142,7 +149,8 @@ fn meaning(alloc: Global, text: &str) -> Result<String, AllocError> {
 fn means(rt: &impl Abort, alloc: Global, script: &str, wanted: &str) -> Result<(), Fail> {
     let script = meaning(alloc, script)?;
     let wanted = meaning(alloc, wanted)?;
-    prints(rt, alloc, script.as_str(), wanted.as_str())
+    prints(rt, alloc, script.as_str(), wanted.as_str());
+    Ok(())
 }
 
 /// The IP suite of a device that has none, as it is shown.

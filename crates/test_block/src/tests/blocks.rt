@@ -184,10 +184,8 @@ fn fault_of(bytes: &[u8]) -> Option<BlockFault> {
 fn with_number(bytes: &[u8], place: usize, number: u16) -> Option<BlockFault> {
     let mut changed: ArrayVec<u8, 128> = ArrayVec::new();
     let _ = changed.try_extend_from_slice(bytes);
-    let [first, second] = number.to_be_bytes();
-    if let Some([high, low, ..]) = changed.as_mut_slice().get_mut(place..) {
-        *high = first;
-        *low = second;
+    for (octet, value) in changed.iter_mut().skip(place).zip(number.to_be_bytes()) {
+        *octet = value;
     }
     fault_of(changed.as_slice())
 }

@@ -135,9 +135,11 @@ pub(crate) fn sent(answer: &Blocks) -> Option<(&[u8], &[u8])> {
 /// Whether a call for so many octets is answered with so many of I&M0, by RecordDataLength too.
 fn gives(length: u32, told: u8) -> bool {
     match answered(&Asked { length, ..GOOD }.octets()) {
-        Ok(answer) => match (sent(&answer), IM0.get(..usize::from(told))) {
-            (Some(sent), Some(record)) => sent == (&[0, 0, 0, told], record),
-            _ => false,
+        Ok(answer) => match sent(&answer) {
+            Some((length, record)) => {
+                length == [0, 0, 0, told].as_slice() && Some(record) == IM0.get(..usize::from(told))
+            }
+            None => false,
         },
         Err(_) => false,
     }

@@ -104,23 +104,22 @@ fn without_power_a_fault_is_not_heard(rt: HostRuntime) -> Result<(), Fail> {
     )
 }
 
-const NO_FAULTS: [&[u8]; 8] = [
-    b"fault",
-    b"fault 0",
-    b"fault 0 ",
-    b"fault 0 5",
-    b"fault 0 555555",
-    b"fault 4294967296 55",
-    b"fault 0 55 1",
-    b"Fault 0 55",
+const NO_FAULTS: [&str; 8] = [
+    "fault",
+    "fault 0",
+    "fault 0 ",
+    "fault 0 5",
+    "fault 0 555555",
+    "fault 4294967296 55",
+    "fault 0 55 1",
+    "Fault 0 55",
 ];
 
 #[test]
-fn the_words_of_a_fault(rt: HostRuntime) -> Result<(), Fail> {
-    prints(&rt, rt.alloc(), "fault 0004294967295 Ff", "boot ok\n")?;
-    prints(&rt, rt.alloc(), "fault 0 0123456789abcdef", "boot ok\n")?;
+fn the_words_of_a_fault(rt: HostRuntime) {
+    prints(&rt, rt.alloc(), "fault 0004294967295 Ff", "boot ok\n");
+    prints(&rt, rt.alloc(), "fault 0 0123456789abcdef", "boot ok\n");
     for script in NO_FAULTS {
-        is_refused(&rt, rt.alloc(), script, 1, b"boot ok\n");
+        is_refused(&rt, rt.alloc(), script.as_bytes(), 1, b"boot ok\n");
     }
-    Ok(())
 }

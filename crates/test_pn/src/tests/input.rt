@@ -156,12 +156,22 @@ const FAULTS: [(RunFault, u8, &str); 6] = [
     (RunFault::EndlessInput, 6, "endless input"),
 ];
 
+/// A fault has this number and this text.
+fn is_told(
+    rt: &impl Abort,
+    alloc: Global,
+    (fault, number, text): (RunFault, u8, &str),
+) -> Result<(), Fail> {
+    let shown = format!(in alloc; "{fault}")?;
+    same(rt, &shown.as_str(), &text);
+    same(rt, &fault.number(), &number);
+    Ok(())
+}
+
 #[test]
 fn texts(rt: HostRuntime) -> Result<(), Fail> {
-    for (fault, number, text) in FAULTS {
-        let shown = format!(in rt.alloc(); "{fault}")?;
-        same(&rt, &shown.as_str(), &text);
-        same(&rt, &fault.number(), &number);
+    for fault in FAULTS {
+        is_told(&rt, rt.alloc(), fault)?;
     }
     Ok(())
 }

@@ -127,7 +127,8 @@ impl Strike {
         let mut wanted = self.answers(alloc, answered)?;
         wanted.push_str(named(alloc, kept)?.as_str())?;
         wanted.push('\n')?;
-        prints(rt, alloc, script.as_str(), wanted.as_str())
+        prints(rt, alloc, script.as_str(), wanted.as_str());
+        Ok(())
     }
 
     /// Each flash call of the Set of this number is struck, the first of them behind so many calls.

