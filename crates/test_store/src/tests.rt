@@ -49,6 +49,15 @@ fn keep<const S: usize>(journal: &mut Stored<'_, S>, name: &[u8]) -> Result<(), 
     Ok(())
 }
 
+/// There is no room for this command.
+fn has_no_room_for<const S: usize>(
+    rt: &impl Abort,
+    journal: &mut Stored<'_, S>,
+    command: &Command,
+) {
+    assert!(rt; matches!(commit(journal, command), Err(CommitFault::Exhausted)));
+}
+
 /// Whether a commit of this command is stopped by a loss of power in the flash call behind `after` further ones.
 fn is_cut<const S: usize>(
     journal: &mut Stored<'_, S>,

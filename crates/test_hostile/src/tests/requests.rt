@@ -27,23 +27,28 @@ fn put_line(alloc: Global, bytes: &[u8], script: &mut String) -> Result<(), Allo
     script.push_str("\n")
 }
 
+/// What a line notes of a frame, where it is a note.
+fn noted(line: &[u8]) -> Option<Fate> {
+    match line {
+        b"note done" => Some(Answered),
+        b"note fault" => Some(Fault),
+        b"note filter" => Some(Filter),
+        b"note not-mine" => Some(NotMine),
+        _ => None,
+    }
+}
+
 /// What became of each frame, by what a script printed.
 fn fates(rt: &impl Abort, alloc: Global, text: &[u8]) -> Result<Vec<Fate>, Fail> {
     let mut fates = Vec::new(alloc);
-    let mut sent = 0;
+    let mut is_sent = false;
     for line in text.split(|byte| *byte == b'\n') {
-        let fate = match line {
-            b"note done" => Answered,
-            b"note fault" => Fault,
-            b"note filter" => Filter,
-            b"note not-mine" => NotMine,
-            _ => {
-                sent = u8::from(line.starts_with(b"out "));
-                continue;
-            }
+        let Some(fate) = noted(line) else {
+            is_sent = line.starts_with(b"out ");
+            continue;
         };
-        assert_eq!(rt; sent == 1, fate == Answered, "an answer is a frame");
-        sent = 0;
+        assert_eq!(rt; is_sent, fate == Answered, "an answer is a frame");
+        is_sent = false;
         fates.push(fate)?;
     }
     Ok(fates)
@@ -126,6 +131,15 @@ fn fate_of(frame: &[u8]) -> Fate {
     }
 }
 
+/// What a script prints that hands frames to the device `pump-1`.
+fn printed(rt: &impl Abort, alloc: Global, frames: &str) -> Result<Vec<u8>, Fail> {
+    let script = format!(in alloc; "{NAMED}{frames}")?;
+    let mut reader = script.as_bytes();
+    let mut text = Vec::new(alloc);
+    assert_eq!(rt; run(alloc, &mut reader, &mut text), Ok(()));
+    Ok(text)
+}
+
 /// Hands frames to the device `pump-1`, and compares what became of them.
 fn hand_in(
     rt: &impl Abort,
@@ -134,10 +148,7 @@ fn hand_in(
     wanted: &[Fate],
     sample: &Sample,
 ) -> Result<(), Fail> {
-    let script = format!(in alloc; "{NAMED}{frames}")?;
-    let mut reader = script.as_bytes();
-    let mut text = Vec::new(alloc);
-    assert_eq!(rt; run(alloc, &mut reader, &mut text), Ok(()));
+    let text = printed(rt, alloc, frames)?;
     let fates = fates(rt, alloc, text.as_slice())?;
     let named = fates.as_slice().strip_prefix(&[Answered]);
     assert!(rt;
@@ -147,30 +158,55 @@ fn hand_in(
     Ok(())
 }
 
+/// How many bytes of a sample are needed for what becomes of it, where so many stand in front of what is behind its FrameID.
+fn needed((_, _, data, fate): &Sample, head: usize) -> usize {
+    if *fate == NotMine {
+        head
+    } else {
+        (data.len() / 2).saturating_add(10).saturating_add(head)
+    }
+}
+
+/// Appends a line for each front of a frame, and what has to become of each: of those with less bytes than are needed, a fault.
+fn put_fronts(
+    alloc: Global,
+    bytes: &[u8],
+    (needed, fate): (usize, Fate),
+    script: &mut String,
+    wanted: &mut Vec<Fate>,
+) -> Result<(), Fail> {
+    for length in 1..bytes.len() {
+        put_line(alloc, &bytes[..length], script)?;
+        wanted.push(if length < needed { Fault } else { fate })?;
+    }
+    put_line(alloc, bytes, script)?;
+    wanted.push(fate)?;
+    Ok(())
+}
+
+/// Hands each front of a sample in, with this tag.
+fn hand_in_cut(
+    rt: &impl Abort,
+    alloc: Global,
+    sample: &Sample,
+    (tag, head): (&str, usize),
+) -> Result<(), Fail> {
+    let bytes = frame(alloc, sample, tag)?;
+    let becomes = (needed(sample, head), sample.3);
+    let mut script = String::new(alloc);
+    let mut wanted = Vec::new(alloc);
+    put_fronts(alloc, bytes.as_slice(), becomes, &mut script, &mut wanted)?;
+    hand_in(rt, alloc, script.as_str(), wanted.as_slice(), sample)
+}
+
 // A frame that ends before its FrameID does is a fault; behind that it is judged by where it goes; and a request that ends
 // before its data does is a fault. What is behind the data is padding.
 #[test]
 fn cut_short(rt: HostRuntime) -> Result<(), Fail> {
     let alloc = rt.alloc();
-    for (tag, head) in [("", 16), ("8100c000", 20)] {
-        for sample in &SAMPLES {
-            let (_, _, data, fate) = sample;
-            let bytes = frame(alloc, sample, tag)?;
-            let whole = if *fate == NotMine {
-                head
-            } else {
-                (data.len() / 2).saturating_add(10).saturating_add(head)
-            };
-            let mut script = String::new(alloc);
-            let mut wanted = Vec::new(alloc);
-            for length in 1..bytes.len() {
-                put_line(alloc, &bytes[..length], &mut script)?;
-                wanted.push(if length < whole { Fault } else { *fate })?;
-            }
-            put_line(alloc, bytes.as_slice(), &mut script)?;
-            wanted.push(*fate)?;
-            hand_in(&rt, alloc, script.as_str(), wanted.as_slice(), sample)?;
-        }
+    for sample in &SAMPLES {
+        hand_in_cut(&rt, alloc, sample, ("", 16))?;
+        hand_in_cut(&rt, alloc, sample, ("8100c000", 20))?;
     }
     Ok(())
 }
@@ -246,43 +282,50 @@ fn put_wrong(
     Ok(())
 }
 
+/// Hands a sample in with other lengths, with this tag. The first of its lengths stands at `place`.
+fn hand_in_wrong(
+    rt: &impl Abort,
+    alloc: Global,
+    sample: &Sample,
+    (tag, place): (&str, usize),
+) -> Result<(), Fail> {
+    let good = frame(alloc, sample, tag)?;
+    assert_eq!(rt; fate_of(good.as_slice()), sample.3, "{sample:?}");
+    let mut script = String::new(alloc);
+    let mut wanted = Vec::new(alloc);
+    for place in lengths(alloc, good.as_slice(), place, sample.1 == GET)? {
+        put_wrong(alloc, good.as_slice(), place, &mut script, &mut wanted)?;
+    }
+    hand_in(rt, alloc, script.as_str(), wanted.as_slice(), sample)
+}
+
 #[test]
 fn wrong_lengths(rt: HostRuntime) -> Result<(), Fail> {
     let alloc = rt.alloc();
-    for (tag, place) in [("", 24), ("8100c000", 28)] {
-        for sample in &SAMPLES {
-            let good = frame(alloc, sample, tag)?;
-            assert_eq!(rt; fate_of(good.as_slice()), sample.3, "{sample:?}");
-            let mut script = String::new(alloc);
-            let mut wanted = Vec::new(alloc);
-            for place in lengths(alloc, good.as_slice(), place, sample.1 == GET)? {
-                put_wrong(alloc, good.as_slice(), place, &mut script, &mut wanted)?;
-            }
-            hand_in(&rt, alloc, script.as_str(), wanted.as_slice(), sample)?;
-        }
+    for sample in &SAMPLES {
+        hand_in_wrong(&rt, alloc, sample, ("", 24))?;
+        hand_in_wrong(&rt, alloc, sample, ("8100c000", 28))?;
     }
     Ok(())
+}
+
+/// A frame with this tag may have so many bytes, and no more.
+fn hand_in_long(rt: &impl Abort, alloc: Global, (tag, longest): (&str, usize)) -> Result<(), Fail> {
+    let sample = &SAMPLES[0];
+    let mut bytes = frame(alloc, sample, tag)?;
+    let mut script = String::new(alloc);
+    for length in [longest, longest.saturating_add(1), 1519, 3000] {
+        bytes.resize(length, 0)?;
+        put_line(alloc, bytes.as_slice(), &mut script)?;
+    }
+    let wanted = [Answered, Fault, Fault, Fault];
+    hand_in(rt, alloc, script.as_str(), &wanted, sample)
 }
 
 // A frame has at most 1,514 bytes, and one with a tag at most 1,518.
 #[test]
 fn longest_frames(rt: HostRuntime) -> Result<(), Fail> {
     let alloc = rt.alloc();
-    let sample = &SAMPLES[0];
-    for (tag, longest) in [("", 1514), ("8100c000", 1518)] {
-        let mut bytes = frame(alloc, sample, tag)?;
-        let mut script = String::new(alloc);
-        for length in [longest, longest + 1, 1519, 3000] {
-            bytes.resize(length, 0)?;
-            put_line(alloc, bytes.as_slice(), &mut script)?;
-        }
-        hand_in(
-            &rt,
-            alloc,
-            script.as_str(),
-            &[Answered, Fault, Fault, Fault],
-            sample,
-        )?;
-    }
-    Ok(())
+    hand_in_long(&rt, alloc, ("", 1514))?;
+    hand_in_long(&rt, alloc, ("8100c000", 1518))
 }

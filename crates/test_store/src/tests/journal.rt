@@ -1,5 +1,5 @@
 // Images whose bytes were worked out by hand from the layout, and calls at a flash in memory.
-use super::{Stored, commit, finds, holds, is_cut, is_named, keep, set, start};
+use super::{Stored, commit, finds, has_no_room_for, holds, is_cut, is_named, keep, set, start};
 use flash_model::{FlashFault, MemoryFlash, Sector};
 use pn_values::{Command, ImValue, Padded};
 use settings_journal::{BootFault, CommitFault};
@@ -235,12 +235,17 @@ const FOREIGN: [(Image, Image, &str); 12] = [
     (Slot(FIRST, &I_AND_M_4), All(0xFF), "an I&M4 that is short"),
 ];
 
+/// A start refuses what lies in the sectors.
+fn is_foreign(rt: &impl Abort, (first, second, what): (Image, Image, &str)) {
+    let mut flash = flash_of(first, second);
+    let answer = start(&mut flash);
+    assert!(rt; matches!(answer, Err(BootFault::Foreign)), "at {what}");
+}
+
 #[test]
 fn what_no_journal_left_is_foreign(rt: HostRuntime) {
-    for (first, second, what) in FOREIGN {
-        let mut flash = flash_of(first, second);
-        let answer = start(&mut flash);
-        assert!(rt; matches!(answer, Err(BootFault::Foreign)), "at {what}");
+    for images in FOREIGN {
+        is_foreign(&rt, images);
     }
 }
 
@@ -275,8 +280,7 @@ fn the_last_generation_is_kept(rt: HostRuntime) -> Result<(), Fail> {
     assert!(rt; !journal.is_exhausted());
     keep(&mut journal, b"pump-2")?;
     assert!(rt; journal.is_exhausted());
-    let refused = commit(&mut journal, &set(b"pump-3")?);
-    assert!(rt; matches!(refused, Err(CommitFault::Exhausted)));
+    has_no_room_for(&rt, &mut journal, &set(b"pump-3")?);
     assert!(rt; !journal.has_failed());
     drop(journal);
     finds(&rt, &mut flash, b"pump-2")
@@ -343,8 +347,7 @@ fn the_last_generation_of_version_1_has_no_room(rt: HostRuntime) -> Result<(), F
     let mut flash = flash_of(Base(b"PNJ\x01\x00\x00\x06pump-1", 0), All(0xFF));
     let mut journal = start(&mut flash)?;
     assert!(rt; journal.is_exhausted());
-    let refused = commit(&mut journal, &set(b"pump-3")?);
-    assert!(rt; matches!(refused, Err(CommitFault::Exhausted)));
+    has_no_room_for(&rt, &mut journal, &set(b"pump-3")?);
     Ok(())
 }
 

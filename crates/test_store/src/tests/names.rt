@@ -1,27 +1,35 @@
 // Which texts are station names, and what is wrong with the others.
 use station_names::{NameFault, check};
+use std::process::Abort;
 use std::test::Fail;
+
+/// Texts, and what is wrong with each.
+const TEXTS: [(&str, Option<NameFault>); 14] = [
+    ("pump-1", None),
+    ("a--b", None),
+    ("1000.2.3.4", None),
+    ("1.2.3.4.5", None),
+    ("port-0011", None),
+    ("x.port-001", None),
+    ("", Some(NameFault::EmptyLabel)),
+    ("a..b", Some(NameFault::EmptyLabel)),
+    ("Port", Some(NameFault::BadByte)),
+    ("a-.b", Some(NameFault::HyphenEnd)),
+    ("1.2.3.4", Some(NameFault::LooksLikeAddress)),
+    ("port-001", Some(NameFault::PortForm)),
+    ("port-001-00002", Some(NameFault::PortForm)),
+    ("port-001.x", Some(NameFault::PortForm)),
+];
+
+/// What is wrong with a text.
+fn has_fault(rt: &impl Abort, text: &[u8], fault: Option<NameFault>) {
+    assert_eq!(rt; check(text).err(), fault, "{text:?}");
+}
 
 #[test]
 fn tells_names_from_faults(rt: HostRuntime) {
-    let rows = [
-        ("pump-1", None),
-        ("a--b", None),
-        ("1000.2.3.4", None),
-        ("1.2.3.4.5", None),
-        ("port-0011", None),
-        ("x.port-001", None),
-        ("", Some(NameFault::EmptyLabel)),
-        ("a..b", Some(NameFault::EmptyLabel)),
-        ("Port", Some(NameFault::BadByte)),
-        ("a-.b", Some(NameFault::HyphenEnd)),
-        ("1.2.3.4", Some(NameFault::LooksLikeAddress)),
-        ("port-001", Some(NameFault::PortForm)),
-        ("port-001-00002", Some(NameFault::PortForm)),
-        ("port-001.x", Some(NameFault::PortForm)),
-    ];
-    for (text, fault) in rows {
-        assert_eq!(rt; check(text.as_bytes()).err(), fault, "{text}");
+    for (text, fault) in TEXTS {
+        has_fault(&rt, text.as_bytes(), fault);
     }
 }
 
@@ -32,9 +40,9 @@ fn counts_bytes(rt: HostRuntime) {
     text[63] = b'.';
     text[127] = b'.';
     text[191] = b'.';
-    assert_eq!(rt; check(&text).err(), Some(NameFault::TooLong));
-    assert_eq!(rt; check(&text[..240]).err(), None);
-    assert_eq!(rt; check(&[b'a'; 64]).err(), Some(NameFault::LabelTooLong));
+    has_fault(&rt, &text, Some(NameFault::TooLong));
+    has_fault(&rt, &text[..240], None);
+    has_fault(&rt, &[b'a'; 64], Some(NameFault::LabelTooLong));
 }
 
 #[test]

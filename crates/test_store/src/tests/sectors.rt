@@ -1,9 +1,8 @@
 // Sectors of 4,096 bytes, which have fourteen slots, until the next one is needed and until no commit has room. The bytes
 // were worked out by hand from the layout.
-use super::{Stored, commit, finds, holds, is_cut, is_named, keep, set, start};
+use super::{Stored, finds, has_no_room_for, holds, is_cut, is_named, keep, set, start};
 use flash_model::{Flash, FlashFault, MemoryFlash, Sector};
 use pn_values::{Command, ImValue, IpSuite, Padded, StationName};
-use settings_journal::CommitFault;
 use std::alloc::Global;
 use std::process::Abort;
 use std::test::Fail;
@@ -17,11 +16,15 @@ const SMALLEST: usize = 768;
 /// How many names fill two sectors: a base, and fourteen slots, in each.
 const FULL: u32 = 30;
 
+/// The name of this number.
+fn numbered(alloc: Global, number: u32) -> Result<String, Fail> {
+    Ok(format!(in alloc; "n{number}")?)
+}
+
 /// Sets the names `n1` up to that of this number, each by one commit.
 fn set_names(alloc: Global, journal: &mut Stored<'_, SIZE>, last: u32) -> Result<(), Fail> {
     for number in 1..=last {
-        let name = format!(in alloc; "n{number}")?;
-        keep(journal, name.as_bytes())?;
+        keep(journal, numbered(alloc, number)?.as_bytes())?;
     }
     Ok(())
 }
@@ -166,9 +169,8 @@ fn commands() -> Result<[Command; 8], Fail> {
 /// There is no room for a command of any kind, and each leaves the journal as it was.
 fn has_no_room(rt: &impl Abort, journal: &mut Stored<'_, SIZE>) -> Result<(), Fail> {
     assert!(rt; journal.is_exhausted());
-    for command in commands()? {
-        let refused = commit(journal, &command);
-        assert!(rt; matches!(refused, Err(CommitFault::Exhausted)));
+    for command in &commands()? {
+        has_no_room_for(rt, journal, command);
     }
     assert!(rt; !journal.has_failed());
     assert_eq!(rt; journal.settings().im1.as_bytes(), [b' '; 54].as_slice());
@@ -209,8 +211,7 @@ fn each_generation_has_a_base_and_its_slots(rt: HostRuntime) -> Result<(), Fail>
     }
     let mut journal = start(&mut flash)?;
     assert!(rt; journal.is_exhausted());
-    let refused = commit(&mut journal, &set(b"pump-2")?);
-    assert!(rt; matches!(refused, Err(CommitFault::Exhausted)));
+    has_no_room_for(&rt, &mut journal, &set(b"pump-2")?);
     is_named(&rt, &journal, b"pump-2");
     Ok(())
 }

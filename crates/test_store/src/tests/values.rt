@@ -1,5 +1,6 @@
 // Suites, and what commands make of the settings.
 use pn_values::{Command, ImValue, IpSuite, Padded, Settings, StationName};
+use std::process::Abort;
 use std::test::Fail;
 
 // Address, mask, gateway, and whether a station may have them.
@@ -28,38 +29,56 @@ fn suites(rt: HostRuntime) {
     }
 }
 
+/// A command that sets the suite 192.168.0.2 for a while.
+fn temporary() -> Result<Command, Fail> {
+    let suite = IpSuite::new([192, 168, 0, 2], [255, 255, 255, 0], [0; 4]);
+    Ok(Command::SetIp {
+        permanent: false,
+        suite: suite.ok_or("a suite")?,
+    })
+}
+
+/// What a command makes of stored settings.
+fn applied(command: &Command, settings: Settings) -> Settings {
+    command.apply(settings)
+}
+
+/// What a command makes of the running settings of a station as it leaves the factory.
+fn shown(command: &Command) -> Settings {
+    command.show(Settings::factory())
+}
+
+/// The date of installation.
+fn is_dated(rt: &impl Abort, settings: &Settings, date: &[u8; 16]) {
+    assert_eq!(rt; settings.im2.as_bytes(), date.as_slice());
+}
+
 #[test]
 fn a_temporary_name_runs_and_is_not_stored(rt: HostRuntime) -> Result<(), Fail> {
     let permanent = Command::SetName {
         permanent: true,
         name: StationName::none(),
     };
-    let suite = IpSuite::new([192, 168, 0, 2], [255, 255, 255, 0], [0; 4]).ok_or("a suite")?;
-    let temporary = Command::SetIp {
-        permanent: false,
-        suite,
-    };
-    let stored = temporary.apply(permanent.apply(Settings::factory()));
-    let running = temporary.show(Settings::factory());
+    let temporary = temporary()?;
+    let stored = applied(&temporary, applied(&permanent, Settings::factory()));
+    let running = shown(&temporary);
     assert_eq!(rt; stored.suite.address(), [0; 4]);
     assert_eq!(rt; running.suite.address(), [192, 168, 0, 2]);
     assert_eq!(rt; running.suite.mask(), [255, 255, 255, 0]);
     assert_eq!(rt; running.suite.gateway(), [0; 4]);
     assert_eq!(rt; stored.name.as_bytes(), b"".as_slice());
-    assert_eq!(rt;
-        running.copy().im2.as_bytes(),
-        b"                ".as_slice()
-    );
+    is_dated(&rt, &running.copy(), b"                ");
     Ok(())
 }
 
 #[test]
 fn a_reset_makes_the_texts_blank(rt: HostRuntime) {
     let text = Padded::new(*b"2024-05-06 07:08");
-    let written = Command::SetIm(ImValue::Im2(text)).apply(Settings::factory());
-    assert_eq!(rt; written.im2.as_bytes(), b"2024-05-06 07:08".as_slice());
-    let kept = Command::ResetCommunication.apply(written);
-    assert_eq!(rt; kept.im2.as_bytes(), b"2024-05-06 07:08".as_slice());
-    let blank = Command::ResetApplication.apply(kept);
-    assert_eq!(rt; blank.im2.as_bytes(), b"                ".as_slice());
+    let set = Command::SetIm(ImValue::Im2(text));
+    let written = applied(&set, Settings::factory());
+    is_dated(&rt, &written, b"2024-05-06 07:08");
+    let kept = applied(&Command::ResetCommunication, written);
+    is_dated(&rt, &kept, b"2024-05-06 07:08");
+    let blank = applied(&Command::ResetApplication, kept);
+    is_dated(&rt, &blank, b"                ");
 }
