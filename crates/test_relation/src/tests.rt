@@ -5,7 +5,8 @@ use frame_codec::{Bytes, Outbox};
 use relations::Phase;
 use std::fmt::Debug;
 use std::process::Abort;
-use test_stations::{Station, is_padded, step};
+use std::test::Fail;
+use test_stations::{Station, frame, is_padded, step};
 
 mod connects;
 mod exchange;
@@ -18,40 +19,53 @@ fn same<T: PartialEq + Debug>(rt: &impl Abort, left: &T, right: &T) {
     assert_eq!(rt; *left, *right);
 }
 
-/// This becomes of an event.
-fn notes(rt: &impl Abort, device: &mut Station, event: &Event, outbox: &mut Outbox, note: Note) {
-    same(rt, &step(device, event, outbox), &note);
+/// A station that is tried, and what it sent last.
+#[derive(Drop)]
+struct Tried {
+    station: Station,
+    last: Outbox,
 }
 
-/// An event is taken, and one frame is sent: these octets, filled up.
-fn sends(rt: &impl Abort, device: &mut Station, event: &Event, outbox: &mut Outbox, octets: &[u8]) {
-    notes(rt, device, event, outbox, Note::Done);
-    assert!(rt; is_padded(outbox, octets));
-}
+impl Tried {
+    /// A station that started.
+    fn new(station: Option<Station>) -> Result<Tried, Fail> {
+        let station = station.ok_or("starts")?;
+        Ok(Tried {
+            station,
+            last: Outbox::new(),
+        })
+    }
 
-/// This becomes of an event, and nothing is sent.
-fn sends_none(
-    rt: &impl Abort,
-    device: &mut Station,
-    event: &Event,
-    outbox: &mut Outbox,
-    note: Note,
-) {
-    notes(rt, device, event, outbox, note);
-    same(rt, &outbox.len(), &0);
-}
+    /// This becomes of an event.
+    fn notes(&mut self, rt: &impl Abort, event: &Event, note: Note) {
+        same(rt, &step(&mut self.station, event, &mut self.last), &note);
+    }
 
-/// So many frames are sent in so many units of time.
-fn passes(rt: &impl Abort, device: &mut Station, units: u32, frames: usize) {
-    same(rt, &requests::sent_in(device, units), &frames);
-}
+    /// An event is taken, and one frame is sent: these octets, filled up.
+    fn sends(&mut self, rt: &impl Abort, event: &Event, octets: &[u8]) {
+        self.notes(rt, event, Note::Done);
+        assert!(rt; is_padded(&self.last, octets));
+    }
 
-/// The relation of the station waits for this, or there is none.
-fn is_at(rt: &impl Abort, device: &Station, phase: Option<Phase>) {
-    same(rt, &device.phase(), &phase);
-}
+    /// This becomes of an event, and nothing is sent.
+    fn sends_none(&mut self, rt: &impl Abort, event: &Event, note: Note) {
+        self.notes(rt, event, note);
+        same(rt, &self.last.len(), &0);
+    }
 
-/// A call is served so: how many frames are sent, how long the first of them is, and its status.
-fn serves(rt: &impl Abort, device: &mut Station, call: &Bytes, wanted: (usize, usize, [u8; 4])) {
-    same(rt, &requests::served(device, call), &wanted);
+    /// So many frames are sent in so many units of time.
+    fn passes(&mut self, rt: &impl Abort, units: u32, frames: usize) {
+        same(rt, &requests::sent_in(&mut self.station, units), &frames);
+    }
+
+    /// Its relation waits for this, or there is none.
+    fn is_at(&self, rt: &impl Abort, phase: Option<Phase>) {
+        same(rt, &self.station.phase(), &phase);
+    }
+
+    /// A call is served so: how many frames are sent, how long the first of them is, and its status.
+    fn serves(&mut self, rt: &impl Abort, call: &Bytes, wanted: (usize, usize, [u8; 4])) {
+        let _ = step(&mut self.station, &frame(call.as_slice()), &mut self.last);
+        same(rt, &requests::answer_in(&self.last), &wanted);
+    }
 }

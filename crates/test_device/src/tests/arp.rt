@@ -1,10 +1,8 @@
 //! Who holds the device's address.
-use crate::tests::{notes, sends, sends_none};
+use crate::tests::Tried;
 use device_core::Note;
-use flash_model::MemoryFlash;
-use frame_codec::Outbox;
 use std::test::Fail;
-use test_stations::{addressed, frame, start};
+use test_stations::{addressed, frame};
 
 // The station 02-00-00-00-00-02 at 192.168.0.1 asks all stations who holds 192.168.0.2.
 const REQUEST: [u8; 42] = *b"\xff\xff\xff\xff\xff\xff\x02\x00\x00\x00\x00\x02\x08\x06\
@@ -16,56 +14,40 @@ const REPLY: [u8; 42] = *b"\x02\x00\x00\x00\x00\x02\x02\x00\x00\x00\x00\x01\x08\
 
 #[test]
 fn the_running_address_is_told(rt: HostRuntime) -> Result<(), Fail> {
-    let mut outbox = Outbox::new();
-    let mut device = addressed().ok_or("starts")?;
-    sends(&rt, &mut device, &frame(&REQUEST), &mut outbox, &REPLY);
+    let mut device = Tried::new(addressed())?;
+    device.sends(&rt, &frame(&REQUEST), &REPLY);
     Ok(())
 }
 
 #[test]
 fn a_request_to_the_device_alone_is_answered(rt: HostRuntime) -> Result<(), Fail> {
-    let mut outbox = Outbox::new();
-    let mut device = addressed().ok_or("starts")?;
+    let mut device = Tried::new(addressed())?;
     let mut request = REQUEST;
     request[..6].copy_from_slice(&[2, 0, 0, 0, 0, 1]);
-    sends(&rt, &mut device, &frame(&request), &mut outbox, &REPLY);
+    device.sends(&rt, &frame(&request), &REPLY);
     Ok(())
 }
 
 #[test]
 fn packets_that_are_not_answered(rt: HostRuntime) -> Result<(), Fail> {
-    let mut outbox = Outbox::new();
-    let mut device = addressed().ok_or("starts")?;
+    let mut device = Tried::new(addressed())?;
     // for another address, a reply, and to another station
     for (place, octet) in [(41, 3), (21, 2), (5, 0xFEu8)] {
         let mut packet = REQUEST;
         if let Some(there) = packet.get_mut(place) {
             *there = octet;
         }
-        sends_none(
-            &rt,
-            &mut device,
-            &frame(&packet),
-            &mut outbox,
-            Note::NotMine,
-        );
+        device.sends_none(&rt, &frame(&packet), Note::NotMine);
     }
     Ok(())
 }
 
 #[test]
 fn without_an_address_none_is_told(rt: HostRuntime) -> Result<(), Fail> {
-    let mut outbox = Outbox::new();
-    let mut device = start(MemoryFlash::blank()).ok_or("starts")?;
+    let mut device = Tried::blank()?;
     let mut zero = REQUEST;
     zero[38..].copy_from_slice(&[0; 4]);
-    notes(&rt, &mut device, &frame(&zero), &mut outbox, Note::NotMine);
-    notes(
-        &rt,
-        &mut device,
-        &frame(&REQUEST),
-        &mut outbox,
-        Note::NotMine,
-    );
+    device.notes(&rt, &frame(&zero), Note::NotMine);
+    device.notes(&rt, &frame(&REQUEST), Note::NotMine);
     Ok(())
 }

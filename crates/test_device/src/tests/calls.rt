@@ -1,12 +1,11 @@
 //! Calls, answered, answered again, and not answered. Their octets and those of the answers were made by another program from
 //! RFC 768 and 791, C706 and IEC 61158-6-10.
-use crate::tests::{notes, same};
+use crate::tests::{Tried, same};
 use device_core::Note;
-use flash_model::MemoryFlash;
 use frame_codec::Outbox;
 use std::process::Abort;
 use std::test::Fail;
-use test_stations::{Station, addressed, frame, start, step};
+use test_stations::{addressed, frame};
 
 // A Read Implicit of I&M0 at slot 0, subslot 1, asked for from 192.168.0.1, its sequence number 7.
 const CALL: [u8; 206] = *b"\x02\x00\x00\x00\x00\x01\x02\x00\x00\x00\x00\x02\x08\x00\
@@ -86,27 +85,8 @@ fn changed(changes: &[(usize, u8)]) -> [u8; 206] {
     bytes
 }
 
-// This becomes of a call, and so many frames are sent.
-fn is_heard(rt: &impl Abort, device: &mut Station, bytes: &[u8], note: Note, frames: usize) {
-    let mut outbox = Outbox::new();
-    notes(rt, device, &frame(bytes), &mut outbox, note);
-    same(rt, &outbox.len(), &frames);
-}
-
-// Whether the one frame that answers a call is these octets.
-fn is_answered(device: &mut Station, bytes: &[u8], answer: &[u8]) -> bool {
-    let mut outbox = Outbox::new();
-    let note = step(device, &frame(bytes), &mut outbox);
-    match outbox.as_slice() {
-        [sent] => note == Note::Done && sent.as_slice() == answer,
-        _ => false,
-    }
-}
-
 // How long the one frame is that answers a call, and its status.
-fn answer_of(device: &mut Station, bytes: &[u8]) -> (usize, [u8; 4]) {
-    let mut outbox = Outbox::new();
-    let _ = step(device, &frame(bytes), &mut outbox);
+fn answer_in(outbox: &Outbox) -> (usize, [u8; 4]) {
     let mut status = [0xFF; 4];
     match outbox.as_slice() {
         [sent] if sent.len() >= 126 => {
@@ -117,25 +97,47 @@ fn answer_of(device: &mut Station, bytes: &[u8]) -> (usize, [u8; 4]) {
     }
 }
 
-// A call is refused with this status, in a frame without blocks.
-fn is_refused(rt: &impl Abort, device: &mut Station, bytes: &[u8], status: [u8; 4]) {
-    same(rt, &answer_of(device, bytes), &(142, status));
+// Whether the one frame in a box is these octets.
+fn is_one(outbox: &Outbox, octets: &[u8]) -> bool {
+    match outbox.as_slice() {
+        [sent] => sent.as_slice() == octets,
+        _ => false,
+    }
+}
+
+impl Tried {
+    // This becomes of a call, and so many frames are sent.
+    fn hears(&mut self, rt: &impl Abort, bytes: &[u8], note: Note, frames: usize) {
+        self.notes(rt, &frame(bytes), note);
+        same(rt, &self.last.len(), &frames);
+    }
+
+    // The one frame that answers a call is these octets.
+    fn answers(&mut self, rt: &impl Abort, bytes: &[u8], answer: &[u8]) {
+        self.notes(rt, &frame(bytes), Note::Done);
+        assert!(rt; is_one(&self.last, answer));
+    }
+
+    // A call is refused with this status, in a frame without blocks.
+    fn refuses(&mut self, rt: &impl Abort, bytes: &[u8], status: [u8; 4]) {
+        self.take(&frame(bytes));
+        same(rt, &answer_in(&self.last), &(142, status));
+    }
 }
 
 #[test]
 fn a_record_is_read(rt: HostRuntime) -> Result<(), Fail> {
-    let mut device = addressed().ok_or("starts")?;
-    assert!(rt; is_answered(&mut device, &CALL, &ANSWER));
+    let mut device = Tried::new(addressed())?;
+    device.answers(&rt, &CALL, &ANSWER);
     Ok(())
 }
 
 #[test]
 fn as_much_of_a_record_is_read_as_is_asked_for(rt: HostRuntime) -> Result<(), Fail> {
-    let mut device = addressed().ok_or("starts")?;
-    let mut outbox = Outbox::new();
+    let mut device = Tried::new(addressed())?;
     let ten = changed(&[(LENGTH, 0), (LENGTH + 1, 10)]);
-    notes(&rt, &mut device, &frame(&ten), &mut outbox, Note::Done);
-    let sent = outbox.as_slice().first().ok_or("is answered")?.as_slice();
+    device.notes(&rt, &frame(&ten), Note::Done);
+    let sent = device.first()?;
     same(&rt, &sent.len(), &216);
     same(
         &rt,
@@ -147,100 +149,88 @@ fn as_much_of_a_record_is_read_as_is_asked_for(rt: HostRuntime) -> Result<(), Fa
 
 #[test]
 fn a_record_that_there_is_not(rt: HostRuntime) -> Result<(), Fail> {
-    let mut device = addressed().ok_or("starts")?;
-    assert!(rt; is_answered(&mut device, &changed(&[(INDEX, 0xF5)]), &NO_RECORD));
+    let mut device = Tried::new(addressed())?;
+    device.answers(&rt, &changed(&[(INDEX, 0xF5)]), &NO_RECORD);
     Ok(())
 }
 
 #[test]
 fn places_that_there_are_not(rt: HostRuntime) -> Result<(), Fail> {
-    let mut device = addressed().ok_or("starts")?;
+    let mut device = Tried::new(addressed())?;
     let slot = changed(&[(SEQUENCE, 1), (SLOT, 3)]);
-    is_refused(&rt, &mut device, &slot, [0xDE, 0x80, 0xB2, 0]);
+    device.refuses(&rt, &slot, [0xDE, 0x80, 0xB2, 0]);
     let api = changed(&[(SEQUENCE, 2), (API, 1)]);
-    is_refused(&rt, &mut device, &api, [0xDE, 0x80, 0xB4, 0]);
+    device.refuses(&rt, &api, [0xDE, 0x80, 0xB4, 0]);
     Ok(())
 }
 
 #[test]
 fn a_call_in_little_endian_gets_the_same_answer(rt: HostRuntime) -> Result<(), Fail> {
-    let mut device = addressed().ok_or("starts")?;
-    assert!(rt; is_answered(&mut device, &LITTLE, &ANSWER));
+    let mut device = Tried::new(addressed())?;
+    device.answers(&rt, &LITTLE, &ANSWER);
     Ok(())
 }
 
 #[test]
 fn a_call_again_gets_the_same_frame(rt: HostRuntime) -> Result<(), Fail> {
-    let mut device = addressed().ok_or("starts")?;
-    assert!(rt; is_answered(&mut device, &CALL, &ANSWER));
+    let mut device = Tried::new(addressed())?;
+    device.answers(&rt, &CALL, &ANSWER);
     // from another station, another port, and for another record
     let again = changed(&[(11, 9), (34, 1), (INDEX, 0xF5)]);
-    assert!(rt; is_answered(&mut device, &again, &ANSWER));
+    device.answers(&rt, &again, &ANSWER);
     Ok(())
 }
 
 #[test]
 fn an_older_call_is_not_answered(rt: HostRuntime) -> Result<(), Fail> {
-    let mut device = addressed().ok_or("starts")?;
-    is_heard(&rt, &mut device, &CALL, Note::Done, 1);
-    is_heard(
-        &rt,
-        &mut device,
-        &changed(&[(SEQUENCE, 6)]),
-        Note::OldCall,
-        0,
-    );
+    let mut device = Tried::new(addressed())?;
+    device.hears(&rt, &CALL, Note::Done, 1);
+    device.hears(&rt, &changed(&[(SEQUENCE, 6)]), Note::OldCall, 0);
     Ok(())
 }
 
 #[test]
 fn four_other_activities_later_a_call_is_new(rt: HostRuntime) -> Result<(), Fail> {
-    let mut device = addressed().ok_or("starts")?;
-    is_heard(&rt, &mut device, &CALL, Note::Done, 1);
+    let mut device = Tried::new(addressed())?;
+    device.hears(&rt, &CALL, Note::Done, 1);
     for other in [1, 2, 3, 4u8] {
         let call = changed(&[(ACTIVITY, other)]);
-        is_heard(&rt, &mut device, &call, Note::Done, 1);
+        device.hears(&rt, &call, Note::Done, 1);
     }
     let again = changed(&[(INDEX, 0xF5)]);
-    assert!(rt; is_answered(&mut device, &again, &NO_RECORD));
+    device.answers(&rt, &again, &NO_RECORD);
     Ok(())
 }
 
 #[test]
 fn blocks_that_are_not_counted_well_are_answered_and_not_kept(rt: HostRuntime) -> Result<(), Fail> {
-    let mut device = addressed().ok_or("starts")?;
-    is_heard(&rt, &mut device, &CALL, Note::Done, 1);
+    let mut device = Tried::new(addressed())?;
+    device.hears(&rt, &CALL, Note::Done, 1);
     let older = changed(&[(SEQUENCE, 6), (OFFSET, 1)]);
-    is_refused(&rt, &mut device, &older, [0xDE, 0x81, 0x40, 0]);
+    device.refuses(&rt, &older, [0xDE, 0x81, 0x40, 0]);
     let newer = changed(&[(SEQUENCE, 8), (OFFSET, 1)]);
-    is_refused(&rt, &mut device, &newer, [0xDE, 0x81, 0x40, 0]);
-    assert!(rt; is_answered(&mut device, &CALL, &ANSWER));
+    device.refuses(&rt, &newer, [0xDE, 0x81, 0x40, 0]);
+    device.answers(&rt, &CALL, &ANSWER);
     Ok(())
 }
 
 #[test]
 fn calls_that_can_not_be_read(rt: HostRuntime) -> Result<(), Fail> {
-    let mut device = addressed().ok_or("starts")?;
+    let mut device = Tried::new(addressed())?;
     let mut sum = CALL;
     sum[CHECKSUM + 1] = 0x41;
-    is_heard(&rt, &mut device, &sum, Note::Fault, 0);
-    is_heard(
-        &rt,
-        &mut device,
-        &changed(&[(REPRESENTATION, 0x20)]),
-        Note::Fault,
-        0,
-    );
-    is_heard(&rt, &mut device, &CALL[..205], Note::Fault, 0);
+    device.hears(&rt, &sum, Note::Fault, 0);
+    device.hears(&rt, &changed(&[(REPRESENTATION, 0x20)]), Note::Fault, 0);
+    device.hears(&rt, &CALL[..205], Note::Fault, 0);
     Ok(())
 }
 
 #[test]
 fn operations_that_are_not_served(rt: HostRuntime) -> Result<(), Fail> {
-    let mut device = addressed().ok_or("starts")?;
+    let mut device = Tried::new(addressed())?;
     for operation in [6, 7, 255u8] {
         let call = changed(&[(OPERATION, operation), (OFFSET, 1)]);
-        is_heard(&rt, &mut device, &call, Note::Fault, 0);
+        device.hears(&rt, &call, Note::Fault, 0);
     }
     Ok(())
 }
@@ -255,42 +245,42 @@ fn operations_of_a_relation_that_there_is_not(rt: HostRuntime) -> Result<(), Fai
         (3, [0xDF, 0x81, 0x40, 1]),
         (4u8, [0xDD, 0x81, 0x40, 1]),
     ] {
-        let mut device = addressed().ok_or("starts")?;
+        let mut device = Tried::new(addressed())?;
         let call = changed(&[(OPERATION, operation)]);
-        is_refused(&rt, &mut device, &call, status);
+        device.refuses(&rt, &call, status);
     }
     Ok(())
 }
 
 #[test]
 fn a_response_that_nobody_waits_for(rt: HostRuntime) -> Result<(), Fail> {
-    let mut device = addressed().ok_or("starts")?;
+    let mut device = Tried::new(addressed())?;
     let mut response = NO_RECORD;
     response[..6].copy_from_slice(&CALL[..6]);
     response[26..34].copy_from_slice(&CALL[26..34]);
-    is_heard(&rt, &mut device, &response, Note::NoRelation, 0);
+    device.hears(&rt, &response, Note::NoRelation, 0);
     Ok(())
 }
 
 #[test]
 fn datagrams_to_somebody_else(rt: HostRuntime) -> Result<(), Fail> {
-    let mut device = addressed().ok_or("starts")?;
+    let mut device = Tried::new(addressed())?;
     let port = changed(&[(37, 0x95)]);
-    is_heard(&rt, &mut device, &port, Note::NotMine, 0);
+    device.hears(&rt, &port, Note::NotMine, 0);
     let station = changed(&[(5, 9)]);
-    is_heard(&rt, &mut device, &station, Note::NotMine, 0);
+    device.hears(&rt, &station, Note::NotMine, 0);
     // the header's checksum goes along with the address
     let address = changed(&[(33, 3), (25, 0xD8)]);
-    is_heard(&rt, &mut device, &address, Note::NotMine, 0);
+    device.hears(&rt, &address, Note::NotMine, 0);
     Ok(())
 }
 
 #[test]
 fn no_call_is_answered_without_an_address(rt: HostRuntime) -> Result<(), Fail> {
-    let mut device = start(MemoryFlash::blank()).ok_or("starts")?;
-    is_heard(&rt, &mut device, &CALL, Note::NotMine, 0);
+    let mut device = Tried::blank()?;
+    device.hears(&rt, &CALL, Note::NotMine, 0);
     // to the address of zeros
     let zero = changed(&[(24, 0x79), (25, 0x84), (30, 0), (31, 0), (33, 0)]);
-    is_heard(&rt, &mut device, &zero, Note::NotMine, 0);
+    device.hears(&rt, &zero, Note::NotMine, 0);
     Ok(())
 }

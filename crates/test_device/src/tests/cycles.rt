@@ -1,5 +1,5 @@
 //! A cycle of the device, and the start after it.
-use crate::tests::{is_named, same};
+use crate::tests::same;
 use demo_station::identity;
 use device_core::{Event, Sink, cycle};
 use flash_model::{MemoryFlash, Sector};
@@ -55,7 +55,11 @@ fn a_cycle_with_a_loss(rt: HostRuntime) -> Result<(), Fail> {
     )
     .ok()
     .ok_or("starts again")?;
-    is_named(&rt, &device, b"pump-1");
+    same(
+        &rt,
+        &device.running().name.as_bytes(),
+        &b"pump-1".as_slice(),
+    );
     let first = device.flash().sector(Sector::First);
     same(&rt, &first.get(767).copied(), &Some(0xAA));
     same(&rt, &device.lamp(), &0);

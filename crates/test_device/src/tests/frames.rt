@@ -1,27 +1,24 @@
 //! Frames that are answered, and frames that are not taken.
-use crate::tests::{notes, same, sends, sends_none};
+use crate::tests::{Tried, same};
 use device_core::Note;
-use flash_model::MemoryFlash;
-use frame_codec::{Bytes, Outbox};
+use frame_codec::Bytes;
 use std::process::Abort;
 use std::test::Fail;
-use test_stations::{DONE, IDENTIFY, PUMP_1, SET, UNNAMED, frame, restart, start, step};
+use test_stations::{DONE, IDENTIFY, PUMP_1, SET, UNNAMED, frame};
 
 #[test]
 fn a_name_is_set_kept_and_found(rt: HostRuntime) -> Result<(), Fail> {
-    let mut outbox = Outbox::new();
-    let mut device = start(MemoryFlash::blank()).ok_or("starts")?;
-    sends(&rt, &mut device, &frame(&IDENTIFY), &mut outbox, &UNNAMED);
-    sends(&rt, &mut device, &frame(&SET), &mut outbox, &DONE);
-    let mut device = restart(device).ok_or("starts again")?;
-    sends(&rt, &mut device, &frame(&IDENTIFY), &mut outbox, &PUMP_1);
+    let mut device = Tried::blank()?;
+    device.sends(&rt, &frame(&IDENTIFY), &UNNAMED);
+    device.sends(&rt, &frame(&SET), &DONE);
+    let mut device = device.restart()?;
+    device.sends(&rt, &frame(&IDENTIFY), &PUMP_1);
     Ok(())
 }
 
 #[test]
 fn frames_that_are_not_taken(rt: HostRuntime) -> Result<(), Fail> {
-    let mut outbox = Outbox::new();
-    let mut device = start(MemoryFlash::blank()).ok_or("starts")?;
+    let mut device = Tried::blank()?;
     let mut elsewhere = IDENTIFY;
     elsewhere[..6].copy_from_slice(&[2, 0, 0, 0, 0, 3]);
     let cases: [(&[u8], Note); 3] = [
@@ -30,20 +27,19 @@ fn frames_that_are_not_taken(rt: HostRuntime) -> Result<(), Fail> {
         (&elsewhere, Note::NotMine),
     ];
     for (bytes, note) in cases {
-        sends_none(&rt, &mut device, &frame(bytes), &mut outbox, note);
+        device.sends_none(&rt, &frame(bytes), note);
     }
     Ok(())
 }
 
 #[test]
 fn a_tagged_request_gets_the_untagged_answer(rt: HostRuntime) -> Result<(), Fail> {
-    let mut outbox = Outbox::new();
-    let mut device = start(MemoryFlash::blank()).ok_or("starts")?;
+    let mut device = Tried::blank()?;
     let mut tagged = [0; 34];
     tagged[..12].copy_from_slice(&IDENTIFY[..12]);
     tagged[12..16].copy_from_slice(&[0x81, 0, 0, 0]);
     tagged[16..].copy_from_slice(&IDENTIFY[12..]);
-    sends(&rt, &mut device, &frame(&tagged), &mut outbox, &UNNAMED);
+    device.sends(&rt, &frame(&tagged), &UNNAMED);
     Ok(())
 }
 
@@ -64,11 +60,10 @@ fn numbers_of_notes(rt: HostRuntime) {
 }
 
 // A device without a name or an address, which meets these octets.
-fn is_noted<R: Abort>(rt: &R, bytes: &[u8], note: Note) -> Result<(), Fail> {
-    let mut outbox = Outbox::new();
-    let mut device = start(MemoryFlash::blank()).ok_or("starts")?;
-    notes(rt, &mut device, &frame(bytes), &mut outbox, note);
-    same(rt, &outbox.len(), &usize::from(note == Note::Done));
+fn is_noted(rt: &impl Abort, bytes: &[u8], note: Note) -> Result<(), Fail> {
+    let mut device = Tried::blank()?;
+    device.notes(rt, &frame(bytes), note);
+    same(rt, &device.last.len(), &usize::from(note == Note::Done));
     Ok(())
 }
 
@@ -102,18 +97,20 @@ fn signals(count: u8) -> Bytes {
     bytes
 }
 
+// Sixteen blocks of an answer to Signals, each of them done.
+fn are_done(rt: &impl Abort, blocks: &[u8]) {
+    same(rt, &blocks.len(), &128);
+    for block in blocks.chunks_exact(8) {
+        same(rt, &block, &[5, 4, 0, 3, 5, 3, 0, 0].as_slice());
+    }
+}
+
 #[test]
 fn sixteen_blocks_are_answered_and_seventeen_are_not_read(rt: HostRuntime) -> Result<(), Fail> {
-    let mut outbox = Outbox::new();
-    let mut device = start(MemoryFlash::blank()).ok_or("starts")?;
-    let note = step(&mut device, &frame(signals(16).as_slice()), &mut outbox);
-    same(&rt, &note, &Note::Done);
-    let answer = outbox.as_slice().first().ok_or("is answered")?;
-    let (head, blocks) = answer.as_slice().split_at_checked(26).ok_or("whole")?;
+    let mut device = Tried::blank()?;
+    device.notes(&rt, &frame(signals(16).as_slice()), Note::Done);
+    let (head, blocks) = device.first()?.split_at_checked(26).ok_or("whole")?;
     assert!(rt; head.ends_with(&[0, 0, 0, 0x80]));
-    same(&rt, &blocks.len(), &128);
-    for block in blocks.chunks_exact(8) {
-        same(&rt, &block, &[5, 4, 0, 3, 5, 3, 0, 0].as_slice());
-    }
+    are_done(&rt, blocks);
     is_noted(&rt, signals(17).as_slice(), Note::Fault)
 }

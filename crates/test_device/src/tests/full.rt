@@ -1,12 +1,12 @@
 //! A station whose flash has no room for one more commit, and a flash that another layout was written to.
-use crate::tests::{same, sends};
+use crate::tests::{Tried, same};
 use demo_station::identity;
 use device_core::Device;
 use flash_model::{Flash, MemoryFlash, Sector};
-use frame_codec::Outbox;
 use settings_journal::BootFault;
+use std::process::Abort;
 use std::test::Fail;
-use test_stations::{IDENTIFY, PUMP_1, Station, frame, no_modules, set_pump, start, write_last};
+use test_stations::{IDENTIFY, PUMP_1, frame, no_modules, set_pump, start, write_last};
 
 // A reset of DCP without its block, and the answer without how the block came out.
 const RESET: [u8; 26] =
@@ -32,36 +32,45 @@ fn reset(block: [u8; 6]) -> ([u8; 32], [u8; 34]) {
     (request, answer)
 }
 
-fn full(version: u8) -> Option<Station> {
+// A flash without room, in a version of the layout.
+fn full(version: u8) -> Result<MemoryFlash<768>, Fail> {
     let mut flash = MemoryFlash::blank();
-    write_last(&mut flash, version, [0; 12]).ok()?;
-    start(flash)
+    write_last(&mut flash, version, [0; 12])?;
+    Ok(flash)
 }
 
-// A name, and each reset: each answered with BlockError 4, and nothing changes.
-#[test]
-fn no_setting_and_no_reset_is_carried_out_without_room(rt: HostRuntime) -> Result<(), Fail> {
-    for version in [1, 2] {
-        let mut outbox = Outbox::new();
-        let mut device = full(version).ok_or("starts")?;
-        sends(&rt, &mut device, &set_pump(b'2'), &mut outbox, &FULL);
-        for block in [
-            *b"\x05\x06\x00\x02\x00\x02",
-            *b"\x05\x06\x00\x02\x00\x04",
-            *b"\x05\x05\x00\x02\x00\x00",
-        ] {
-            let (request, answer) = reset(block);
-            sends(&rt, &mut device, &frame(&request), &mut outbox, &answer);
-        }
-        sends(&rt, &mut device, &frame(&IDENTIFY), &mut outbox, &PUMP_1);
-        let flash = device.into_flash();
-        let mut untouched = MemoryFlash::blank();
-        write_last(&mut untouched, version, [0; 12])?;
-        for sector in [Sector::First, Sector::Second] {
-            assert!(rt; flash.sector(sector) == untouched.sector(sector));
-        }
+// It is as it was written.
+fn is_untouched(rt: &impl Abort, flash: &MemoryFlash<768>, version: u8) -> Result<(), Fail> {
+    let untouched = full(version)?;
+    for sector in [Sector::First, Sector::Second] {
+        assert!(rt; flash.sector(sector) == untouched.sector(sector));
     }
     Ok(())
+}
+
+// The blocks of each reset.
+const RESETS: [[u8; 6]; 3] = [
+    *b"\x05\x06\x00\x02\x00\x02",
+    *b"\x05\x06\x00\x02\x00\x04",
+    *b"\x05\x05\x00\x02\x00\x00",
+];
+
+// A name, and each reset: each answered with BlockError 4, and nothing changes.
+fn nothing_is_carried_out(rt: &impl Abort, version: u8) -> Result<(), Fail> {
+    let mut device = Tried::new(start(full(version)?))?;
+    device.sends(rt, &set_pump(b'2'), &FULL);
+    for block in RESETS {
+        let (request, answer) = reset(block);
+        device.sends(rt, &frame(&request), &answer);
+    }
+    device.sends(rt, &frame(&IDENTIFY), &PUMP_1);
+    is_untouched(rt, &device.station.into_flash(), version)
+}
+
+#[test]
+fn no_setting_and_no_reset_is_carried_out_without_room(rt: HostRuntime) -> Result<(), Fail> {
+    nothing_is_carried_out(&rt, 1)?;
+    nothing_is_carried_out(&rt, 2)
 }
 
 #[test]

@@ -1,71 +1,69 @@
 //! Where names lie in the flash, and what is left of them where power is lost in a commit.
-use crate::tests::{is_named, is_stored, notes, same};
+use crate::tests::{Tried, same};
 use device_core::Note;
-use flash_model::{MemoryFlash, Order, Sector};
-use frame_codec::Outbox;
+use flash_model::{Flash, Order, Sector};
 use std::process::Abort;
 use std::test::Fail;
-use test_stations::{Station, restart, set_pump, start, step};
+use test_stations::set_pump;
 
 // A station that was named "pump-1", and then "pump-2".
-fn named_twice(outbox: &mut Outbox) -> Option<Station> {
-    let mut device = start(MemoryFlash::blank())?;
-    let _ = step(&mut device, &set_pump(b'1'), outbox);
-    let _ = step(&mut device, &set_pump(b'2'), outbox);
-    Some(device)
+fn named_twice() -> Result<Tried, Fail> {
+    let mut device = Tried::blank()?;
+    device.take(&set_pump(b'1'));
+    device.take(&set_pump(b'2'));
+    Ok(device)
 }
 
-// A sector of the station's flash.
-fn sector(device: &Station, sector: Sector) -> &[u8] {
-    device.flash().sector(sector)
-}
+impl Tried {
+    // A sector of its flash.
+    fn sector(&self, sector: Sector) -> &[u8] {
+        self.station.flash().sector(sector)
+    }
 
-// It begins with these octets.
-fn begins(rt: &impl Abort, device: &Station, at: Sector, octets: &[u8]) {
-    assert!(rt; sector(device, at).starts_with(octets));
-}
+    // A sector begins with these octets.
+    fn begins(&self, rt: &impl Abort, sector: Sector, octets: &[u8]) {
+        assert!(rt; self.sector(sector).starts_with(octets));
+    }
 
-// At this place of it lies this octet.
-fn lies_at(rt: &impl Abort, device: &Station, at: Sector, place: usize, octet: u8) {
-    same(rt, &sector(device, at).get(place).copied(), &Some(octet));
-}
+    // At this place of a sector lies this octet.
+    fn lies_at(&self, rt: &impl Abort, sector: Sector, place: usize, octet: u8) {
+        same(rt, &self.sector(sector).get(place).copied(), &Some(octet));
+    }
 
-// Nothing was written to it.
-fn is_erased(rt: &impl Abort, device: &Station, at: Sector) {
-    assert!(rt; sector(device, at).iter().all(|x| *x == 0xFF));
+    // Nothing was written to a sector.
+    fn is_erased(&self, rt: &impl Abort, sector: Sector) {
+        assert!(rt; self.sector(sector).iter().all(|x| *x == 0xFF));
+    }
 }
 
 #[test]
 fn the_first_name_lies_in_the_first_sector(rt: HostRuntime) -> Result<(), Fail> {
-    let mut outbox = Outbox::new();
-    let mut device = start(MemoryFlash::blank()).ok_or("starts")?;
-    let _ = step(&mut device, &set_pump(b'1'), &mut outbox);
-    begins(&rt, &device, Sector::First, b"PNJ\x02\xff\xfe\x06pump-1");
-    lies_at(&rt, &device, Sector::First, 511, 0);
-    is_erased(&rt, &device, Sector::Second);
+    let mut device = Tried::blank()?;
+    device.take(&set_pump(b'1'));
+    device.begins(&rt, Sector::First, b"PNJ\x02\xff\xfe\x06pump-1");
+    device.lies_at(&rt, Sector::First, 511, 0);
+    device.is_erased(&rt, Sector::Second);
     Ok(())
 }
 
 #[test]
 fn the_second_name_lies_in_the_slot_behind_it(rt: HostRuntime) -> Result<(), Fail> {
-    let mut outbox = Outbox::new();
-    let device = named_twice(&mut outbox).ok_or("starts")?;
-    begins(&rt, &device, Sector::First, b"PNJ\x02\xff\xfe\x06pump-1");
-    lies_at(&rt, &device, Sector::First, 512, 0x01);
-    lies_at(&rt, &device, Sector::First, 513, 0x06);
-    lies_at(&rt, &device, Sector::First, 519, b'2');
-    lies_at(&rt, &device, Sector::First, 767, 0);
-    is_erased(&rt, &device, Sector::Second);
+    let device = named_twice()?;
+    device.begins(&rt, Sector::First, b"PNJ\x02\xff\xfe\x06pump-1");
+    device.lies_at(&rt, Sector::First, 512, 0x01);
+    device.lies_at(&rt, Sector::First, 513, 0x06);
+    device.lies_at(&rt, Sector::First, 519, b'2');
+    device.lies_at(&rt, Sector::First, 767, 0);
+    device.is_erased(&rt, Sector::Second);
     Ok(())
 }
 
 #[test]
 fn the_third_name_lies_in_the_other_sector(rt: HostRuntime) -> Result<(), Fail> {
-    let mut outbox = Outbox::new();
-    let mut device = named_twice(&mut outbox).ok_or("starts")?;
-    let _ = step(&mut device, &set_pump(b'3'), &mut outbox);
-    begins(&rt, &device, Sector::Second, b"PNJ\x02\xff\xfd\x06pump-3");
-    lies_at(&rt, &device, Sector::Second, 511, 0);
+    let mut device = named_twice()?;
+    device.take(&set_pump(b'3'));
+    device.begins(&rt, Sector::Second, b"PNJ\x02\xff\xfd\x06pump-3");
+    device.lies_at(&rt, Sector::Second, 511, 0);
     Ok(())
 }
 
@@ -78,31 +76,26 @@ const MASKS: [[u8; 8]; 4] = [
 ];
 
 // The station as it starts again, where power was lost in a flash call of the commit of "pump-3".
-fn after_loss(after: u32, mask: [u8; 8]) -> Option<Station> {
-    let mut outbox = Outbox::new();
-    let mut device = named_twice(&mut outbox)?;
-    device.arm(Order::Cut { after, mask });
-    let _ = step(&mut device, &set_pump(b'3'), &mut outbox);
-    if !device.is_lost() {
-        return None;
-    }
-    restart(device)
+fn after_loss(rt: &impl Abort, after: u32, mask: [u8; 8]) -> Result<Tried, Fail> {
+    let mut device = named_twice()?;
+    device.station.arm(Order::Cut { after, mask });
+    device.take(&set_pump(b'3'));
+    assert!(rt; device.station.is_lost());
+    device.restart()
 }
 
 // It is named as it was left, and takes and keeps another name.
-fn goes_on<R: Abort>(rt: &R, mut device: Station, left: &[u8]) -> Result<(), Fail> {
-    let mut outbox = Outbox::new();
-    is_named(rt, &device, left);
-    notes(rt, &mut device, &set_pump(b'4'), &mut outbox, Note::Done);
-    let device = restart(device).ok_or("starts a third time")?;
-    is_stored(rt, &device, b"pump-4");
+fn goes_on(rt: &impl Abort, mut device: Tried, left: &[u8]) -> Result<(), Fail> {
+    device.is_named(rt, left);
+    device.notes(rt, &set_pump(b'4'), Note::Done);
+    device.restart()?.keeps(rt, b"pump-4");
     Ok(())
 }
 
 #[test]
 fn power_is_lost_in_the_erase(rt: HostRuntime) -> Result<(), Fail> {
     for mask in MASKS {
-        goes_on(&rt, after_loss(0, mask).ok_or("starts")?, b"pump-2")?;
+        goes_on(&rt, after_loss(&rt, 0, mask)?, b"pump-2")?;
     }
     Ok(())
 }
@@ -110,7 +103,7 @@ fn power_is_lost_in_the_erase(rt: HostRuntime) -> Result<(), Fail> {
 #[test]
 fn power_is_lost_as_the_name_is_programmed(rt: HostRuntime) -> Result<(), Fail> {
     for mask in MASKS {
-        goes_on(&rt, after_loss(1, mask).ok_or("starts")?, b"pump-2")?;
+        goes_on(&rt, after_loss(&rt, 1, mask)?, b"pump-2")?;
     }
     Ok(())
 }
@@ -124,7 +117,7 @@ fn power_is_lost_as_the_gate_is_opened(rt: HostRuntime) -> Result<(), Fail> {
         } else {
             b"pump-2"
         };
-        goes_on(&rt, after_loss(2, mask).ok_or("starts")?, left)?;
+        goes_on(&rt, after_loss(&rt, 2, mask)?, left)?;
     }
     Ok(())
 }

@@ -1,13 +1,13 @@
 //! What a relation exchanges: cyclic frames each way, and an alarm. The octets were worked out by hand from IEC 61158-6-10.
 use crate::tests::connects::{THREE, connect};
-use crate::tests::requests::{exchanging, exchanging_by, related, sent_in};
-use crate::tests::{is_at, notes, passes, same, sends, sends_none};
+use crate::tests::requests::{exchanging, exchanging_by, related};
+use crate::tests::{Tried, same};
 use device_core::{Event, Note};
 use frame_codec::Outbox;
 use relations::Phase;
 use std::process::Abort;
 use std::test::Fail;
-use test_stations::{Station, frame, is_filled, is_padded, octets, set, step};
+use test_stations::{Station, frame, is_filled, octets, set};
 
 // The first cyclic frame of the device, for which the application gave 12 34.
 const INPUTS: [u8; 64] =
@@ -58,62 +58,54 @@ fn alarm(bytes: &[u8]) -> Event {
     Event::Alarm(1, 1, octets(bytes))
 }
 
-/// The first interval of a relation: behind its last unit one frame is sent, which holds this input.
-pub(crate) fn is_interval_sent(device: &mut Station, value: [u8; 2]) -> bool {
-    let mut outbox = Outbox::new();
-    let early = sent_in(device, 31);
-    let note = step(device, &Event::Tick, &mut outbox);
-    let mut wanted = INPUTS;
-    wanted[23..25].copy_from_slice(&value);
-    early == 0 && note == Note::Done && is_padded(&outbox, &wanted)
+impl Tried {
+    /// The first interval of a relation: behind its last unit one frame is sent, which holds this input.
+    pub(crate) fn sends_interval(&mut self, rt: &impl Abort, value: [u8; 2]) {
+        self.passes(rt, 31, 0);
+        let mut wanted = INPUTS;
+        wanted[23..25].copy_from_slice(&value);
+        self.sends(rt, &Event::Tick, &wanted);
+    }
+
+    // The output of the module in slot 2.
+    fn is_output(&self, rt: &impl Abort, value: [u8; 2]) {
+        same(rt, &self.station.output(2, 1), &Some(value.as_slice()));
+    }
+
+    // 3,200 units go by, with so many frames in all but the last of them, and in that one the alarm is sent again.
+    fn notifies_again(&mut self, rt: &impl Abort, between: usize, with_inputs: bool) {
+        self.passes(rt, 3199, between);
+        self.notes(rt, &Event::Tick, Note::Done);
+        assert!(rt; is_notified_again(&self.last, with_inputs));
+    }
 }
 
 #[test]
 fn inputs_are_sent_each_interval(rt: HostRuntime) -> Result<(), Fail> {
-    let mut device = related(600, THREE).ok_or("starts")?;
-    let mut outbox = Outbox::new();
+    let mut device = Tried::new(related(600, THREE))?;
     for (value, note) in [
         ([0x12, 0x34].as_slice(), Note::Done),
         (&[0x12], Note::Refused),
         (&[], Note::Refused),
     ] {
         let given = Event::Input(1, 1, octets(value));
-        sends_none(&rt, &mut device, &given, &mut outbox, note);
+        device.sends_none(&rt, &given, note);
     }
-    assert!(rt; is_interval_sent(&mut device, [0x12, 0x34]));
-    passes(&rt, &mut device, 32, 1);
+    device.sends_interval(&rt, [0x12, 0x34]);
+    device.passes(&rt, 32, 1);
     Ok(())
 }
 
 #[test]
 fn one_alarm_stands_at_a_time(rt: HostRuntime) -> Result<(), Fail> {
-    let mut device = exchanging().ok_or("starts")?;
-    let mut outbox = Outbox::new();
-    sends(
-        &rt,
-        &mut device,
-        &alarm(&[0xAA, 0xBB]),
-        &mut outbox,
-        &NOTIFIED,
-    );
-    notes(
-        &rt,
-        &mut device,
-        &alarm(&[0xCC]),
-        &mut outbox,
-        Note::Refused,
-    );
-    sends_none(&rt, &mut device, &frame(&ACK), &mut outbox, Note::Done);
-    notes(
-        &rt,
-        &mut device,
-        &alarm(&[0xCC]),
-        &mut outbox,
-        Note::Refused,
-    );
-    sends(&rt, &mut device, &frame(&ALARM_ACK), &mut outbox, &TAKEN);
-    notes(&rt, &mut device, &alarm(&[0xCC]), &mut outbox, Note::Done);
-    same(&rt, &outbox.len(), &1);
+    let mut device = Tried::new(exchanging())?;
+    device.sends(&rt, &alarm(&[0xAA, 0xBB]), &NOTIFIED);
+    device.notes(&rt, &alarm(&[0xCC]), Note::Refused);
+    device.sends_none(&rt, &frame(&ACK), Note::Done);
+    device.notes(&rt, &alarm(&[0xCC]), Note::Refused);
+    device.sends(&rt, &frame(&ALARM_ACK), &TAKEN);
+    device.notes(&rt, &alarm(&[0xCC]), Note::Done);
+    same(&rt, &device.last.len(), &1);
     Ok(())
 }
 
@@ -144,39 +136,19 @@ fn is_notified_again(outbox: &Outbox, with_inputs: bool) -> bool {
 // An alarm that is raised so many units behind the Connect and that nobody acknowledges: it is sent again three times, each 3,200
 // units behind the one before, with so many frames of inputs between, and the fourth time ends the relation, with nothing beside the ERR.
 fn is_spent(rt: &impl Abort, first: u32, between: usize) -> Result<(), Fail> {
-    let mut device = patient().ok_or("starts")?;
-    let mut outbox = Outbox::new();
-    passes(rt, &mut device, first, 0);
-    notes(
-        rt,
-        &mut device,
-        &alarm(&[0xAA, 0xBB]),
-        &mut outbox,
-        Note::Done,
-    );
-    assert!(rt; is_notified_again(&outbox, false));
+    let mut device = Tried::new(patient())?;
+    device.passes(rt, first, 0);
+    device.notes(rt, &alarm(&[0xAA, 0xBB]), Note::Done);
+    assert!(rt; is_notified_again(&device.last, false));
     for _ in 0..3 {
-        notifies_again(rt, &mut device, &mut outbox, between, first == 0);
+        device.notifies_again(rt, between, first == 0);
     }
-    passes(rt, &mut device, 3199, between);
-    is_at(rt, &device, Some(Phase::Exchanging));
-    sends(rt, &mut device, &Event::Tick, &mut outbox, &SPENT);
-    is_at(rt, &device, None);
-    passes(rt, &mut device, 32, 0);
+    device.passes(rt, 3199, between);
+    device.is_at(rt, Some(Phase::Exchanging));
+    device.sends(rt, &Event::Tick, &SPENT);
+    device.is_at(rt, None);
+    device.passes(rt, 32, 0);
     Ok(())
-}
-
-// 3,200 units go by, with so many frames in all but the last of them, and in that one the alarm is sent again.
-fn notifies_again(
-    rt: &impl Abort,
-    device: &mut Station,
-    outbox: &mut Outbox,
-    between: usize,
-    with_inputs: bool,
-) {
-    passes(rt, device, 3199, between);
-    notes(rt, device, &Event::Tick, outbox, Note::Done);
-    assert!(rt; is_notified_again(outbox, with_inputs));
 }
 
 #[test]
@@ -195,10 +167,6 @@ pub(crate) fn outputs(counter: u16, [first, second]: [u8; 2]) -> Event {
     Event::Frame(bytes)
 }
 
-fn is_output(rt: &impl Abort, device: &Station, value: [u8; 2]) {
-    same(rt, &device.output(2, 1), &Some(value.as_slice()));
-}
-
 // Cyclic frames by their CycleCounter and their output, what becomes of each, and the output behind it.
 const NEWER_AND_OLDER: [(u16, [u8; 2], Note, [u8; 2]); 6] = [
     (65_520, [1, 0], Note::Done, [1, 0]),
@@ -211,45 +179,25 @@ const NEWER_AND_OLDER: [(u16, [u8; 2], Note, [u8; 2]); 6] = [
 
 #[test]
 fn outputs_are_those_of_the_newest_frame(rt: HostRuntime) -> Result<(), Fail> {
-    let mut device = exchanging().ok_or("starts")?;
-    let mut outbox = Outbox::new();
-    is_output(&rt, &device, [0, 0]);
+    let mut device = Tried::new(exchanging())?;
+    device.is_output(&rt, [0, 0]);
     for (counter, value, note, shown) in NEWER_AND_OLDER {
-        sends_none(
-            &rt,
-            &mut device,
-            &outputs(counter, value),
-            &mut outbox,
-            note,
-        );
-        is_output(&rt, &device, shown);
+        device.sends_none(&rt, &outputs(counter, value), note);
+        device.is_output(&rt, shown);
     }
     Ok(())
 }
 
 #[test]
 fn silence_of_three_intervals_ends_the_exchange(rt: HostRuntime) -> Result<(), Fail> {
-    let mut device = exchanging().ok_or("starts")?;
-    let mut outbox = Outbox::new();
-    passes(&rt, &mut device, 95, 2);
-    notes(&rt, &mut device, &frame(&OUTPUTS), &mut outbox, Note::Done);
-    passes(&rt, &mut device, 95, 3);
-    notes(
-        &rt,
-        &mut device,
-        &frame(&OUTPUTS),
-        &mut outbox,
-        Note::StaleCycle,
-    );
-    is_at(&rt, &device, Some(Phase::Exchanging));
-    sends(&rt, &mut device, &Event::Tick, &mut outbox, &SILENT);
-    is_at(&rt, &device, None);
-    notes(
-        &rt,
-        &mut device,
-        &frame(&OUTPUTS),
-        &mut outbox,
-        Note::NoRelation,
-    );
+    let mut device = Tried::new(exchanging())?;
+    device.passes(&rt, 95, 2);
+    device.notes(&rt, &frame(&OUTPUTS), Note::Done);
+    device.passes(&rt, 95, 3);
+    device.notes(&rt, &frame(&OUTPUTS), Note::StaleCycle);
+    device.is_at(&rt, Some(Phase::Exchanging));
+    device.sends(&rt, &Event::Tick, &SILENT);
+    device.is_at(&rt, None);
+    device.notes(&rt, &frame(&OUTPUTS), Note::NoRelation);
     Ok(())
 }

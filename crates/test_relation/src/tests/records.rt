@@ -1,9 +1,9 @@
 //! Records that are written in a relation: what is stored and kept, what is refused, and what a loss of power, a fault and a
 //! flash without room leave of it.
 use crate::tests::connects::{Blocks, THREE, connect};
-use crate::tests::exchange::{is_interval_sent, outputs};
+use crate::tests::exchange::outputs;
 use crate::tests::requests::{exchanging, related, served, write};
-use crate::tests::{is_at, notes, same, sends_none, serves};
+use crate::tests::{Tried, same};
 use demo_station::identity;
 use device_core::{Device, Note};
 use flash_model::{MemoryFlash, Order};
@@ -19,55 +19,41 @@ use test_stations::{
 // I&M2, the date of installation.
 const DATE: [u8; 22] = *b"\x00\x22\x00\x12\x01\x002024-05-06 07:08";
 
-// A Write, and its status.
-fn status_of(device: &mut Station, sequence: u8, place: (u16, u16, u16), record: &[u8]) -> [u8; 4] {
-    let (slot, subslot, index) = place;
-    let blocks = write(sequence, slot, subslot, index, record);
-    served(
-        device,
-        &call(WRITE, 7, u16::from(sequence), blocks.as_slice()),
-    )
-    .2
-}
+impl Tried {
+    // A Write of this sequence number at slot, subslot and index gets this status.
+    fn writes(
+        &mut self,
+        rt: &impl Abort,
+        sequence: u8,
+        (slot, subslot, index): (u16, u16, u16),
+        record: &[u8],
+        status: [u8; 4],
+    ) {
+        let blocks = write(sequence, slot, subslot, index, record);
+        let written = call(WRITE, 7, u16::from(sequence), blocks.as_slice());
+        same(rt, &served(&mut self.station, &written).2, &status);
+    }
 
-// A Write gets this status.
-fn has_status(
-    rt: &impl Abort,
-    device: &mut Station,
-    sequence: u8,
-    place: (u16, u16, u16),
-    record: &[u8],
-    status: [u8; 4],
-) {
-    same(rt, &status_of(device, sequence, place, record), &status);
-}
-
-// The date of installation under which the station runs.
-fn has_date(rt: &impl Abort, device: &Station, date: &[u8; 16]) {
-    same(rt, &device.running().im2.as_bytes(), &date.as_slice());
+    // The date of installation under which the station runs.
+    fn has_date(&self, rt: &impl Abort, date: &[u8; 16]) {
+        same(rt, &self.station.running().im2.as_bytes(), &date.as_slice());
+    }
 }
 
 #[test]
 fn a_write_that_is_repeated_is_one_command(rt: HostRuntime) -> Result<(), Fail> {
-    let mut device = related(600, THREE).ok_or("starts")?;
+    let mut device = Tried::new(related(600, THREE))?;
     let written = call(WRITE, 7, 2, write(2, 0, 1, 0xAFF2, &DATE).as_slice());
-    serves(&rt, &mut device, &written, (1, 206, [0; 4]));
-    has_date(&rt, &device, b"2024-05-06 07:08");
+    device.serves(&rt, &written, (1, 206, [0; 4]));
+    device.has_date(&rt, b"2024-05-06 07:08");
     // A second commit would fail.
-    device.arm(Order::Fault {
+    device.station.arm(Order::Fault {
         after: 0,
         mask: [0xFF; 8],
     });
-    serves(&rt, &mut device, &written, (1, 206, [0; 4]));
-    let mut outbox = Outbox::new();
+    device.serves(&rt, &written, (1, 206, [0; 4]));
     let older = call(WRITE, 7, 1, write(1, 0, 1, 0xAFF2, &DATE).as_slice());
-    sends_none(
-        &rt,
-        &mut device,
-        &frame(older.as_slice()),
-        &mut outbox,
-        Note::OldCall,
-    );
+    device.sends_none(&rt, &frame(older.as_slice()), Note::OldCall);
     Ok(())
 }
 
@@ -82,86 +68,57 @@ fn write_elsewhere(sequence: u8) -> Blocks {
 
 #[test]
 fn what_is_not_written_is_refused(rt: HostRuntime) -> Result<(), Fail> {
-    let mut device = related(600, THREE).ok_or("starts")?;
-    has_status(
-        &rt,
-        &mut device,
-        1,
-        (1, 1, 0xAFF1),
-        &[0; 60],
-        [0xDF, 0x80, 0xB0, 0],
-    );
-    has_status(
-        &rt,
-        &mut device,
-        2,
-        (0, 1, 0xAFF0),
-        &[0; 60],
-        [0xDF, 0x80, 0xB6, 0],
-    );
+    let mut device = Tried::new(related(600, THREE))?;
+    device.writes(&rt, 1, (1, 1, 0xAFF1), &[0; 60], [0xDF, 0x80, 0xB0, 0]);
+    device.writes(&rt, 2, (0, 1, 0xAFF0), &[0; 60], [0xDF, 0x80, 0xB6, 0]);
     // a date of fifteen octets
-    has_status(
-        &rt,
-        &mut device,
-        3,
-        (0, 1, 0xAFF2),
-        &DATE[..21],
-        [0xDF, 0x80, 0xB1, 0],
-    );
+    device.writes(&rt, 3, (0, 1, 0xAFF2), &DATE[..21], [0xDF, 0x80, 0xB1, 0]);
     let other = write_elsewhere(4);
-    serves(
-        &rt,
-        &mut device,
-        &call(WRITE, 7, 4, other.as_slice()),
-        (1, 142, [0xDF, 0x81, 0x40, 5]),
-    );
-    has_date(&rt, &device, &[b' '; 16]);
+    let written = call(WRITE, 7, 4, other.as_slice());
+    device.serves(&rt, &written, (1, 142, [0xDF, 0x81, 0x40, 5]));
+    device.has_date(&rt, &[b' '; 16]);
     Ok(())
 }
 
 // Power is lost in the last call of the commit, all of which reached the flash: there is no answer, and the date is kept.
 #[test]
 fn power_is_lost_as_a_date_is_stored(rt: HostRuntime) -> Result<(), Fail> {
-    let mut device = related(600, THREE).ok_or("starts")?;
-    device.arm(Order::Cut {
+    let mut device = Tried::new(related(600, THREE))?;
+    device.station.arm(Order::Cut {
         after: 1,
         mask: [0xFF; 8],
     });
     let blocks = write(1, 0, 1, 0xAFF2, &DATE);
-    let _ = served(&mut device, &call(WRITE, 7, 1, blocks.as_slice()));
-    assert!(rt; device.is_lost());
-    let device = restart(device).ok_or("starts again")?;
-    has_date(&rt, &device, b"2024-05-06 07:08");
-    is_at(&rt, &device, None);
+    let written = call(WRITE, 7, 1, blocks.as_slice());
+    let _ = served(&mut device.station, &written);
+    assert!(rt; device.station.is_lost());
+    let device = Tried::new(restart(device.station))?;
+    device.has_date(&rt, b"2024-05-06 07:08");
+    device.is_at(&rt, None);
     Ok(())
 }
 
 #[test]
 fn a_date_is_refused_after_a_fault(rt: HostRuntime) -> Result<(), Fail> {
-    let mut device = exchanging().ok_or("starts")?;
-    device.arm(Order::Fault {
+    let mut device = Tried::new(exchanging())?;
+    device.station.arm(Order::Fault {
         after: 0,
         mask: [0xFF; 8],
     });
     let blocks = write(0, 0, 1, 0xAFF2, &DATE);
-    serves(
-        &rt,
-        &mut device,
-        &call(WRITE, 8, 0, blocks.as_slice()),
-        (1, 142, [0xDF, 0x80, 0xB5, 5]),
-    );
+    let written = call(WRITE, 8, 0, blocks.as_slice());
+    device.serves(&rt, &written, (1, 142, [0xDF, 0x80, 0xB5, 5]));
     // cyclic frames go on, each way
-    let mut outbox = Outbox::new();
     for (counter, note) in [
         (65_520, Note::Done),
         (16, Note::Done),
         (65_520, Note::StaleCycle),
     ] {
         let event = outputs(counter, [0xAA, 0x55]);
-        sends_none(&rt, &mut device, &event, &mut outbox, note);
+        device.sends_none(&rt, &event, note);
     }
-    assert!(rt; is_interval_sent(&mut device, [0, 0]));
-    is_at(&rt, &device, Some(Phase::Exchanging));
+    device.sends_interval(&rt, [0, 0]);
+    device.is_at(&rt, Some(Phase::Exchanging));
     Ok(())
 }
 
@@ -187,22 +144,14 @@ fn block_error(outbox: &Outbox) -> Option<u8> {
 // A reset and a date are refused, the relation stays, and no ERR is sent.
 #[test]
 fn without_room_the_relation_stays(rt: HostRuntime) -> Result<(), Fail> {
-    let mut device = full().ok_or("starts")?;
-    let mut outbox = Outbox::new();
+    let mut device = Tried::new(full())?;
     let reset =
         *b"\x02\x00\x00\x00\x00\x01\x02\x00\x00\x00\x00\x02\x88\x92\xfe\xfd\x04\x00\x00\x00\x00\x03\x00\x00\x00\x06\
         \x05\x06\x00\x02\x00\x04";
-    notes(&rt, &mut device, &frame(&reset), &mut outbox, Note::Done);
-    same(&rt, &block_error(&outbox), &Some(4));
-    has_status(
-        &rt,
-        &mut device,
-        1,
-        (0, 1, 0xAFF2),
-        &DATE,
-        [0xDF, 0x80, 0xB5, 4],
-    );
-    is_at(&rt, &device, Some(Phase::Started));
+    device.notes(&rt, &frame(&reset), Note::Done);
+    same(&rt, &block_error(&device.last), &Some(4));
+    device.writes(&rt, 1, (0, 1, 0xAFF2), &DATE, [0xDF, 0x80, 0xB5, 4]);
+    device.is_at(&rt, Some(Phase::Started));
     Ok(())
 }
 
@@ -236,34 +185,37 @@ fn many() -> Real {
     real
 }
 
-// A Write of the parameter record of this number, which is its value too, gets this status.
-fn is_written(rt: &impl Abort, device: &mut Station, number: u8, status: [u8; 4]) {
-    let place = (
-        u16::from(number / 8),
-        u16::from(number / 2 % 4) + 1,
-        u16::from(number % 2) + 1,
-    );
-    has_status(rt, device, number.wrapping_add(1), place, &[number], status);
-}
+impl Tried {
+    // A Write of the parameter record of this number, which is its value too, gets this status.
+    fn writes_parameter(&mut self, rt: &impl Abort, number: u8, status: [u8; 4]) {
+        let place = (
+            u16::from(number / 8),
+            u16::from(number / 2 % 4) + 1,
+            u16::from(number % 2) + 1,
+        );
+        self.writes(rt, number.wrapping_add(1), place, &[number], status);
+    }
 
-// 64 parameter records are kept, the last of them in slot 7.
-fn are_kept(rt: &impl Abort, device: &Station) -> Result<(), Fail> {
-    let kept = device.taken();
-    same(rt, &kept.len(), &64);
-    let last = kept.last().ok_or("is kept")?;
-    same(rt, &(last.slot, last.subslot, last.index), &(7, 4, 2));
-    same(rt, &last.value.as_slice(), &[63].as_slice());
-    Ok(())
+    // 64 parameter records are kept, the last of them in slot 7.
+    fn keeps_parameters(&self, rt: &impl Abort) -> Result<(), Fail> {
+        let kept = self.station.taken();
+        same(rt, &kept.len(), &64);
+        let last = kept.last().ok_or("is kept")?;
+        same(rt, &(last.slot, last.subslot, last.index), &(7, 4, 2));
+        same(rt, &last.value.as_slice(), &[63].as_slice());
+        Ok(())
+    }
 }
 
 #[test]
 fn sixty_four_parameter_records_are_kept(rt: HostRuntime) -> Result<(), Fail> {
-    let mut device = station(many(), MemoryFlash::blank()).ok_or("starts")?;
+    let mut device = Tried::new(station(many(), MemoryFlash::blank()))?;
     let blocks = connect(0x11, 600, THREE);
-    let _ = served(&mut device, &call(CONNECT, 7, 0, blocks.as_slice()));
+    let asked = call(CONNECT, 7, 0, blocks.as_slice());
+    let _ = served(&mut device.station, &asked);
     for number in 0..64 {
-        is_written(&rt, &mut device, number, [0; 4]);
+        device.writes_parameter(&rt, number, [0; 4]);
     }
-    is_written(&rt, &mut device, 64, [0xDF, 0x80, 0xB5, 6]);
-    are_kept(&rt, &device)
+    device.writes_parameter(&rt, 64, [0xDF, 0x80, 0xB5, 6]);
+    device.keeps_parameters(&rt)
 }

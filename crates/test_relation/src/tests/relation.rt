@@ -2,7 +2,7 @@
 //! from IEC 61158-6-10 and checked with another program.
 use crate::tests::connects::{FOUR, THREE, connect};
 use crate::tests::requests::{exchanging, related, served};
-use crate::tests::{is_at, notes, passes, same, sends, sends_none, serves};
+use crate::tests::{Tried, same};
 use device_core::{Event, Note};
 use flash_model::MemoryFlash;
 use frame_codec::{Bytes, Frame, Outbox};
@@ -10,8 +10,8 @@ use relations::Phase;
 use std::process::Abort;
 use std::test::Fail;
 use test_stations::{
-    CONNECT, CONTROL, DONE, END, PRM_END, RELEASE, Station, call, frame, is_filled, is_padded,
-    plugged, set, set_pump, station, step,
+    CONNECT, CONTROL, DONE, END, PRM_END, RELEASE, Station, call, frame, is_filled, plugged, set,
+    set_pump, station,
 };
 
 // The blocks of the answer to the Connect of three modules: ARBlockRes, an IOCRBlockRes each, AlarmCRBlockRes.
@@ -41,18 +41,17 @@ fn three() -> Bytes {
 
 // The one answer to a Connect is of so many octets and has these blocks.
 fn is_made(rt: &impl Abort, bytes: &Bytes, length: usize, blocks: &[&[u8]]) -> Result<(), Fail> {
-    let mut device = fresh().ok_or("starts")?;
-    let mut outbox = Outbox::new();
-    let _ = step(&mut device, &frame(bytes.as_slice()), &mut outbox);
-    same(rt, &outbox.len(), &1);
-    let sent = outbox.as_slice().first().ok_or("is answered")?;
+    let mut device = Tried::new(fresh())?;
+    device.notes(rt, &frame(bytes.as_slice()), Note::Done);
+    same(rt, &device.last.len(), &1);
+    let sent = device.last.as_slice().first().ok_or("is answered")?;
     same(rt, &sent.len(), &length);
     let mut place: usize = 142;
     for block in blocks {
         stands_at(rt, sent, place, block);
         place = place.wrapping_add(block.len());
     }
-    is_at(rt, &device, Some(Phase::Started));
+    device.is_at(rt, Some(Phase::Started));
     Ok(())
 }
 
@@ -112,14 +111,13 @@ fn other_modules_are_told(rt: HostRuntime) -> Result<(), Fail> {
 
 #[test]
 fn a_connect_that_is_cut_is_none(rt: HostRuntime) -> Result<(), Fail> {
-    let mut device = fresh().ok_or("starts")?;
-    let mut outbox = Outbox::new();
+    let mut device = Tried::new(fresh())?;
     let bytes = three();
     for length in 0..533 {
         let part = bytes.get(..length).ok_or("is longer")?;
-        sends_none(&rt, &mut device, &frame(part), &mut outbox, Note::Fault);
+        device.sends_none(&rt, &frame(part), Note::Fault);
     }
-    is_at(&rt, &device, None);
+    device.is_at(&rt, None);
     Ok(())
 }
 
@@ -160,68 +158,50 @@ fn a_connect_with_a_fault_is_refused(rt: HostRuntime) {
 // The checksum of UDP is the one that Scapy computes, and then one more; and a representation that there is not.
 #[test]
 fn a_connect_that_can_not_be_read_is_a_fault(rt: HostRuntime) -> Result<(), Fail> {
-    let mut device = fresh().ok_or("starts")?;
-    let mut outbox = Outbox::new();
+    let mut device = Tried::new(fresh())?;
     let mut bytes = three();
     set(&mut bytes, 40, CHECKSUM[0]);
     set(&mut bytes, 41, CHECKSUM[1].wrapping_add(1));
-    notes(
-        &rt,
-        &mut device,
-        &frame(bytes.as_slice()),
-        &mut outbox,
-        Note::Fault,
-    );
+    device.notes(&rt, &frame(bytes.as_slice()), Note::Fault);
     set(&mut bytes, 41, CHECKSUM[1]);
     set(&mut bytes, 46, 0x20);
-    notes(
-        &rt,
-        &mut device,
-        &frame(bytes.as_slice()),
-        &mut outbox,
-        Note::Fault,
-    );
+    device.notes(&rt, &frame(bytes.as_slice()), Note::Fault);
     set(&mut bytes, 46, 0);
-    notes(
-        &rt,
-        &mut device,
-        &frame(bytes.as_slice()),
-        &mut outbox,
-        Note::Done,
-    );
-    same(&rt, &outbox.len(), &1);
+    device.notes(&rt, &frame(bytes.as_slice()), Note::Done);
+    same(&rt, &device.last.len(), &1);
     Ok(())
 }
 
 const CHECKSUM: [u8; 2] = [0x30, 0x24];
 
-// A Connect for the relation of this ARUUID gets this status where a relation stands.
-fn is_refused(rt: &impl Abort, device: &mut Station, octet: u8, status: [u8; 4]) {
-    same(rt, &refused(device, octet, &[]), &(1, 142, status));
+impl Tried {
+    // A Connect for the relation of this ARUUID gets this status where a relation stands.
+    fn refuses(&mut self, rt: &impl Abort, octet: u8, status: [u8; 4]) {
+        let sent = refused(&mut self.station, octet, &[]);
+        same(rt, &sent, &(1, 142, status));
+    }
 }
 
 #[test]
 fn a_second_connect_is_refused(rt: HostRuntime) -> Result<(), Fail> {
-    let mut device = related(600, THREE).ok_or("starts")?;
-    is_refused(&rt, &mut device, 0x12, [0xDB, 0x81, 0x40, 4]);
-    let mut device = related(600, THREE).ok_or("starts")?;
-    is_refused(&rt, &mut device, 0x11, [0xDB, 0x81, 0x40, 6]);
-    is_at(&rt, &device, Some(Phase::Started));
+    let mut device = Tried::new(related(600, THREE))?;
+    device.refuses(&rt, 0x12, [0xDB, 0x81, 0x40, 4]);
+    let mut device = Tried::new(related(600, THREE))?;
+    device.refuses(&rt, 0x11, [0xDB, 0x81, 0x40, 6]);
+    device.is_at(&rt, Some(Phase::Started));
     Ok(())
 }
 
 #[test]
 fn silence_ends_a_relation(rt: HostRuntime) -> Result<(), Fail> {
-    let mut device = related(1, THREE).ok_or("starts")?;
+    let mut device = Tried::new(related(1, THREE))?;
     // a cyclic frame each interval of 32 units
-    passes(&rt, &mut device, 3199, 99);
-    is_at(&rt, &device, Some(Phase::Started));
-    let mut outbox = Outbox::new();
-    notes(&rt, &mut device, &Event::Tick, &mut outbox, Note::Done);
+    device.passes(&rt, 3199, 99);
+    device.is_at(&rt, Some(Phase::Started));
     let mut silent = ABORT;
     silent[35] = 6;
-    assert!(rt; is_padded(&outbox, &silent));
-    is_at(&rt, &device, None);
+    device.sends(&rt, &Event::Tick, &silent);
+    device.is_at(&rt, None);
     Ok(())
 }
 
@@ -236,50 +216,48 @@ fn are_filled(outbox: &Outbox, first: &[u8], second: &[u8]) -> bool {
 // ResetToFactory of the communication, and a Set of a name, which is judged as the frame comes.
 #[test]
 fn a_reset_ends_a_relation(rt: HostRuntime) -> Result<(), Fail> {
-    let mut device = related(600, THREE).ok_or("starts")?;
-    let mut outbox = Outbox::new();
+    let mut device = Tried::new(related(600, THREE))?;
     let request =
         *b"\x02\x00\x00\x00\x00\x01\x02\x00\x00\x00\x00\x02\x88\x92\xfe\xfd\x04\x00\x00\x00\x00\x02\x00\x00\x00\x12\
         \x05\x06\x00\x02\x00\x04\x02\x02\x00\x08\x00\x01pump-9";
-    notes(&rt, &mut device, &frame(&request), &mut outbox, Note::Done);
+    device.notes(&rt, &frame(&request), Note::Done);
     let answer =
         *b"\x02\x00\x00\x00\x00\x02\x02\x00\x00\x00\x00\x01\x88\x92\xfe\xfd\x04\x01\x00\x00\x00\x02\x00\x00\x00\x10\
         \x05\x04\x00\x03\x05\x06\x00\x00\x05\x04\x00\x03\x02\x02\x06\x00";
-    assert!(rt; are_filled(&outbox, &ABORT, &answer));
-    same(&rt, &device.running().name.as_bytes(), &b"".as_slice());
-    is_at(&rt, &device, None);
+    assert!(rt; are_filled(&device.last, &ABORT, &answer));
+    same(
+        &rt,
+        &device.station.running().name.as_bytes(),
+        &b"".as_slice(),
+    );
+    device.is_at(&rt, None);
     Ok(())
 }
 
 #[test]
 fn no_name_is_set_before_the_release(rt: HostRuntime) -> Result<(), Fail> {
-    let mut device = related(600, THREE).ok_or("starts")?;
-    let mut outbox = Outbox::new();
+    let mut device = Tried::new(related(600, THREE))?;
     let mut refused = DONE;
     refused[32] = 6;
-    sends(&rt, &mut device, &set_pump(b'9'), &mut outbox, &refused);
-    serves(
-        &rt,
-        &mut device,
-        &call(RELEASE, 7, 1, &END),
-        (1, 174, [0; 4]),
-    );
-    is_at(&rt, &device, None);
-    sends(&rt, &mut device, &set_pump(b'9'), &mut outbox, &DONE);
+    device.sends(&rt, &set_pump(b'9'), &refused);
+    let release = call(RELEASE, 7, 1, &END);
+    device.serves(&rt, &release, (1, 174, [0; 4]));
+    device.is_at(&rt, None);
+    device.sends(&rt, &set_pump(b'9'), &DONE);
     Ok(())
 }
 
 #[test]
 fn the_parameters_end_once(rt: HostRuntime) -> Result<(), Fail> {
-    let mut device = related(600, THREE).ok_or("starts")?;
+    let mut device = Tried::new(related(600, THREE))?;
     let ends = call(CONTROL, 7, 1, &PRM_END);
-    serves(&rt, &mut device, &ends, (2, 174, [0; 4]));
-    is_at(&rt, &device, Some(Phase::Awaiting));
+    device.serves(&rt, &ends, (2, 174, [0; 4]));
+    device.is_at(&rt, Some(Phase::Awaiting));
     let again = call(CONTROL, 7, 2, &PRM_END);
-    serves(&rt, &mut device, &again, (1, 142, [0xDD, 0x81, 0x40, 6]));
+    device.serves(&rt, &again, (1, 142, [0xDD, 0x81, 0x40, 6]));
     // ApplicationReady again, beside a cyclic frame each interval
-    passes(&rt, &mut device, 32_000, 1001);
-    let device = exchanging().ok_or("starts")?;
-    is_at(&rt, &device, Some(Phase::Exchanging));
+    device.passes(&rt, 32_000, 1001);
+    let device = Tried::new(exchanging())?;
+    device.is_at(&rt, Some(Phase::Exchanging));
     Ok(())
 }

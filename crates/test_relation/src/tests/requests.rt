@@ -24,10 +24,8 @@ pub(crate) fn write(sequence: u8, slot: u16, subslot: u16, index: u16, record: &
     blocks
 }
 
-/// Hands a call in. How many frames are sent, how long the first of them is, and its status.
-pub(crate) fn served(device: &mut Station, bytes: &Bytes) -> (usize, usize, [u8; 4]) {
-    let mut outbox = Outbox::new();
-    let _ = step(device, &frame(bytes.as_slice()), &mut outbox);
+/// How many frames are in a box, how long the first of them is, and its status.
+pub(crate) fn answer_in(outbox: &Outbox) -> (usize, usize, [u8; 4]) {
     let sent = outbox.as_slice();
     let mut status = [0xFF; 4];
     match sent.first() {
@@ -37,6 +35,13 @@ pub(crate) fn served(device: &mut Station, bytes: &Bytes) -> (usize, usize, [u8;
         }
         _ => (sent.len(), 0, status),
     }
+}
+
+/// Hands a call in, and says what is sent.
+pub(crate) fn served(device: &mut Station, bytes: &Bytes) -> (usize, usize, [u8; 4]) {
+    let mut outbox = Outbox::new();
+    let _ = step(device, &frame(bytes.as_slice()), &mut outbox);
+    answer_in(&outbox)
 }
 
 /// A station that serves a relation, made by the first call of the activity 0707..07.
