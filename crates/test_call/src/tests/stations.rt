@@ -1,6 +1,7 @@
 //! A station that has answered calls, what becomes of a frame there, and whether a frame left it as it was.
 use super::fates::{Fate, fate_of};
 use super::numbers::{Order, mend, number_at, ones_sum, put, u32_at, udp_sum};
+use super::same;
 use super::samples::{CALL, frame};
 use device_core::{Event, Note};
 use flash_model::MemoryFlash;
@@ -8,7 +9,7 @@ use frame_codec::Outbox;
 use std::alloc::{AllocError, Global};
 use std::process::Abort;
 use std::test::Fail;
-use test_stations::{Station, plugged, same, station, step};
+use test_stations::{Station, plugged, station, step};
 
 /// A Read Implicit of I&M0 by the activity whose octets are all this number.
 fn call(alloc: Global, activity: u8, sequence: u32) -> Result<Event, Fail> {
