@@ -61,6 +61,8 @@ use Rattle.alarm_ends.proofs.Lists.{Extends, each_at, each_behind, each_on, more
 use Rattle.hearing_laws.specs.Stations.{IsSetup}
 use Rattle.plan_connect.specs.Request.{request_for}
 use Rattle.alarm_ends.specs.Sized.{AreSizedModules}
+use Rattle.sending_laws.specs.Sized.{IsLive}
+use Rattle.alarm_ends.proofs.Placed.{IsPlaced}
 use Rattle.alarm_ends.proofs.Sizes.{AreSizedIn}
 use Rattle.alarm_ends.proofs.Turns.{IsTurn, Makes, step_turns}
 use Rattle.alarm_ends.proofs.Tied.{Goes, IsConfirmed, IsFresh, IsHeard, IsReplied, IsSaid, IsTied, heard_stays, said_stays}
@@ -103,6 +105,8 @@ pub record Follows (setup : Setup) (station : Station) (live : Live) (controllin
   pub apart : station.identity.mac ≡ setup.plan.controller.mac → ⊥
   pub real : AreSizedModules station.real.modules.items
   pub sized : AreSizedIn (request_for setup.plan setup.ar) live.rest.link
+  pub lives : IsLive controlling
+  pub placed : IsPlaced station.identity.mac controlling
 
 runs_on : (setup : Setup) (moves more : List Move) (r : Relation) → behind setup (moves ++ more) r ≡ behind setup more (behind setup moves r)
 runs_on setup [] more r = refl
@@ -288,6 +292,8 @@ module _ (setup : Setup) (station : Station) (live : Live) (controlling : Contro
             apart = follows.apart;
             real = follows.real;
             sized = sized;
+            lives = follows.lives;
+            placed = follows.placed;
           }
 
   -- ---- the controller
@@ -463,8 +469,8 @@ module _ (setup : Setup) (station : Station) (live : Live) (controlling : Contro
   all_said_in then (message ∷ messages) there meant told = (said_in then message there.0 meant.0 told.0, all_said_in then messages there.1 meant.1 told.1)
 
   turn_follows : (turn : Turn) (now : List AlarmNotification) → Turned turn now → AllByRecursion (IsSaidAs setup station) turn.sent → AllByRecursion (IsToldAs setup station.identity) turn.sent
-      → Follows setup station live turn.live (sent ++ map (said.bytes_of setup) turn.sent) raised (taken ++ now)
-  turn_follows turn now turned_so meant told =
+      → IsLive turn.live → IsPlaced station.identity.mac turn.live → Follows setup station live turn.live (sent ++ map (said.bytes_of setup) turn.sent) raised (taken ++ now)
+  turn_follows turn now turned_so meant told lives placed_so =
       let r = follows.relation in
       let next = turned_so.next in
       let pdus : Extends r.alarms.pdus next.alarms.pdus = subst (λ (xs : List (ℕ × AlarmNotification)). Extends r.alarms.pdus xs) (sym turned_so.pdus_are) (unchanged r.alarms.pdus) in
@@ -491,13 +497,15 @@ module _ (setup : Setup) (station : Station) (live : Live) (controlling : Contro
         apart = follows.apart;
         real = follows.real;
         sized = follows.sized;
+        lives = lives;
+        placed = placed_so;
       }
 
   -- an event at the controller
   pub controller_follows : (one : Event) → IsEventIn one → AllByRecursion (IsSaidAs setup station) (turn_of setup controlling one).sent
       → AllByRecursion (IsToldAs setup station.identity) (turn_of setup controlling one).sent
-      → Follows setup station live (turn_of setup controlling one).live (sent ++ map (said.bytes_of setup) (turn_of setup controlling one).sent) raised (taken ++ taken_at one)
+      → IsLive (turn_of setup controlling one).live → IsPlaced station.identity.mac (turn_of setup controlling one).live → Follows setup station live (turn_of setup controlling one).live (sent ++ map (said.bytes_of setup) (turn_of setup controlling one).sent) raised (taken ++ taken_at one)
   controller_follows one is =
       subst (λ (l : ControllerLive). AllByRecursion (IsSaidAs setup station) (turn_of setup l one).sent → AllByRecursion (IsToldAs setup station.identity) (turn_of setup l one).sent
-      → Follows setup station live (turn_of setup l one).live (sent ++ map (said.bytes_of setup) (turn_of setup l one).sent) raised (taken ++ taken_at one)) follows.same
+      → IsLive (turn_of setup l one).live → IsPlaced station.identity.mac (turn_of setup l one).live → Follows setup station live (turn_of setup l one).live (sent ++ map (said.bytes_of setup) (turn_of setup l one).sent) raised (taken ++ taken_at one)) follows.same
       (turn_follows (turn_of setup follows.relation.live one) (taken_at one) (event_turned one is))

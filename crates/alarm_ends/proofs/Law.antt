@@ -58,9 +58,12 @@ use Rattle.device_ends.specs.Owed.{IsOwed}
 use Rattle.device_ends.specs.Small.{IsHeardAs, IsPlanned, heard_as, kept_in, link_of, small_of}
 use Rattle.world_ends.specs.Played.{AreMade, AreMeant, Begins, CanMeet, last_world}
 use Rattle.world_ends.specs.View.{IsMeant, IsMeantAtController, IsMeantAtDevice, rules_of}
-use Rattle.alarm_ends.specs.Sized.{AreSized, AreSizedModules, IsSized, IsSizedAtController}
+use Rattle.sending_laws.specs.Messages.{CanBeSent as CanBeSaid}
+use Rattle.sending_laws.specs.Sized.{IsLive, IsSizedEvent}
+use Rattle.alarm_ends.specs.Sized.{AreFit, AreSizedModules, IsFit, IsFitWith}
+use Rattle.alarm_ends.proofs.Placed.{IsEventOf, IsPlaced, event_placed, first_placed}
 use Rattle.alarm_ends.proofs.Told.{noted_of, told_at, told_of}
-use Rattle.alarm_ends.proofs.Messages.{HearsSo, all_noted, all_told}
+use Rattle.alarm_ends.proofs.Messages.{HearsSo, all_noted, all_told, both_sized}
 use Rattle.alarm_ends.proofs.Sizes.{turn_sized}
 use Rattle.alarm_ends.specs.Over.{IsOneOfTheLastTwo, raised_in, raised_over, raised_with, taken_by, taken_from, taken_in, taken_over, taken_with}
 use Rattle.alarm_ends.proofs.Opening.{asks_unnoted}
@@ -100,6 +103,9 @@ unraised_frame identity octets = unraised_read identity (frame_of octets)
 -- ---- the laws below
 
 pub record DeviceSo : Type 0 where
+  pub begins_sized : (setup : Setup) → IsSetup setup → IsLive (first_live setup.plan)
+  pub goes_sized : (setup : Setup) (controlling : ControllerLive) (one : Event) → IsSetup setup → IsLive controlling → IsSizedEvent setup one
+      → IsLive (turn_of setup controlling one).live × AllByRecursion (CanBeSaid setup) (turn_of setup controlling one).sent
   pub goes_on : (rules : Rules TakenRecord Request) (activity : List ℕ) (outcomes : List Outcome) (station : Station) (live : Live) (heard : Heard)
       → IsPlanned rules activity station.real heard
       → AllByRecursion (IsHeardAs rules station.identity) (heard_step outcomes station live heard).sent
@@ -211,19 +217,21 @@ module _ {F : Type 0} where
 
     controller_on : (one : Event) (now : List AlarmNotification) → IsEventIn setup station live before.controller.live before.sent raised taken follows one
         → taken_at setup station live before.controller.live before.sent raised taken follows one ≡ now
-        → IsMeantAtController before one → IsSizedAtController before one → after ≡ at_controller before one → FollowsAt after raised (taken ++ now)
-    controller_on one now is takes meant sized made =
+        → IsMeantAtController before one → (IsSizedEvent setup one × IsEventOf setup station.identity.mac follows.apart one) → after ≡ at_controller before one → FollowsAt after raised (taken ++ now)
+    controller_on one now is takes meant fit made =
         let turn = turn_of setup before.controller.live one in
+        let sized = so.goes_sized setup before.controller.live one follows.good follows.lives fit.0 in
+        let placed = event_placed setup station.identity.mac follows.apart before.controller.live one fit.1 follows.placed in
         let there : World F = record { device = before.device; controller = with_live before.controller turn.live; sent = before.sent ++ map (said.bytes_of setup) turn.sent } in
         let same : after ≡ there =
         made ∙ (ap (λ (c : Controlling). record { device = before.device; controller = c; sent = before.sent ++ (step_of before.controller one).frames }) (controller_is before.controller one)
         ∙ ap (λ (frames : List (List ℕ)). record { device = before.device; controller = with_live before.controller turn.live; sent = before.sent ++ frames }) (frames_are before.controller one)) in
         let all : FollowsAt there raised (taken ++ taken_at setup station live before.controller.live before.sent raised taken follows one) =
-        controller_follows setup station live before.controller.live before.sent raised taken follows one is meant (all_told hears setup station.identity follows.good turn.sent sized) in
+        controller_follows setup station live before.controller.live before.sent raised taken follows one is meant (all_told hears setup station.identity follows.good turn.sent (both_sized setup turn.sent sized.1 placed.sent)) sized.0 placed.live in
         subst (λ (w : World F). FollowsAt w raised (taken ++ now)) (sym same) (subst (λ (xs : List AlarmNotification). FollowsAt there raised (taken ++ xs)) takes all)
 
     comes_to_controller : (octets : List ℕ) (skipped : Bool) → IsIn setup station.identity follows.relation octets
-        → IsMeantAtController before (event.Frame (record { items = octets })) → IsSizedAtController before (event.Frame (record { items = octets }))
+        → IsMeantAtController before (event.Frame (record { items = octets })) → IsFit station.identity.mac (heard_by setup.plan.controller octets)
         → Comes image failures asked skipped before Controller octets after → FollowsAt after raised (taken ++ taken_in skipped before.controller octets)
     comes_to_controller octets true is meant told comes = taken_none after raised taken (same_follows comes)
     comes_to_controller octets false is meant told comes =
@@ -233,7 +241,7 @@ module _ {F : Type 0} where
     delivered_to_controller : (octets : Option (List ℕ))
         → ((frame : List ℕ) → octets ≡ Some frame → IsIn setup station.identity follows.relation frame)
         → ((frame : List ℕ) → octets ≡ Some frame → IsMeantAtController before (event.Frame (record { items = frame })))
-        → ((frame : List ℕ) → octets ≡ Some frame → IsSizedAtController before (event.Frame (record { items = frame })))
+        → ((frame : List ℕ) → octets ≡ Some frame → IsFit station.identity.mac (heard_by setup.plan.controller frame))
         → Delivers image failures asked octets before Controller after → FollowsAt after raised (taken ++ taken_from before octets)
     delivered_to_controller None is meant told comes = taken_none after raised taken (same_follows comes)
     delivered_to_controller (Some octets) is meant told comes =
@@ -241,7 +249,7 @@ module _ {F : Type 0} where
 
     -- ---- any move
 
-    one_follows : (one : Move) → Happens image failures asked before one after → IsMeant before one → IsSized before one
+    one_follows : (one : Move) → Happens image failures asked before one after → IsMeant before one → IsFitWith before one
         → FollowsAt after (raised ++ raised_with before one) (taken ++ taken_with before one)
     one_follows (move.Deliver Device number) happens meant told =
         taken_none after (raised ++ []) taken (delivered_to_device (slice_get before.sent number) (λ frame there. in_at number frame there) meant happens)
@@ -249,16 +257,16 @@ module _ {F : Type 0} where
         raised_none after raised (taken ++ taken_from before (slice_get before.sent number))
         (delivered_to_controller (slice_get before.sent number) (λ frame there. in_at number frame there) meant told happens)
     one_follows (move.Tick Device) happens meant told = taken_none after (raised ++ []) taken (device_quiet Ticks tt tt never_first happens meant)
-    one_follows (move.Tick Controller) happens meant told = raised_none after raised (taken ++ []) (controller_on event.Tick [] tt refl meant told happens)
+    one_follows (move.Tick Controller) happens meant told = raised_none after raised (taken ++ []) (controller_on event.Tick [] tt refl meant (tt, tt) happens)
     one_follows (move.Input slot subslot value) happens meant told = taken_none after (raised ++ []) taken (device_quiet (Given slot subslot value.items) tt tt never_first happens meant)
     one_follows (move.Alarm slot subslot octets) happens meant told = taken_none after _ taken (device_raises slot subslot octets.items happens meant)
-    one_follows (move.Give slot subslot value) happens meant told = raised_none after raised (taken ++ []) (controller_on (event.Give slot subslot value) [] tt refl meant told happens)
-    one_follows move.Stop happens meant told = raised_none after raised (taken ++ []) (controller_on event.Stop [] tt refl meant told happens)
+    one_follows (move.Give slot subslot value) happens meant told = raised_none after raised (taken ++ []) (controller_on (event.Give slot subslot value) [] tt refl meant (tt, tt) happens)
+    one_follows move.Stop happens meant told = raised_none after raised (taken ++ []) (controller_on event.Stop [] tt refl meant (tt, tt) happens)
 
   -- ---- any run
 
   pub run_follows : DeviceSo → HearsSo → (image : F → Image) (failures : F → ℕ) (asked : F → List Call → F → Type 0) (w : World F) (raised taken : List AlarmNotification) → FollowsAt w raised taken
-      → (run : List (Move × World F)) → AreMade image failures asked w run → AreMeant w run → AreSized w run
+      → (run : List (Move × World F)) → AreMade image failures asked w run → AreMeant w run → AreFit w run
       → FollowsAt (last_world w run) (raised ++ raised_over w run) (taken ++ taken_over w run)
   run_follows so hears image failures asked w raised taken follows [] made meant told = taken_none w (raised ++ []) taken (raised_none w raised taken follows)
   run_follows so hears image failures asked w raised taken follows (one ∷ run) made meant told =
@@ -269,11 +277,13 @@ module _ {F : Type 0} where
 
   -- ---- the beginning
 
-  pub begins_so : (setup : Setup) (identity : Identity) (first : World F) → Begins setup identity first → IsSetup first.controller.setup
+  pub begins_so : DeviceSo → (setup : Setup) (identity : Identity) (first : World F) → Begins setup identity first → IsSetup first.controller.setup
       → (first.device.station.identity.mac ≡ first.controller.setup.plan.controller.mac → ⊥) → AreSizedModules first.device.station.real.modules.items
       → (source : Mac) (request : Asked) → heard_of first.device.station.identity (Frame (record { items = opening_of first.controller })) ≡ Asks source request
       → FollowsAt first [] []
-  begins_so setup identity first begins good apart real source request asks_it = record {
+  begins_so so setup identity first begins good apart real source request asks_it = record {
+    lives = subst (λ (l : ControllerLive). IsLive l) (sym (begins.made ∙ ap (λ (s : Setup). first_live s.plan) (sym begins.of_setup))) (so.begins_sized first.controller.setup good);
+    placed = subst (λ (l : ControllerLive). IsPlaced first.device.station.identity.mac l) (sym (begins.made ∙ ap (λ (s : Setup). first_live s.plan) (sym begins.of_setup))) (first_placed first.controller.setup first.device.station.identity.mac apart first.controller.setup.plan);
     good = good;
     apart = apart;
     real = real;
@@ -340,14 +350,14 @@ opening_asks law identity controlling good =
 module _ {F : Type 0} where
   pub follows_so : DeviceSo → HearsSo → (setup : Setup) (identity : Identity) → IsSetup setup → CanMeet setup identity → (image : F → Image) (failures : F → ℕ) (asked : F → List Call → F → Type 0)
       → (first : World F) (run : List (Move × World F)) → Begins setup identity first → AreSizedModules first.device.station.real.modules.items
-      → AreMade image failures asked first run → AreMeant first run → AreSized first run
+      → AreMade image failures asked first run → AreMeant first run → AreFit first run
       → FollowsAt (last_world first run) (raised_over first run) (taken_over first run)
   follows_so so hears setup identity good can image failures asked first run begins real made meant sized =
       let own : IsSetup first.controller.setup = subst (λ (s : Setup). IsSetup s) (sym begins.of_setup) good in
       let apart : first.device.station.identity.mac ≡ first.controller.setup.plan.controller.mac → ⊥ =
       subst (λ (s : Setup). first.device.station.identity.mac ≡ s.plan.controller.mac → ⊥) (sym begins.of_setup)
       (subst (λ (i : Identity). i.mac ≡ setup.plan.controller.mac → ⊥) (sym begins.of_device) can.apart) in
-      let from = begins_so setup identity first begins own apart real first.controller.setup.plan.controller.mac (identify_asked first.controller.setup.plan)
+      let from = begins_so so setup identity first begins own apart real first.controller.setup.plan.controller.mac (identify_asked first.controller.setup.plan)
       (opening_asks hears.identify first.device.station.identity first.controller own) in
       run_follows so hears image failures asked first [] [] from run made meant sized
 

@@ -3,8 +3,9 @@ pub mod Told
 pub mod Turns
 pub mod Tied
 pub mod Sizes
-pub mod Follows
 pub mod Opening
 pub mod Hearing
 pub mod Messages
+pub mod Placed
+pub mod Follows
 pub mod Law

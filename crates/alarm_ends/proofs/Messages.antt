@@ -56,11 +56,29 @@ use Rattle.alarm_laws.specs.Sendable.{IsHeader}
 use Rattle.hearing_laws.specs.Hearing.{comes, mine_hears, mine_told, own_hears, own_told}
 use Rattle.hearing_laws.specs.Stations.{IsCalled, IsCaller, IsDevice, IsNumbered, IsRoute, IsSetup}
 use Rattle.sending_laws.specs.Messages.{CanBeSent as CanBeSaid}
-use Rattle.alarm_ends.specs.Sized.{IsAimed, IsSizedSaid}
 use Rattle.alarm_ends.proofs.Sizes.{IsSizedFrame, IsSizedSent}
 use Rattle.alarm_ends.proofs.Told.{IsNotedAs, IsNotedBy, IsToldAs, IsToldBy, noted_at, noted_by, noted_of, reply_of, told_at, told_in, told_of}
 use Rattle.alarm_ends.proofs.Hearing.{data_unnoted, data_untold, packet_unnoted, packet_untold}
 use Rattle.alarm_ends.proofs.Opening.{alarms_unnoted, asks_unnoted}
+
+-- ---- a message of the controller
+
+-- outputs go under a FrameID that is none of alarms, and what is of alarms to another station
+abbrev pub IsAimed : Setup → said.Sent → Type 0
+IsAimed setup (said.Cycles route shown counter) = is_alarm route.sent_id ≡ false
+IsAimed setup (said.Confirms route header ack) = route.partner ≡ setup.plan.controller.mac → ⊥
+IsAimed setup (said.Replies route header) = route.partner ≡ setup.plan.controller.mac → ⊥
+IsAimed setup (said.Ends route header reason) = route.partner ≡ setup.plan.controller.mac → ⊥
+IsAimed setup (said.Requests to request) = Unit {0}
+IsAimed setup (said.Agrees caller answer) = Unit {0}
+
+-- and each field of it has its size, so that it can be sent
+abbrev pub IsSizedSaid : Setup → said.Sent → Type 0
+IsSizedSaid setup message = CanBeSaid setup message × IsAimed setup message
+
+pub both_sized : (setup : Setup) (messages : List said.Sent) → AllByRecursion (CanBeSaid setup) messages → AllByRecursion (IsAimed setup) messages → AllByRecursion (IsSizedSaid setup) messages
+both_sized setup [] can aimed = tt
+both_sized setup (message ∷ messages) can aimed = ((can.0, aimed.0), both_sized setup messages can.1 aimed.1)
 
 -- ---- the laws below
 

@@ -309,7 +309,7 @@ read_route cyclic (Ok x) = by_test (is_new cyclic x.1)
     by_test false = refl
 read_route cyclic (Err short) = refl
 
-frame_route : (cyclic : Cyclic) (source : Mac) (frame_id : ℕ) (body : List ℕ) → (cyclic_behind cyclic source frame_id body).route ≡ cyclic.route
+pub frame_route : (cyclic : Cyclic) (source : Mac) (frame_id : ℕ) (body : List ℕ) → (cyclic_behind cyclic source frame_id body).route ≡ cyclic.route
 frame_route cyclic source frame_id body = by_test (is_of_partner cyclic.route source frame_id)
   where
     by_test : (b : Bool) → (cond b (behind_read cyclic (cyclic_of cyclic.taken.data_length body)) cyclic).route ≡ cyclic.route

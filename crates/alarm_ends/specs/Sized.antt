@@ -1,15 +1,12 @@
--- Which numbers have their sizes, and which messages of a controller are heard as they are said.
+-- Which numbers have their sizes: of what is plugged in a device, and of what a controller hears.
 use Rattle.std.specs.Prelude.{◌≡◌, ◌<◌, false, ℕ, List, [], ◌∷◌, slice_get, Some}
 use Rattle.std.specs.List.{AllByRecursion}
+use Rattle.pn_values.specs.declared.mac.Mac.{Mac}
 use Rattle.pn_values.specs.declared.real.RealModule.{RealModule}
 use Rattle.pn_values.specs.declared.real.RealSubmodule.{RealSubmodule}
 use Rattle.frame_codec.specs.FrameId.{is_alarm}
-use Rattle.controller_frames.specs.declared.setup.Setup.{Setup}
-use Rattle.controller_frames.specs.Sent as said
-use Rattle.controller_core.specs.declared.event.Event.{Event}
-use Rattle.controller_core.specs.declared.event.Event.TheVariants as event
-use Rattle.controller_core.specs.Machine.{turn_of}
-use Rattle.sending_laws.specs.Messages.{CanBeSent}
+use Rattle.controller_frames.specs.Heard.{Heard, Nothing, Answers, Responds, Calls, Cyclic, Alarms, heard_of}
+use Rattle.sending_laws.specs.Sized.{IsSized, chosen_in}
 use Rattle.network_world.specs.declared.moves.End.TheVariants.{Device, Controller}
 use Rattle.network_world.specs.declared.moves.Move.{Move}
 use Rattle.network_world.specs.declared.moves.Move.TheVariants as move
@@ -27,38 +24,33 @@ IsSizedModule entry = (entry.slot < 65536) × (entry.ident < 4294967296) × AllB
 abbrev pub AreSizedModules : List RealModule → Type 0
 AreSizedModules modules = AllByRecursion IsSizedModule modules
 
--- ---- a message of the controller
+-- ---- what a controller hears
 
--- outputs go under a FrameID that is none of alarms, and what is of alarms to another station
-abbrev pub IsAimed : Setup → said.Sent → Type 0
-IsAimed setup (said.Cycles route shown counter) = is_alarm route.sent_id ≡ false
-IsAimed setup (said.Confirms route header ack) = route.partner ≡ setup.plan.controller.mac → ⊥
-IsAimed setup (said.Replies route header) = route.partner ≡ setup.plan.controller.mac → ⊥
-IsAimed setup (said.Ends route header reason) = route.partner ≡ setup.plan.controller.mac → ⊥
-IsAimed setup (said.Requests to request) = Unit {0}
-IsAimed setup (said.Agrees caller answer) = Unit {0}
+-- this station alone answers it, and no response chooses a FrameID of alarms for outputs
+abbrev pub IsOf : Mac → Heard → Type 0
+IsOf mac (Answers source answer) = source ≡ mac
+IsOf mac (Responds response) = (frame_id : ℕ) → chosen_in response.blocks ≡ Some frame_id → is_alarm frame_id ≡ false
+IsOf mac Nothing = Unit {0}
+IsOf mac (Calls caller call) = Unit {0}
+IsOf mac (Cyclic source frame_id body) = Unit {0}
+IsOf mac (Alarms source header told) = Unit {0}
 
--- each field of it has its size, so that it can be sent
-abbrev pub IsSizedSaid : Setup → said.Sent → Type 0
-IsSizedSaid setup message = CanBeSent setup message × IsAimed setup message
+-- the same, and each number has its size
+abbrev pub IsFit : Mac → Heard → Type 0
+IsFit mac heard = IsSized heard × IsOf mac heard
 
--- ---- a move
+-- the frame that comes to the controller with a move, if one does, is so
+abbrev pub IsFitWith : {F : Type 0} → World F → Move → Type 0
+IsFitWith world (move.Deliver Controller number) =
+    (octets : List ℕ) → slice_get world.sent number ≡ Some octets → IsFit world.device.station.identity.mac (heard_of world.controller.setup.plan.controller octets)
+IsFitWith world (move.Deliver Device number) = Unit {0}
+IsFitWith world (move.Tick end) = Unit {0}
+IsFitWith world (move.Input slot subslot value) = Unit {0}
+IsFitWith world (move.Alarm slot subslot octets) = Unit {0}
+IsFitWith world (move.Give slot subslot value) = Unit {0}
+IsFitWith world move.Stop = Unit {0}
 
-abbrev pub IsSizedAtController : {F : Type 0} → World F → Event → Type 0
-IsSizedAtController world one = AllByRecursion (IsSizedSaid world.controller.setup) (turn_of world.controller.setup world.controller.live one).sent
-
--- each message that the controller sends with a move, in a world
-abbrev pub IsSized : {F : Type 0} → World F → Move → Type 0
-IsSized world (move.Deliver Controller number) =
-    (octets : List ℕ) → slice_get world.sent number ≡ Some octets → IsSizedAtController world (event.Frame (record { items = octets }))
-IsSized world (move.Tick Controller) = IsSizedAtController world event.Tick
-IsSized world (move.Give slot subslot value) = IsSizedAtController world (event.Give slot subslot value)
-IsSized world move.Stop = IsSizedAtController world event.Stop
-IsSized world (move.Deliver Device number) = Unit {0}
-IsSized world (move.Tick Device) = Unit {0}
-IsSized world (move.Input slot subslot value) = Unit {0}
-IsSized world (move.Alarm slot subslot octets) = Unit {0}
-
-abbrev pub AreSized : {F : Type 0} → World F → List (Move × World F) → Type 0
-AreSized before [] = Unit {0}
-AreSized before (one ∷ run) = IsSized before one.0 × AreSized one.1 run
+-- and so is each of a run
+abbrev pub AreFit : {F : Type 0} → World F → List (Move × World F) → Type 0
+AreFit before [] = Unit {0}
+AreFit before (one ∷ run) = IsFitWith before one.0 × AreFit one.1 run
