@@ -1,5 +1,5 @@
 -- Both ends of a network, as the alarms of a relation that some moves made.
-use Rattle.std.proofs.Common.{◌≡◌, ◌⊎◌, inl, inr, ◌==◌, ◌&&◌, ◌++◌, ℕ, zero, suc, Bool, true, false, cond, List, [], ◌∷◌, map, length, Option, Some, None, option_map, Result, Ok, Err, refl, sym, ap, subst, ◌∙◌, append-nil, append_assoc, arith}
+use Rattle.std.proofs.Common.{◌≡◌, ◌⊎◌, inl, inr, ◌==◌, ◌++◌, ℕ, Bool, true, false, cond, List, [], ◌∷◌, map, length, Option, Some, None, option_map, Result, Ok, refl, sym, ap, subst, ◌∙◌, append-nil, append_assoc, arith}
 use Rattle.std.specs.Prelude.{nat_lt, slice_get}
 use Rattle.std.specs.List.{AllByRecursion}
 use Rattle.std.proofs.lemmas.Bool.{eq-eqb, false≢true, ltb-false}
@@ -8,12 +8,9 @@ use Rattle.pn_values.specs.declared.identity.Identity.{Identity}
 use Rattle.pn_values.specs.declared.mac.Mac.{Mac}
 use Rattle.record_blocks.specs.declared.alarm_ack.AlarmAck.{AlarmAck}
 use Rattle.record_blocks.specs.declared.alarm_notification.AlarmNotification.{AlarmNotification}
-use Rattle.rpc_core.specs.Cache.{Kept as Answer, Told as Looked, again, kept_of, new, old, told_by}
-use Rattle.rpc_core.specs.Call.{Asked as Call}
-use Rattle.pnio_status.specs.declared.call_fault.CallFault.{CallFault}
+use Rattle.rpc_core.specs.Cache.{Kept as Answer, again, kept_of, new, old, told_by}
 use Rattle.pnio_status.specs.declared.operation.Operation.{Operation}
 use Rattle.pnio_status.specs.declared.operation.Operation.TheVariants as operation
-use Rattle.pnio_status.specs.Operation.{operation_of}
 use Rattle.connect_requests.specs.Request.{Request}
 use Rattle.record_writes.specs.declared.taken.TakenRecord.{TakenRecord}
 use Rattle.pn_alarms.specs.declared.message.Notice.{Notice}
@@ -24,14 +21,12 @@ use Rattle.pn_alarms.specs.declared.pdu.PduType.TheVariants as pdu
 use Rattle.pn_alarms.specs.declared.receiver.Taken.{Taken}
 use Rattle.pn_alarms.specs.declared.receiver.Taken.TheVariants.{New, Again as Once_more, Refused as Not_taken}
 use Rattle.pn_alarms.specs.Device.{idle}
-use Rattle.pn_alarms.specs.Message.{ToController}
 use Rattle.pn_alarms.specs.Receiver.{taken_as}
 use Rattle.cyclic_exchange.specs.declared.route.Route.{Route}
 use Rattle.relations.specs.Connect.{connect_of}
 use Rattle.relations.specs.Link.{Link}
-use Rattle.alarm_exchange.specs.Line.{Line, more_taken, with_come}
+use Rattle.alarm_exchange.specs.Line.{more_taken, with_come}
 use Rattle.device_frames.specs.declared.event.Event.TheVariants.{Frame}
-use Rattle.device_frames.specs.Heard as device
 use Rattle.device_frames.specs.Heard.{Heard, heard_of}
 use Rattle.device_frames.specs.Sent.{Sent, IdentifyAnswer, GetAnswer, SetAnswer, ArpReply, CallAnswer, Again, ReadyCall, Ends, Exchanges, bytes_of}
 use Rattle.device_core.specs.State.{Station, Live}
@@ -43,29 +38,28 @@ use Rattle.controller_frames.specs.Heard.{heard_of as heard_by}
 use Rattle.controller_frames.specs.Sent as said
 use Rattle.controller_core.specs.declared.event.Event.{Event}
 use Rattle.controller_core.specs.declared.event.Event.TheVariants as event
-use Rattle.controller_core.specs.Alarms.{is_alarm}
 use Rattle.controller_core.specs.Machine.{Turn, alarmed, turn_of, turned}
 use Rattle.controller_core.specs.State.{Live as ControllerLive}
 use Rattle.controller_laws.specs.Alarms.{Relation, Move, AlarmComes, AckComes, Hears, PassesAtController, Gives, Stops, ack_comes, alarm_comes, behind, behind_one, is_looked_at, start, turns}
 use Rattle.both_ends.specs.Small as small
 use Rattle.both_ends.specs.Small.{Rules, ToDevice}
 use Rattle.both_ends.specs.Steps.{DeviceSteps}
-use Rattle.controller_ends.specs.Small.{asked_by, said_by}
+use Rattle.controller_ends.specs.Small.{said_by}
 use Rattle.device_ends.specs.Owed.{IsOfKept, IsOwed}
 use Rattle.device_ends.specs.Small.{IsHeardAs, IsPlanned, IsPlannedAs, IsPlannedCall, heard_as, kept_in, link_of, small_of}
 use Rattle.device_ends.specs.Small as ends
 use Rattle.world_ends.specs.View.{IsSaidAs, rules_of}
-use Rattle.alarm_ends.proofs.Told.{IsNotedAs, IsNotedBy, IsToldAs, noted_at, noted_by, noted_in, noted_of, reply_of, told_at, told_in, told_of}
+use Rattle.alarm_ends.proofs.Told.{IsNotedAs, IsNotedBy, IsToldAs, noted_at, noted_by, noted_in, noted_of, reply_of, told_in, told_of}
 use Rattle.alarm_ends.specs.Over.{taken_by, taken_of}
-use Rattle.alarm_ends.proofs.Lists.{Extends, each_at, each_behind, each_on, more_extends, none_some, some_is, unchanged}
+use Rattle.alarm_ends.proofs.Lists.{Extends, each_behind, each_on, more_extends, none_some, some_is, unchanged}
 use Rattle.hearing_laws.specs.Stations.{IsSetup}
 use Rattle.plan_connect.specs.Request.{request_for}
 use Rattle.alarm_ends.specs.Sized.{AreSizedModules}
 use Rattle.sending_laws.specs.Sized.{IsLive}
 use Rattle.alarm_ends.proofs.Placed.{IsPlaced}
 use Rattle.alarm_ends.proofs.Sizes.{AreSizedIn}
-use Rattle.alarm_ends.proofs.Turns.{IsTurn, Makes, step_turns}
-use Rattle.alarm_ends.proofs.Tied.{Goes, IsConfirmed, IsFresh, IsHeard, IsReplied, IsSaid, IsTied, heard_stays, said_stays}
+use Rattle.alarm_ends.proofs.Turns.{Makes}
+use Rattle.alarm_ends.proofs.Tied.{Goes, IsFresh, IsHeard, IsSaid, IsTied, heard_stays, said_stays}
 
 -- ---- a frame
 

@@ -1,17 +1,15 @@
 -- What either end hears of alarms in a message of the other, and in its own.
-use Rattle.std.proofs.Common.{◌≡◌, ◌⊎◌, inl, inr, ◌==◌, ◌&&◌, ◌||◌, ◌++◌, ◌<◌, ◌≤◌, ℕ, Bool, true, false, cond, List, length, Option, Some, None, Result, Ok, Err, refl, sym, ap, subst, ◌∙◌}
+use Rattle.std.proofs.Common.{◌≡◌, ◌⊎◌, inl, inr, ◌==◌, ◌&&◌, ◌||◌, ℕ, Bool, true, false, cond, List, Option, Some, None, Result, Ok, Err, refl, sym, subst}
 use Rattle.std.specs.Prelude.{nat_eq}
-use Rattle.std.specs.Cmp.Lexicographic.{pointwise, same_text}
+use Rattle.std.specs.Cmp.Lexicographic.{pointwise}
 use Rattle.pn_values.specs.declared.identity.Identity.{Identity}
 use Rattle.pn_values.specs.declared.mac.Mac.{Mac}
-use Rattle.frame_codec.specs.declared.arp.Arp.{Arp}
 use Rattle.frame_codec.specs.declared.fault.FrameFault.{FrameFault}
 use Rattle.frame_codec.specs.declared.udp.Caller.{Caller}
-use Rattle.frame_codec.specs.declared.udp.Endpoint.{Endpoint}
 use Rattle.frame_codec.specs.FrameId.{is_alarm, is_cyclic}
-use Rattle.frame_codec.specs.Frame.{frame_bytes, frame_of, padding_of}
+use Rattle.frame_codec.specs.Frame.{frame_bytes, frame_of}
 use Rattle.frame_codec.specs.Meaning.{ArpPacket, Content, Meaning, RealTime, UdpDatagram}
-use Rattle.frame_laws.specs.Sendable.{CanBeSent, IsMac, carrying}
+use Rattle.frame_laws.specs.Sendable.{carrying}
 use Rattle.dcp_core.specs.declared.request.DcpFault.{DcpFault}
 use Rattle.dcp_core.specs.Answer.{answer_of}
 use Rattle.dcp_core.specs.Reading.{request_of}
@@ -21,11 +19,9 @@ use Rattle.rpc_core.specs.declared.fault.RpcFault.{RpcFault}
 use Rattle.rpc_core.specs.Call.{Asked as Call, call_of}
 use Rattle.rpc_core.specs.Response.{Answered as Response, response_of}
 use Rattle.rpc_core.specs.declared.interface.Interface.TheVariants.{Controller as controllers}
-use Rattle.pn_alarms.specs.declared.fault.AlarmFault.{AlarmFault}
-use Rattle.pn_alarms.specs.declared.pdu.Header.{Header}
-use Rattle.pn_alarms.specs.Message.{ToController, ToDevice, alarm_of, message_of}
+use Rattle.pn_alarms.specs.Message.{alarm_of, message_of}
 use Rattle.plans.specs.declared.parts.Controller.{Controller}
-use Rattle.device_frames.specs.Heard.{Heard, Elsewhere, Asks, Resolves, Told, Cyclic, Alarms, broadcast, heard_alarm, heard_content, heard_frame, heard_of, heard_request, is_own, is_taken, said_by}
+use Rattle.device_frames.specs.Heard.{Heard, Elsewhere, Resolves, Told, Cyclic, broadcast, heard_alarm, heard_content, heard_frame, heard_of, heard_request, is_own, is_taken, said_by}
 use Rattle.controller_frames.specs.Heard as controller
 use Rattle.controller_frames.specs.Heard.{heard_answer, heard_body, heard_call, heard_first, heard_read, heard_real_time, heard_response, is_to}
 use Rattle.hearing_laws.specs.Hearing.{comes}

@@ -20,22 +20,18 @@ use Rattle.pn_alarms.specs.declared.fault.AlarmFault.{AlarmFault}
 use Rattle.pn_alarms.specs.declared.message.Notice.{Notice}
 use Rattle.pn_alarms.specs.declared.pdu.Header.{Header}
 use Rattle.pn_alarms.specs.Message.{ToDevice, message_of}
-use Rattle.record_blocks.specs.declared.alarm_ack.AlarmAck.{AlarmAck}
 use Rattle.record_blocks.specs.declared.alarm_notification.AlarmNotification.{AlarmNotification}
 use Rattle.rpc_core.specs.Cache.{Kept as Answer, kept_of}
 use Rattle.connect_requests.specs.Request.{Request}
 use Rattle.record_writes.specs.declared.taken.TakenRecord.{TakenRecord}
 use Rattle.relations.specs.Link.{Link}
 use Rattle.relations.specs.Exchanged.{raised_to}
-use Rattle.exchanges.specs.Flow.{Flow}
 use Rattle.device_frames.specs.declared.event.Event.TheVariants.{Frame}
-use Rattle.device_frames.specs.Heard.{Heard, Ticks, Unreadable, Elsewhere, Asks, Resolves, Told, Cyclic, Alarms, Given, Raised, broadcast, heard_alarm, heard_content, heard_frame, heard_of, heard_request, is_own, is_taken}
-use Rattle.device_frames.specs.Sent.{bytes_of}
+use Rattle.device_frames.specs.Heard.{Heard, Ticks, Elsewhere, Asks, Resolves, Cyclic, Given, Raised, broadcast, heard_alarm, heard_content, heard_frame, heard_of, heard_request, is_own, is_taken}
 use Rattle.device_core.specs.State.{Station, Live}
 use Rattle.device_core.specs.Machine.{heard_step}
 use Rattle.controller_frames.specs.declared.request.Request.TheVariants as asks
 use Rattle.controller_frames.specs.declared.setup.Setup.{Setup}
-use Rattle.controller_frames.specs.Heard as controller
 use Rattle.controller_frames.specs.Heard.{heard_of as heard_by}
 use Rattle.controller_frames.specs.Requests.{identify_asked}
 use Rattle.controller_frames.specs.Sent as said
@@ -45,7 +41,7 @@ use Rattle.controller_core.specs.declared.event.Event.{Event}
 use Rattle.controller_core.specs.declared.event.Event.TheVariants as event
 use Rattle.controller_core.specs.State.{Controlling, Live as ControllerLive, with_live}
 use Rattle.controller_core.specs.Machine.{first as first_live, opening_of, step_of, turn_of}
-use Rattle.controller_laws.specs.Alarms.{AreTakenInOrder, LackAtMostTheLast, Relation, ShowsTheLast, behind, last_of, start}
+use Rattle.controller_laws.specs.Alarms.{AreTakenInOrder, LackAtMostTheLast, Relation, ShowsTheLast, last_of, start}
 use Rattle.alarm_exchange.specs.World.{IsPrefixOf}
 use Rattle.network_world.specs.declared.moves.End.TheVariants.{Device, Controller}
 use Rattle.network_world.specs.declared.moves.Move.{Move}
@@ -62,7 +58,7 @@ use Rattle.sending_laws.specs.Messages.{CanBeSent as CanBeSaid}
 use Rattle.sending_laws.specs.Sized.{IsLive, IsSizedEvent}
 use Rattle.alarm_ends.specs.Sized.{AreFit, AreSizedModules, IsFit, IsFitWith}
 use Rattle.alarm_ends.proofs.Placed.{IsEventOf, IsPlaced, event_placed, first_placed}
-use Rattle.alarm_ends.proofs.Told.{noted_of, told_at, told_of}
+use Rattle.alarm_ends.proofs.Told.{told_at}
 use Rattle.alarm_ends.proofs.Messages.{HearsSo, all_noted, all_told, both_sized}
 use Rattle.alarm_ends.proofs.Sizes.{turn_sized}
 use Rattle.alarm_ends.specs.Over.{IsOneOfTheLastTwo, raised_in, raised_over, raised_with, taken_by, taken_from, taken_in, taken_over, taken_with}

@@ -1,20 +1,17 @@
 -- Each message that is sized is heard as it is said.
-use Rattle.std.proofs.Common.{◌≡◌, ◌⊎◌, inl, inr, ◌==◌, ◌&&◌, ◌||◌, ◌++◌, ◌<◌, ◌≤◌, ℕ, Bool, true, false, cond, List, [], ◌∷◌, length, Option, Some, None, Result, Ok, Err, refl, sym, ap, subst, ◌∙◌, arith}
+use Rattle.std.proofs.Common.{◌≡◌, ◌⊎◌, inl, inr, ◌==◌, ◌&&◌, ◌++◌, ◌<◌, ℕ, Bool, true, false, cond, List, [], ◌∷◌, Option, Some, None, Ok, refl, sym, ap, subst, ◌∙◌, arith}
 use Rattle.std.specs.Prelude.{nat_eq}
 use Rattle.std.specs.List.{AllByRecursion}
 use Rattle.std.specs.Cmp.Lexicographic.{other_text, pointwise, same_text}
 use Rattle.pn_values.specs.declared.identity.Identity.{Identity}
 use Rattle.pn_values.specs.declared.mac.Mac.{Mac}
 use Rattle.frame_codec.specs.declared.arp.Arp.{Arp}
-use Rattle.frame_codec.specs.declared.fault.FrameFault.{FrameFault}
 use Rattle.frame_codec.specs.declared.udp.Caller.{Caller}
 use Rattle.frame_codec.specs.declared.udp.Endpoint.{Endpoint}
-use Rattle.frame_codec.specs.FrameId.{is_alarm, is_cyclic}
+use Rattle.frame_codec.specs.FrameId.{is_alarm}
 use Rattle.frame_codec.specs.Frame.{frame_bytes, frame_of, padding_of}
-use Rattle.frame_codec.specs.Meaning.{ArpPacket, Content, Meaning, RealTime, UdpDatagram}
+use Rattle.frame_codec.specs.Meaning.{ArpPacket, RealTime, UdpDatagram}
 use Rattle.frame_laws.specs.Sendable.{CanBeSent, IsMac, carrying}
-use Rattle.dcp_core.specs.declared.request.DcpFault.{DcpFault}
-use Rattle.dcp_core.specs.Reading.{request_of}
 use Rattle.dcp_core.specs.Request.{Asked}
 use Rattle.rpc_core.specs.declared.interface.Interface.TheVariants.{Device as devices}
 use Rattle.rpc_core.specs.Call.{Asked as Call}
@@ -23,18 +20,15 @@ use Rattle.rpc_core.specs.Sendable.{CanBeAnswered, CanBeCalled}
 use Rattle.record_blocks.specs.declared.alarm_ack.AlarmAck.{AlarmAck}
 use Rattle.record_blocks.specs.declared.alarm_notification.AlarmNotification.{AlarmNotification}
 use Rattle.pn_alarms.specs.declared.abort.Abort.{Abort}
-use Rattle.pn_alarms.specs.declared.fault.AlarmFault.{AlarmFault}
-use Rattle.pn_alarms.specs.declared.message.Notice.{Notice}
 use Rattle.pn_alarms.specs.declared.message.Notice.TheVariants as notice
 use Rattle.pn_alarms.specs.declared.pdu.Header.{Header}
 use Rattle.pn_alarms.specs.declared.pdu.PduType.{PduType}
 use Rattle.pn_alarms.specs.declared.pdu.PduType.TheVariants as pdu
 use Rattle.pn_alarms.specs.Format.{frame_id_of}
-use Rattle.pn_alarms.specs.Message.{ToDevice, message_of}
+use Rattle.pn_alarms.specs.Message.{ToDevice}
 use Rattle.cyclic_exchange.specs.declared.route.Route.{Route}
 use Rattle.cyclic_exchange.specs.Frames.{cyclic_body}
-use Rattle.cyclic_data.specs.Image.{Shown}
-use Rattle.exchanges.specs.Frames.{Frame, Inputs, Notifies, Replies as Answers, body_of, id_of, tag_of}
+use Rattle.exchanges.specs.Frames.{Frame, Inputs, Notifies, Replies as Answers, body_of}
 use Rattle.plans.specs.declared.parts.Controller.{Controller}
 use Rattle.relations.specs.declared.farewell.Farewell.{Farewell}
 use Rattle.relations.specs.Farewells.{said_by}
@@ -57,7 +51,7 @@ use Rattle.hearing_laws.specs.Hearing.{comes, mine_hears, mine_told, own_hears, 
 use Rattle.hearing_laws.specs.Stations.{IsCalled, IsCaller, IsDevice, IsNumbered, IsRoute, IsSetup}
 use Rattle.sending_laws.specs.Messages.{CanBeSent as CanBeSaid}
 use Rattle.alarm_ends.proofs.Sizes.{IsSizedFrame, IsSizedSent}
-use Rattle.alarm_ends.proofs.Told.{IsNotedAs, IsNotedBy, IsToldAs, IsToldBy, noted_at, noted_by, noted_of, reply_of, told_at, told_in, told_of}
+use Rattle.alarm_ends.proofs.Told.{IsNotedAs, IsNotedBy, IsToldAs, IsToldBy, noted_at, noted_by, noted_of, reply_of, told_at, told_of}
 use Rattle.alarm_ends.proofs.Hearing.{data_unnoted, data_untold, packet_unnoted, packet_untold}
 use Rattle.alarm_ends.proofs.Opening.{alarms_unnoted, asks_unnoted}
 

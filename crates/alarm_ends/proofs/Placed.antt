@@ -1,5 +1,5 @@
 -- A controller sends to the station that answered, and its outputs under the FrameID that this chose.
-use Rattle.std.proofs.Common.{◌≡◌, ◌⊎◌, inl, inr, ◌==◌, ◌&&◌, ◌++◌, ◌+◌, ℕ, Bool, true, false, cond, List, [], ◌∷◌, length, Option, Some, None, refl, sym, ap, subst, ◌∙◌}
+use Rattle.std.proofs.Common.{◌≡◌, ◌&&◌, ◌+◌, ℕ, Bool, true, false, cond, List, length, Option, Some, None, refl, sym, ap, ◌∙◌}
 use Rattle.std.specs.Prelude.{nat_lt, option_and_then, unwrap_or}
 use Rattle.std.specs.List.{AllByRecursion}
 use Rattle.pn_values.specs.declared.mac.Mac.{Mac}
@@ -32,8 +32,7 @@ use Rattle.controller_frames.specs.declared.request.Request.{Request}
 use Rattle.controller_frames.specs.declared.request.Request.TheVariants as asks
 use Rattle.controller_frames.specs.Heard.{Heard, Nothing, Answers, Responds, Calls, Alarms, heard_of}
 use Rattle.controller_frames.specs.Heard.{Cyclic as Comes}
-use Rattle.controller_frames.specs.Requests.{writing_from}
-use Rattle.controller_frames.specs.Sent.{Sent, Requests, Agrees, Cycles, Confirms, Replies, Ends}
+use Rattle.controller_frames.specs.Sent.{Sent}
 use Rattle.controller_core.specs.declared.event.Event.{Event}
 use Rattle.controller_core.specs.declared.event.Event.TheVariants as event
 use Rattle.controller_core.specs.declared.state.Cause.{Cause}
@@ -42,11 +41,11 @@ use Rattle.controller_core.specs.declared.state.State.TheVariants.{Looking, Addr
 use Rattle.controller_core.specs.Alarms.{is_alarm as is_of_relation}
 use Rattle.controller_core.specs.Answers.{is_addressed, is_answer, is_found, is_ready, is_right, is_set_answer}
 use Rattle.controller_core.specs.Connect.{found_in, is_whole, nothing}
-use Rattle.controller_core.specs.Machine.{Turn, acks_in, addressed, alarmed, answered, behind_data, brought, called, come, connected, connected_by, decided, done, due_frames, first, flow_later, flowed, found, given, is_again, judged, later, noticed, outputs_of, over, phase_for, readied, ready_in, related_by, released, requests_of, responded, standing, stays, stopped, taken, ticked, turn_of, turned, where_due, writing}
+use Rattle.controller_core.specs.Machine.{Turn, acks_in, addressed, answered, behind_data, brought, called, come, connected, decided, done, first, flow_later, flowed, found, given, is_again, judged, later, noticed, outputs_of, over, readied, ready_in, related_by, released, requests_of, responded, standing, stays, stopped, taken, turn_of, turned, where_due, writing}
 use Rattle.controller_core.specs.State.{Live}
 use Rattle.sending_laws.specs.Sized.{chosen_in}
 use Rattle.alarm_ends.specs.Sized.{IsOf}
-use Rattle.alarm_ends.proofs.Lists.{each_behind, some_is}
+use Rattle.alarm_ends.proofs.Lists.{each_behind}
 use Rattle.alarm_ends.proofs.Turns.{frame_route}
 use Rattle.alarm_ends.proofs.Messages.{IsAimed}
 

@@ -1,30 +1,27 @@
 -- The numbers of a device's alarms have their sizes, and its frames go to the controller.
-use Rattle.std.proofs.Common.{◌≡◌, ◌⊎◌, inl, inr, ◌==◌, ◌&&◌, ◌<◌, ◌≤◌, ◌+◌, ◌%◌, ◌++◌, ℕ, Bool, true, false, cond, List, [], ◌∷◌, length, nat_le, Option, Some, None, option_map, refl, sym, ap, subst, ◌∙◌, arith}
+use Rattle.std.proofs.Common.{◌≡◌, ◌⊎◌, inl, inr, ◌==◌, ◌<◌, ◌+◌, ◌%◌, ℕ, Bool, true, false, cond, List, [], ◌∷◌, length, Option, Some, None, option_map, refl, sym, ap, subst, ◌∙◌, arith}
 use Rattle.std.specs.List.{AllByRecursion, find}
 use Rattle.std.proofs.lemmas.Bool.{eqb-true, leb-true}
 use Rattle.std.proofs.Math.Nat.{mod-lt}
 use Rattle.pn_values.specs.declared.identity.Identity.{Identity}
-use Rattle.pn_values.specs.declared.mac.Mac.{Mac}
 use Rattle.pn_values.specs.declared.real.RealModule.{RealModule}
 use Rattle.pn_values.specs.declared.real.RealSubmodule.{RealSubmodule}
-use Rattle.module_diff.specs.Plugged.{module_ident, module_in, part_ident, part_ident_of, submodule_ident}
+use Rattle.module_diff.specs.Plugged.{module_ident, module_in, part_ident_of, submodule_ident}
 use Rattle.frame_codec.specs.FrameId.{is_alarm}
 use Rattle.record_blocks.specs.declared.alarm_ack.AlarmAck.{AlarmAck}
 use Rattle.record_blocks.specs.declared.alarm_notification.AlarmNotification.{AlarmNotification}
 use Rattle.rpc_core.specs.Cache.{Kept as Answer}
 use Rattle.connect_requests.specs.Request.{Request}
-use Rattle.pn_alarms.specs.declared.abort.Abort.{Abort}
 use Rattle.pn_alarms.specs.declared.message.Notice.TheVariants as notice
 use Rattle.pn_alarms.specs.declared.pdu.PduType.{PduType}
 use Rattle.pn_alarms.specs.declared.pdu.PduType.TheVariants as pdu
 use Rattle.pn_alarms.specs.declared.receiver.Taken.{Taken}
 use Rattle.pn_alarms.specs.declared.receiver.Taken.TheVariants.{New, Again as Once_more, Refused as Not_taken}
-use Rattle.pn_alarms.specs.Alarming.{Alarming}
 use Rattle.pn_alarms.specs.Device.{end_behind, end_later, end_with, sender_after}
 use Rattle.pn_alarms.specs.Ends.{DeviceEnd}
 use Rattle.pn_alarms.specs.Numbers.{ack_number, is_last, next_number, send_number}
 use Rattle.pn_alarms.specs.Receiver.{answer_to, last_behind, taken_as}
-use Rattle.pn_alarms.specs.Sender.{ended_by, is_end, notice_of}
+use Rattle.pn_alarms.specs.Sender.{is_end, notice_of}
 use Rattle.pn_alarms.specs.Sending.{Sending, acked, rested}
 use Rattle.cyclic_exchange.specs.declared.route.Route.{Route}
 use Rattle.exchanges.specs.Flow.{Flow}
@@ -39,7 +36,7 @@ use Rattle.relations.specs.Farewells.{farewell_of, said_by}
 use Rattle.relations.specs.Link.{Link}
 use Rattle.relations.specs.Phases.{made_of, with_flow}
 use Rattle.relations.specs.Timers.{unit_later}
-use Rattle.device_frames.specs.Heard.{Heard, Raised}
+use Rattle.device_frames.specs.Heard.{Heard}
 use Rattle.device_frames.specs.Relation.{alarms_of, frames_in, where_due}
 use Rattle.device_frames.specs.Sent.{Sent, IdentifyAnswer, GetAnswer, SetAnswer, ArpReply, CallAnswer, Again, ReadyCall, Ends, Exchanges}
 use Rattle.block_laws.specs.Writable.{IsAlarm}
@@ -47,8 +44,8 @@ use Rattle.alarm_laws.specs.Sendable.{IsHeader}
 use Rattle.sending_laws.specs.Sized.{IsShort}
 use Rattle.alarm_ends.specs.Sized.{AreSizedModules, IsSizedModule, IsSizedPart}
 use Rattle.alarm_ends.proofs.Lists.{each_behind, none_some, some_is}
-use Rattle.alarm_ends.proofs.Turns.{AreCalm, HearsAck, HearsData, IsCalm, IsRaise, IsSameOr, IsTurn, Makes, Passes, Raises, Refused, Stays, Way, way_of}
-use Rattle.alarm_ends.proofs.Tied.{MayRaise, may_be, way_before}
+use Rattle.alarm_ends.proofs.Turns.{AreCalm, HearsAck, HearsData, IsCalm, IsSameOr, IsTurn, Makes, Passes, Raises, Way, way_of}
+use Rattle.alarm_ends.proofs.Tied.{may_be, way_before}
 
 -- ---- a message
 

@@ -1,9 +1,8 @@
 -- Each turn of a device, as moves of the alarms of a relation.
-use Rattle.std.proofs.Common.{◌≡◌, ◌⊎◌, inl, inr, ◌==◌, ◌&&◌, ◌++◌, ℕ, Bool, true, false, cond, List, [], ◌∷◌, length, nat_le, Option, Some, None, option_map, Result, Ok, Err, refl, sym, ap, subst, ◌∙◌, append-nil}
+use Rattle.std.proofs.Common.{◌≡◌, inl, inr, ◌==◌, ◌&&◌, ◌++◌, ℕ, Bool, true, false, cond, List, [], ◌∷◌, length, nat_le, Option, Some, None, option_map, refl, sym, ap, subst, ◌∙◌, append-nil}
 use Rattle.std.specs.Prelude.{slice_get, is_none}
 use Rattle.std.specs.List.{AllByRecursion}
 use Rattle.std.proofs.lemmas.Bool.{eqb-true}
-use Rattle.pn_values.specs.declared.identity.Identity.{Identity}
 use Rattle.pn_values.specs.declared.real.RealModule.{RealModule}
 use Rattle.module_diff.specs.Plugged.{module_ident, submodule_ident}
 use Rattle.record_blocks.specs.declared.alarm_ack.AlarmAck.{AlarmAck}
@@ -23,14 +22,14 @@ use Rattle.pn_alarms.specs.declared.sender.Alarm.{Alarm}
 use Rattle.pn_alarms.specs.Device.{end_behind, end_later, end_raised, end_with, idle}
 use Rattle.pn_alarms.specs.Ends.{DeviceEnd}
 use Rattle.pn_alarms.specs.Numbers.{ack_number, is_last, next_number, send_number}
-use Rattle.pn_alarms.specs.Receiver.{answer_to, last_behind, taken_as}
+use Rattle.pn_alarms.specs.Receiver.{answer_to, taken_as}
 use Rattle.pn_alarms.specs.Sender.{notice_of, notified}
 use Rattle.pn_alarms.specs.Sending.{due}
 use Rattle.cyclic_exchange.specs.declared.route.Route.{Route}
 use Rattle.cyclic_exchange.specs.Cyclic.{Cyclic}
-use Rattle.cyclic_exchange.specs.Units.{ending_of, is_again, tick_by}
+use Rattle.cyclic_exchange.specs.Units.{ending_of, tick_by}
 use Rattle.exchanges.specs.Flow.{Flow}
-use Rattle.exchanges.specs.Frames.{Frame, Inputs, Notifies, Replies as Answers, alarm_frame}
+use Rattle.exchanges.specs.Frames.{Inputs, Notifies, Replies as Answers}
 use Rattle.exchanges.specs.Notices.{behind_message, header_of, may_raise, raised_at, raised_by as raised_from}
 use Rattle.exchanges.specs.Units.{flow_later, tick_of}
 use Rattle.relations.specs.Exchanged.{raised_to}
@@ -44,11 +43,11 @@ use Rattle.device_frames.specs.Relation.{alarms_of, frames_in, replies_of, where
 use Rattle.device_frames.specs.Sent.{Sent, IdentifyAnswer, GetAnswer, SetAnswer, ArpReply, CallAnswer, Again, ReadyCall, Ends, Exchanges}
 use Rattle.controller_frames.specs.declared.setup.Setup.{Setup}
 use Rattle.controller_frames.specs.Sent as said
-use Rattle.controller_laws.specs.Alarms.{Relation, Move, Raises as raising, PassesAtDevice, ComesToDevice, behind, behind_one, comes_to_device, passed_at_device, raised_by, replied_by}
-use Rattle.alarm_ends.proofs.Told.{noted_by, noted_in, reply_of, told_at}
+use Rattle.controller_laws.specs.Alarms.{Relation, Move, Raises as raising, PassesAtDevice, ComesToDevice, behind, comes_to_device, passed_at_device, raised_by, replied_by}
+use Rattle.alarm_ends.proofs.Told.{noted_in, reply_of, told_at}
 use Rattle.alarm_ends.specs.Over.{one_in, raised_in}
 use Rattle.alarm_ends.proofs.Lists.{Extends, at_end, each_behind, more_extends, none_some, some_is, unchanged}
-use Rattle.alarm_ends.proofs.Turns.{AreCalm, HearsAck, HearsData, IsCalm, IsRaise, IsSameOr, IsTurn, Makes, Passes, Raises, Refused, Stays, Way, way_of}
+use Rattle.alarm_ends.proofs.Turns.{AreCalm, HearsAck, HearsData, IsCalm, IsRaise, IsSameOr, IsTurn, Makes, Passes, Raises, Refused, Way, way_of}
 
 -- ---- what is said stands among what was sent
 

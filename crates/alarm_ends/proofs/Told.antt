@@ -7,7 +7,6 @@ use Rattle.pn_alarms.specs.declared.message.Notice.{Notice}
 use Rattle.pn_alarms.specs.declared.message.Notice.TheVariants as notice
 use Rattle.pn_alarms.specs.declared.pdu.PduType.{PduType}
 use Rattle.pn_alarms.specs.declared.pdu.PduType.TheVariants as pdu
-use Rattle.pn_alarms.specs.declared.pdu.Header.{Header}
 use Rattle.exchanges.specs.Frames.{Frame, Inputs, Notifies, Replies as Answers}
 use Rattle.device_frames.specs.declared.event.Event.TheVariants.{Frame as comes_in}
 use Rattle.device_frames.specs.Heard as device

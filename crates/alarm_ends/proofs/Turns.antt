@@ -1,5 +1,5 @@
 -- Each turn of a device, as far as the alarms of its relation go.
-use Rattle.std.proofs.Common.{◌≡◌, ◌⊎◌, inl, inr, ◌==◌, ◌&&◌, ℕ, Bool, true, false, cond, List, [], ◌∷◌, ◌++◌, length, Option, Some, None, option_map, Result, Ok, Err, refl, sym, ap, subst, ◌∙◌}
+use Rattle.std.proofs.Common.{◌≡◌, ◌⊎◌, inl, inr, ◌&&◌, ℕ, Bool, true, false, cond, List, [], ◌∷◌, ◌++◌, length, Option, Some, None, option_map, Result, Ok, Err, refl, sym, ap, subst}
 use Rattle.std.specs.Prelude.{◌%◌, ◌+◌, ◌-◌, is_some, nat_eq}
 use Rattle.std.specs.Cmp.Lexicographic.{pointwise}
 use Rattle.std.specs.List.{AllByRecursion}
@@ -37,7 +37,6 @@ use Rattle.record_writes.specs.Judged.{write_of}
 use Rattle.pn_alarms.specs.declared.abort.Abort.{Abort}
 use Rattle.pn_alarms.specs.declared.abort.Abort.TheVariants.{Other}
 use Rattle.block_codec.specs.Block.{block_of}
-use Rattle.pn_alarms.specs.declared.device.PduFate.{PduFate}
 use Rattle.pn_alarms.specs.declared.device.PduFate.TheVariants as fate
 use Rattle.pn_alarms.specs.declared.message.Notice.TheVariants as notice
 use Rattle.pn_alarms.specs.declared.pdu.Header.{Header}
@@ -56,7 +55,7 @@ use Rattle.cyclic_exchange.specs.declared.route.Route.{Route}
 use Rattle.cyclic_exchange.specs.Cyclic.{Cyclic}
 use Rattle.cyclic_exchange.specs.Received.{behind_frame as cyclic_behind, behind_read, is_new, is_of_partner, taken_from}
 use Rattle.exchanges.specs.Flow.{Flow}
-use Rattle.exchanges.specs.Frames.{Frame, Inputs, Notifies, Replies}
+use Rattle.exchanges.specs.Frames.{Inputs, Notifies, Replies}
 use Rattle.exchanges.specs.Notices.{behind_message, raised_at}
 use Rattle.exchanges.specs.Process.{with_cyclic}
 use Rattle.exchanges.specs.Received.{behind_frame, received_as}
@@ -70,7 +69,7 @@ use Rattle.relations.specs.Calls.{prm_end_of, prm_end_answer, release_of, releas
 use Rattle.relations.specs.Connect.{connect_answer, connect_of, making, rows_of}
 use Rattle.relations.specs.declared.farewell.Farewell.{Farewell}
 use Rattle.relations.specs.Farewells.{farewell_of}
-use Rattle.relations.specs.Ready.{answer_of, confirmed_block, confirmed_by, is_wanted, judged_by}
+use Rattle.relations.specs.Ready.{answer_of, confirmed_block, confirmed_by, is_wanted}
 use Rattle.relations.specs.Timers.{due_by, due_of, ending_of, is_again, unit_later}
 use Rattle.relations.specs.Exchanged.{given_to, heard_by, hearing, hearing_as, raised_to, received_by, receiving, receiving_as}
 use Rattle.device_frames.specs.declared.note.Note.{Note}
@@ -80,7 +79,7 @@ use Rattle.device_frames.specs.Relation.{alarms_of, due_frames, inputs_of, ready
 use Rattle.device_frames.specs.Sent.{Sent, IdentifyAnswer, GetAnswer, SetAnswer, ArpReply, CallAnswer, Again, ReadyCall, Ends, Exchanges}
 use Rattle.settings_store.specs.Machine.{Outcome, carried}
 use Rattle.device_core.specs.State.{Station, Rest, Live}
-use Rattle.device_core.specs.Judged.{Judged, Refuses, Sets, Writes, Moves, is_running, is_request, answer_from, served, ready_behind, partner_of, kept_answer, implicitly, judged_effect, judged_write, judged_new, judged_looked, judged_blocks, judged_call, judged_answer, judged_said, judged_received, judged_input, judged_notice, judged_pdu, judged_message, judged_request, judged}
+use Rattle.device_core.specs.Judged.{Judged, Refuses, Sets, Moves, is_running, is_request, served, ready_behind, partner_of, kept_answer, implicitly, judged_effect, judged_write, judged_new, judged_looked, judged_blocks, judged_call, judged_answer, judged_said, judged_received, judged_input, judged_notice, judged_pdu, judged_message, judged_request, judged}
 use Rattle.device_core.specs.Machine.{resets, link_after, farewells_at, finished, first_answer, items_in, judged_step, heard_step, written_as}
 use Rattle.alarm_ends.proofs.Lists.{each_behind, some_is}
 
