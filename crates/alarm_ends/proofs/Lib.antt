@@ -1,0 +1,11 @@
+pub mod Lists
+pub mod Told
+pub mod Turns
+pub mod Tied
+pub mod Sizes
+pub mod Opening
+pub mod Hearing
+pub mod Messages
+pub mod Placed
+pub mod Follows
+pub mod Law
