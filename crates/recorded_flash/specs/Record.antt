@@ -8,7 +8,7 @@ use Rattle.settings_journal.specs.Cut.{AreWrites, carried_out}
 use Rattle.recorded_flash.specs.Entry.{call_of}
 use Rattle.recorded_flash.specs.declared.flash.RecordedFlash.{RecordedFlash}
 
--- the bytes of both sectors, the last calls, the oldest of them first, and how many there ever were, modulo 2 ^ 32
+-- the bytes of both sectors, the last calls, the oldest of them first, and a number that grows by one with each, modulo 2 ^ 32
 pub record Record : Type 0 where
   pub image : Image
   pub recent : List Call

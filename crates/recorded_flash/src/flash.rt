@@ -1,5 +1,5 @@
 // A flash in memory, whose calls are recorded.
-ghost use Rattle.std.specs.Prelude.{◌≡◌, ◌+◌, ◌<◌, ◌≤◌, ◌↔◌, Option, None, Some, true, false, [], ◌∷◌, ℕ, length, map, slice_range, IsOk};
+ghost use Rattle.std.specs.Prelude.{◌≡◌, ◌+◌, ◌-◌, ◌^◌, ◌<◌, ◌≤◌, ◌↔◌, Option, None, Some, true, false, [], ◌∷◌, ℕ, length, map, slice_range, IsOk};
 ghost use Rattle.std.specs.Prelude.{OnOk, OnErr};
 ghost use Rattle.std.proofs.Props.{props};
 ghost use Rattle.flash_model.specs.Image.{IsSectorSize, sector_of, with_sector, programmed, erased};
@@ -23,15 +23,17 @@ impl<const S: usize> RecordedFlash<S> {
     ghost use Rattle.recorded_flash.specs.Entry.{call_of};
     ghost use Rattle.recorded_flash.specs.Record.{image_of, record_of, pushed, after_one, filled};
 
-    /// A flash with both sectors erased, of which no call is recorded.
+    /// A flash with both sectors erased, of which no call is recorded. The count begins at its last number: only what it grows by
+    /// says anything.
     pub fn blank() -> Self
         requires { IsSectorSize S }
-        ensures { record_of result ≡ record { image = record { first = erased S; second = erased S }; recent = []; count = 0 } }
+        ensures { record_of result ≡ record { image = record { first = erased S; second = erased S }; recent = []; count = 2 ^ 32 - 1 } }
     {
         RecordedFlash {
             memory: MemoryFlash::blank(),
             calls: ArrayVec::new(),
-            count: 0,
+            // With a zero here the empty list, 21,696 octets, is copied from the stack when a flash is made.
+            count: u32::MAX,
         }
     }
 
@@ -53,7 +55,7 @@ impl<const S: usize> RecordedFlash<S> {
         }
     }
 
-    /// How many calls there ever were, modulo 2 to the 32.
+    /// A number that grows by one with each call, modulo 2 to the 32.
     pub fn count(&self) -> u32
         ensures { result ≡ (record_of self.now).count }
     {
