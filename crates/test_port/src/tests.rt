@@ -1,5 +1,6 @@
 //! The numbers of refusals are those of `include/nandutable.h`, and the octets those of other programs.
 mod cycles;
+mod operations;
 mod refusals;
 mod stations;
 mod told;
