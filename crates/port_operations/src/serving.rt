@@ -201,7 +201,7 @@ fn next(port: &mut Port, op: &mut Op) -> u32
 
 // What a piece of work is.
 fn tell(work: Work<'_>, op: &mut Op)
-    ensures { IsPiece work op.new }
+    ensures { IsPiece work.entry op.new }
 {
     match work {
         Work::Carry(call) => tell_call(call, op),
@@ -254,6 +254,7 @@ fn sector_number(sector: Sector) -> u32
 fn put(op: &mut Op, octets: &[u8])
     requires { length octets.now ≤ 1520 }
     ensures octets { take op.new.length op.new.octets ≡ octets.now }
+    ensures length { op.new.length ≡ length octets.now }
     ensures same { op.new ≡ record op.old { length = op.new.length; octets = op.new.octets } }
 {
     op.length = 0;
