@@ -1,9 +1,9 @@
 -- The port of the station is made by a call, and then written into the room.
-use Rattle.std.proofs.Common.{◌≡◌, ℕ, List, [], ◌∷◌, true, refl, sym, ap}
+use Rattle.std.proofs.Common.{◌≡◌, ℕ, List, [], ◌∷◌, true, refl}
 use Rattle.std.proofs.raw_atomic.Walks.{proved}
 use base.Fraction.{full_share}
-use base.Logic.{SProp, ent, id⊢, ex, sep}
-use base.Fml.{Fml, ftrue, flft, froom}
+use base.Logic.{ent, id⊢, ex, sep}
+use base.Fml.{ftrue, flft}
 use mir.Syntax.{named}
 use mir.Val.{Val, vunit}
 use contract.Monad.{fact, fact_i}
@@ -32,8 +32,8 @@ use Rattle.device_port.proofs.port.Port.TheLaws.{the_row_laws as port_laws}
 use Rattle.port_operations.specs.Made.{IsMade}
 use Rattle.port_operations.specs.Stations.{is_station}
 use Rattle.port_operations.specs.contracts.station.Station.{the_row as S}
-use Rattle.port_operations.specs.contracts.station.port_of as g
-use Rattle.port_operations.proofs.station.port_of.Met.{met}
+use Rattle.port_operations.specs.contracts.port_of as g
+use Rattle.port_operations.proofs.port_of.Met.{met}
 use Rattle.nandutable.specs.contracts.pn_put as f
 use Rattle.nandutable.proofs.pn_put.Statement.{statement}
 use Rattle.nandutable.proofs.pn_put.Code as code
@@ -63,12 +63,11 @@ pn_put_spec 𝓤 𝓛 𝓜 𝓡 wired =
     enter ! _ _ _ _ _ $ alloc_all ! (λ l. pass_all ! refl ((tt, tt), ((tt, tt), tt)) $
     first ! $ blocks ! $
     sets ! (of_opd ! (get ! refl)) refl (tt, tt) $
-    sets ! (of_opd ! (get ! refl)) refl (tt, tt) $
     let G = triple_of 𝓛 g.signature (g.spec 𝓛 𝓜.mem 𝓡.returns) in
     let z : G.Ghost = (((κ, tt), (qs.0, tt), tt, (station, tt), (shr_vals station, tt)), tt) in
     nothing ! $ move ! (2 ∷ 0 ∷ []) $ join ! $ move ! (2 ∷ 0 ∷ []) $ join ! $
     use0 𝓛 (raw (fact 𝓤 (is_station station.now ≡ true))) (fact_i 𝓤 _ _ fits) $ move ! (1 ∷ 0 ∷ []) $ use2 𝓛 (raw (G.pre z)) (id⊢ 𝓤 _) $
-    calls_at ! (framed 𝓤 𝓛.H 𝓜 𝓣) G (met 𝓤 𝓛 𝓜 𝓡 (code.calls-port_operations::station::port_of 𝓡.env wired)) z (and_then ! (get ! refl) (no_more !)) (λ v.
+    calls_at ! (framed 𝓤 𝓛.H 𝓜 𝓣) G (met 𝓤 𝓛 𝓜 𝓡 (code.calls-port_operations::port_of 𝓡.env wired)) z (and_then ! (get ! refl) (no_more !)) (λ v.
     use1 𝓛 (later (some (λ (port : State). (Tokens ⊛ ‵ (R.own_val port (v ∷ []))) ⊛
     some (λ (ws : Unit {0} × Unit {0}). ‵ (lasts g.ended z.0.0 z.0.3 ws) ⊛ raw (fact 𝓤 (IsMade station.now port)))))) (id⊢ 𝓤 _) $
     await ! tt $ pick ! (λ port. split ! $ split ! $

@@ -1,11 +1,11 @@
 -- The port in the room is lent for the call of `serve`, and comes back. The operation is handed on.
-use Rattle.std.proofs.Common.{◌≡◌, ◌^◌, ◌<◌, ℕ, List, [], ◌∷◌, length, refl, sym, ap, w32, w64, Bor, MutBor}
+use Rattle.std.proofs.Common.{ℕ, List, [], ◌∷◌, refl, w32, MutBor}
 use Rattle.std.proofs.raw_atomic.Walks.{proved}
 use base.Fraction.{full_share}
-use base.Logic.{SProp, ent, id⊢, ex, sep}
-use base.Fml.{Fml, Lft, ftrue, flft, flent, fres}
+use base.Logic.{ent, id⊢, ex, sep}
+use base.Fml.{ftrue, flft, flent}
 use mir.Syntax.{named}
-use mir.Val.{Val, vint, vptr}
+use mir.Val.{Val, vptr}
 use contract.Monad.{fact}
 use contract.Running.{tables}
 use prog.Wp.{WpFn}
@@ -35,8 +35,8 @@ use Rattle.device_port.specs.State.{State}
 use Rattle.port_operations.specs.Serves.{Serves, operation_of}
 use Rattle.port_operations.specs.contracts.op.Op.{the_row as O}
 use Rattle.device_port.specs.contracts.port.Port.{the_row as R}
-use Rattle.port_operations.specs.contracts.serving.serve as g
-use Rattle.port_operations.proofs.serving.serve.Met.{met}
+use Rattle.port_operations.specs.contracts.serve as g
+use Rattle.port_operations.proofs.serve.Met.{met}
 use Rattle.nandutable.specs.contracts.pn_step as f
 use Rattle.nandutable.proofs.pn_step.Statement.{statement}
 use Rattle.nandutable.proofs.pn_step.Code as code
@@ -82,7 +82,7 @@ pn_step_spec 𝓤 𝓛 𝓜 𝓡 wired =
     let z : G.Ghost = (((α ∷ [], (κ, (η, tt))), (full_share, (qs.0, (qs.1.0, tt))), tt, (loan, a.1), (mut_vals loan, (mut_vals op, (shr_slice_vals given, tt)))), tt) in
     nothing ! $ move ! (6 ∷ 0 ∷ []) $ join ! $ move ! (5 ∷ 0 ∷ []) $ join ! $ move ! (1 ∷ 0 ∷ []) $ join ! $
     move ! (2 ∷ 3 ∷ []) $ join ! $ join ! $ nothing ! $ move ! (1 ∷ 0 ∷ []) $ use2 𝓛 (raw (G.pre z)) (id⊢ 𝓤 _) $
-    calls_at ! (framed 𝓤 𝓛.H 𝓜 𝓣) G (met 𝓤 𝓛 𝓜 𝓡 (code.calls-port_operations::serving::serve 𝓡.env wired)) z (and_then ! (get ! refl) (and_then ! (get ! refl) (and_then ! (get ! refl) (no_more !)))) (λ v.
+    calls_at ! (framed 𝓤 𝓛.H 𝓜 𝓣) G (met 𝓤 𝓛 𝓜 𝓡 (code.calls-port_operations::serve 𝓡.env wired)) z (and_then ! (get ! refl) (and_then ! (get ! refl) (and_then ! (get ! refl) (no_more !)))) (λ v.
     use1 𝓛 (later (some (λ (r : ℕ). ((‵ (flft (α ∷ []) full_share) ⊛ Tokens) ⊛ ‵ (u32.own_val r (v ∷ []))) ⊛
     some (λ (ws : State × (O.Denot × (Unit {0} × Unit {0}))). ‵ (lasts g.ended z.0.0 z.0.3 ws) ⊛ raw (fact 𝓤 (IsServed r ws.0 ws.1.0)))))) (id⊢ 𝓤 _) $
     await ! tt $ pick ! (λ r. split ! $ split ! $ split ! $ lft_end ! tt $

@@ -78,7 +78,8 @@ fn settings_are_told(rt: HostRuntime) {
         let mut op = asked(what);
         assert_eq!(rt; serve(&mut port, &mut op, &[]), 0);
         assert_eq!(rt; op.length, 196);
-        assert!(rt; op.octets[190..196] == *b"pump-1");
+        let name = &op.octets[190..196];
+        assert!(rt; name == b"pump-1".as_slice());
         assert!(rt; op.octets[12..66].iter().all(|octet| *octet == b' '));
     }
 }
