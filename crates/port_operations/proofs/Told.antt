@@ -1,5 +1,5 @@
 -- What is told of a port.
-use Rattle.std.proofs.Common.{◌≡◌, ℕ, List, [], ◌∷◌, Option, Some, None, sym, ap, subst, ◌∙◌}
+use Rattle.std.proofs.Common.{◌≡◌, ℕ, List, [], Option, Some, None, sym, ap, subst, ◌∙◌}
 use Rattle.device_port.specs.State.{State, IsNext, IsUntold}
 use Rattle.device_port.specs.Refusals.{refusal_number}
 use Rattle.device_port.specs.declared.port.Work.{Work}
