@@ -54,13 +54,15 @@ def tokens_of(text):
 
 
 def behind_clause(text, place, word):
-    """Where what begins with this word ends: a clause with its braces, or a ghost item with its `;` or `,`. The token takes it all."""
+    """Where what begins with this word ends: a clause with its braces, or a ghost item with its `;` or `,`. The token takes it all.
+    What a function binds for its clauses alone stands in front of them, and has neither."""
     start = place
     if word.text == "ghost" and text[place:].lstrip().startswith("use "):
         place = text.index(";", place) + 1
     else:
         place = behind_braces(text, place)
-        if word.text == "ghost":
+        is_binder = re.match(r"\s*(?:requires|ensures|\{)", text[place:])
+        if word.text == "ghost" and not is_binder:
             while text[place] not in ";,}":
                 place = behind_braces(text, place) if text[place] == "{" else place + 1
             place += text[place] != "}"
@@ -357,6 +359,17 @@ def listed(found, gone):
     return found.group(1) + (names[0] if len(names) == 1 else "{" + ", ".join(names) + "}") + ";"
 
 
+def with_parts_of_slices(text):
+    """An export that takes a slice, which C passes as a pointer and a length, as one that takes these two."""
+    for found in re.finditer(r'extern "C" fn \w+\(([^)]*)\)[^{]*\{\n', text):
+        head, made = found.group(), []
+        for name, inside in re.findall(r"(\w+): &\[(\w+)\]", found.group(1)):
+            head = head.replace(f"{name}: &[{inside}]", f"{name}: *const {inside}, {name}_length: usize")
+            made.append(f"    // SAFETY: the caller says that so many lie there.\n    let {name} = unsafe {{ std::slice::from_raw_parts({name}, {name}_length) }};\n")
+        text = text.replace(found.group(), head + "".join(made))
+    return text
+
+
 def plain(text):
     """The Rust of a proved source."""
     tokens = tokens_of(without_handle_of_expect(text))
@@ -369,7 +382,7 @@ def plain(text):
     tokens = with_plain_tests(tokens)
     tokens = without_unused_handles(tokens)
     tokens = without_unused_turns(tokens)
-    text = with_plain_main(text_of(tokens))
+    text = with_parts_of_slices(with_plain_main(text_of(tokens)))
     return tidy(without_unused_imports(without_model_import(text)))
 
 

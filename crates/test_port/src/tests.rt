@@ -4,6 +4,7 @@ use std::process::Abort;
 
 mod calls;
 mod cycles;
+mod operations;
 mod refusals;
 mod stations;
 mod told;

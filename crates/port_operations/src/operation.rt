@@ -1,4 +1,6 @@
 //! Which operation a host asks for.
+ghost use Rattle.std.specs.Prelude.{◌≡◌};
+ghost use Rattle.port_operations.specs.Serves.{operation_of as of_number};
 
 /// An operation of a host.
 #[derive(Clone, Copy, Debug, PartialEq, Eq)]
@@ -19,7 +21,9 @@ pub enum Operation {
 }
 
 // The operation of this number, if there is one.
-pub(crate) fn operation_of(what: u32) -> Option<Operation> {
+pub(crate) fn operation_of(what: u32) -> Option<Operation>
+    ensures { result ≡ of_number what }
+{
     match what {
         1 => Some(Operation::Sector),
         2 => Some(Operation::Boot),

@@ -1,4 +1,9 @@
 //! What a device is, as it lies in the memory of the host.
+ghost use Rattle.std.specs.Prelude.{◌≡◌, ◌≤◌, true, length, map};
+ghost use Rattle.std.specs.List.{AllByRecursion, list_all};
+ghost use Rattle.port_operations.specs.Made.{IsMade, why_not_made};
+ghost use Rattle.port_operations.specs.Stations.{IsSmall, IsSmallModule, identity_of, is_module, is_station as is_written, is_submodule};
+ghost use Rattle.port_operations.specs.Stations.{module_of, modules_in, parameter_of, real_of, submodule_of, submodules_in};
 
 use arrayvec::ArrayVec;
 use device_port::Port;
@@ -15,6 +20,7 @@ const OP_SIZE: usize = 1560;
 
 /// A parameter record that a submodule takes.
 #[repr(C)]
+#[derive(Drop)]
 pub struct Parameter {
     pub index: u16,
     pub length: u16,
@@ -22,6 +28,7 @@ pub struct Parameter {
 
 /// A submodule, with at most two parameter records.
 #[repr(C)]
+#[derive(Drop)]
 pub struct Submodule {
     pub ident: u32,
     pub subslot: u16,
@@ -33,6 +40,7 @@ pub struct Submodule {
 
 /// A module, with at most four submodules.
 #[repr(C)]
+#[derive(Drop)]
 pub struct Module {
     pub ident: u32,
     pub slot: u16,
@@ -42,6 +50,7 @@ pub struct Module {
 
 /// What a device is from the factory on, and the modules that are plugged in it, at most 16.
 #[repr(C)]
+#[derive(Drop)]
 pub struct Station {
     pub mac: [u8; 6],
     pub vendor_id: u16,
@@ -61,7 +70,9 @@ pub struct Station {
 
 /// Why no device is made of this station, or 0: another version or size of an operation than the library's, a room that is too
 /// small, or a list of the station that is too long.
-pub fn judge(size: usize, abi: u32, op_size: usize, station: &Station) -> u32 {
+pub fn judge(size: usize, abi: u32, op_size: usize, station: &Station) -> u32
+    ensures { result ≡ why_not_made size abi op_size station.now }
+{
     if abi != ABI || op_size != OP_SIZE {
         return 2;
     }
@@ -76,19 +87,26 @@ pub fn judge(size: usize, abi: u32, op_size: usize, station: &Station) -> u32 {
 
 /// A port of this station that did not start.
 #[inline(always)]
-pub fn port_of(station: &Station) -> Port {
+pub fn port_of(station: &Station) -> Port
+    requires { is_written station.now ≡ true }
+    ensures { IsMade station.now result }
+{
     Port::new(identity_in(station), real_in(station))
 }
 
 // Whether no count of a station is more than its list holds.
-fn is_station(station: &Station) -> bool {
+fn is_station(station: &Station) -> bool
+    ensures { result ≡ is_written station.now }
+{
     station.station_type_length <= 25
         && station.module_count <= 16
         && are_modules(&station.modules[..station.module_count as usize])
 }
 
 // Whether no count of these modules is.
-fn are_modules(modules: &[Module]) -> bool {
+fn are_modules(modules: &[Module]) -> bool
+    ensures { result ≡ list_all is_module modules.now }
+{
     for entry in modules {
         if !is_small(entry) {
             return false;
@@ -97,12 +115,16 @@ fn are_modules(modules: &[Module]) -> bool {
     true
 }
 
-fn is_small(entry: &Module) -> bool {
+fn is_small(entry: &Module) -> bool
+    ensures { result ≡ is_module entry.now }
+{
     entry.submodule_count <= 4
         && are_submodules(&entry.submodules[..entry.submodule_count as usize])
 }
 
-fn are_submodules(submodules: &[Submodule]) -> bool {
+fn are_submodules(submodules: &[Submodule]) -> bool
+    ensures { result ≡ list_all is_submodule submodules.now }
+{
     for submodule in submodules {
         if submodule.parameter_count > 2 {
             return false;
@@ -112,10 +134,14 @@ fn are_submodules(submodules: &[Submodule]) -> bool {
 }
 
 // The identity of a device.
-fn identity_in(station: &Station) -> Identity {
+fn identity_in(station: &Station) -> Identity
+    requires { station.now.station_type_length ≤ 25 }
+    ensures { result ≡ identity_of station.now }
+{
     let mut station_type = ArrayVec::new();
-    let _ = station_type
-        .try_extend_from_slice(&station.station_type[..station.station_type_length as usize]);
+    let _ = station_type.try_extend_from_slice(
+        &station.station_type[..station.station_type_length as usize],
+    );
     Identity {
         mac: Mac {
             octets: station.mac,
@@ -135,13 +161,21 @@ fn identity_in(station: &Station) -> Identity {
 
 // What is plugged in.
 #[inline(never)]
-fn real_in(station: &Station) -> Real {
+fn real_in(station: &Station) -> Real
+    requires few { station.now.module_count ≤ 16 }
+    requires small { AllByRecursion IsSmallModule (modules_in station.now) }
+    ensures { result ≡ real_of station.now }
+{
     Real {
         modules: modules(&station.modules[..station.module_count as usize]),
     }
 }
 
-fn modules(written: &[Module]) -> ArrayVec<RealModule, 16> {
+fn modules(written: &[Module]) -> ArrayVec<RealModule, 16>
+    requires few { length written.now ≤ 16 }
+    requires small { AllByRecursion IsSmallModule written.now }
+    ensures { result ≡ record { items = map module_of written.now } }
+{
     let mut modules = ArrayVec::new();
     for entry in written {
         modules.push(plugged(entry));
@@ -149,7 +183,11 @@ fn modules(written: &[Module]) -> ArrayVec<RealModule, 16> {
     modules
 }
 
-fn plugged(entry: &Module) -> RealModule {
+fn plugged(entry: &Module) -> RealModule
+    requires few { entry.now.submodule_count ≤ 4 }
+    requires small { AllByRecursion IsSmall (submodules_in entry.now) }
+    ensures { result ≡ module_of entry.now }
+{
     RealModule {
         slot: entry.slot,
         ident: entry.ident,
@@ -157,7 +195,11 @@ fn plugged(entry: &Module) -> RealModule {
     }
 }
 
-fn submodules(written: &[Submodule]) -> ArrayVec<RealSubmodule, 4> {
+fn submodules(written: &[Submodule]) -> ArrayVec<RealSubmodule, 4>
+    requires few { length written.now ≤ 4 }
+    requires small { AllByRecursion IsSmall written.now }
+    ensures { result ≡ record { items = map submodule_of written.now } }
+{
     let mut submodules = ArrayVec::new();
     for submodule in written {
         submodules.push(plugged_in(submodule));
@@ -165,7 +207,10 @@ fn submodules(written: &[Submodule]) -> ArrayVec<RealSubmodule, 4> {
     submodules
 }
 
-fn plugged_in(submodule: &Submodule) -> RealSubmodule {
+fn plugged_in(submodule: &Submodule) -> RealSubmodule
+    requires { submodule.now.parameter_count ≤ 2 }
+    ensures { result ≡ submodule_of submodule.now }
+{
     RealSubmodule {
         subslot: submodule.subslot,
         ident: submodule.ident,
@@ -175,7 +220,10 @@ fn plugged_in(submodule: &Submodule) -> RealSubmodule {
     }
 }
 
-fn parameters(written: &[Parameter]) -> ArrayVec<ParameterRecord, 2> {
+fn parameters(written: &[Parameter]) -> ArrayVec<ParameterRecord, 2>
+    requires { length written.now ≤ 2 }
+    ensures { result ≡ record { items = map parameter_of written.now } }
+{
     let mut parameters = ArrayVec::new();
     for parameter in written {
         parameters.push(ParameterRecord {

@@ -2,6 +2,7 @@
 
 /// One operation: what is asked, and what is answered.
 #[repr(C)]
+#[derive(Drop)]
 pub struct Op {
     /// Which operation.
     pub what: u32,

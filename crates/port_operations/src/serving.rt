@@ -1,4 +1,13 @@
 //! One operation of the host.
+ghost use Rattle.std.specs.Prelude.{◌≡◌, ◌+◌, ◌≤◌, ◌++◌, Some, length, slice_get, take};
+ghost use Rattle.device_frames.specs.declared.event.Event.TheVariants.{Frame as Framed};
+ghost use Rattle.recorded_flash.specs.Entry.{call_of};
+ghost use Rattle.relations.specs.Link.{taken_of};
+ghost use Rattle.device_port.specs.State.{closed};
+ghost use Rattle.port_operations.specs.Serves.{IsAlarm, IsBoot, IsCall, IsEvent, IsInput, IsLamp, IsLeft, IsLoss, IsNextOf, IsNoted};
+ghost use Rattle.port_operations.specs.Serves.{IsOutput, IsPiece, IsRecordAt, IsRecordOf, IsSector, IsSettings, IsState, IsTick};
+ghost use Rattle.port_operations.specs.Serves.{IsValueOf, Serves, answer_of, operation_of as operation_in, phase_number, place_in};
+ghost use Rattle.port_operations.specs.Serves.{sector_number as number_of, sector_of, settings_octets, value_of};
 
 use crate::op::Op;
 use crate::operation::{Operation, operation_of};
@@ -23,7 +32,9 @@ const NO_SECTOR: u32 = 8;
 const NO_RECORD: u32 = 15;
 
 /// Carries one operation out, with the octets that are given. The answer is 0, or why nothing changed.
-pub fn serve(port: &mut Port, op: &mut Op, given: &[u8]) -> u32 {
+pub fn serve(port: &mut Port, op: &mut Op, given: &[u8]) -> u32
+    ensures { Serves (operation_in op.old.what) port.old op.old given.now result port.new op.new }
+{
     match operation_of(op.what) {
         Some(operation) => perform(operation, port, op, given),
         None => UNKNOWN,
@@ -31,7 +42,9 @@ pub fn serve(port: &mut Port, op: &mut Op, given: &[u8]) -> u32 {
 }
 
 // Carries out what is an operation.
-fn perform(operation: Operation, port: &mut Port, op: &mut Op, given: &[u8]) -> u32 {
+fn perform(operation: Operation, port: &mut Port, op: &mut Op, given: &[u8]) -> u32
+    ensures { Serves (Some operation) port.old op.old given.now result port.new op.new }
+{
     match operation {
         Operation::Sector => fill(port, op, given),
         Operation::Boot => boot(port),
@@ -52,7 +65,9 @@ fn perform(operation: Operation, port: &mut Port, op: &mut Op, given: &[u8]) -> 
 // ---- a start
 
 // The octets of a sector of the chip, in front of a start.
-fn fill(port: &mut Port, op: &Op, given: &[u8]) -> u32 {
+fn fill(port: &mut Port, op: &Op, given: &[u8]) -> u32
+    ensures { IsSector (sector_of op.now.sector) port.old given.now result port.new }
+{
     match sector_at(op.sector) {
         Some(sector) => done(port.fill(sector, given)),
         None => NO_SECTOR,
@@ -60,7 +75,9 @@ fn fill(port: &mut Port, op: &Op, given: &[u8]) -> u32 {
 }
 
 // The sector of a number.
-fn sector_at(number: u32) -> Option<Sector> {
+fn sector_at(number: u32) -> Option<Sector>
+    ensures { result ≡ sector_of number }
+{
     match number {
         0 => Some(Sector::First),
         1 => Some(Sector::Second),
@@ -70,12 +87,16 @@ fn sector_at(number: u32) -> Option<Sector> {
 
 // A start.
 #[inline(never)]
-fn boot(port: &mut Port) -> u32 {
+fn boot(port: &mut Port) -> u32
+    ensures { IsBoot port.old result port.new }
+{
     done(port.boot())
 }
 
 // The answer to what was done, or refused.
-fn done(outcome: Result<(), Refusal>) -> u32 {
+fn done(outcome: Result<(), Refusal>) -> u32
+    ensures { result ≡ answer_of outcome }
+{
     match outcome {
         Ok(()) => 0,
         Err(refusal) => refusal.number(),
@@ -84,18 +105,24 @@ fn done(outcome: Result<(), Refusal>) -> u32 {
 
 // ---- events
 
-fn frame(port: &mut Port, op: &mut Op, given: &[u8]) -> u32 {
+fn frame(port: &mut Port, op: &mut Op, given: &[u8]) -> u32
+    ensures { IsEvent port.old (Framed (record { items = take 1519 given.now })) result port.new op.new }
+{
     noted(port.frame(given), op)
 }
 
-fn input(port: &mut Port, op: &mut Op, given: &[u8]) -> u32 {
+fn input(port: &mut Port, op: &mut Op, given: &[u8]) -> u32
+    ensures { IsInput (place_in op.old.slot op.old.subslot) port.old given.now result port.new op.new }
+{
     match place_of(op) {
         Some(place) => noted(port.input(place.0, place.1, given), op),
         None => NO_SLOT,
     }
 }
 
-fn alarm(port: &mut Port, op: &mut Op, given: &[u8]) -> u32 {
+fn alarm(port: &mut Port, op: &mut Op, given: &[u8]) -> u32
+    ensures { IsAlarm (place_in op.old.slot op.old.subslot) port.old given.now result port.new op.new }
+{
     match place_of(op) {
         Some(place) => noted(port.alarm(place.0, place.1, given), op),
         None => NO_SLOT,
@@ -103,7 +130,9 @@ fn alarm(port: &mut Port, op: &mut Op, given: &[u8]) -> u32 {
 }
 
 // The slot and subslot that are asked for, where they are numbers of 16 bits.
-fn place_of(op: &Op) -> Option<(u16, u16)> {
+fn place_of(op: &Op) -> Option<(u16, u16)>
+    ensures { result ≡ place_in op.now.slot op.now.subslot }
+{
     if op.slot < 65536 && op.subslot < 65536 {
         Some((op.slot as u16, op.subslot as u16))
     } else {
@@ -112,7 +141,10 @@ fn place_of(op: &Op) -> Option<(u16, u16)> {
 }
 
 // What became of an event, or why it was refused.
-fn noted(outcome: Result<Note, Refusal>, op: &mut Op) -> u32 {
+fn noted(outcome: Result<Note, Refusal>, op: &mut Op) -> u32
+    ensures answer { result ≡ answer_of outcome }
+    ensures note { IsNoted outcome op.new }
+{
     match outcome {
         Ok(note) => {
             op.note = u32::from(note.number());
@@ -122,13 +154,18 @@ fn noted(outcome: Result<Note, Refusal>, op: &mut Op) -> u32 {
     }
 }
 
-fn tick(port: &mut Port, op: &mut Op) -> u32 {
+fn tick(port: &mut Port, op: &mut Op) -> u32
+    ensures { IsTick port.old op.old.units result port.new op.new }
+{
     let units = op.units;
     passed(port.tick(units), op)
 }
 
 // How many units are left, or why none went by.
-fn passed(outcome: Result<u32, Refusal>, op: &mut Op) -> u32 {
+fn passed(outcome: Result<u32, Refusal>, op: &mut Op) -> u32
+    ensures answer { result ≡ answer_of outcome }
+    ensures left { IsLeft outcome op.new }
+{
     match outcome {
         Ok(left) => {
             op.units = left;
@@ -140,14 +177,18 @@ fn passed(outcome: Result<u32, Refusal>, op: &mut Op) -> u32 {
 }
 
 // Power is lost on the host's side.
-fn lose(port: &mut Port) -> u32 {
+fn lose(port: &mut Port) -> u32
+    ensures { IsLoss port.old result port.new }
+{
     done(port.lose())
 }
 
 // ---- work
 
 // The next piece of work, which is taken with that.
-fn next(port: &mut Port, op: &mut Op) -> u32 {
+fn next(port: &mut Port, op: &mut Op) -> u32
+    ensures { IsNextOf (closed port.old.stage) port.old result port.new op.new }
+{
     match port.work() {
         Ok(work) => {
             tell(work, op);
@@ -159,7 +200,9 @@ fn next(port: &mut Port, op: &mut Op) -> u32 {
 }
 
 // What a piece of work is.
-fn tell(work: Work<'_>, op: &mut Op) {
+fn tell(work: Work<'_>, op: &mut Op)
+    ensures { IsPiece work.entry op.new }
+{
     match work {
         Work::Carry(call) => tell_call(call, op),
         Work::Send(frame) => {
@@ -174,7 +217,9 @@ fn tell(work: Work<'_>, op: &mut Op) {
 }
 
 // A call of the flash.
-fn tell_call(call: &Recorded, op: &mut Op) {
+fn tell_call(call: &Recorded, op: &mut Op)
+    ensures { IsCall (call_of call.now) op.new }
+{
     match call {
         Recorded::Program {
             sector,
@@ -194,7 +239,9 @@ fn tell_call(call: &Recorded, op: &mut Op) {
     }
 }
 
-fn sector_number(sector: Sector) -> u32 {
+fn sector_number(sector: Sector) -> u32
+    ensures { result ≡ number_of sector }
+{
     match sector {
         Sector::First => 0,
         Sector::Second => 1,
@@ -204,13 +251,23 @@ fn sector_number(sector: Sector) -> u32 {
 // ---- what is told
 
 // Octets that an operation is answered with.
-fn put(op: &mut Op, octets: &[u8]) {
+fn put(op: &mut Op, octets: &[u8])
+    requires { length octets.now ≤ 1520 }
+    ensures octets { take op.new.length op.new.octets ≡ octets.now }
+    ensures length { op.new.length ≡ length octets.now }
+    ensures same { op.new ≡ record op.old { length = op.new.length; octets = op.new.octets } }
+{
     op.length = 0;
     put_more(op, octets);
 }
 
 // Octets behind those that an operation is answered with already.
-fn put_more(op: &mut Op, octets: &[u8]) {
+fn put_more(op: &mut Op, octets: &[u8])
+    requires { op.old.length + length octets.now ≤ 1520 }
+    ensures octets { take op.new.length op.new.octets ≡ take op.old.length op.old.octets ++ octets.now }
+    ensures length { op.new.length ≡ op.old.length + length octets.now }
+    ensures same { op.new ≡ record op.old { length = op.new.length; octets = op.new.octets } }
+{
     let start = op.length as usize;
     let end = start + octets.len();
     write_at(&mut op.octets, start, octets);
@@ -218,11 +275,16 @@ fn put_more(op: &mut Op, octets: &[u8]) {
 }
 
 // Writes octets from a place on, and leaves those before it.
-fn write_at(room: &mut [u8], start: usize, octets: &[u8]) {
+fn write_at(room: &mut [u8], start: usize, octets: &[u8])
+    requires { start + length octets.now ≤ length room.old }
+    ensures { take (start + length octets.now) room.new ≡ take start room.old ++ octets.now }
+{
     room[..start + octets.len()][start..].copy_from_slice(octets);
 }
 
-fn output(port: &Port, op: &mut Op) -> u32 {
+fn output(port: &Port, op: &mut Op) -> u32
+    ensures { IsOutput (place_in op.old.slot op.old.subslot) port.now result op.new }
+{
     match place_of(op) {
         Some(place) => tell_output(port, place.0, place.1, op),
         None => NO_SLOT,
@@ -230,7 +292,9 @@ fn output(port: &Port, op: &mut Op) -> u32 {
 }
 
 // The output of a submodule, or why there is none.
-fn tell_output(port: &Port, slot: u16, subslot: u16, op: &mut Op) -> u32 {
+fn tell_output(port: &Port, slot: u16, subslot: u16, op: &mut Op) -> u32
+    ensures { IsValueOf (closed port.now.stage) (value_of port.now slot subslot) result op.new }
+{
     match port.output(slot, subslot) {
         Ok(value) => {
             put(op, value);
@@ -240,7 +304,9 @@ fn tell_output(port: &Port, slot: u16, subslot: u16, op: &mut Op) -> u32 {
     }
 }
 
-fn state(port: &Port, op: &mut Op) -> u32 {
+fn state(port: &Port, op: &mut Op) -> u32
+    ensures { IsState (closed port.now.stage) port.now result op.new }
+{
     match port.phase() {
         Ok(phase) => {
             op.phase = number_of_phase(phase);
@@ -251,7 +317,10 @@ fn state(port: &Port, op: &mut Op) -> u32 {
 }
 
 // For how many units the lamp still flashes.
-fn tell_lamp(port: &Port, op: &mut Op) -> u32 {
+fn tell_lamp(port: &Port, op: &mut Op) -> u32
+    ensures value { IsLamp (closed port.now.stage) port.now.device.live.rest.lamp result op.new }
+    ensures same { op.new ≡ record op.old { units = op.new.units } }
+{
     match port.lamp() {
         Ok(lamp) => {
             op.units = lamp;
@@ -261,7 +330,9 @@ fn tell_lamp(port: &Port, op: &mut Op) -> u32 {
     }
 }
 
-fn number_of_phase(phase: Option<Phase>) -> u32 {
+fn number_of_phase(phase: Option<Phase>) -> u32
+    ensures { result ≡ phase_number phase }
+{
     match phase {
         None => 0,
         Some(Phase::Started) => 1,
@@ -270,7 +341,9 @@ fn number_of_phase(phase: Option<Phase>) -> u32 {
     }
 }
 
-fn running(port: &Port, op: &mut Op) -> u32 {
+fn running(port: &Port, op: &mut Op) -> u32
+    ensures { IsSettings (closed port.now.stage) port.now.device.live.values.running result op.new }
+{
     match port.running() {
         Ok(settings) => {
             put_settings(settings, op);
@@ -280,7 +353,9 @@ fn running(port: &Port, op: &mut Op) -> u32 {
     }
 }
 
-fn stored(port: &Port, op: &mut Op) -> u32 {
+fn stored(port: &Port, op: &mut Op) -> u32
+    ensures { IsSettings (closed port.now.stage) port.now.device.live.values.stored result op.new }
+{
     match port.stored() {
         Ok(settings) => {
             put_settings(settings, op);
@@ -291,7 +366,9 @@ fn stored(port: &Port, op: &mut Op) -> u32 {
 }
 
 // Settings: address, mask and gateway, the I&M texts, and the name.
-fn put_settings(settings: &Settings, op: &mut Op) {
+fn put_settings(settings: &Settings, op: &mut Op)
+    ensures { take op.new.length op.new.octets ≡ settings_octets settings.now }
+{
     put(op, &settings.suite.address());
     put_more(op, &settings.suite.mask());
     put_more(op, &settings.suite.gateway());
@@ -303,7 +380,9 @@ fn put_settings(settings: &Settings, op: &mut Op) {
 }
 
 // A parameter record that the relation took, by its number.
-fn tell_taken(port: &Port, op: &mut Op) -> u32 {
+fn tell_taken(port: &Port, op: &mut Op) -> u32
+    ensures { IsRecordOf (closed port.now.stage) (slice_get (taken_of port.now.device.live.rest.link) op.old.place) result op.new }
+{
     match port.taken() {
         Ok(records) => tell_record(records, op),
         Err(refusal) => refusal.number(),
@@ -311,7 +390,9 @@ fn tell_taken(port: &Port, op: &mut Op) -> u32 {
 }
 
 // One of these records.
-fn tell_record(records: &[TakenRecord], op: &mut Op) -> u32 {
+fn tell_record(records: &[TakenRecord], op: &mut Op) -> u32
+    ensures { IsRecordAt (slice_get records.now op.old.place) result op.new }
+{
     match records.get(op.place as usize) {
         Some(entry) => {
             op.slot = u32::from(entry.slot);

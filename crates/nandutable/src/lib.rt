@@ -1,0 +1,45 @@
+//! The library that firmware links: a PROFINET IO device behind three calls. `include/nandutable.h` says how they are used.
+//!
+//! Each call is proved down to its raw pointer: what lies in the room before it, and what lies there behind it.
+#![tactic(auto)]
+
+ghost use Rattle.std.specs.Prelude.{◌≡◌, true};
+ghost use Rattle.std.specs.Borrow.{full_share};
+ghost use base.Logic.{ex};
+ghost use types.Logic.{sem};
+ghost use denote.RawPtr.{lies_at, room_at};
+ghost use Rattle.device_port.specs.State.{State};
+ghost use Rattle.device_port.specs.contracts.port.Port.{the_row as Row};
+ghost use Rattle.port_operations.specs.Made.{IsMade, why_not_made};
+ghost use Rattle.port_operations.specs.Serves.{Serves, operation_of};
+ghost use Rattle.port_operations.specs.Stations.{is_station};
+
+use device_port::Port;
+use port_operations::{Op, Station, judge, port_of, serve};
+
+/// Why no device can be made of this station in a room of so many octets, or 0.
+#[unsafe(no_mangle)]
+pub extern "C" fn pn_judge(size: usize, abi: u32, op_size: usize, station: &Station) -> u32
+    ensures { result ≡ why_not_made size abi op_size station.now }
+{
+    judge(size, abi, op_size, station)
+}
+
+/// Makes a device that did not start in the room, of a station that `pn_judge` answered 0 for.
+#[unsafe(no_mangle)]
+pub unsafe extern "C" fn pn_put(room: *mut u8, station: &Station)
+    requires* { sem 𝓛 (room_at Row room) ∗ ⌜ is_station station.now ≡ true ⌝ }
+    ensures* { ex 𝓤 (λ (port : State). sem 𝓛 (lies_at Row full_share room port) ∗ ⌜ IsMade station.now port ⌝) }
+{
+    unsafe { std::ptr::write(room as *mut Port, port_of(station)) };
+}
+
+/// Carries one operation out on the device in the room.
+#[unsafe(no_mangle)]
+pub unsafe extern "C" fn pn_step(room: *mut u8, op: &mut Op, given: &[u8]) -> u32
+    ghost port: { State }
+    requires* { sem 𝓛 (lies_at Row full_share room port) }
+    ensures* { ex 𝓤 (λ (new : State). sem 𝓛 (lies_at Row full_share room new) ∗ ⌜ Serves (operation_of op.old.what) port op.old given.now result new op.new ⌝) }
+{
+    serve(unsafe { &mut *(room as *mut Port) }, op, given)
+}
