@@ -17,7 +17,6 @@ use Rattle.dcp_core.specs.declared.request.DcpFault.{DcpFault}
 use Rattle.dcp_core.specs.Reading.{request_of}
 use Rattle.dcp_core.specs.Request.{Asked}
 use Rattle.pn_alarms.specs.declared.fault.AlarmFault.{AlarmFault}
-use Rattle.pn_alarms.specs.declared.message.Notice.{Notice}
 use Rattle.pn_alarms.specs.declared.pdu.Header.{Header}
 use Rattle.pn_alarms.specs.Message.{ToDevice, message_of}
 use Rattle.record_blocks.specs.declared.alarm_notification.AlarmNotification.{AlarmNotification}
@@ -32,6 +31,7 @@ use Rattle.device_core.specs.State.{Station, Live}
 use Rattle.device_core.specs.Machine.{heard_step}
 use Rattle.controller_frames.specs.declared.request.Request.TheVariants as asks
 use Rattle.controller_frames.specs.declared.setup.Setup.{Setup}
+use Rattle.controller_frames.specs.Heard as controller
 use Rattle.controller_frames.specs.Heard.{heard_of as heard_by}
 use Rattle.controller_frames.specs.Requests.{identify_asked}
 use Rattle.controller_frames.specs.Sent as said
@@ -55,18 +55,28 @@ use Rattle.device_ends.specs.Small.{IsHeardAs, IsPlanned, heard_as, kept_in, lin
 use Rattle.world_ends.specs.Played.{AreMade, AreMeant, Begins, CanMeet, last_world}
 use Rattle.world_ends.specs.View.{IsMeant, IsMeantAtController, IsMeantAtDevice, rules_of}
 use Rattle.sending_laws.specs.Messages.{CanBeSent as CanBeSaid}
-use Rattle.sending_laws.specs.Sized.{IsLive, IsSizedEvent}
+use Rattle.sending_laws.specs.Sized.{IsLive, IsSized, IsSizedEvent}
 use Rattle.alarm_ends.specs.Sized.{AreFit, AreSizedModules, IsFit, IsFitWith}
-use Rattle.alarm_ends.proofs.Placed.{IsEventOf, IsPlaced, event_placed, first_placed}
-use Rattle.alarm_ends.proofs.Told.{told_at}
-use Rattle.alarm_ends.proofs.Messages.{HearsSo, all_noted, all_told, both_sized}
+use Rattle.alarm_ends.proofs.Placed.{IsEventOf, IsOf, IsPlaced, event_placed, first_placed}
+use Rattle.alarm_ends.proofs.Told.{IsGood, noted_at, told_at}
+use Rattle.alarm_ends.proofs.Messages.{HearsSo, all_noted, all_ready, all_told, both_sized, other_mac}
 use Rattle.alarm_ends.proofs.Sizes.{turn_sized}
 use Rattle.alarm_ends.specs.Over.{IsOneOfTheLastTwo, raised_in, raised_over, raised_with, taken_by, taken_from, taken_in, taken_over, taken_with}
-use Rattle.alarm_ends.proofs.Opening.{asks_unnoted}
+use Rattle.alarm_ends.proofs.Opening.{asks_unheard}
 use Rattle.alarm_ends.proofs.Lists.{each_at, holds_if, none_some}
 use Rattle.alarm_ends.proofs.Turns.{step_raises, step_turns}
 use Rattle.alarm_ends.proofs.Tied.{Goes, IsHeard, IsSaid, IsUnraised, raise_on, turn_on}
 use Rattle.alarm_ends.proofs.Follows.{Follows, IsEventIn, IsIn, controller_follows, device_follows, kept_at, makes_fresh, makes_planned, taken_at}
+
+-- ---- what a controller hears of its device
+
+both_fit : (mac : Mac) (heard : controller.Heard) → IsGood mac heard → IsFit heard → IsSized heard × IsOf mac heard
+both_fit mac (controller.Answers source answer) good fit = (good.1, good.0)
+both_fit mac (controller.Responds response) good fit = (λ frame_id is. (fit frame_id is).0, λ frame_id is. (fit frame_id is).1)
+both_fit mac (controller.Calls caller call) good fit = ((good.1, good.2, good.3), good.0)
+both_fit mac (controller.Alarms source header told) good fit = (good, tt)
+both_fit mac controller.Nothing good fit = (tt, tt)
+both_fit mac (controller.Cyclic source frame_id body) good fit = (tt, tt)
 
 -- ---- a frame raises no alarm
 
@@ -162,7 +172,9 @@ module _ {F : Type 0} where
           let all : Follows setup station step.live before.controller.live (before.sent ++ step.frames) (raised ++ now) taken =
           device_follows setup station live before.controller.live before.sent raised taken follows heard meant.planned first outcomes now
           (so.goes_on rules setup.activity outcomes station live heard meant.planned heard_so) (so.owed rules setup.activity outcomes station live heard meant.planned)
-          heard_so (all_noted hears setup station.identity step.sent heard_it.steps.sendable turn.messages) (goes outcomes) turn.link in
+          heard_so (all_noted hears setup station.identity step.sent heard_it.steps.sendable turn.messages
+          (all_ready hears setup station.identity follows.good heard live step.sent follows.sized (so.owed rules setup.activity outcomes station live heard meant.planned)))
+          (goes outcomes) turn.link in
           subst (λ (c : Controlling). Follows c.setup after.device.station after.device.live c.live after.sent (raised ++ now) taken) (sym made.controller)
           (subst (λ (s : Station). Follows setup s after.device.live before.controller.live after.sent (raised ++ now) taken) (sym heard_it.steps.same)
           (subst (λ (l : Live). Follows setup station l before.controller.live after.sent (raised ++ now) taken) (sym heard_it.steps.live)
@@ -223,21 +235,22 @@ module _ {F : Type 0} where
         made ∙ (ap (λ (c : Controlling). record { device = before.device; controller = c; sent = before.sent ++ (step_of before.controller one).frames }) (controller_is before.controller one)
         ∙ ap (λ (frames : List (List ℕ)). record { device = before.device; controller = with_live before.controller turn.live; sent = before.sent ++ frames }) (frames_are before.controller one)) in
         let all : FollowsAt there raised (taken ++ taken_at setup station live before.controller.live before.sent raised taken follows one) =
-        controller_follows setup station live before.controller.live before.sent raised taken follows one is meant (all_told hears setup station.identity follows.good turn.sent (both_sized setup turn.sent sized.1 placed.sent)) sized.0 placed.live in
+        controller_follows setup station live before.controller.live before.sent raised taken follows one is meant (all_told hears setup station.identity follows.good follows.apart turn.sent (both_sized setup turn.sent sized.1 placed.sent)) sized.0 placed.live in
         subst (λ (w : World F). FollowsAt w raised (taken ++ now)) (sym same) (subst (λ (xs : List AlarmNotification). FollowsAt there raised (taken ++ xs)) takes all)
 
     comes_to_controller : (octets : List ℕ) (skipped : Bool) → IsIn setup station.identity follows.relation octets
-        → IsMeantAtController before (event.Frame (record { items = octets })) → IsFit station.identity.mac (heard_by setup.plan.controller octets)
+        → IsMeantAtController before (event.Frame (record { items = octets })) → IsFit (heard_by setup.plan.controller octets)
         → Comes image failures asked skipped before Controller octets after → FollowsAt after raised (taken ++ taken_in skipped before.controller octets)
     comes_to_controller octets true is meant told comes = taken_none after raised taken (same_follows comes)
     comes_to_controller octets false is meant told comes =
         controller_on (event.Frame (record { items = octets })) (taken_by before.controller.live (heard_by setup.plan.controller octets)) is.noted
-        (ap (λ (l : ControllerLive). taken_by l (heard_by setup.plan.controller octets)) follows.same) meant told comes
+        (ap (λ (l : ControllerLive). taken_by l (heard_by setup.plan.controller octets)) follows.same) meant
+        (both_fit station.identity.mac (heard_by setup.plan.controller octets) is.good told) comes
 
     delivered_to_controller : (octets : Option (List ℕ))
         → ((frame : List ℕ) → octets ≡ Some frame → IsIn setup station.identity follows.relation frame)
         → ((frame : List ℕ) → octets ≡ Some frame → IsMeantAtController before (event.Frame (record { items = frame })))
-        → ((frame : List ℕ) → octets ≡ Some frame → IsFit station.identity.mac (heard_by setup.plan.controller frame))
+        → ((frame : List ℕ) → octets ≡ Some frame → IsFit (heard_by setup.plan.controller frame))
         → Delivers image failures asked octets before Controller after → FollowsAt after raised (taken ++ taken_from before octets)
     delivered_to_controller None is meant told comes = taken_none after raised taken (same_follows comes)
     delivered_to_controller (Some octets) is meant told comes =
@@ -296,7 +309,8 @@ module _ {F : Type 0} where
     again = λ answer is. absurd (none_some answer (kept_at first.controller.setup first.device.live) (ap (λ (calls : List Answer). option_map kept_in (kept_of first.controller.setup.activity calls)) begins.uncalled) is);
     frames = subst (λ (frames : List (List ℕ)). AllByRecursion (IsIn first.controller.setup first.device.station.identity (start first.controller.setup)) frames) (sym begins.opened) (
       record {
-        noted = subst (λ (o : Option (Notice AlarmNotification)). IsSaid [] [] o) (sym (asks_unnoted first.device.station.identity first.controller.setup (opening_of first.controller) source request asks_it)) tt;
+        noted = subst (λ (h : controller.Heard). IsSaid [] [] (noted_at h)) (sym unheard) tt;
+        good = subst (λ (h : controller.Heard). IsGood first.device.station.identity.mac h) (sym unheard) tt;
         told = subst (λ (h : Heard). IsHeard [] (told_at h)) (sym asks_it) tt;
         first = λ sequence e. absurd (idle_call sequence (ap heard_as (sym asks_it) ∙ e));
       },
@@ -306,6 +320,10 @@ module _ {F : Type 0} where
     where
       idle_call : (sequence : ℕ) → small.Idle ≡ small.Call sequence small.Connects → ⊥
       idle_call sequence e = absurd cc
+
+      unheard : heard_by first.controller.setup.plan.controller (opening_of first.controller) ≡ controller.Nothing
+      unheard = asks_unheard first.device.station.identity first.controller.setup (opening_of first.controller) source request asks_it
+          (other_mac first.device.station.identity.mac first.controller.setup.plan.controller.mac apart)
 
   -- ---- what follows of it
 
