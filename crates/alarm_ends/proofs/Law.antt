@@ -40,7 +40,7 @@ use Rattle.hearing_laws.specs.Stations.{IsSetup}
 use Rattle.controller_core.specs.declared.event.Event.{Event}
 use Rattle.controller_core.specs.declared.event.Event.TheVariants as event
 use Rattle.controller_core.specs.State.{Controlling, Live as ControllerLive, with_live}
-use Rattle.controller_core.specs.Machine.{first as first_live, opening_of, step_of, turn_of}
+use Rattle.controller_core.specs.Machine.{first as first_live, opening_of, step_of, turn_of, turned}
 use Rattle.controller_laws.specs.Alarms.{AreTakenInOrder, LackAtMostTheLast, Relation, ShowsTheLast, last_of, start}
 use Rattle.alarm_exchange.specs.World.{IsPrefixOf}
 use Rattle.network_world.specs.declared.moves.End.TheVariants.{Device, Controller}
@@ -57,6 +57,7 @@ use Rattle.world_ends.specs.View.{IsMeant, IsMeantAtController, IsMeantAtDevice,
 use Rattle.sending_laws.specs.Messages.{CanBeSent as CanBeSaid}
 use Rattle.sending_laws.specs.Sized.{IsLive, IsSized, IsSizedEvent}
 use Rattle.alarm_ends.specs.Sized.{AreFit, AreSizedModules, IsFit, IsFitWith}
+use Rattle.alarm_ends.proofs.Related.{IsRight, responded_right}
 use Rattle.alarm_ends.proofs.Placed.{IsEventOf, IsOf, IsPlaced, event_placed, first_placed}
 use Rattle.alarm_ends.proofs.Told.{IsGood, noted_at, told_at}
 use Rattle.alarm_ends.proofs.Messages.{HearsSo, all_noted, all_ready, all_told, both_sized, other_mac}
@@ -70,13 +71,29 @@ use Rattle.alarm_ends.proofs.Follows.{Follows, IsEventIn, IsIn, controller_follo
 
 -- ---- what a controller hears of its device
 
-both_fit : (mac : Mac) (heard : controller.Heard) → IsGood mac heard → IsFit heard → IsSized heard × IsOf mac heard
-both_fit mac (controller.Answers source answer) good fit = (good.1, good.0)
-both_fit mac (controller.Responds response) good fit = (λ frame_id is. (fit frame_id is).0, λ frame_id is. (fit frame_id is).1)
-both_fit mac (controller.Calls caller call) good fit = ((good.1, good.2, good.3), good.0)
-both_fit mac (controller.Alarms source header told) good fit = (good, tt)
-both_fit mac controller.Nothing good fit = (tt, tt)
-both_fit mac (controller.Cyclic source frame_id body) good fit = (tt, tt)
+of_device : (setup : Setup) (live : ControllerLive) (mac : Mac) (heard : controller.Heard) → IsGood mac heard → IsFit setup live heard → IsOf setup live mac heard
+of_device setup live mac (controller.Answers source answer) good fit = good.0
+of_device setup live mac (controller.Responds response) good fit = fit
+of_device setup live mac (controller.Calls caller call) good fit = good.0
+of_device setup live mac (controller.Alarms source header told) good fit = tt
+of_device setup live mac controller.Nothing good fit = tt
+of_device setup live mac (controller.Cyclic source frame_id body) good fit = tt
+
+-- what becomes of a controller with it has its sizes
+module _ (goes_sized : (setup : Setup) (live : ControllerLive) (one : Event) → IsSetup setup → IsLive live → IsSizedEvent setup one → IsRight setup (turn_of setup live one))
+    (setup : Setup) (live : ControllerLive) (mac : Mac) (good : IsSetup setup) (lives : IsLive live) where
+  right_by : (octets : List ℕ) (heard : controller.Heard) → heard_by setup.plan.controller octets ≡ heard → IsSized heard → IsRight setup (turned setup live heard)
+  right_by octets heard e sized =
+      subst (λ (h : controller.Heard). IsRight setup (turned setup live h)) e
+      (goes_sized setup live (event.Frame (record { items = octets })) good lives (subst (λ (h : controller.Heard). IsSized h) (sym e) sized))
+
+  heard_right : (octets : List ℕ) (heard : controller.Heard) → heard_by setup.plan.controller octets ≡ heard → IsGood mac heard → IsFit setup live heard → IsRight setup (turned setup live heard)
+  heard_right octets (controller.Answers source answer) e is fit = right_by octets (controller.Answers source answer) e is.1
+  heard_right octets (controller.Responds response) e is fit = responded_right setup good live response live.asked refl lives fit
+  heard_right octets (controller.Calls caller call) e is fit = right_by octets (controller.Calls caller call) e (is.1, is.2, is.3)
+  heard_right octets (controller.Alarms source header told) e is fit = right_by octets (controller.Alarms source header told) e is
+  heard_right octets controller.Nothing e is fit = right_by octets controller.Nothing e tt
+  heard_right octets (controller.Cyclic source frame_id body) e is fit = right_by octets (controller.Cyclic source frame_id body) e tt
 
 -- ---- a frame raises no alarm
 
@@ -225,10 +242,10 @@ module _ {F : Type 0} where
 
     controller_on : (one : Event) (now : List AlarmNotification) → IsEventIn setup station live before.controller.live before.sent raised taken follows one
         → taken_at setup station live before.controller.live before.sent raised taken follows one ≡ now
-        → IsMeantAtController before one → (IsSizedEvent setup one × IsEventOf setup station.identity.mac follows.apart one) → after ≡ at_controller before one → FollowsAt after raised (taken ++ now)
+        → IsMeantAtController before one → (IsRight setup (turn_of setup before.controller.live one) × IsEventOf setup station.identity.mac follows.apart before.controller.live one) → after ≡ at_controller before one → FollowsAt after raised (taken ++ now)
     controller_on one now is takes meant fit made =
         let turn = turn_of setup before.controller.live one in
-        let sized = so.goes_sized setup before.controller.live one follows.good follows.lives fit.0 in
+        let sized = fit.0 in
         let placed = event_placed setup station.identity.mac follows.apart before.controller.live one fit.1 follows.placed in
         let there : World F = record { device = before.device; controller = with_live before.controller turn.live; sent = before.sent ++ map (said.bytes_of setup) turn.sent } in
         let same : after ≡ there =
@@ -239,18 +256,20 @@ module _ {F : Type 0} where
         subst (λ (w : World F). FollowsAt w raised (taken ++ now)) (sym same) (subst (λ (xs : List AlarmNotification). FollowsAt there raised (taken ++ xs)) takes all)
 
     comes_to_controller : (octets : List ℕ) (skipped : Bool) → IsIn setup station.identity follows.relation octets
-        → IsMeantAtController before (event.Frame (record { items = octets })) → IsFit (heard_by setup.plan.controller octets)
+        → IsMeantAtController before (event.Frame (record { items = octets })) → IsFit setup before.controller.live (heard_by setup.plan.controller octets)
         → Comes image failures asked skipped before Controller octets after → FollowsAt after raised (taken ++ taken_in skipped before.controller octets)
     comes_to_controller octets true is meant told comes = taken_none after raised taken (same_follows comes)
     comes_to_controller octets false is meant told comes =
         controller_on (event.Frame (record { items = octets })) (taken_by before.controller.live (heard_by setup.plan.controller octets)) is.noted
-        (ap (λ (l : ControllerLive). taken_by l (heard_by setup.plan.controller octets)) follows.same) meant
-        (both_fit station.identity.mac (heard_by setup.plan.controller octets) is.good told) comes
+        (ap (λ (l : ControllerLive). taken_by l (heard_by setup.plan.controller octets)) follows.same) meant (
+          heard_right so.goes_sized setup before.controller.live station.identity.mac follows.good follows.lives octets (heard_by setup.plan.controller octets) refl is.good told,
+          of_device setup before.controller.live station.identity.mac (heard_by setup.plan.controller octets) is.good told,
+        ) comes
 
     delivered_to_controller : (octets : Option (List ℕ))
         → ((frame : List ℕ) → octets ≡ Some frame → IsIn setup station.identity follows.relation frame)
         → ((frame : List ℕ) → octets ≡ Some frame → IsMeantAtController before (event.Frame (record { items = frame })))
-        → ((frame : List ℕ) → octets ≡ Some frame → IsFit (heard_by setup.plan.controller frame))
+        → ((frame : List ℕ) → octets ≡ Some frame → IsFit setup before.controller.live (heard_by setup.plan.controller frame))
         → Delivers image failures asked octets before Controller after → FollowsAt after raised (taken ++ taken_from before octets)
     delivered_to_controller None is meant told comes = taken_none after raised taken (same_follows comes)
     delivered_to_controller (Some octets) is meant told comes =
@@ -266,11 +285,12 @@ module _ {F : Type 0} where
         raised_none after raised (taken ++ taken_from before (slice_get before.sent number))
         (delivered_to_controller (slice_get before.sent number) (λ frame there. in_at number frame there) meant told happens)
     one_follows (move.Tick Device) happens meant told = taken_none after (raised ++ []) taken (device_quiet Ticks tt tt never_first happens meant)
-    one_follows (move.Tick Controller) happens meant told = raised_none after raised (taken ++ []) (controller_on event.Tick [] tt refl meant (tt, tt) happens)
+    one_follows (move.Tick Controller) happens meant told = raised_none after raised (taken ++ []) (controller_on event.Tick [] tt refl meant (so.goes_sized setup before.controller.live event.Tick follows.good follows.lives tt, tt) happens)
     one_follows (move.Input slot subslot value) happens meant told = taken_none after (raised ++ []) taken (device_quiet (Given slot subslot value.items) tt tt never_first happens meant)
     one_follows (move.Alarm slot subslot octets) happens meant told = taken_none after _ taken (device_raises slot subslot octets.items happens meant)
-    one_follows (move.Give slot subslot value) happens meant told = raised_none after raised (taken ++ []) (controller_on (event.Give slot subslot value) [] tt refl meant (tt, tt) happens)
-    one_follows move.Stop happens meant told = raised_none after raised (taken ++ []) (controller_on event.Stop [] tt refl meant (tt, tt) happens)
+    one_follows (move.Give slot subslot value) happens meant told = raised_none after raised (taken ++ []) (controller_on (event.Give slot subslot value) [] tt refl meant
+        (so.goes_sized setup before.controller.live (event.Give slot subslot value) follows.good follows.lives tt, tt) happens)
+    one_follows move.Stop happens meant told = raised_none after raised (taken ++ []) (controller_on event.Stop [] tt refl meant (so.goes_sized setup before.controller.live event.Stop follows.good follows.lives tt, tt) happens)
 
   -- ---- any run
 

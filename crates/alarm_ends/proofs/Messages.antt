@@ -273,8 +273,7 @@ module _ (so : HearsSo) (setup : Setup) (identity : Identity) where
   plain_noted : (destination : Mac) (tag : Option ℕ) (frame_id : ℕ) (body : List ℕ) → is_alarm frame_id ≡ false → CanBeSent (carrying destination identity.mac tag (RealTime frame_id body))
       → IsNotedBy setup identity (frame_bytes (carrying destination identity.mac tag (RealTime frame_id body))) None
   plain_noted destination tag frame_id body plain can =
-      let reads = so.data_read destination identity.mac tag frame_id body can in
-      (
+      let reads = so.data_read destination identity.mac tag frame_id body can in (
         inl (data_unnoted mine destination identity.mac tag frame_id body _ reads (inr plain)),
         data_untold identity destination identity.mac tag frame_id body _ reads (inr plain),
         data_good mine destination identity.mac tag frame_id body _ reads plain can.source,

@@ -1,6 +1,6 @@
 -- A controller sends to the station that answered, and its outputs under the FrameID that this chose.
 use Rattle.std.proofs.Common.{◌≡◌, ◌&&◌, ◌+◌, ℕ, Bool, true, false, cond, List, length, Option, Some, None, refl, sym, ap, ◌∙◌}
-use Rattle.std.specs.Prelude.{nat_lt, option_and_then, unwrap_or}
+use Rattle.std.specs.Prelude.{nat_lt, unwrap_or}
 use Rattle.std.specs.List.{AllByRecursion}
 use Rattle.pn_values.specs.declared.mac.Mac.{Mac}
 use Rattle.frame_codec.specs.declared.udp.Caller.{Caller}
@@ -43,7 +43,8 @@ use Rattle.controller_core.specs.Answers.{is_addressed, is_answer, is_found, is_
 use Rattle.controller_core.specs.Connect.{found_in, is_whole, nothing}
 use Rattle.controller_core.specs.Machine.{Turn, acks_in, addressed, answered, behind_data, brought, called, come, connected, decided, done, first, flow_later, flowed, found, given, is_again, judged, later, noticed, outputs_of, over, readied, ready_in, related_by, released, requests_of, responded, standing, stays, stopped, taken, turn_of, turned, where_due, writing}
 use Rattle.controller_core.specs.State.{Live}
-use Rattle.sending_laws.specs.Sized.{chosen_in}
+use Rattle.sending_laws.specs.Sized.{Found}
+use Rattle.alarm_ends.specs.Sized.{IsChosenWell, IsFit}
 use Rattle.alarm_ends.proofs.Lists.{each_behind}
 use Rattle.alarm_ends.proofs.Turns.{frame_route}
 use Rattle.alarm_ends.proofs.Messages.{IsAimed}
@@ -57,20 +58,14 @@ pub record IsPlaced (mac : Mac) (live : Live) : Type 0 where
   pub giving : live.phase ≡ Addressing → live.device ≡ mac
   pub addressing : live.asked ≡ Some asks.Address → live.device ≡ mac
 
--- this station alone answers it and calls it, and no response chooses a FrameID of alarms for outputs
-abbrev pub IsOf : Mac → Heard → Type 0
-IsOf mac (Answers source answer) = source ≡ mac
-IsOf mac (Responds response) = (frame_id : ℕ) → chosen_in response.blocks ≡ Some frame_id → is_alarm frame_id ≡ false
-IsOf mac (Calls caller call) = caller.mac ≡ mac
-IsOf mac Nothing = Unit {0}
-IsOf mac (Comes source frame_id body) = Unit {0}
-IsOf mac (Alarms source header told) = Unit {0}
-
-abbrev TypeOf : {A : Type 0} → A → Type 0
-TypeOf {A = A} value = A
-
-abbrev Found : Type 0
-Found = TypeOf nothing
+-- this station alone answers it and calls it, and chooses no FrameID of alarms for outputs
+abbrev pub IsOf : Setup → Live → Mac → Heard → Type 0
+IsOf setup live mac (Answers source answer) = source ≡ mac
+IsOf setup live mac (Responds response) = IsFit setup live (Responds response)
+IsOf setup live mac (Calls caller call) = caller.mac ≡ mac
+IsOf setup live mac Nothing = Unit {0}
+IsOf setup live mac (Comes source frame_id body) = Unit {0}
+IsOf setup live mac (Alarms source header told) = Unit {0}
 
 module _ (setup : Setup) (mac : Mac) (apart : mac ≡ setup.plan.controller.mac → ⊥) where
   pub record PlacedTurn (turn : Turn) : Type 0 where
@@ -133,43 +128,53 @@ module _ (setup : Setup) (mac : Mac) (apart : mac ≡ setup.plan.controller.mac 
       (record { plain = plain frame_id refl; partner = λ e. is; asking = λ e. is; giving = λ e. is; addressing = λ e. is })
   related_placed live None is plain p = stays_placed live p
 
-  connected_placed : (live : Live) (blocks : List ℕ) (found_so : Option Found) → found_in 400 blocks nothing ≡ found_so → live.device ≡ mac
-      → ((frame_id : ℕ) → chosen_in blocks ≡ Some frame_id → is_alarm frame_id ≡ false) → IsPlaced mac live → PlacedTurn (connected setup live found_so)
-  connected_placed live blocks (Some found_so) e is plain p =
-      either (is_whole found_so) _ _
-      (either found_so.differs _ _ (released_placed _ live p)
-      (related_placed live found_so.output is (λ frame_id there. plain frame_id (ap (λ (o : Option Found). option_and_then (λ (one : Found). one.output) o) e ∙ there)) p))
-      (stays_placed live p)
-  connected_placed live blocks None e is plain p = stays_placed live p
+  if_so : (b : Bool) (x y : Turn) → (b ≡ true → PlacedTurn x) → (b ≡ false → PlacedTurn y) → PlacedTurn (cond b x y)
+  if_so true x y px py = px refl
+  if_so false x y px py = py refl
 
-  done_placed : (live : Live) (blocks : List ℕ) (request : Request) → live.asked ≡ Some request → ((frame_id : ℕ) → chosen_in blocks ≡ Some frame_id → is_alarm frame_id ≡ false) → IsPlaced mac live
+  connected_placed : (live : Live) (blocks : List ℕ) (found_so : Option Found) → found_in 400 blocks nothing ≡ found_so → live.device ≡ mac
+      → IsChosenWell blocks → IsPlaced mac live → PlacedTurn (connected setup live found_so)
+  connected_placed live blocks (Some found_so) e is well p =
+      if_so (is_whole found_so) _ _
+      (λ whole. if_so found_so.differs _ _ (λ differs. released_placed _ live p)
+      (λ same. related_placed live found_so.output is (λ frame_id there. (well found_so e whole same frame_id there).1) p))
+      (λ lacks. stays_placed live p)
+  connected_placed live blocks None e is well p = stays_placed live p
+
+  done_placed : (live : Live) (blocks : List ℕ) (request : Request) → live.asked ≡ Some request → (request ≡ asks.Connect → IsChosenWell blocks) → IsPlaced mac live
       → PlacedTurn (done setup live blocks request)
-  done_placed live blocks asks.Identify now plain p = stays_placed live p
-  done_placed live blocks asks.Address now plain p = stays_placed live p
-  done_placed live blocks asks.Connect now plain p = connected_placed live blocks (found_in 400 blocks nothing) refl (p.asking now) plain p
-  done_placed live blocks (asks.Write number) now plain p = writes_placed live (number + 1) (nat_lt (number + 1) (length setup.plan.records.items)) p
-  done_placed live blocks asks.PrmEnd now plain p =
+  done_placed live blocks asks.Identify now well p = stays_placed live p
+  done_placed live blocks asks.Address now well p = stays_placed live p
+  done_placed live blocks asks.Connect now well p = connected_placed live blocks (found_in 400 blocks nothing) refl (p.asking now) (well refl) p
+  done_placed live blocks (asks.Write number) now well p = writes_placed live (number + 1) (nat_lt (number + 1) (length setup.plan.records.items)) p
+  done_placed live blocks asks.PrmEnd now well p =
       stays_placed (record live { phase = Waiting; asked = None }) (record { plain = p.plain; partner = p.partner; asking = λ e. absurd cc; giving = λ e. absurd cc; addressing = λ e. absurd cc })
-  done_placed live blocks (asks.Release sequence) now plain p =
+  done_placed live blocks (asks.Release sequence) now well p =
       stays_placed (record live { asked = None }) (record { plain = p.plain; partner = p.partner; asking = λ e. absurd cc; giving = p.giving; addressing = λ e. absurd cc })
 
-  judged_placed : (live : Live) (response : Response) (request : Request) → live.asked ≡ Some request → ((frame_id : ℕ) → chosen_in response.blocks ≡ Some frame_id → is_alarm frame_id ≡ false) → IsPlaced mac live
+  judged_placed : (live : Live) (response : Response) (request : Request) → live.asked ≡ Some request → (request ≡ asks.Connect → is_done response.status ≡ true → IsChosenWell response.blocks) → IsPlaced mac live
       → PlacedTurn (judged setup live response request)
-  judged_placed live response request now plain p = either (is_done response.status) _ _ (done_placed live response.blocks request now plain p) (ends_placed _ live p)
+  judged_placed live response request now well p =
+      if_so (is_done response.status) _ _ (λ positive. done_placed live response.blocks request now (λ connects. well connects positive) p) (λ negative. ends_placed _ live p)
 
-  decided_placed : (live : Live) (response : Response) (request : Request) → live.asked ≡ Some request → ((frame_id : ℕ) → chosen_in response.blocks ≡ Some frame_id → is_alarm frame_id ≡ false) → IsPlaced mac live
+  decided_placed : (live : Live) (response : Response) (request : Request) → live.asked ≡ Some request → (request ≡ asks.Connect → is_done response.status ≡ true → IsChosenWell response.blocks) → IsPlaced mac live
       → PlacedTurn (decided setup live response request)
-  decided_placed live response asks.Identify now plain p = judged_placed live response asks.Identify now plain p
-  decided_placed live response asks.Address now plain p = judged_placed live response asks.Address now plain p
-  decided_placed live response asks.Connect now plain p = judged_placed live response asks.Connect now plain p
-  decided_placed live response (asks.Write number) now plain p = judged_placed live response (asks.Write number) now plain p
-  decided_placed live response asks.PrmEnd now plain p = judged_placed live response asks.PrmEnd now plain p
-  decided_placed live response (asks.Release sequence) now plain p = done_placed live response.blocks (asks.Release sequence) now plain p
+  decided_placed live response asks.Identify now well p = judged_placed live response asks.Identify now well p
+  decided_placed live response asks.Address now well p = judged_placed live response asks.Address now well p
+  decided_placed live response asks.Connect now well p = judged_placed live response asks.Connect now well p
+  decided_placed live response (asks.Write number) now well p = judged_placed live response (asks.Write number) now well p
+  decided_placed live response asks.PrmEnd now well p = judged_placed live response asks.PrmEnd now well p
+  decided_placed live response (asks.Release sequence) now well p =
+      stays_placed (record live { asked = None }) (record { plain = p.plain; partner = p.partner; asking = λ e. absurd cc; giving = p.giving; addressing = λ e. absurd cc })
 
-  responded_placed : (live : Live) (response : Response) (asked : Option Request) → live.asked ≡ asked → ((frame_id : ℕ) → chosen_in response.blocks ≡ Some frame_id → is_alarm frame_id ≡ false) → IsPlaced mac live
+  responded_placed : (live : Live) (response : Response) (asked : Option Request) → live.asked ≡ asked → IsFit setup live (Responds response) → IsPlaced mac live
       → PlacedTurn (responded setup live response asked)
-  responded_placed live response (Some request) now plain p = either (is_answer setup request response.header) _ _ (decided_placed live response request now plain p) (stays_placed live p)
-  responded_placed live response None now plain p = stays_placed live p
+  responded_placed live response (Some request) now fit p =
+      if_so (is_answer setup request response.header) _ _
+      (λ answers. decided_placed live response request now
+      (λ connects. fit (now ∙ ap (λ (one : Request). Some one) connects) (ap (λ (one : Request). is_answer setup one response.header) (sym connects) ∙ answers)) p)
+      (λ other. stays_placed live p)
+  responded_placed live response None now fit p = stays_placed live p
 
   -- ---- calls, cyclic frames and outputs
 
@@ -238,7 +243,7 @@ module _ (setup : Setup) (mac : Mac) (apart : mac ≡ setup.plan.controller.mac 
 
   -- ---- what is heard
 
-  heard_placed : (live : Live) (heard : Heard) → IsOf mac heard → IsPlaced mac live → PlacedTurn (turned setup live heard)
+  heard_placed : (live : Live) (heard : Heard) → IsOf setup live mac heard → IsPlaced mac live → PlacedTurn (turned setup live heard)
   heard_placed live Nothing is p = stays_placed live p
   heard_placed live (Answers source answer) is p = answered_placed live source answer live.phase refl is p
   heard_placed live (Responds response) is p = responded_placed live response live.asked refl is p
@@ -295,13 +300,13 @@ module _ (setup : Setup) (mac : Mac) (apart : mac ≡ setup.plan.controller.mac 
 
   -- ---- events
 
-  abbrev pub IsEventOf : Event → Type 0
-  IsEventOf (event.Frame bytes) = IsOf mac (heard_of setup.plan.controller bytes.items)
-  IsEventOf event.Tick = Unit {0}
-  IsEventOf (event.Give slot subslot value) = Unit {0}
-  IsEventOf event.Stop = Unit {0}
+  abbrev pub IsEventOf : Live → Event → Type 0
+  IsEventOf live (event.Frame bytes) = IsOf setup live mac (heard_of setup.plan.controller bytes.items)
+  IsEventOf live event.Tick = Unit {0}
+  IsEventOf live (event.Give slot subslot value) = Unit {0}
+  IsEventOf live event.Stop = Unit {0}
 
-  pub event_placed : (live : Live) (one : Event) → IsEventOf one → IsPlaced mac live → PlacedTurn (turn_of setup live one)
+  pub event_placed : (live : Live) (one : Event) → IsEventOf live one → IsPlaced mac live → PlacedTurn (turn_of setup live one)
   event_placed live (event.Frame bytes) is p = heard_placed live (heard_of setup.plan.controller bytes.items) is p
   event_placed live event.Tick is p = ticked_placed live live.stands refl p
   event_placed live (event.Give slot subslot value) is p =
