@@ -9,4 +9,5 @@ pub mod Messages
 pub mod Related
 pub mod Placed
 pub mod Follows
+pub mod Differs
 pub mod Law
