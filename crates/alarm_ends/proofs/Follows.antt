@@ -49,7 +49,7 @@ use Rattle.device_ends.specs.Owed.{IsOfKept, IsOwed}
 use Rattle.device_ends.specs.Small.{IsHeardAs, IsPlanned, IsPlannedAs, IsPlannedCall, heard_as, kept_in, link_of, small_of}
 use Rattle.device_ends.specs.Small as ends
 use Rattle.world_ends.specs.View.{IsSaidAs, rules_of}
-use Rattle.alarm_ends.proofs.Told.{IsNotedAs, IsNotedBy, IsToldAs, noted_at, noted_by, noted_in, noted_of, reply_of, told_in, told_of}
+use Rattle.alarm_ends.proofs.Told.{IsGood, IsNotedAs, IsNotedBy, IsToldAs, noted_at, noted_by, noted_in, noted_of, reply_of, told_in, told_of}
 use Rattle.alarm_ends.specs.Over.{taken_by, taken_of}
 use Rattle.alarm_ends.proofs.Lists.{Extends, each_behind, each_on, more_extends, none_some, some_is, unchanged}
 use Rattle.hearing_laws.specs.Stations.{IsSetup}
@@ -63,11 +63,12 @@ use Rattle.alarm_ends.proofs.Tied.{Goes, IsFresh, IsHeard, IsSaid, IsTied, heard
 
 -- ---- a frame
 
--- What either end hears of alarms in it was said; and a Connect in it is the first call.
+-- What either end hears of alarms in it was said; a Connect in it is the first call; and what the controller hears in it is of its device.
 pub record IsIn (setup : Setup) (identity : Identity) (r : Relation) (frame : List ℕ) : Type 0 where
   pub noted : IsSaid r.alarms.pdus r.acks (noted_of setup frame)
   pub told : IsHeard r.told (told_of identity frame)
   pub first : (sequence : ℕ) → heard_as (heard_of identity (Frame (record { items = frame }))) ≡ small.Call sequence small.Connects → sequence ≡ 0
+  pub good : IsGood identity.mac (heard_by setup.plan.controller frame)
 
 in_stays : (setup : Setup) (identity : Identity) (r next : Relation) (frame : List ℕ) → Extends r.alarms.pdus next.alarms.pdus → Extends r.acks next.acks → Extends r.told next.told
     → IsIn setup identity r frame → IsIn setup identity next frame
@@ -75,6 +76,7 @@ in_stays setup identity r next frame p a t is = record {
   noted = said_stays r.alarms.pdus next.alarms.pdus r.acks next.acks (noted_of setup frame) p a is.noted;
   told = heard_stays r.told next.told (told_of identity frame) t is.told;
   first = is.first;
+  good = is.good;
 }
 
 -- ---- both ends
@@ -231,6 +233,7 @@ module _ (setup : Setup) (station : Station) (live : Live) (controlling : Contro
         noted = as_said heard_so.0;
         told = subst (λ (o : Option (Notice AlarmAck)). IsHeard next.told o) (sym heard_so.1) tt;
         first = λ sequence e. absurd (idle_call sequence (sym idle_is ∙ e));
+        good = heard_so.2;
       }
         where
           as_said : (noted_of setup frame ≡ says) ⊎ (noted_of setup frame ≡ None) → IsSaid next.alarms.pdus next.acks (noted_of setup frame)
@@ -438,9 +441,10 @@ module _ (setup : Setup) (station : Station) (live : Live) (controlling : Contro
   said_in : (next : Relation) (message : said.Sent) → (k : ℕ) × (slice_get next.told k ≡ Some message) → IsSaidAs setup station message → IsToldAs setup station.identity message
       → IsIn setup station.identity next (said.bytes_of setup message)
   said_in next message there meant told = record {
-    noted = subst (λ (o : Option (Notice AlarmNotification)). IsSaid next.alarms.pdus next.acks o) (sym told.1) tt;
+    noted = subst (λ (h : controller.Heard). IsSaid next.alarms.pdus next.acks (noted_at h)) (sym told.1) tt;
     told = as_told told.0;
     first = λ sequence e. as_first sequence e meant.1;
+    good = subst (λ (h : controller.Heard). IsGood station.identity.mac h) (sym told.1) tt;
   }
     where
       as_told : (told_of station.identity (said.bytes_of setup message) ≡ told_in message) ⊎ (told_of station.identity (said.bytes_of setup message) ≡ None)

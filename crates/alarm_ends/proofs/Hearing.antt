@@ -1,15 +1,17 @@
 -- What either end hears of alarms in a message of the other, and in its own.
-use Rattle.std.proofs.Common.{◌≡◌, ◌⊎◌, inl, inr, ◌==◌, ◌&&◌, ◌||◌, ℕ, Bool, true, false, cond, List, Option, Some, None, Result, Ok, Err, refl, sym, subst}
-use Rattle.std.specs.Prelude.{nat_eq}
+use Rattle.std.proofs.Common.{◌≡◌, ◌⊎◌, inl, inr, ◌==◌, ◌&&◌, ◌||◌, ℕ, Bool, true, false, cond, List, Option, Some, None, Result, Ok, Err, refl, sym, ap, subst, ◌∙◌}
+use Rattle.std.specs.Prelude.{IsErr, nat_eq}
 use Rattle.std.specs.Cmp.Lexicographic.{pointwise}
 use Rattle.pn_values.specs.declared.identity.Identity.{Identity}
 use Rattle.pn_values.specs.declared.mac.Mac.{Mac}
 use Rattle.frame_codec.specs.declared.fault.FrameFault.{FrameFault}
+use Rattle.frame_codec.specs.declared.arp.Arp.{Arp}
 use Rattle.frame_codec.specs.declared.udp.Caller.{Caller}
+use Rattle.frame_codec.specs.declared.udp.Endpoint.{Endpoint}
 use Rattle.frame_codec.specs.FrameId.{is_alarm, is_cyclic}
 use Rattle.frame_codec.specs.Frame.{frame_bytes, frame_of}
 use Rattle.frame_codec.specs.Meaning.{ArpPacket, Content, Meaning, RealTime, UdpDatagram}
-use Rattle.frame_laws.specs.Sendable.{carrying}
+use Rattle.frame_laws.specs.Sendable.{IsMac, carrying}
 use Rattle.dcp_core.specs.declared.request.DcpFault.{DcpFault}
 use Rattle.dcp_core.specs.Answer.{answer_of}
 use Rattle.dcp_core.specs.Reading.{request_of}
@@ -25,7 +27,7 @@ use Rattle.device_frames.specs.Heard.{Heard, Elsewhere, Resolves, Told, Cyclic, 
 use Rattle.controller_frames.specs.Heard as controller
 use Rattle.controller_frames.specs.Heard.{heard_answer, heard_body, heard_call, heard_first, heard_read, heard_real_time, heard_response, is_to}
 use Rattle.hearing_laws.specs.Hearing.{comes}
-use Rattle.alarm_ends.proofs.Told.{noted_at, told_at}
+use Rattle.alarm_ends.proofs.Told.{IsGood, noted_at, told_at}
 use Rattle.alarm_ends.proofs.Lists.{holds_if}
 
 -- ---- no alarm is heard
@@ -142,3 +144,62 @@ packet_unnoted mine octets meaning reads none =
     subst (λ (read : Result Meaning FrameFault). IsUnnoted (heard_read mine read)) (sym reads)
     (holds_if IsUnnoted (pointwise nat_eq meaning.destination.octets mine.mac.octets) (controller.heard_content mine.address meaning.source meaning.content) controller.Nothing
     (other_unnoted mine.address meaning.source meaning.content none) refl)
+
+-- ---- what has its size at the controller
+
+good_answer : (source : Mac) (read : Result Answered DcpFault) → IsMac source → IsGood source (heard_answer source read)
+good_answer source (Ok answer) six = (refl, six)
+good_answer source (Err fault) six = tt
+
+good_real_time : (source : Mac) (frame_id : ℕ) (body : List ℕ) → is_alarm frame_id ≡ false → IsMac source → IsGood source (heard_real_time source frame_id body)
+unfolding heard_real_time
+good_real_time source frame_id body e six =
+    holds_if (IsGood source) (is_cyclic frame_id) (controller.Cyclic source frame_id body) _ tt
+    (subst (λ (b : Bool). IsGood source (cond b (controller.heard_alarm source (alarm_of body))
+    (cond (frame_id == 0xFEFD) (heard_answer source (answer_of frame_id body)) (cond (frame_id == 0xFEFF) (heard_answer source (answer_of frame_id body)) controller.Nothing)))) (sym e)
+    (holds_if (IsGood source) (frame_id == 0xFEFD) (heard_answer source (answer_of frame_id body)) _ (good_answer source (answer_of frame_id body) six)
+    (holds_if (IsGood source) (frame_id == 0xFEFF) (heard_answer source (answer_of frame_id body)) controller.Nothing (good_answer source (answer_of frame_id body) six) tt)))
+
+pub data_good : (mine : Controller) (destination source : Mac) (tag : Option ℕ) (frame_id : ℕ) (body more : List ℕ)
+    → frame_of (frame_bytes (carrying destination source tag (RealTime frame_id body))) ≡ Ok (carrying destination source tag (RealTime frame_id more))
+    → is_alarm frame_id ≡ false → IsMac source → IsGood source (controller.heard_of mine (frame_bytes (carrying destination source tag (RealTime frame_id body))))
+unfolding controller.heard_of
+data_good mine destination source tag frame_id body more reads e six =
+    subst (λ (read : Result Meaning FrameFault). IsGood source (heard_read mine read)) (sym reads)
+    (holds_if (IsGood source) (pointwise nat_eq destination.octets mine.mac.octets) (heard_real_time source frame_id more) controller.Nothing (good_real_time source frame_id more e six) tt)
+
+-- real-time data to another station it does not hear
+pub data_unheard : (mine : Controller) (destination source : Mac) (tag : Option ℕ) (frame_id : ℕ) (body more : List ℕ)
+    → frame_of (frame_bytes (carrying destination source tag (RealTime frame_id body))) ≡ Ok (carrying destination source tag (RealTime frame_id more))
+    → pointwise nat_eq destination.octets mine.mac.octets ≡ false → controller.heard_of mine (frame_bytes (carrying destination source tag (RealTime frame_id body))) ≡ controller.Nothing
+unfolding controller.heard_of
+data_unheard mine destination source tag frame_id body more reads other =
+    ap (λ (read : Result Meaning FrameFault). heard_read mine read) reads ∙ ap (λ (b : Bool). cond b (heard_real_time source frame_id more) controller.Nothing) other
+
+pub packet_good : (mine : Controller) (mac : Mac) (octets : List ℕ) (destination source : Mac) (tag : Option ℕ) (packet : Arp)
+    → frame_of octets ≡ Ok (carrying destination source tag (ArpPacket packet)) → IsGood mac (controller.heard_of mine octets)
+unfolding controller.heard_of
+packet_good mine mac octets destination source tag packet reads =
+    subst (λ (read : Result Meaning FrameFault). IsGood mac (heard_read mine read)) (sym reads)
+    (holds_if (IsGood mac) (pointwise nat_eq destination.octets mine.mac.octets) controller.Nothing controller.Nothing tt tt)
+
+good_response : (mac : Mac) (read : Result Response RpcFault) → IsGood mac (heard_response read)
+good_response mac (Ok response) = tt
+good_response mac (Err fault) = tt
+
+good_first : (mac : Mac) (caller : Caller) (call : Result Call RpcFault) (response : Result Response RpcFault) → IsErr call → IsGood mac (heard_first caller call response)
+good_first mac caller (Ok call) response none = absurd cc
+good_first mac caller (Err fault) response none = good_response mac response
+
+good_body : (mac : Mac) (caller : Caller) (body : List ℕ) → IsErr (call_of controllers body) → IsGood mac (heard_body caller body)
+unfolding heard_body
+good_body mac caller body none = good_first mac caller (call_of controllers body) (response_of body) none
+
+-- a datagram that is no call
+pub datagram_good : (mine : Controller) (mac : Mac) (octets : List ℕ) (destination source : Mac) (tag : Option ℕ) (from to : Endpoint) (body : List ℕ)
+    → frame_of octets ≡ Ok (carrying destination source tag (UdpDatagram from to body)) → IsErr (call_of controllers body) → IsGood mac (controller.heard_of mine octets)
+unfolding controller.heard_of
+datagram_good mine mac octets destination source tag from to body reads none =
+    subst (λ (read : Result Meaning FrameFault). IsGood mac (heard_read mine read)) (sym reads)
+    (holds_if (IsGood mac) (pointwise nat_eq destination.octets mine.mac.octets) (cond (is_to mine.address to) (heard_body (record { mac = source; endpoint = from }) body) controller.Nothing) controller.Nothing
+    (holds_if (IsGood mac) (is_to mine.address to) (heard_body (record { mac = source; endpoint = from }) body) controller.Nothing (good_body mac _ body none) tt) tt)

@@ -17,7 +17,6 @@ use Rattle.dcp_core.specs.declared.request.DcpFault.{DcpFault}
 use Rattle.dcp_core.specs.Reading.{request_of}
 use Rattle.dcp_core.specs.Request.{Asked}
 use Rattle.pn_alarms.specs.declared.fault.AlarmFault.{AlarmFault}
-use Rattle.pn_alarms.specs.declared.message.Notice.{Notice}
 use Rattle.pn_alarms.specs.declared.pdu.Header.{Header}
 use Rattle.pn_alarms.specs.Message.{ToDevice, message_of}
 use Rattle.record_blocks.specs.declared.alarm_notification.AlarmNotification.{AlarmNotification}
@@ -32,6 +31,7 @@ use Rattle.device_core.specs.State.{Station, Live}
 use Rattle.device_core.specs.Machine.{heard_step}
 use Rattle.controller_frames.specs.declared.request.Request.TheVariants as asks
 use Rattle.controller_frames.specs.declared.setup.Setup.{Setup}
+use Rattle.controller_frames.specs.Heard as controller
 use Rattle.controller_frames.specs.Heard.{heard_of as heard_by}
 use Rattle.controller_frames.specs.Requests.{identify_asked}
 use Rattle.controller_frames.specs.Sent as said
@@ -40,7 +40,7 @@ use Rattle.hearing_laws.specs.Stations.{IsSetup}
 use Rattle.controller_core.specs.declared.event.Event.{Event}
 use Rattle.controller_core.specs.declared.event.Event.TheVariants as event
 use Rattle.controller_core.specs.State.{Controlling, Live as ControllerLive, with_live}
-use Rattle.controller_core.specs.Machine.{first as first_live, opening_of, step_of, turn_of}
+use Rattle.controller_core.specs.Machine.{first as first_live, opening_of, step_of, turn_of, turned}
 use Rattle.controller_laws.specs.Alarms.{AreTakenInOrder, LackAtMostTheLast, Relation, ShowsTheLast, last_of, start}
 use Rattle.alarm_exchange.specs.World.{IsPrefixOf}
 use Rattle.network_world.specs.declared.moves.End.TheVariants.{Device, Controller}
@@ -55,18 +55,45 @@ use Rattle.device_ends.specs.Small.{IsHeardAs, IsPlanned, heard_as, kept_in, lin
 use Rattle.world_ends.specs.Played.{AreMade, AreMeant, Begins, CanMeet, last_world}
 use Rattle.world_ends.specs.View.{IsMeant, IsMeantAtController, IsMeantAtDevice, rules_of}
 use Rattle.sending_laws.specs.Messages.{CanBeSent as CanBeSaid}
-use Rattle.sending_laws.specs.Sized.{IsLive, IsSizedEvent}
+use Rattle.sending_laws.specs.Sized.{IsLive, IsSized, IsSizedEvent}
 use Rattle.alarm_ends.specs.Sized.{AreFit, AreSizedModules, IsFit, IsFitWith}
-use Rattle.alarm_ends.proofs.Placed.{IsEventOf, IsPlaced, event_placed, first_placed}
-use Rattle.alarm_ends.proofs.Told.{told_at}
-use Rattle.alarm_ends.proofs.Messages.{HearsSo, all_noted, all_told, both_sized}
+use Rattle.alarm_ends.proofs.Related.{IsRight, responded_right}
+use Rattle.alarm_ends.proofs.Placed.{IsEventOf, IsOf, IsPlaced, event_placed, first_placed}
+use Rattle.alarm_ends.proofs.Told.{IsGood, noted_at, told_at}
+use Rattle.alarm_ends.proofs.Messages.{HearsSo, all_noted, all_ready, all_told, both_sized, other_mac}
 use Rattle.alarm_ends.proofs.Sizes.{turn_sized}
 use Rattle.alarm_ends.specs.Over.{IsOneOfTheLastTwo, raised_in, raised_over, raised_with, taken_by, taken_from, taken_in, taken_over, taken_with}
-use Rattle.alarm_ends.proofs.Opening.{asks_unnoted}
+use Rattle.alarm_ends.proofs.Opening.{asks_unheard}
 use Rattle.alarm_ends.proofs.Lists.{each_at, holds_if, none_some}
 use Rattle.alarm_ends.proofs.Turns.{step_raises, step_turns}
 use Rattle.alarm_ends.proofs.Tied.{Goes, IsHeard, IsSaid, IsUnraised, raise_on, turn_on}
 use Rattle.alarm_ends.proofs.Follows.{Follows, IsEventIn, IsIn, controller_follows, device_follows, kept_at, makes_fresh, makes_planned, taken_at}
+
+-- ---- what a controller hears of its device
+
+of_device : (setup : Setup) (live : ControllerLive) (mac : Mac) (heard : controller.Heard) → IsGood mac heard → IsFit setup live heard → IsOf setup live mac heard
+of_device setup live mac (controller.Answers source answer) good fit = good.0
+of_device setup live mac (controller.Responds response) good fit = fit
+of_device setup live mac (controller.Calls caller call) good fit = good.0
+of_device setup live mac (controller.Alarms source header told) good fit = tt
+of_device setup live mac controller.Nothing good fit = tt
+of_device setup live mac (controller.Cyclic source frame_id body) good fit = tt
+
+-- what becomes of a controller with it has its sizes
+module _ (goes_sized : (setup : Setup) (live : ControllerLive) (one : Event) → IsSetup setup → IsLive live → IsSizedEvent setup one → IsRight setup (turn_of setup live one))
+    (setup : Setup) (live : ControllerLive) (mac : Mac) (good : IsSetup setup) (lives : IsLive live) where
+  right_by : (octets : List ℕ) (heard : controller.Heard) → heard_by setup.plan.controller octets ≡ heard → IsSized heard → IsRight setup (turned setup live heard)
+  right_by octets heard e sized =
+      subst (λ (h : controller.Heard). IsRight setup (turned setup live h)) e
+      (goes_sized setup live (event.Frame (record { items = octets })) good lives (subst (λ (h : controller.Heard). IsSized h) (sym e) sized))
+
+  heard_right : (octets : List ℕ) (heard : controller.Heard) → heard_by setup.plan.controller octets ≡ heard → IsGood mac heard → IsFit setup live heard → IsRight setup (turned setup live heard)
+  heard_right octets (controller.Answers source answer) e is fit = right_by octets (controller.Answers source answer) e is.1
+  heard_right octets (controller.Responds response) e is fit = responded_right setup good live response live.asked refl lives fit
+  heard_right octets (controller.Calls caller call) e is fit = right_by octets (controller.Calls caller call) e (is.1, is.2, is.3)
+  heard_right octets (controller.Alarms source header told) e is fit = right_by octets (controller.Alarms source header told) e is
+  heard_right octets controller.Nothing e is fit = right_by octets controller.Nothing e tt
+  heard_right octets (controller.Cyclic source frame_id body) e is fit = right_by octets (controller.Cyclic source frame_id body) e tt
 
 -- ---- a frame raises no alarm
 
@@ -162,7 +189,9 @@ module _ {F : Type 0} where
           let all : Follows setup station step.live before.controller.live (before.sent ++ step.frames) (raised ++ now) taken =
           device_follows setup station live before.controller.live before.sent raised taken follows heard meant.planned first outcomes now
           (so.goes_on rules setup.activity outcomes station live heard meant.planned heard_so) (so.owed rules setup.activity outcomes station live heard meant.planned)
-          heard_so (all_noted hears setup station.identity step.sent heard_it.steps.sendable turn.messages) (goes outcomes) turn.link in
+          heard_so (all_noted hears setup station.identity step.sent heard_it.steps.sendable turn.messages
+          (all_ready hears setup station.identity follows.good heard live step.sent follows.sized (so.owed rules setup.activity outcomes station live heard meant.planned)))
+          (goes outcomes) turn.link in
           subst (λ (c : Controlling). Follows c.setup after.device.station after.device.live c.live after.sent (raised ++ now) taken) (sym made.controller)
           (subst (λ (s : Station). Follows setup s after.device.live before.controller.live after.sent (raised ++ now) taken) (sym heard_it.steps.same)
           (subst (λ (l : Live). Follows setup station l before.controller.live after.sent (raised ++ now) taken) (sym heard_it.steps.live)
@@ -213,31 +242,34 @@ module _ {F : Type 0} where
 
     controller_on : (one : Event) (now : List AlarmNotification) → IsEventIn setup station live before.controller.live before.sent raised taken follows one
         → taken_at setup station live before.controller.live before.sent raised taken follows one ≡ now
-        → IsMeantAtController before one → (IsSizedEvent setup one × IsEventOf setup station.identity.mac follows.apart one) → after ≡ at_controller before one → FollowsAt after raised (taken ++ now)
+        → IsMeantAtController before one → (IsRight setup (turn_of setup before.controller.live one) × IsEventOf setup station.identity.mac follows.apart before.controller.live one) → after ≡ at_controller before one → FollowsAt after raised (taken ++ now)
     controller_on one now is takes meant fit made =
         let turn = turn_of setup before.controller.live one in
-        let sized = so.goes_sized setup before.controller.live one follows.good follows.lives fit.0 in
+        let sized = fit.0 in
         let placed = event_placed setup station.identity.mac follows.apart before.controller.live one fit.1 follows.placed in
         let there : World F = record { device = before.device; controller = with_live before.controller turn.live; sent = before.sent ++ map (said.bytes_of setup) turn.sent } in
         let same : after ≡ there =
         made ∙ (ap (λ (c : Controlling). record { device = before.device; controller = c; sent = before.sent ++ (step_of before.controller one).frames }) (controller_is before.controller one)
         ∙ ap (λ (frames : List (List ℕ)). record { device = before.device; controller = with_live before.controller turn.live; sent = before.sent ++ frames }) (frames_are before.controller one)) in
         let all : FollowsAt there raised (taken ++ taken_at setup station live before.controller.live before.sent raised taken follows one) =
-        controller_follows setup station live before.controller.live before.sent raised taken follows one is meant (all_told hears setup station.identity follows.good turn.sent (both_sized setup turn.sent sized.1 placed.sent)) sized.0 placed.live in
+        controller_follows setup station live before.controller.live before.sent raised taken follows one is meant (all_told hears setup station.identity follows.good follows.apart turn.sent (both_sized setup turn.sent sized.1 placed.sent)) sized.0 placed.live in
         subst (λ (w : World F). FollowsAt w raised (taken ++ now)) (sym same) (subst (λ (xs : List AlarmNotification). FollowsAt there raised (taken ++ xs)) takes all)
 
     comes_to_controller : (octets : List ℕ) (skipped : Bool) → IsIn setup station.identity follows.relation octets
-        → IsMeantAtController before (event.Frame (record { items = octets })) → IsFit station.identity.mac (heard_by setup.plan.controller octets)
+        → IsMeantAtController before (event.Frame (record { items = octets })) → IsFit setup before.controller.live (heard_by setup.plan.controller octets)
         → Comes image failures asked skipped before Controller octets after → FollowsAt after raised (taken ++ taken_in skipped before.controller octets)
     comes_to_controller octets true is meant told comes = taken_none after raised taken (same_follows comes)
     comes_to_controller octets false is meant told comes =
         controller_on (event.Frame (record { items = octets })) (taken_by before.controller.live (heard_by setup.plan.controller octets)) is.noted
-        (ap (λ (l : ControllerLive). taken_by l (heard_by setup.plan.controller octets)) follows.same) meant told comes
+        (ap (λ (l : ControllerLive). taken_by l (heard_by setup.plan.controller octets)) follows.same) meant (
+          heard_right so.goes_sized setup before.controller.live station.identity.mac follows.good follows.lives octets (heard_by setup.plan.controller octets) refl is.good told,
+          of_device setup before.controller.live station.identity.mac (heard_by setup.plan.controller octets) is.good told,
+        ) comes
 
     delivered_to_controller : (octets : Option (List ℕ))
         → ((frame : List ℕ) → octets ≡ Some frame → IsIn setup station.identity follows.relation frame)
         → ((frame : List ℕ) → octets ≡ Some frame → IsMeantAtController before (event.Frame (record { items = frame })))
-        → ((frame : List ℕ) → octets ≡ Some frame → IsFit station.identity.mac (heard_by setup.plan.controller frame))
+        → ((frame : List ℕ) → octets ≡ Some frame → IsFit setup before.controller.live (heard_by setup.plan.controller frame))
         → Delivers image failures asked octets before Controller after → FollowsAt after raised (taken ++ taken_from before octets)
     delivered_to_controller None is meant told comes = taken_none after raised taken (same_follows comes)
     delivered_to_controller (Some octets) is meant told comes =
@@ -253,11 +285,12 @@ module _ {F : Type 0} where
         raised_none after raised (taken ++ taken_from before (slice_get before.sent number))
         (delivered_to_controller (slice_get before.sent number) (λ frame there. in_at number frame there) meant told happens)
     one_follows (move.Tick Device) happens meant told = taken_none after (raised ++ []) taken (device_quiet Ticks tt tt never_first happens meant)
-    one_follows (move.Tick Controller) happens meant told = raised_none after raised (taken ++ []) (controller_on event.Tick [] tt refl meant (tt, tt) happens)
+    one_follows (move.Tick Controller) happens meant told = raised_none after raised (taken ++ []) (controller_on event.Tick [] tt refl meant (so.goes_sized setup before.controller.live event.Tick follows.good follows.lives tt, tt) happens)
     one_follows (move.Input slot subslot value) happens meant told = taken_none after (raised ++ []) taken (device_quiet (Given slot subslot value.items) tt tt never_first happens meant)
     one_follows (move.Alarm slot subslot octets) happens meant told = taken_none after _ taken (device_raises slot subslot octets.items happens meant)
-    one_follows (move.Give slot subslot value) happens meant told = raised_none after raised (taken ++ []) (controller_on (event.Give slot subslot value) [] tt refl meant (tt, tt) happens)
-    one_follows move.Stop happens meant told = raised_none after raised (taken ++ []) (controller_on event.Stop [] tt refl meant (tt, tt) happens)
+    one_follows (move.Give slot subslot value) happens meant told = raised_none after raised (taken ++ []) (controller_on (event.Give slot subslot value) [] tt refl meant
+        (so.goes_sized setup before.controller.live (event.Give slot subslot value) follows.good follows.lives tt, tt) happens)
+    one_follows move.Stop happens meant told = raised_none after raised (taken ++ []) (controller_on event.Stop [] tt refl meant (so.goes_sized setup before.controller.live event.Stop follows.good follows.lives tt, tt) happens)
 
   -- ---- any run
 
@@ -296,7 +329,8 @@ module _ {F : Type 0} where
     again = λ answer is. absurd (none_some answer (kept_at first.controller.setup first.device.live) (ap (λ (calls : List Answer). option_map kept_in (kept_of first.controller.setup.activity calls)) begins.uncalled) is);
     frames = subst (λ (frames : List (List ℕ)). AllByRecursion (IsIn first.controller.setup first.device.station.identity (start first.controller.setup)) frames) (sym begins.opened) (
       record {
-        noted = subst (λ (o : Option (Notice AlarmNotification)). IsSaid [] [] o) (sym (asks_unnoted first.device.station.identity first.controller.setup (opening_of first.controller) source request asks_it)) tt;
+        noted = subst (λ (h : controller.Heard). IsSaid [] [] (noted_at h)) (sym unheard) tt;
+        good = subst (λ (h : controller.Heard). IsGood first.device.station.identity.mac h) (sym unheard) tt;
         told = subst (λ (h : Heard). IsHeard [] (told_at h)) (sym asks_it) tt;
         first = λ sequence e. absurd (idle_call sequence (ap heard_as (sym asks_it) ∙ e));
       },
@@ -306,6 +340,10 @@ module _ {F : Type 0} where
     where
       idle_call : (sequence : ℕ) → small.Idle ≡ small.Call sequence small.Connects → ⊥
       idle_call sequence e = absurd cc
+
+      unheard : heard_by first.controller.setup.plan.controller (opening_of first.controller) ≡ controller.Nothing
+      unheard = asks_unheard first.device.station.identity first.controller.setup (opening_of first.controller) source request asks_it
+          (other_mac first.device.station.identity.mac first.controller.setup.plan.controller.mac apart)
 
   -- ---- what follows of it
 

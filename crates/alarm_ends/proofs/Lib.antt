@@ -6,6 +6,8 @@ pub mod Sizes
 pub mod Opening
 pub mod Hearing
 pub mod Messages
+pub mod Related
 pub mod Placed
 pub mod Follows
+pub mod Differs
 pub mod Law

@@ -1,5 +1,5 @@
--- A frame in which a device hears a request of DCP says nothing of alarms to a controller.
-use Rattle.std.proofs.Common.{◌≡◌, ◌⊎◌, inl, inr, ◌==◌, ◌&&◌, ◌||◌, ℕ, Bool, true, false, cond, List, None, Result, Ok, Err, refl, sym, ap, subst, ◌∙◌}
+-- A frame in which a device hears a request of DCP, or an alarm, a controller of another address does not hear.
+use Rattle.std.proofs.Common.{◌≡◌, ◌⊎◌, inl, inr, ◌==◌, ◌&&◌, ◌||◌, ℕ, Bool, true, false, cond, List, Result, Ok, Err, refl, sym, ap, subst, ◌∙◌}
 use Rattle.std.specs.Prelude.{nat_eq}
 use Rattle.std.specs.Cmp.Lexicographic.{pointwise, same_text}
 use Rattle.std.proofs.lemmas.Bool.{eqb-true}
@@ -10,10 +10,8 @@ use Rattle.frame_codec.specs.FrameId.{is_alarm, is_cyclic}
 use Rattle.frame_codec.specs.Frame.{frame_of}
 use Rattle.frame_codec.specs.Meaning.{ArpPacket, Content, Meaning, RealTime, UdpDatagram}
 use Rattle.dcp_core.specs.declared.request.DcpFault.{DcpFault}
-use Rattle.dcp_core.specs.Answer.{answer_of}
 use Rattle.dcp_core.specs.Reading.{request_of}
 use Rattle.dcp_core.specs.Request.{Asked}
-use Rattle.dcp_core.specs.Response.{Answered}
 use Rattle.pn_alarms.specs.declared.fault.AlarmFault.{AlarmFault}
 use Rattle.pn_alarms.specs.declared.pdu.Header.{Header}
 use Rattle.pn_alarms.specs.Message.{ToDevice, message_of}
@@ -21,9 +19,8 @@ use Rattle.plans.specs.declared.parts.Controller.{Controller}
 use Rattle.device_frames.specs.Heard.{Heard, Ticks, Unreadable, Elsewhere, Asks, Resolves, Told, Cyclic, Alarms, Given, Raised, broadcast, heard_alarm, heard_content, heard_frame, heard_of, heard_request, identify_multicast, is_own, is_taken, said_by}
 use Rattle.controller_frames.specs.declared.setup.Setup.{Setup}
 use Rattle.controller_frames.specs.Heard as controller
-use Rattle.controller_frames.specs.Heard.{heard_answer, heard_body, heard_real_time, heard_read, is_to}
+use Rattle.controller_frames.specs.Heard.{heard_real_time, heard_read}
 use Rattle.hearing_laws.specs.Hearing.{comes}
-use Rattle.alarm_ends.proofs.Told.{noted_at, noted_of}
 use Rattle.alarm_ends.proofs.Lists.{holds_if}
 
 -- a request of DCP is heard
@@ -43,30 +40,21 @@ no_alarm : (source : Mac) (read : Result (Header × ToDevice) AlarmFault) → Is
 no_alarm source (Ok x) is = is
 no_alarm source (Err fault) is = is
 
-answer_noted : (source : Mac) (read : Result Answered DcpFault) → noted_at (heard_answer source read) ≡ None
-answer_noted source (Ok answer) = refl
-answer_noted source (Err fault) = refl
-
-get_set_noted : (source : Mac) (body : List ℕ) → noted_at (heard_real_time source 65277 body) ≡ None
+identify_heard : (source : Mac) (body : List ℕ) → heard_real_time source 65278 body ≡ controller.Nothing
 unfolding heard_real_time
-get_set_noted source body = answer_noted source (answer_of 65277 body)
+identify_heard source body = refl
 
-identify_noted : (source : Mac) (body : List ℕ) → noted_at (heard_real_time source 65278 body) ≡ None
-unfolding heard_real_time
-identify_noted source body = refl
-
-either : (a b c d : Bool) → ((a && b) || (c && d)) ≡ true → (a ≡ true) ⊎ (c ≡ true)
-either true b c d e = inl refl
+either : (a b c d : Bool) → ((a && b) || (c && d)) ≡ true → (b ≡ true) ⊎ (c ≡ true)
+either true true c d e = inl refl
+either true false true d e = inr refl
+either true false false d e = absurd cc
 either false b true d e = inr refl
 either false b false d e = absurd cc
 
-request_noted : (frame_id : ℕ) (source : Mac) (body : List ℕ) → (frame_id == 65277 ≡ true) ⊎ (frame_id == 65278 ≡ true) → noted_at (heard_real_time source frame_id body) ≡ None
-request_noted frame_id source body (inl e) = subst (λ (n : ℕ). noted_at (heard_real_time source n body) ≡ None) (sym (eqb-true frame_id 65277 e)) (get_set_noted source body)
-request_noted frame_id source body (inr e) = subst (λ (n : ℕ). noted_at (heard_real_time source n body) ≡ None) (sym (eqb-true frame_id 65278 e)) (identify_noted source body)
-
-asks_noted : (identity : Identity) (address : List ℕ) (destination source : Mac) (content : Content) → IsAsking (heard_content identity destination source content)
-    → noted_at (controller.heard_content address source content) ≡ None
-asks_noted identity address destination source (RealTime frame_id body) is = by_taken (is_taken identity destination frame_id) refl is
+-- it goes to that device, or is an Identify
+asks_owned : (identity : Identity) (destination source : Mac) (frame_id : ℕ) (body : List ℕ) → IsAsking (heard_content identity destination source (RealTime frame_id body))
+    → (is_own identity destination ≡ true) ⊎ ((frame_id == 65278) ≡ true)
+asks_owned identity destination source frame_id body is = by_taken (is_taken identity destination frame_id) refl is
   where
     none_asked : IsAsking (cond (is_own identity destination && is_alarm frame_id) (heard_alarm source (message_of body))
         (cond (is_own identity destination && is_cyclic frame_id) (Cyclic source frame_id body) Elsewhere)) → ⊥
@@ -76,25 +64,51 @@ asks_noted identity address destination source (RealTime frame_id body) is = by_
     by_taken : (b : Bool) → is_taken identity destination frame_id ≡ b
         → IsAsking (cond b (heard_request source (request_of frame_id body)) (cond (is_own identity destination && is_alarm frame_id) (heard_alarm source (message_of body))
         (cond (is_own identity destination && is_cyclic frame_id) (Cyclic source frame_id body) Elsewhere)))
-        → noted_at (heard_real_time source frame_id body) ≡ None
+        → (is_own identity destination ≡ true) ⊎ ((frame_id == 65278) ≡ true)
     by_taken true e asking =
-        request_noted frame_id source body
-        (either (frame_id == 65277) (is_own identity destination) (frame_id == 65278) (is_own identity destination || pointwise nat_eq destination.octets identify_multicast) e)
+        either (frame_id == 65277) (is_own identity destination) (frame_id == 65278) (is_own identity destination || pointwise nat_eq destination.octets identify_multicast) e
     by_taken false e asking = absurd (none_asked asking)
-asks_noted identity address destination source (ArpPacket packet) is = refl
-asks_noted identity address destination source (UdpDatagram from to body) is =
+
+none_of : (b : Bool) → cond b controller.Nothing controller.Nothing ≡ controller.Nothing
+none_of true = refl
+none_of false = refl
+
+-- what goes to a device a controller of another address does not hear
+to_another : (identity : Identity) (mine : Controller) (destination : Mac) (heard : controller.Heard) → pointwise nat_eq identity.mac.octets mine.mac.octets ≡ false
+    → is_own identity destination ≡ true → cond (pointwise nat_eq destination.octets mine.mac.octets) heard controller.Nothing ≡ controller.Nothing
+to_another identity mine destination heard apart own =
+    let same : destination.octets ≡ identity.mac.octets = same_text destination.octets identity.mac.octets (sym own) in
+    let other : pointwise nat_eq destination.octets mine.mac.octets ≡ false = ap (λ (octets : List ℕ). pointwise nat_eq octets mine.mac.octets) same ∙ apart in
+    ap (λ (b : Bool). cond b heard controller.Nothing) other
+
+asks_heard : (identity : Identity) (mine : Controller) (destination source : Mac) (content : Content) → pointwise nat_eq identity.mac.octets mine.mac.octets ≡ false
+    → IsAsking (heard_content identity destination source content)
+    → cond (pointwise nat_eq destination.octets mine.mac.octets) (controller.heard_content mine.address source content) controller.Nothing ≡ controller.Nothing
+asks_heard identity mine destination source (RealTime frame_id body) apart is = by_owned (asks_owned identity destination source frame_id body is)
+  where
+    by_owned : (is_own identity destination ≡ true) ⊎ ((frame_id == 65278) ≡ true)
+        → cond (pointwise nat_eq destination.octets mine.mac.octets) (heard_real_time source frame_id body) controller.Nothing ≡ controller.Nothing
+    by_owned (inl own) = to_another identity mine destination (heard_real_time source frame_id body) apart own
+    by_owned (inr e) =
+        subst (λ (n : ℕ). cond (pointwise nat_eq destination.octets mine.mac.octets) (heard_real_time source n body) controller.Nothing ≡ controller.Nothing) (sym (eqb-true frame_id 65278 e))
+        (ap (λ (h : controller.Heard). cond (pointwise nat_eq destination.octets mine.mac.octets) h controller.Nothing) (identify_heard source body)
+        ∙ none_of (pointwise nat_eq destination.octets mine.mac.octets))
+asks_heard identity mine destination source (ArpPacket packet) apart is =
+    absurd (holds_if (λ (h : Heard). IsAsking h → ⊥) (is_own identity destination || pointwise nat_eq destination.octets broadcast) (Resolves source packet) Elsewhere (λ i. i) (λ i. i) is)
+asks_heard identity mine destination source (UdpDatagram from to body) apart is =
     absurd (holds_if (λ (h : Heard). IsAsking h → ⊥) (is_own identity destination && to.port == 34964) (Told (record { mac = source; endpoint = from }) to.address (said_by body)) Elsewhere (λ i. i) (λ i. i) is)
 
-asks_read : (identity : Identity) (mine : Controller) (read : Result Meaning FrameFault) → IsAsking (heard_frame identity read) → noted_at (heard_read mine read) ≡ None
-asks_read identity mine (Ok meaning) is =
-    holds_if (λ (h : controller.Heard). noted_at h ≡ None) (pointwise nat_eq meaning.destination.octets mine.mac.octets) (controller.heard_content mine.address meaning.source meaning.content) controller.Nothing
-    (asks_noted identity mine.address meaning.destination meaning.source meaning.content is) refl
-asks_read identity mine (Err fault) is = refl
+asks_read : (identity : Identity) (mine : Controller) (read : Result Meaning FrameFault) → pointwise nat_eq identity.mac.octets mine.mac.octets ≡ false → IsAsking (heard_frame identity read)
+    → heard_read mine read ≡ controller.Nothing
+asks_read identity mine (Ok meaning) apart is = asks_heard identity mine meaning.destination meaning.source meaning.content apart is
+asks_read identity mine (Err fault) apart is = refl
 
-pub asks_unnoted : (identity : Identity) (setup : Setup) (octets : List ℕ) (source : Mac) (request : Asked) → heard_of identity (comes octets) ≡ Asks source request → noted_of setup octets ≡ None
+-- what a device hears as a request of DCP a controller of another address does not hear
+pub asks_unheard : (identity : Identity) (setup : Setup) (octets : List ℕ) (source : Mac) (request : Asked) → heard_of identity (comes octets) ≡ Asks source request
+    → pointwise nat_eq identity.mac.octets setup.plan.controller.mac.octets ≡ false → controller.heard_of setup.plan.controller octets ≡ controller.Nothing
 unfolding heard_of controller.heard_of
-asks_unnoted identity setup octets source request e =
-    asks_read identity setup.plan.controller (frame_of octets) (subst (λ (h : Heard). IsAsking h) (sym e) tt)
+asks_unheard identity setup octets source request e apart =
+    asks_read identity setup.plan.controller (frame_of octets) apart (subst (λ (h : Heard). IsAsking h) (sym e) tt)
 
 -- ---- an alarm frame that a device hears goes to it, and to no controller of another address
 
@@ -130,15 +144,13 @@ alarms_owned identity destination source (UdpDatagram from to body) is =
     absurd (holds_if (λ (h : Heard). IsAlarming h → ⊥) (is_own identity destination && to.port == 34964) (Told (record { mac = source; endpoint = from }) to.address (said_by body)) Elsewhere (λ i. i) (λ i. i) is)
 
 alarms_read : (identity : Identity) (mine : Controller) (read : Result Meaning FrameFault) → pointwise nat_eq identity.mac.octets mine.mac.octets ≡ false → IsAlarming (heard_frame identity read)
-    → noted_at (heard_read mine read) ≡ None
+    → heard_read mine read ≡ controller.Nothing
 alarms_read identity mine (Ok meaning) apart is =
-    let same : meaning.destination.octets ≡ identity.mac.octets = same_text meaning.destination.octets identity.mac.octets (sym (alarms_owned identity meaning.destination meaning.source meaning.content is)) in
-    let other : pointwise nat_eq meaning.destination.octets mine.mac.octets ≡ false = ap (λ (octets : List ℕ). pointwise nat_eq octets mine.mac.octets) same ∙ apart in
-    ap (λ (b : Bool). noted_at (cond b (controller.heard_content mine.address meaning.source meaning.content) controller.Nothing)) other
+    to_another identity mine meaning.destination (controller.heard_content mine.address meaning.source meaning.content) apart (alarms_owned identity meaning.destination meaning.source meaning.content is)
 alarms_read identity mine (Err fault) apart is = refl
 
-pub alarms_unnoted : (identity : Identity) (setup : Setup) (octets : List ℕ) (source : Mac) (header : Header) (message : ToDevice) → heard_of identity (comes octets) ≡ Alarms source header message
-    → pointwise nat_eq identity.mac.octets setup.plan.controller.mac.octets ≡ false → noted_of setup octets ≡ None
+pub alarms_unheard : (identity : Identity) (setup : Setup) (octets : List ℕ) (source : Mac) (header : Header) (message : ToDevice) → heard_of identity (comes octets) ≡ Alarms source header message
+    → pointwise nat_eq identity.mac.octets setup.plan.controller.mac.octets ≡ false → controller.heard_of setup.plan.controller octets ≡ controller.Nothing
 unfolding heard_of controller.heard_of
-alarms_unnoted identity setup octets source header message e apart =
+alarms_unheard identity setup octets source header message e apart =
     alarms_read identity setup.plan.controller (frame_of octets) apart (subst (λ (h : Heard). IsAlarming h) (sym e) tt)

@@ -1,6 +1,6 @@
 -- A controller sends to the station that answered, and its outputs under the FrameID that this chose.
 use Rattle.std.proofs.Common.{◌≡◌, ◌&&◌, ◌+◌, ℕ, Bool, true, false, cond, List, length, Option, Some, None, refl, sym, ap, ◌∙◌}
-use Rattle.std.specs.Prelude.{nat_lt, option_and_then, unwrap_or}
+use Rattle.std.specs.Prelude.{nat_lt, unwrap_or}
 use Rattle.std.specs.List.{AllByRecursion}
 use Rattle.pn_values.specs.declared.mac.Mac.{Mac}
 use Rattle.frame_codec.specs.declared.udp.Caller.{Caller}
@@ -43,8 +43,8 @@ use Rattle.controller_core.specs.Answers.{is_addressed, is_answer, is_found, is_
 use Rattle.controller_core.specs.Connect.{found_in, is_whole, nothing}
 use Rattle.controller_core.specs.Machine.{Turn, acks_in, addressed, answered, behind_data, brought, called, come, connected, decided, done, first, flow_later, flowed, found, given, is_again, judged, later, noticed, outputs_of, over, readied, ready_in, related_by, released, requests_of, responded, standing, stays, stopped, taken, turn_of, turned, where_due, writing}
 use Rattle.controller_core.specs.State.{Live}
-use Rattle.sending_laws.specs.Sized.{chosen_in}
-use Rattle.alarm_ends.specs.Sized.{IsOf}
+use Rattle.sending_laws.specs.Sized.{Found}
+use Rattle.alarm_ends.specs.Sized.{IsChosenWell, IsFit}
 use Rattle.alarm_ends.proofs.Lists.{each_behind}
 use Rattle.alarm_ends.proofs.Turns.{frame_route}
 use Rattle.alarm_ends.proofs.Messages.{IsAimed}
@@ -56,12 +56,16 @@ pub record IsPlaced (mac : Mac) (live : Live) : Type 0 where
   pub partner : live.stands ≡ true → live.cyclic.route.partner ≡ mac
   pub asking : live.asked ≡ Some asks.Connect → live.device ≡ mac
   pub giving : live.phase ≡ Addressing → live.device ≡ mac
+  pub addressing : live.asked ≡ Some asks.Address → live.device ≡ mac
 
-abbrev TypeOf : {A : Type 0} → A → Type 0
-TypeOf {A = A} value = A
-
-abbrev Found : Type 0
-Found = TypeOf nothing
+-- this station alone answers it and calls it, and chooses no FrameID of alarms for outputs
+abbrev pub IsOf : Setup → Live → Mac → Heard → Type 0
+IsOf setup live mac (Answers source answer) = source ≡ mac
+IsOf setup live mac (Responds response) = IsFit setup live (Responds response)
+IsOf setup live mac (Calls caller call) = caller.mac ≡ mac
+IsOf setup live mac Nothing = Unit {0}
+IsOf setup live mac (Comes source frame_id body) = Unit {0}
+IsOf setup live mac (Alarms source header told) = Unit {0}
 
 module _ (setup : Setup) (mac : Mac) (apart : mac ≡ setup.plan.controller.mac → ⊥) where
   pub record PlacedTurn (turn : Turn) : Type 0 where
@@ -76,14 +80,14 @@ module _ (setup : Setup) (mac : Mac) (apart : mac ≡ setup.plan.controller.mac 
   stays_placed live p = record { live = p; sent = tt }
 
   over_placed : (cause : Cause) (live : Live) → IsPlaced mac live → IsPlaced mac (over cause live)
-  over_placed cause live p = record { plain = p.plain; partner = λ e. absurd cc; asking = λ e. absurd cc; giving = λ e. absurd cc }
+  over_placed cause live p = record { plain = p.plain; partner = λ e. absurd cc; asking = λ e. absurd cc; giving = λ e. absurd cc; addressing = λ e. absurd cc }
 
   ends_placed : (cause : Cause) (live : Live) → IsPlaced mac live → PlacedTurn (stays (over cause live))
   ends_placed cause live p = stays_placed (over cause live) (over_placed cause live p)
 
   released_placed : (cause : Cause) (live : Live) → IsPlaced mac live → PlacedTurn (released setup cause live)
   released_placed cause live p =
-      record { live = record { plain = p.plain; partner = λ e. absurd cc; asking = λ e. absurd cc; giving = λ e. absurd cc }; sent = (tt, tt) }
+      record { live = record { plain = p.plain; partner = λ e. absurd cc; asking = λ e. absurd cc; giving = λ e. absurd cc; addressing = λ e. absurd cc }; sent = (tt, tt) }
 
   -- ---- answers of DCP
 
@@ -91,14 +95,14 @@ module _ (setup : Setup) (mac : Mac) (apart : mac ≡ setup.plan.controller.mac 
   found_placed live source answer is p =
       either (is_right setup.plan answer) _ _
       (either (is_addressed setup.plan answer) _ _
-      (record { live = record { plain = p.plain; partner = p.partner; asking = λ e. is; giving = λ e. is }; sent = (tt, tt) })
-      (record { live = record { plain = p.plain; partner = p.partner; asking = λ e. is; giving = λ e. is }; sent = (tt, tt) }))
+      (record { live = record { plain = p.plain; partner = p.partner; asking = λ e. is; giving = λ e. is; addressing = λ e. is }; sent = (tt, tt) })
+      (record { live = record { plain = p.plain; partner = p.partner; asking = λ e. is; giving = λ e. is; addressing = λ e. is }; sent = (λ e. apart (sym is ∙ e), tt) }))
       (ends_placed _ live p)
 
   addressed_placed : (live : Live) (answer : Answered) → live.device ≡ mac → IsPlaced mac live → PlacedTurn (addressed live answer)
   addressed_placed live answer is p =
       either (is_agreed answer) _ _
-      (record { live = record { plain = p.plain; partner = p.partner; asking = λ e. is; giving = λ e. is }; sent = (tt, tt) })
+      (record { live = record { plain = p.plain; partner = p.partner; asking = λ e. is; giving = λ e. is; addressing = λ e. is }; sent = (tt, tt) })
       (ends_placed _ live p)
 
   answered_placed : (live : Live) (source : Mac) (answer : Answered) (phase : State) → live.phase ≡ phase → source ≡ mac → IsPlaced mac live → PlacedTurn (answered setup live source answer phase)
@@ -115,68 +119,78 @@ module _ (setup : Setup) (mac : Mac) (apart : mac ≡ setup.plan.controller.mac 
 
   -- the next request is a Write, or PrmEnd
   writes_placed : (live : Live) (number : ℕ) (b : Bool) → IsPlaced mac live → PlacedTurn (writing (cond b (asks.Write number) asks.PrmEnd) live)
-  writes_placed live number true p = record { live = record { plain = p.plain; partner = p.partner; asking = λ e. absurd cc; giving = λ e. absurd cc }; sent = (tt, tt) }
-  writes_placed live number false p = record { live = record { plain = p.plain; partner = p.partner; asking = λ e. absurd cc; giving = λ e. absurd cc }; sent = (tt, tt) }
+  writes_placed live number true p = record { live = record { plain = p.plain; partner = p.partner; asking = λ e. absurd cc; giving = λ e. absurd cc; addressing = λ e. absurd cc }; sent = (tt, tt) }
+  writes_placed live number false p = record { live = record { plain = p.plain; partner = p.partner; asking = λ e. absurd cc; giving = λ e. absurd cc; addressing = λ e. absurd cc }; sent = (tt, tt) }
 
   related_placed : (live : Live) (output : Option ℕ) → live.device ≡ mac → ((frame_id : ℕ) → output ≡ Some frame_id → is_alarm frame_id ≡ false) → IsPlaced mac live → PlacedTurn (related_by setup live output)
   related_placed live (Some frame_id) is plain p =
       writes_placed (standing setup live frame_id) 0 (nat_lt 0 (length setup.plan.records.items))
-      (record { plain = plain frame_id refl; partner = λ e. is; asking = λ e. is; giving = λ e. is })
+      (record { plain = plain frame_id refl; partner = λ e. is; asking = λ e. is; giving = λ e. is; addressing = λ e. is })
   related_placed live None is plain p = stays_placed live p
 
+  if_so : (b : Bool) (x y : Turn) → (b ≡ true → PlacedTurn x) → (b ≡ false → PlacedTurn y) → PlacedTurn (cond b x y)
+  if_so true x y px py = px refl
+  if_so false x y px py = py refl
+
   connected_placed : (live : Live) (blocks : List ℕ) (found_so : Option Found) → found_in 400 blocks nothing ≡ found_so → live.device ≡ mac
-      → ((frame_id : ℕ) → chosen_in blocks ≡ Some frame_id → is_alarm frame_id ≡ false) → IsPlaced mac live → PlacedTurn (connected setup live found_so)
-  connected_placed live blocks (Some found_so) e is plain p =
-      either (is_whole found_so) _ _
-      (either found_so.differs _ _ (released_placed _ live p)
-      (related_placed live found_so.output is (λ frame_id there. plain frame_id (ap (λ (o : Option Found). option_and_then (λ (one : Found). one.output) o) e ∙ there)) p))
-      (stays_placed live p)
-  connected_placed live blocks None e is plain p = stays_placed live p
+      → IsChosenWell blocks → IsPlaced mac live → PlacedTurn (connected setup live found_so)
+  connected_placed live blocks (Some found_so) e is well p =
+      if_so (is_whole found_so) _ _
+      (λ whole. if_so found_so.differs _ _ (λ differs. released_placed _ live p)
+      (λ same. related_placed live found_so.output is (λ frame_id there. (well found_so e whole same frame_id there).1) p))
+      (λ lacks. stays_placed live p)
+  connected_placed live blocks None e is well p = stays_placed live p
 
-  done_placed : (live : Live) (blocks : List ℕ) (request : Request) → live.asked ≡ Some request → ((frame_id : ℕ) → chosen_in blocks ≡ Some frame_id → is_alarm frame_id ≡ false) → IsPlaced mac live
+  done_placed : (live : Live) (blocks : List ℕ) (request : Request) → live.asked ≡ Some request → (request ≡ asks.Connect → IsChosenWell blocks) → IsPlaced mac live
       → PlacedTurn (done setup live blocks request)
-  done_placed live blocks asks.Identify now plain p = stays_placed live p
-  done_placed live blocks asks.Address now plain p = stays_placed live p
-  done_placed live blocks asks.Connect now plain p = connected_placed live blocks (found_in 400 blocks nothing) refl (p.asking now) plain p
-  done_placed live blocks (asks.Write number) now plain p = writes_placed live (number + 1) (nat_lt (number + 1) (length setup.plan.records.items)) p
-  done_placed live blocks asks.PrmEnd now plain p =
-      stays_placed (record live { phase = Waiting; asked = None }) (record { plain = p.plain; partner = p.partner; asking = λ e. absurd cc; giving = λ e. absurd cc })
-  done_placed live blocks (asks.Release sequence) now plain p =
-      stays_placed (record live { asked = None }) (record { plain = p.plain; partner = p.partner; asking = λ e. absurd cc; giving = p.giving })
+  done_placed live blocks asks.Identify now well p = stays_placed live p
+  done_placed live blocks asks.Address now well p = stays_placed live p
+  done_placed live blocks asks.Connect now well p = connected_placed live blocks (found_in 400 blocks nothing) refl (p.asking now) (well refl) p
+  done_placed live blocks (asks.Write number) now well p = writes_placed live (number + 1) (nat_lt (number + 1) (length setup.plan.records.items)) p
+  done_placed live blocks asks.PrmEnd now well p =
+      stays_placed (record live { phase = Waiting; asked = None }) (record { plain = p.plain; partner = p.partner; asking = λ e. absurd cc; giving = λ e. absurd cc; addressing = λ e. absurd cc })
+  done_placed live blocks (asks.Release sequence) now well p =
+      stays_placed (record live { asked = None }) (record { plain = p.plain; partner = p.partner; asking = λ e. absurd cc; giving = p.giving; addressing = λ e. absurd cc })
 
-  judged_placed : (live : Live) (response : Response) (request : Request) → live.asked ≡ Some request → ((frame_id : ℕ) → chosen_in response.blocks ≡ Some frame_id → is_alarm frame_id ≡ false) → IsPlaced mac live
+  judged_placed : (live : Live) (response : Response) (request : Request) → live.asked ≡ Some request → (request ≡ asks.Connect → is_done response.status ≡ true → IsChosenWell response.blocks) → IsPlaced mac live
       → PlacedTurn (judged setup live response request)
-  judged_placed live response request now plain p = either (is_done response.status) _ _ (done_placed live response.blocks request now plain p) (ends_placed _ live p)
+  judged_placed live response request now well p =
+      if_so (is_done response.status) _ _ (λ positive. done_placed live response.blocks request now (λ connects. well connects positive) p) (λ negative. ends_placed _ live p)
 
-  decided_placed : (live : Live) (response : Response) (request : Request) → live.asked ≡ Some request → ((frame_id : ℕ) → chosen_in response.blocks ≡ Some frame_id → is_alarm frame_id ≡ false) → IsPlaced mac live
+  decided_placed : (live : Live) (response : Response) (request : Request) → live.asked ≡ Some request → (request ≡ asks.Connect → is_done response.status ≡ true → IsChosenWell response.blocks) → IsPlaced mac live
       → PlacedTurn (decided setup live response request)
-  decided_placed live response asks.Identify now plain p = judged_placed live response asks.Identify now plain p
-  decided_placed live response asks.Address now plain p = judged_placed live response asks.Address now plain p
-  decided_placed live response asks.Connect now plain p = judged_placed live response asks.Connect now plain p
-  decided_placed live response (asks.Write number) now plain p = judged_placed live response (asks.Write number) now plain p
-  decided_placed live response asks.PrmEnd now plain p = judged_placed live response asks.PrmEnd now plain p
-  decided_placed live response (asks.Release sequence) now plain p = done_placed live response.blocks (asks.Release sequence) now plain p
+  decided_placed live response asks.Identify now well p = judged_placed live response asks.Identify now well p
+  decided_placed live response asks.Address now well p = judged_placed live response asks.Address now well p
+  decided_placed live response asks.Connect now well p = judged_placed live response asks.Connect now well p
+  decided_placed live response (asks.Write number) now well p = judged_placed live response (asks.Write number) now well p
+  decided_placed live response asks.PrmEnd now well p = judged_placed live response asks.PrmEnd now well p
+  decided_placed live response (asks.Release sequence) now well p =
+      stays_placed (record live { asked = None }) (record { plain = p.plain; partner = p.partner; asking = λ e. absurd cc; giving = p.giving; addressing = λ e. absurd cc })
 
-  responded_placed : (live : Live) (response : Response) (asked : Option Request) → live.asked ≡ asked → ((frame_id : ℕ) → chosen_in response.blocks ≡ Some frame_id → is_alarm frame_id ≡ false) → IsPlaced mac live
+  responded_placed : (live : Live) (response : Response) (asked : Option Request) → live.asked ≡ asked → IsFit setup live (Responds response) → IsPlaced mac live
       → PlacedTurn (responded setup live response asked)
-  responded_placed live response (Some request) now plain p = either (is_answer setup request response.header) _ _ (decided_placed live response request now plain p) (stays_placed live p)
-  responded_placed live response None now plain p = stays_placed live p
+  responded_placed live response (Some request) now fit p =
+      if_so (is_answer setup request response.header) _ _
+      (λ answers. decided_placed live response request now
+      (λ connects. fit (now ∙ ap (λ (one : Request). Some one) connects) (ap (λ (one : Request). is_answer setup one response.header) (sym connects) ∙ answers)) p)
+      (λ other. stays_placed live p)
+  responded_placed live response None now fit p = stays_placed live p
 
   -- ---- calls, cyclic frames and outputs
 
-  readied_placed : (live : Live) (caller : Caller) (call : Call) (block : ControlBlock) (phase : State) → IsPlaced mac live → PlacedTurn (readied live caller call block phase)
-  readied_placed live caller call block Looking p = stays_placed live p
-  readied_placed live caller call block Addressing p = stays_placed live p
-  readied_placed live caller call block Connecting p = stays_placed live p
-  readied_placed live caller call block Writing p = stays_placed live p
-  readied_placed live caller call block Ending p = record { live = record { plain = p.plain; partner = p.partner; asking = λ e. absurd cc; giving = λ e. absurd cc }; sent = (tt, tt) }
-  readied_placed live caller call block Waiting p = record { live = record { plain = p.plain; partner = p.partner; asking = λ e. absurd cc; giving = λ e. absurd cc }; sent = (tt, tt) }
-  readied_placed live caller call block Exchanging p = record { live = p; sent = (tt, tt) }
-  readied_placed live caller call block (Ended cause) p = stays_placed live p
+  readied_placed : (live : Live) (caller : Caller) (call : Call) (block : ControlBlock) (phase : State) → caller.mac ≡ mac → IsPlaced mac live → PlacedTurn (readied live caller call block phase)
+  readied_placed live caller call block Looking is p = stays_placed live p
+  readied_placed live caller call block Addressing is p = stays_placed live p
+  readied_placed live caller call block Connecting is p = stays_placed live p
+  readied_placed live caller call block Writing is p = stays_placed live p
+  readied_placed live caller call block Ending is p = record { live = record { plain = p.plain; partner = p.partner; asking = λ e. absurd cc; giving = λ e. absurd cc; addressing = λ e. absurd cc }; sent = (λ e. apart (sym is ∙ e), tt) }
+  readied_placed live caller call block Waiting is p = record { live = record { plain = p.plain; partner = p.partner; asking = λ e. absurd cc; giving = λ e. absurd cc; addressing = λ e. absurd cc }; sent = (λ e. apart (sym is ∙ e), tt) }
+  readied_placed live caller call block Exchanging is p = record { live = p; sent = (λ e. apart (sym is ∙ e), tt) }
+  readied_placed live caller call block (Ended cause) is p = stays_placed live p
 
-  called_placed : (live : Live) (caller : Caller) (call : Call) (block : Option ControlBlock) → IsPlaced mac live → PlacedTurn (called setup live caller call block)
-  called_placed live caller call (Some block) p = either (is_ready setup block) _ _ (readied_placed live caller call block live.phase p) (stays_placed live p)
-  called_placed live caller call None p = stays_placed live p
+  called_placed : (live : Live) (caller : Caller) (call : Call) (block : Option ControlBlock) → caller.mac ≡ mac → IsPlaced mac live → PlacedTurn (called setup live caller call block)
+  called_placed live caller call (Some block) is p = either (is_ready setup block) _ _ (readied_placed live caller call block live.phase is p) (stays_placed live p)
+  called_placed live caller call None is p = stays_placed live p
 
   cyclic_placed : (live : Live) (cyclic : Cyclic) → cyclic.route ≡ live.cyclic.route → IsPlaced mac live → IsPlaced mac (record live { cyclic = cyclic })
   cyclic_placed live cyclic same p = record {
@@ -184,6 +198,7 @@ module _ (setup : Setup) (mac : Mac) (apart : mac ≡ setup.plan.controller.mac 
     partner = λ e. ap (λ (r : Route). r.partner) same ∙ p.partner e;
     asking = p.asking;
     giving = p.giving;
+    addressing = p.addressing;
   }
 
   come_placed : (live : Live) (source : Mac) (frame_id : ℕ) (body : List ℕ) (b : Bool) → IsPlaced mac live → IsPlaced mac (cond b (record live { cyclic = behind_frame live.cyclic source frame_id body }) live)
@@ -204,7 +219,7 @@ module _ (setup : Setup) (mac : Mac) (apart : mac ≡ setup.plan.controller.mac 
 
   taken_placed : (live : Live) (alarm : AlarmNotification) (as_what : Taken) → live.stands ≡ true → IsPlaced mac live → PlacedTurn (taken live alarm as_what)
   taken_placed live alarm New up p = record {
-    live = record { plain = p.plain; partner = p.partner; asking = p.asking; giving = p.giving };
+    live = record { plain = p.plain; partner = p.partner; asking = p.asking; giving = p.giving; addressing = p.addressing };
     sent = (partner_other live up p, (partner_other live up p, tt));
   }
   taken_placed live alarm Again up p = record { live = p; sent = (partner_other live up p, tt) }
@@ -212,8 +227,8 @@ module _ (setup : Setup) (mac : Mac) (apart : mac ≡ setup.plan.controller.mac 
 
   noticed_placed : (live : Live) (told : ToController) → live.stands ≡ true → IsPlaced mac live → PlacedTurn (noticed live told)
   noticed_placed live (notice.Data number alarm) up p =
-      taken_placed (behind_data live number) alarm (taken_as live.alarms.seen number) up (record { plain = p.plain; partner = p.partner; asking = p.asking; giving = p.giving })
-  noticed_placed live (notice.Ack number) up p = record { live = record { plain = p.plain; partner = p.partner; asking = p.asking; giving = p.giving }; sent = tt }
+      taken_placed (behind_data live number) alarm (taken_as live.alarms.seen number) up (record { plain = p.plain; partner = p.partner; asking = p.asking; giving = p.giving; addressing = p.addressing })
+  noticed_placed live (notice.Ack number) up p = record { live = record { plain = p.plain; partner = p.partner; asking = p.asking; giving = p.giving; addressing = p.addressing }; sent = tt }
   noticed_placed live notice.Nack up p = stays_placed live p
   noticed_placed live notice.Abort up p = ends_placed _ live p
 
@@ -228,11 +243,11 @@ module _ (setup : Setup) (mac : Mac) (apart : mac ≡ setup.plan.controller.mac 
 
   -- ---- what is heard
 
-  heard_placed : (live : Live) (heard : Heard) → IsOf mac heard → IsPlaced mac live → PlacedTurn (turned setup live heard)
+  heard_placed : (live : Live) (heard : Heard) → IsOf setup live mac heard → IsPlaced mac live → PlacedTurn (turned setup live heard)
   heard_placed live Nothing is p = stays_placed live p
   heard_placed live (Answers source answer) is p = answered_placed live source answer live.phase refl is p
   heard_placed live (Responds response) is p = responded_placed live response live.asked refl is p
-  heard_placed live (Calls caller call) is p = called_placed live caller call (ready_in call) p
+  heard_placed live (Calls caller call) is p = called_placed live caller call (ready_in call) is p
   heard_placed live (Comes source frame_id body) is p = stays_placed (come live source frame_id body) (come_placed live source frame_id body live.stands p)
   heard_placed live (Alarms source header told) is p = alarmed_placed live source header told (live.stands && is_of_relation live.cyclic.route source header) refl p
 
@@ -246,26 +261,31 @@ module _ (setup : Setup) (mac : Mac) (apart : mac ≡ setup.plan.controller.mac 
   acks_placed live (Some ack) up p = (partner_other live up p, tt)
   acks_placed live None up p = tt
 
-  requests_placed : (device : Mac) (asked : Option Request) → AllByRecursion (IsAimed setup) (requests_of device asked)
-  requests_placed device (Some request) = (tt, tt)
-  requests_placed device None = tt
+  requests_placed : (device : Mac) (asked : Option Request) → (asked ≡ Some asks.Address → device ≡ mac) → AllByRecursion (IsAimed setup) (requests_of device asked)
+  requests_placed device (Some asks.Identify) own = (tt, tt)
+  requests_placed device (Some asks.Address) own = (λ e. apart (sym (own refl) ∙ e), tt)
+  requests_placed device (Some asks.Connect) own = (tt, tt)
+  requests_placed device (Some (asks.Write number)) own = (tt, tt)
+  requests_placed device (Some asks.PrmEnd) own = (tt, tt)
+  requests_placed device (Some (asks.Release sequence)) own = (tt, tt)
+  requests_placed device None own = tt
 
   flowed_placed : (live : Live) (is_request : Bool) (tick : Tick) (reason : Option Abort) → live.stands ≡ true → IsPlaced mac live → PlacedTurn (flowed live is_request tick reason)
   flowed_placed live is_request tick (Some reason) up p = record { live = over_placed _ live p; sent = (partner_other live up p, tt) }
   flowed_placed live is_request tick None up p = record {
     live = p;
     sent = each_behind (IsAimed setup) (where_due tick.is_alarm (acks_in live live.alarms.confirming)) _ (due_placed tick.is_alarm _ (acks_placed live live.alarms.confirming up p))
-        (each_behind (IsAimed setup) (where_due is_request (requests_of live.device live.asked)) _ (due_placed is_request _ (requests_placed live.device live.asked))
-        (due_placed tick.is_cyclic (outputs_of live) (p.plain, tt)));
+        (each_behind (IsAimed setup) (where_due is_request (requests_of live.device live.asked)) _ (due_placed is_request _ (requests_placed live.device live.asked p.addressing))
+        (due_placed tick.is_cyclic (outputs_of live) ((p.plain, partner_other live up p), tt)));
   }
 
   ticked_placed : (live : Live) (b : Bool) → live.stands ≡ b → IsPlaced mac live
       → PlacedTurn (cond b (flowed (flow_later live) (is_again live) (brought live) (brought live).ending) (record { live = later live; sent = where_due (is_again live) (requests_of live.device live.asked) }))
   ticked_placed live true up p =
-      flowed_placed (flow_later live) (is_again live) (brought live) (brought live).ending up (record { plain = p.plain; partner = p.partner; asking = p.asking; giving = p.giving })
+      flowed_placed (flow_later live) (is_again live) (brought live) (brought live).ending up (record { plain = p.plain; partner = p.partner; asking = p.asking; giving = p.giving; addressing = p.addressing })
   ticked_placed live false up p = record {
-    live = record { plain = p.plain; partner = p.partner; asking = p.asking; giving = p.giving };
-    sent = due_placed (is_again live) _ (requests_placed live.device live.asked);
+    live = record { plain = p.plain; partner = p.partner; asking = p.asking; giving = p.giving; addressing = p.addressing };
+    sent = due_placed (is_again live) _ (requests_placed live.device live.asked p.addressing);
   }
 
   stopped_placed : (live : Live) (phase : State) → IsPlaced mac live → PlacedTurn (stopped setup live phase)
@@ -280,13 +300,13 @@ module _ (setup : Setup) (mac : Mac) (apart : mac ≡ setup.plan.controller.mac 
 
   -- ---- events
 
-  abbrev pub IsEventOf : Event → Type 0
-  IsEventOf (event.Frame bytes) = IsOf mac (heard_of setup.plan.controller bytes.items)
-  IsEventOf event.Tick = Unit {0}
-  IsEventOf (event.Give slot subslot value) = Unit {0}
-  IsEventOf event.Stop = Unit {0}
+  abbrev pub IsEventOf : Live → Event → Type 0
+  IsEventOf live (event.Frame bytes) = IsOf setup live mac (heard_of setup.plan.controller bytes.items)
+  IsEventOf live event.Tick = Unit {0}
+  IsEventOf live (event.Give slot subslot value) = Unit {0}
+  IsEventOf live event.Stop = Unit {0}
 
-  pub event_placed : (live : Live) (one : Event) → IsEventOf one → IsPlaced mac live → PlacedTurn (turn_of setup live one)
+  pub event_placed : (live : Live) (one : Event) → IsEventOf live one → IsPlaced mac live → PlacedTurn (turn_of setup live one)
   event_placed live (event.Frame bytes) is p = heard_placed live (heard_of setup.plan.controller bytes.items) is p
   event_placed live event.Tick is p = ticked_placed live live.stands refl p
   event_placed live (event.Give slot subslot value) is p =
@@ -295,4 +315,4 @@ module _ (setup : Setup) (mac : Mac) (apart : mac ≡ setup.plan.controller.mac 
 
   -- a controller that was just made
   pub first_placed : (plan : Parts) → IsPlaced mac (first plan)
-  first_placed plan = record { plain = refl; partner = λ e. absurd cc; asking = λ e. absurd cc; giving = λ e. absurd cc }
+  first_placed plan = record { plain = refl; partner = λ e. absurd cc; asking = λ e. absurd cc; giving = λ e. absurd cc; addressing = λ e. absurd cc }

@@ -1,6 +1,7 @@
 -- What either end of a network says of alarms, and what the other hears of it.
-use Rattle.std.specs.Prelude.{◌≡◌, ◌⊎◌, ℕ, List, Option, Some, None}
+use Rattle.std.specs.Prelude.{◌≡◌, ◌⊎◌, ◌<◌, ℕ, List, Option, Some, None}
 use Rattle.pn_values.specs.declared.identity.Identity.{Identity}
+use Rattle.pn_values.specs.declared.mac.Mac.{Mac}
 use Rattle.record_blocks.specs.declared.alarm_ack.AlarmAck.{AlarmAck}
 use Rattle.record_blocks.specs.declared.alarm_notification.AlarmNotification.{AlarmNotification}
 use Rattle.pn_alarms.specs.declared.message.Notice.{Notice}
@@ -17,6 +18,10 @@ use Rattle.controller_frames.specs.declared.setup.Setup.{Setup}
 use Rattle.controller_frames.specs.Heard as controller
 use Rattle.controller_frames.specs.Heard.{heard_of as heard_by}
 use Rattle.controller_frames.specs.Sent as said
+use Rattle.frame_laws.specs.Sendable.{IsMac}
+use Rattle.rpc_core.specs.Sendable.{IsHeader}
+use Rattle.hearing_laws.specs.Stations.{IsCaller}
+use Rattle.sending_laws.specs.Sized.{IsNotice}
 
 -- ---- at the device
 
@@ -77,6 +82,17 @@ told_in (said.Requests to request) = None
 told_in (said.Agrees caller answer) = None
 told_in (said.Cycles route shown counter) = None
 
+-- ---- what a controller hears of its device
+
+-- this station alone answers it and calls it, and each field has its size
+abbrev pub IsGood : Mac → controller.Heard → Type 0
+IsGood mac (controller.Answers source answer) = (source ≡ mac) × IsMac source
+IsGood mac (controller.Calls caller call) = (caller.mac ≡ mac) × IsCaller caller × IsHeader call.header × (call.args_maximum < 4294967296)
+IsGood mac (controller.Alarms source header told) = IsNotice told
+IsGood mac controller.Nothing = Unit {0}
+IsGood mac (controller.Responds response) = Unit {0}
+IsGood mac (controller.Cyclic source frame_id body) = Unit {0}
+
 -- ---- what is heard as it is said
 
 -- what is heard of octets by the device, and by the controller
@@ -86,9 +102,9 @@ told_of identity octets = told_at (heard_of identity (comes_in (record { items =
 abbrev pub noted_of : Setup → List ℕ → Option (Notice AlarmNotification)
 noted_of setup octets = noted_at (heard_by setup.plan.controller octets)
 
--- octets of the device: the controller hears this of alarms in them, or nothing, and the device nothing
+-- octets of the device: the controller hears this of alarms in them, or nothing, the device nothing, and all has its size
 abbrev pub IsNotedBy : Setup → Identity → List ℕ → Option (Notice AlarmNotification) → Type 0
-IsNotedBy setup identity octets says = ((noted_of setup octets ≡ says) ⊎ (noted_of setup octets ≡ None)) × (told_of identity octets ≡ None)
+IsNotedBy setup identity octets says = ((noted_of setup octets ≡ says) ⊎ (noted_of setup octets ≡ None)) × (told_of identity octets ≡ None) × IsGood identity.mac (heard_by setup.plan.controller octets)
 
 -- a message of the device. The frame of an answer that is sent again was sent before
 abbrev pub IsNotedAs : Setup → Identity → sent.Sent → Type 0
@@ -102,9 +118,9 @@ IsNotedAs setup identity (sent.ArpReply asker address target) = IsNotedBy setup 
 IsNotedAs setup identity (sent.CallAnswer caller address answer) = IsNotedBy setup identity (bytes_of identity (sent.CallAnswer caller address answer)) None
 IsNotedAs setup identity (sent.ReadyCall address ready) = IsNotedBy setup identity (bytes_of identity (sent.ReadyCall address ready)) None
 
--- octets of the controller: the device hears this of alarms in them, or nothing, and the controller nothing
+-- octets of the controller: the device hears this of alarms in them, or nothing, and the controller nothing at all
 abbrev pub IsToldBy : Setup → Identity → List ℕ → Option (Notice AlarmAck) → Type 0
-IsToldBy setup identity octets says = ((told_of identity octets ≡ says) ⊎ (told_of identity octets ≡ None)) × (noted_of setup octets ≡ None)
+IsToldBy setup identity octets says = ((told_of identity octets ≡ says) ⊎ (told_of identity octets ≡ None)) × (heard_by setup.plan.controller octets ≡ controller.Nothing)
 
 -- a message of the controller
 abbrev pub IsToldAs : Setup → Identity → said.Sent → Type 0

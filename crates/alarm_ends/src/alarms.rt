@@ -15,9 +15,10 @@ use flash_model::Flash;
 use frame_laws::frames_are_read;
 use hearing_laws::{
     alarms_are_heard, calls_are_heard, calls_can_be_sent, confirmations_are_heard, ends_are_heard,
-    ready_answers_are_heard, requests_are_heard, stations_are_real,
+    ready_answers_are_heard, ready_calls_are_heard, requests_are_heard, stations_are_real,
 };
 use pn_values::Identity;
+use rpc_core::calls_and_responses_differ;
 use sending_laws::messages_can_be_sent;
 use world_ends::worlds_start_up;
 
@@ -51,6 +52,8 @@ pub fn worlds_take_alarms<F: Flash<S>, const S: usize>(setup: &Setup, identity: 
     calls_can_be_sent();
     calls_are_heard();
     ready_answers_are_heard();
+    ready_calls_are_heard();
+    calls_and_responses_differ();
     confirmations_are_heard();
     alarms_are_heard();
     ends_are_heard();

@@ -2,7 +2,9 @@
 #![tactic(auto)]
 
 mod alarms;
+mod chosen;
 mod plugged;
 
 pub use alarms::worlds_take_alarms;
+pub use chosen::answers_choose_well;
 pub use plugged::modules_are_sized;

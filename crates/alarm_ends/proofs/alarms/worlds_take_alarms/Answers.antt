@@ -27,6 +27,9 @@ hears_so g c = record {
   call_at_controller = c.calls_are_heard.ensures.controller;
   agreed_at_device = c.ready_answers_are_heard.ensures.device;
   agreed_at_controller = c.ready_answers_are_heard.ensures.controller;
+  ready_can = c.calls_can_be_sent.ensures.ready;
+  ready_at_controller = c.ready_calls_are_heard.ensures.controller;
+  response_no_call = c.calls_and_responses_differ.ensures.answered;
 }
 
 pub returns-clause-front : goal.returns-clause-front
