@@ -4,7 +4,6 @@ use Rattle.std.specs.List.{AllByRecursion, list_all}
 use Rattle.uuid.specs.Parts.{is_nil_bytes}
 use Rattle.pn_values.specs.IpSuite.{Suite, is_suite}
 use Rattle.station_names.specs.Valid.{is_station_name}
-use Rattle.plans.specs.Parts.{AreParts}
 use Rattle.plans.specs.Plan.{plan_of}
 use Rattle.plans.specs.declared.parts.Parts.{Parts}
 use Rattle.plans.specs.declared.parts.PlanRecord.{PlanRecord}
@@ -107,7 +106,6 @@ pub record IsWritten (written : WrittenPlan) : Type 0 where
   pub small_modules : AllByRecursion IsSmallModule (modules_in written)
   pub few_records : written.record_count ≤ 32
   pub short_records : AllByRecursion IsShort (records_in written)
-  pub good : AreParts (parts_of written)
 
 -- ---- why none is made
 

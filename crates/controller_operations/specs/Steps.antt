@@ -1,5 +1,5 @@
 -- Units of time that go by.
-use Rattle.std.specs.Prelude.{◌≡◌, ◌≢◌, ◌≤◌, ◌-◌, ℕ, zero, suc, Bool, true, false}
+use Rattle.std.specs.Prelude.{◌≡◌, ◌≢◌, ◌≤◌, ◌-◌, ℕ, zero, suc, true, false}
 use Rattle.controller_core.specs.declared.event.Event.TheVariants.{Tick}
 use Rattle.controller_operations.specs.State.{State, after, has_frames, is_over, is_stopped}
 

@@ -2,6 +2,7 @@
 ghost use Rattle.std.specs.Prelude.{◌≡◌, ◌≤◌, true, is_ok, length, map};
 ghost use Rattle.std.specs.List.{AllByRecursion, list_all};
 ghost use Rattle.pn_values.specs.IpSuite.{is_suite};
+ghost use Rattle.pn_values.specs.StationName.{IsStationName};
 ghost use Rattle.station_names.specs.Valid.{is_station_name};
 ghost use Rattle.wire.specs.Codec.{Gives};
 ghost use Rattle.plans.specs.Plan.{plan_of};
@@ -251,7 +252,9 @@ fn planned(written: &WrittenPlan) -> Result<Plan, TooLong>
 // Its parts, each of which is in its range.
 fn parts_in(written: &WrittenPlan) -> Parts
     requires { IsWritten written.now }
-    ensures { result ≡ parts_of written.now }
+    ensures value { result ≡ parts_of written.now }
+    ensures named { IsStationName (name_in written.now) }
+    ensures controlled { IsStationName (controller_name_in written.now) }
 {
     Parts {
         station: station_in(written),
@@ -266,7 +269,8 @@ fn station_in(written: &WrittenPlan) -> Station
     requires few { written.now.name_length ≤ 240 }
     requires named { is_station_name (name_in written.now) ≡ true }
     requires addressed { is_suite (suite_in written.now) ≡ true }
-    ensures { result ≡ (parts_of written.now).station }
+    ensures value { result ≡ (parts_of written.now).station }
+    ensures valid { IsStationName (name_in written.now) }
 {
     Station {
         name: name_of(&written.name[..written.name_length as usize]),
@@ -279,7 +283,8 @@ fn station_in(written: &WrittenPlan) -> Station
 fn controller_in(written: &WrittenPlan) -> Controller
     requires few { written.now.controller_name_length ≤ 240 }
     requires named { is_station_name (controller_name_in written.now) ≡ true }
-    ensures { result ≡ (parts_of written.now).controller }
+    ensures value { result ≡ (parts_of written.now).controller }
+    ensures valid { IsStationName (controller_name_in written.now) }
 {
     Controller {
         name: name_of(&written.controller_name[..written.controller_name_length as usize]),
@@ -292,7 +297,8 @@ fn controller_in(written: &WrittenPlan) -> Controller
 
 fn name_of(text: &[u8]) -> StationName
     requires { is_station_name text.now ≡ true }
-    ensures { result ≡ text.now }
+    ensures value { result ≡ text.now }
+    ensures valid { IsStationName text.now }
 {
     match check(text) {
         Ok(name) => name,

@@ -19,7 +19,7 @@ module_small plugged is =
     let parts = and_parts (nat_le plugged.submodule_count 4) (list_all is_submodule (submodules_in plugged)) is in
     (leb-true plugged.submodule_count 4 parts.0, all_small (submodules_in plugged) parts.1)
 
-pub all_modules_small : (modules : List Module) → list_all is_module modules ≡ true → AllByRecursion IsSmallModule modules
+all_modules_small : (modules : List Module) → list_all is_module modules ≡ true → AllByRecursion IsSmallModule modules
 all_modules_small [] are = tt
 all_modules_small (one ∷ others) are =
     let parts = and_parts (is_module one) (list_all is_module others) are in

@@ -1,9 +1,8 @@
 -- The next frame is taken.
-use Rattle.std.proofs.Common.{◌≡◌, ℕ, List, length, map, sym, ap, ◌∙◌, arith}
-use Rattle.std.proofs.lemmas.List.{length-map}
+use Rattle.std.proofs.Common.{ℕ, List, map, ap, ◌∙◌}
 use Rattle.controller_operations.specs.State.{advanced}
 use Rattle.controller_operations.specs.contracts.port.Port.{the_view}
-use Rattle.controller_operations.proofs.Left.{none_taken, taken}
+use Rattle.controller_operations.proofs.Left.{taken}
 use Rattle.controller_operations.proofs.port.Port.advance.Goals as goal
 
 pub returns-then-self-len : goal.returns-then-self-len

@@ -1,5 +1,5 @@
 -- The next frame.
-use Rattle.std.proofs.Common.{◌<◌, length, map, ap, ◌∙◌, arith}
+use Rattle.std.proofs.Common.{◌<◌, length, map, ap, arith}
 use Rattle.controller_operations.proofs.Left.{next_of}
 use Rattle.controller_operations.proofs.port.Port.next.Goals as goal
 
