@@ -14,8 +14,8 @@
  *         pn_controller_frame(&controller, &op, octets, length); // or pn_controller_tick, pn_controller_give, pn_controller_stop
  *     }
  *
- * The calls of the controller lie in libnandutable-controller.a, pn_plan_read in libnandutable-plan.a. What is behind them are the
- * proved sources as plain Rust; this edge to C is not proved.
+ * The calls of the controller lie in libnandutable-controller.a: proved sources as plain Rust. pn_plan_read lies in
+ * libnandutable-plan.a: its edge to C is not proved.
  *
  * Under the MIT licence or the Apache License 2.0, as you choose. */
 #ifndef NANDUTABLE_CONTROLLER_H
@@ -122,11 +122,19 @@ static_assert(sizeof(pn_plan) == 4272, "another layout than the library's");
 _Static_assert(sizeof(pn_plan) == 4272, "another layout than the library's");
 #endif
 
-/* --- The calls. Use the functions below them. --- */
+/* --- The calls. Use the functions below them. ---
+ *
+ * pn_controller_judge answers why no controller can be made of a plan and the number of its relation in a room of `size` octets, and
+ * PN_OK where one can.
+ * pn_controller_put puts a controller into the room: what lay there is gone. It is only called with a plan that pn_controller_judge
+ * answered PN_OK for, and a room of PN_CONTROLLER_SIZE octets on a multiple of 16.
+ * pn_controller_step carries one operation out on a room into which pn_controller_put put a controller and that only these calls
+ * changed since.
+ * No pointer is null, with a length of 0 neither; the operation, what is given, the plan, the numbers and the room lie apart. */
 uint32_t pn_plan_make(const uint8_t *text, size_t length, size_t size, pn_plan *plan);
 uint32_t pn_plan_where(const uint8_t *text, size_t length, char *where, size_t size);
-uint32_t pn_controller_make(void *room, size_t size, uint32_t abi, size_t op_size, const pn_plan *plan, const uint8_t ar[16],
-                            const uint8_t activity[16]);
+uint32_t pn_controller_judge(size_t size, uint32_t abi, size_t op_size, const pn_plan *plan, const uint8_t ar[16]);
+void pn_controller_put(void *room, const pn_plan *plan, const uint8_t ar[16], const uint8_t activity[16]);
 uint32_t pn_controller_step(void *room, pn_op *op, const uint8_t *given, size_t length);
 
 /* Reads the catalogue of a station, whose keys are those of GSDML. PN_OK, or a number of PN_PLAN_JSON and so on. */
@@ -148,6 +156,22 @@ static inline void pn_plan_station(const pn_plan *plan, pn_station *station)
     memcpy(station->station_type, plan->station_type, sizeof station->station_type);
     station->module_count = plan->module_count;
     memcpy(station->modules, plan->modules, sizeof station->modules);
+}
+
+/* Makes the controller of a plan in a room of `size` octets, by a header of the version `abi` whose operation has `op_size` octets.
+ * PN_NULL, PN_BAD_ABI, PN_SMALL_ROOM, PN_BAD_PLAN. */
+static inline uint32_t pn_controller_make(void *room, size_t size, uint32_t abi, size_t op_size, const pn_plan *plan, const uint8_t ar[16],
+                                          const uint8_t activity[16])
+{
+    uint32_t answer;
+    if (room == NULL || plan == NULL || ar == NULL || activity == NULL)
+        return PN_NULL;
+    if ((uintptr_t)room % 16 != 0)
+        return PN_SMALL_ROOM;
+    answer = pn_controller_judge(size, abi, op_size, plan, ar);
+    if (answer == PN_OK)
+        pn_controller_put(room, plan, ar, activity);
+    return answer;
 }
 
 /* Makes the controller of a plan, and copies the plan. `ar` names its relation, `activity` its calls: numbers of 16 octets that

@@ -7,5 +7,5 @@ mod serving;
 mod station;
 
 pub use op::Op;
-pub use serving::serve;
-pub use station::{Module, Parameter, Station, Submodule, judge, port_of};
+pub use serving::{place_of, put, serve};
+pub use station::{Module, Parameter, Station, Submodule, are_modules, judge, modules, port_of};

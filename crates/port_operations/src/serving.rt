@@ -129,8 +129,8 @@ fn alarm(port: &mut Port, op: &mut Op, given: &[u8]) -> u32
     }
 }
 
-// The slot and subslot that are asked for, where they are numbers of 16 bits.
-fn place_of(op: &Op) -> Option<(u16, u16)>
+/// The slot and subslot that are asked for, where they are numbers of 16 bits.
+pub fn place_of(op: &Op) -> Option<(u16, u16)>
     ensures { result ≡ place_in op.now.slot op.now.subslot }
 {
     if op.slot < 65536 && op.subslot < 65536 {
@@ -250,8 +250,8 @@ fn sector_number(sector: Sector) -> u32
 
 // ---- what is told
 
-// Octets that an operation is answered with.
-fn put(op: &mut Op, octets: &[u8])
+/// Octets that an operation is answered with.
+pub fn put(op: &mut Op, octets: &[u8])
     requires { length octets.now ≤ 1520 }
     ensures octets { take op.new.length op.new.octets ≡ octets.now }
     ensures length { op.new.length ≡ length octets.now }

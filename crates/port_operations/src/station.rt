@@ -103,8 +103,8 @@ fn is_station(station: &Station) -> bool
         && are_modules(&station.modules[..station.module_count as usize])
 }
 
-// Whether no count of these modules is.
-fn are_modules(modules: &[Module]) -> bool
+/// Whether no count of these modules is more than its list holds.
+pub fn are_modules(modules: &[Module]) -> bool
     ensures { result ≡ list_all is_module modules.now }
 {
     for entry in modules {
@@ -171,7 +171,8 @@ fn real_in(station: &Station) -> Real
     }
 }
 
-fn modules(written: &[Module]) -> ArrayVec<RealModule, 16>
+/// What these modules are.
+pub fn modules(written: &[Module]) -> ArrayVec<RealModule, 16>
     requires few { length written.now ≤ 16 }
     requires small { AllByRecursion IsSmallModule written.now }
     ensures { result ≡ record { items = map module_of written.now } }

@@ -1,7 +1,6 @@
 // What is plugged in a station, as it lies in the memory of the host.
 
-use arrayvec::ArrayVec;
-use pn_values::{ParameterRecord, Real, RealModule, RealSubmodule};
+use pn_values::{Real, RealModule, RealSubmodule};
 
 /// A parameter record that a submodule takes.
 #[derive(Clone, Copy, Default)]
@@ -33,37 +32,7 @@ pub struct Module {
     pub submodules: [Submodule; 4],
 }
 
-/// Whether each number is greater than the one before it.
-fn is_rising(numbers: impl Iterator<Item = u16>) -> bool {
-    let mut least = 0;
-    for number in numbers {
-        if u32::from(number) < least {
-            return false;
-        }
-        least = u32::from(number) + 1;
-    }
-    true
-}
-
 impl Submodule {
-    fn real(&self) -> Option<RealSubmodule> {
-        let count = usize::from(self.parameter_count);
-        let mut parameters = ArrayVec::new();
-        for parameter in self.parameters.get(..count)? {
-            parameters.push(ParameterRecord {
-                index: parameter.index,
-                length: parameter.length,
-            });
-        }
-        Some(RealSubmodule {
-            subslot: self.subslot,
-            ident: self.ident,
-            input: self.input,
-            output: self.output,
-            parameters,
-        })
-    }
-
     fn of(real: &RealSubmodule) -> Submodule {
         let mut made = Submodule {
             ident: real.ident,
@@ -84,22 +53,6 @@ impl Submodule {
 }
 
 impl Module {
-    fn real(&self) -> Option<RealModule> {
-        let listed = self.submodules.get(..usize::from(self.submodule_count))?;
-        if self.slot > 15 || !is_rising(listed.iter().map(|part| part.subslot)) {
-            return None;
-        }
-        let mut submodules = ArrayVec::new();
-        for submodule in listed {
-            submodules.push(submodule.real()?);
-        }
-        Some(RealModule {
-            slot: self.slot,
-            ident: self.ident,
-            submodules,
-        })
-    }
-
     fn of(real: &RealModule) -> Module {
         let mut made = Module {
             ident: real.ident,
@@ -114,19 +67,7 @@ impl Module {
     }
 }
 
-/// What is plugged: at least one module, in the order of slots and subslots, or nothing where a list is too long or out of order.
-pub fn real_of(modules: &[Module]) -> Option<Real> {
-    if modules.is_empty() || modules.len() > 16 || !is_rising(modules.iter().map(|module| module.slot)) {
-        return None;
-    }
-    let mut listed = ArrayVec::new();
-    for module in modules {
-        listed.push(module.real()?);
-    }
-    Some(Real { modules: listed })
-}
-
-/// The same for the host.
+/// What is plugged, for the host: how many modules.
 pub fn put_real(real: &Real, modules: &mut [Module; 16]) -> u32 {
     for (place, module) in modules.iter_mut().zip(&real.modules) {
         *place = Module::of(module);

@@ -1,9 +1,8 @@
 // The plan of a station, as it lies in the memory of the host.
 
-use crate::modules::{Module, put_real, real_of};
-use arrayvec::ArrayVec;
-use plans::{Controller, Parts, PlanRecord, Station, Times};
-use pn_values::{IpSuite, Mac, StationName};
+use crate::modules::{Module, put_real};
+use plans::PlanRecord;
+use pn_values::StationName;
 
 /// A parameter record that is written at start-up, of at most 64 bytes.
 #[derive(Clone, Copy)]
@@ -41,15 +40,6 @@ pub struct Plan {
     pub records: [Record; 32],
 }
 
-/// The first bytes of a list, as many as count.
-fn front(bytes: &[u8], length: u32) -> Option<&[u8]> {
-    bytes.get(..usize::try_from(length).ok()?)
-}
-
-fn name_of(bytes: &[u8], length: u32) -> Option<StationName> {
-    station_names::check(front(bytes, length)?).ok()
-}
-
 /// Copies a name; how long it is.
 fn put_name(name: &StationName, place: &mut [u8; 240]) -> u32 {
     let bytes = name.as_bytes();
@@ -65,18 +55,6 @@ impl Record {
         length: 0,
         octets: [0; 64],
     };
-
-    fn planned(&self) -> Option<PlanRecord> {
-        let mut data = ArrayVec::new();
-        data.try_extend_from_slice(self.octets.get(..usize::from(self.length))?)
-            .ok()?;
-        Some(PlanRecord {
-            slot: self.slot,
-            subslot: self.subslot,
-            index: self.index,
-            data,
-        })
-    }
 
     fn of(planned: &PlanRecord) -> Record {
         let mut made = Record {
@@ -127,53 +105,6 @@ impl Plan {
         }; 16],
         records: [Record::NONE; 32],
     };
-
-    /// What the plan is made of, each part in its range, or nothing where one is not.
-    pub fn parts(&self) -> Option<Parts> {
-        let times = self.times()?;
-        let name = name_of(&self.name, self.name_length)?;
-        let controller_name = name_of(&self.controller_name, self.controller_name_length)?;
-        if self.controller_mac[0] % 2 != 0 {
-            return None;
-        }
-        Some(Parts {
-            station: Station {
-                name,
-                suite: IpSuite::new(self.address, self.mask, self.gateway)?,
-                vendor_id: self.vendor_id,
-                device_id: self.device_id,
-            },
-            controller: Controller {
-                name: controller_name,
-                mac: Mac {
-                    octets: self.controller_mac,
-                },
-                address: self.controller_address,
-            },
-            times,
-            real: real_of(self.modules.get(..usize::try_from(self.module_count).ok()?)?)?,
-            records: self.planned_records()?,
-        })
-    }
-
-    fn times(&self) -> Option<Times> {
-        let is_kept = (1..=128).contains(&self.send_clock_factor)
-            && (1..=512).contains(&self.reduction_ratio)
-            && (1..=7680).contains(&self.data_hold_factor);
-        is_kept.then_some(Times {
-            send_clock_factor: self.send_clock_factor,
-            reduction_ratio: self.reduction_ratio,
-            data_hold_factor: self.data_hold_factor,
-        })
-    }
-
-    fn planned_records(&self) -> Option<ArrayVec<PlanRecord, 32>> {
-        let mut records = ArrayVec::new();
-        for record in self.records.get(..usize::try_from(self.record_count).ok()?)? {
-            records.push(record.planned()?);
-        }
-        Some(records)
-    }
 
     /// Fills this in with a plan.
     pub fn put(&mut self, plan: &plans::Plan) {

@@ -1,0 +1,12 @@
+-- The controller of what is written down.
+use Rattle.std.proofs.Common.{◌∙◌}
+use Rattle.controller_core.specs.Machine.{fresh}
+use Rattle.controller_operations.specs.Plans.{parts_of}
+use Rattle.controller_operations.specs.State.{opened}
+use Rattle.controller_operations.proofs.Ranges.{plan_is}
+use Rattle.controller_operations.proofs.plan.port_of.Goals as goal
+
+pub returns : goal.returns
+returns c =
+    let plan = plan_is (parts_of c.args.written.now) c.in-Ok.plan c.in-Ok.ensures in
+    c.new.ensures ∙ (λ i. opened (fresh (plan i) (c.from_bytes.ensures i) (c.from_bytes-in-Ok.ensures i)))

@@ -1,0 +1,4 @@
+pub mod Plans
+pub mod Serves
+pub mod State
+pub mod Steps

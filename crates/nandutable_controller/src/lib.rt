@@ -1,0 +1,56 @@
+//! The controller of a station behind three calls. `include/nandutable_controller.h` says how they are used.
+//!
+//! Each call is proved down to its raw pointer: what lies in the room before it, and what lies there behind it.
+#![tactic(auto)]
+
+ghost use Rattle.std.specs.Prelude.{◌≡◌, true};
+ghost use Rattle.std.specs.Borrow.{full_share};
+ghost use base.Logic.{ex};
+ghost use types.Logic.{sem};
+ghost use denote.RawPtr.{lies_at, room_at};
+ghost use Rattle.controller_core.specs.Machine.{fresh};
+ghost use Rattle.controller_operations.specs.State.{State, opened};
+ghost use Rattle.controller_operations.specs.contracts.port.Port.{the_row as Row};
+ghost use Rattle.controller_operations.specs.Plans.{is_plan, parts_of, why_not_made};
+ghost use Rattle.controller_operations.specs.Serves.{Serves, operation_of};
+
+use controller_operations::{Port, WrittenPlan, judge, port_of, serve};
+use port_operations::Op;
+
+/// Why no controller can be made of this plan and this number of its relation in a room of so many octets, or 0.
+#[unsafe(no_mangle)]
+pub extern "C" fn pn_controller_judge(
+    size: usize,
+    abi: u32,
+    op_size: usize,
+    plan: &WrittenPlan,
+    ar: &[u8; 16],
+) -> u32
+    ensures { result ≡ why_not_made size abi op_size plan.now ar.now }
+{
+    judge(size, abi, op_size, plan, ar)
+}
+
+/// Makes the controller of a plan in the room, of a plan that `pn_controller_judge` answered 0 for.
+#[unsafe(no_mangle)]
+pub unsafe extern "C" fn pn_controller_put(
+    room: *mut u8,
+    plan: &WrittenPlan,
+    ar: &[u8; 16],
+    activity: &[u8; 16],
+)
+    requires* { sem 𝓛 (room_at Row room) ∗ ⌜ is_plan plan.now ≡ true ⌝ }
+    ensures* { ex 𝓤 (λ (port : State). sem 𝓛 (lies_at Row full_share room port) ∗ ⌜ port ≡ opened (fresh (parts_of plan.now) ar.now activity.now) ⌝) }
+{
+    unsafe { std::ptr::write(room as *mut Port, port_of(plan, ar, activity)) };
+}
+
+/// Carries one operation out on the controller in the room.
+#[unsafe(no_mangle)]
+pub unsafe extern "C" fn pn_controller_step(room: *mut u8, op: &mut Op, given: &[u8]) -> u32
+    ghost port: { State }
+    requires* { sem 𝓛 (lies_at Row full_share room port) }
+    ensures* { ex 𝓤 (λ (new : State). sem 𝓛 (lies_at Row full_share room new) ∗ ⌜ Serves (operation_of op.old.what) port op.old given.now result new op.new ⌝) }
+{
+    serve(unsafe { &mut *(room as *mut Port) }, op, given)
+}
