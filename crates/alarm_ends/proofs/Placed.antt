@@ -44,7 +44,8 @@ use Rattle.controller_core.specs.Connect.{found_in, is_whole, nothing}
 use Rattle.controller_core.specs.Machine.{Turn, acks_in, addressed, answered, behind_data, brought, called, come, connected, decided, done, first, flow_later, flowed, found, given, is_again, judged, later, noticed, outputs_of, over, readied, ready_in, related_by, released, requests_of, responded, standing, stays, stopped, taken, turn_of, turned, where_due, writing}
 use Rattle.controller_core.specs.State.{Live}
 use Rattle.sending_laws.specs.Sized.{Found}
-use Rattle.alarm_ends.specs.Sized.{IsChosenWell, IsFit}
+use Rattle.alarm_ends.specs.Sized.{IsChosenWell}
+use Rattle.alarm_ends.proofs.Told.{IsWell}
 use Rattle.alarm_ends.proofs.Lists.{each_behind}
 use Rattle.alarm_ends.proofs.Turns.{frame_route}
 use Rattle.alarm_ends.proofs.Messages.{IsAimed}
@@ -61,7 +62,7 @@ pub record IsPlaced (mac : Mac) (live : Live) : Type 0 where
 -- this station alone answers it and calls it, and chooses no FrameID of alarms for outputs
 abbrev pub IsOf : Setup → Live → Mac → Heard → Type 0
 IsOf setup live mac (Answers source answer) = source ≡ mac
-IsOf setup live mac (Responds response) = IsFit setup live (Responds response)
+IsOf setup live mac (Responds response) = IsWell setup (Responds response)
 IsOf setup live mac (Calls caller call) = caller.mac ≡ mac
 IsOf setup live mac Nothing = Unit {0}
 IsOf setup live mac (Comes source frame_id body) = Unit {0}
@@ -167,12 +168,12 @@ module _ (setup : Setup) (mac : Mac) (apart : mac ≡ setup.plan.controller.mac 
   decided_placed live response (asks.Release sequence) now well p =
       stays_placed (record live { asked = None }) (record { plain = p.plain; partner = p.partner; asking = λ e. absurd cc; giving = p.giving; addressing = λ e. absurd cc })
 
-  responded_placed : (live : Live) (response : Response) (asked : Option Request) → live.asked ≡ asked → IsFit setup live (Responds response) → IsPlaced mac live
+  responded_placed : (live : Live) (response : Response) (asked : Option Request) → live.asked ≡ asked → IsWell setup (Responds response) → IsPlaced mac live
       → PlacedTurn (responded setup live response asked)
   responded_placed live response (Some request) now fit p =
       if_so (is_answer setup request response.header) _ _
       (λ answers. decided_placed live response request now
-      (λ connects. fit (now ∙ ap (λ (one : Request). Some one) connects) (ap (λ (one : Request). is_answer setup one response.header) (sym connects) ∙ answers)) p)
+      (λ connects. fit (ap (λ (one : Request). is_answer setup one response.header) (sym connects) ∙ answers)) p)
       (λ other. stays_placed live p)
   responded_placed live response None now fit p = stays_placed live p
 
