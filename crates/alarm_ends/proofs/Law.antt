@@ -73,13 +73,13 @@ use Rattle.alarm_ends.proofs.Follows.{Follows, IsEventIn, IsIn, controller_follo
 
 -- ---- what a controller hears of its device
 
-of_device : (setup : Setup) (live : ControllerLive) (mac : Mac) (heard : controller.Heard) → IsGood mac heard → IsWell setup heard → IsOf setup live mac heard
-of_device setup live mac (controller.Answers source answer) good fit = good.0
-of_device setup live mac (controller.Responds response) good fit = fit
-of_device setup live mac (controller.Calls caller call) good fit = good.0
-of_device setup live mac (controller.Alarms source header told) good fit = tt
-of_device setup live mac controller.Nothing good fit = tt
-of_device setup live mac (controller.Cyclic source frame_id body) good fit = tt
+of_device : (setup : Setup) (mac : Mac) (heard : controller.Heard) → IsGood mac heard → IsWell setup heard → IsOf setup mac heard
+of_device setup mac (controller.Answers source answer) good fit = good.0
+of_device setup mac (controller.Responds response) good fit = fit
+of_device setup mac (controller.Calls caller call) good fit = good.0
+of_device setup mac (controller.Alarms source header told) good fit = tt
+of_device setup mac controller.Nothing good fit = tt
+of_device setup mac (controller.Cyclic source frame_id body) good fit = tt
 
 -- what becomes of a controller with it has its sizes
 module _ (goes_sized : (setup : Setup) (live : ControllerLive) (one : Event) → IsSetup setup → IsLive live → IsSizedEvent setup one → IsRight setup (turn_of setup live one))
@@ -91,7 +91,7 @@ module _ (goes_sized : (setup : Setup) (live : ControllerLive) (one : Event) →
 
   heard_right : (octets : List ℕ) (heard : controller.Heard) → heard_by setup.plan.controller octets ≡ heard → IsGood mac heard → IsWell setup heard → IsRight setup (turned setup live heard)
   heard_right octets (controller.Answers source answer) e is fit = right_by octets (controller.Answers source answer) e is.1
-  heard_right octets (controller.Responds response) e is fit = responded_right setup good live response live.asked refl lives fit
+  heard_right octets (controller.Responds response) e is fit = responded_right setup good live response live.asked lives fit
   heard_right octets (controller.Calls caller call) e is fit = right_by octets (controller.Calls caller call) e (is.1, is.2, is.3)
   heard_right octets (controller.Alarms source header told) e is fit = right_by octets (controller.Alarms source header told) e is
   heard_right octets controller.Nothing e is fit = right_by octets controller.Nothing e tt
@@ -248,7 +248,7 @@ module _ {F : Type 0} where
 
     controller_on : (one : Event) (now : List AlarmNotification) → IsEventIn setup station live before.controller.live before.sent raised taken follows one
         → taken_at setup station live before.controller.live before.sent raised taken follows one ≡ now
-        → IsMeantAtController before one → (IsRight setup (turn_of setup before.controller.live one) × IsEventOf setup station.identity.mac follows.apart before.controller.live one) → after ≡ at_controller before one → FollowsAt after raised (taken ++ now)
+        → IsMeantAtController before one → (IsRight setup (turn_of setup before.controller.live one) × IsEventOf setup station.identity.mac follows.apart one) → after ≡ at_controller before one → FollowsAt after raised (taken ++ now)
     controller_on one now is takes meant fit made =
         let turn = turn_of setup before.controller.live one in
         let sized = fit.0 in
@@ -271,7 +271,7 @@ module _ {F : Type 0} where
         controller_on (event.Frame (record { items = octets })) (taken_by before.controller.live (heard_by setup.plan.controller octets)) is.noted
         (ap (λ (l : ControllerLive). taken_by l (heard_by setup.plan.controller octets)) follows.same) meant (
           heard_right so.goes_sized setup before.controller.live station.identity.mac follows.good follows.lives octets (heard_by setup.plan.controller octets) refl is.good is.well,
-          of_device setup before.controller.live station.identity.mac (heard_by setup.plan.controller octets) is.good is.well,
+          of_device setup station.identity.mac (heard_by setup.plan.controller octets) is.good is.well,
         ) comes
 
     delivered_to_controller : (octets : Option (List ℕ))

@@ -60,13 +60,13 @@ pub record IsPlaced (mac : Mac) (live : Live) : Type 0 where
   pub addressing : live.asked ≡ Some asks.Address → live.device ≡ mac
 
 -- this station alone answers it and calls it, and chooses no FrameID of alarms for outputs
-abbrev pub IsOf : Setup → Live → Mac → Heard → Type 0
-IsOf setup live mac (Answers source answer) = source ≡ mac
-IsOf setup live mac (Responds response) = IsWell setup (Responds response)
-IsOf setup live mac (Calls caller call) = caller.mac ≡ mac
-IsOf setup live mac Nothing = Unit {0}
-IsOf setup live mac (Comes source frame_id body) = Unit {0}
-IsOf setup live mac (Alarms source header told) = Unit {0}
+abbrev pub IsOf : Setup → Mac → Heard → Type 0
+IsOf setup mac (Answers source answer) = source ≡ mac
+IsOf setup mac (Responds response) = IsWell setup (Responds response)
+IsOf setup mac (Calls caller call) = caller.mac ≡ mac
+IsOf setup mac Nothing = Unit {0}
+IsOf setup mac (Comes source frame_id body) = Unit {0}
+IsOf setup mac (Alarms source header told) = Unit {0}
 
 module _ (setup : Setup) (mac : Mac) (apart : mac ≡ setup.plan.controller.mac → ⊥) where
   pub record PlacedTurn (turn : Turn) : Type 0 where
@@ -244,7 +244,7 @@ module _ (setup : Setup) (mac : Mac) (apart : mac ≡ setup.plan.controller.mac 
 
   -- ---- what is heard
 
-  heard_placed : (live : Live) (heard : Heard) → IsOf setup live mac heard → IsPlaced mac live → PlacedTurn (turned setup live heard)
+  heard_placed : (live : Live) (heard : Heard) → IsOf setup mac heard → IsPlaced mac live → PlacedTurn (turned setup live heard)
   heard_placed live Nothing is p = stays_placed live p
   heard_placed live (Answers source answer) is p = answered_placed live source answer live.phase refl is p
   heard_placed live (Responds response) is p = responded_placed live response live.asked refl is p
@@ -301,13 +301,13 @@ module _ (setup : Setup) (mac : Mac) (apart : mac ≡ setup.plan.controller.mac 
 
   -- ---- events
 
-  abbrev pub IsEventOf : Live → Event → Type 0
-  IsEventOf live (event.Frame bytes) = IsOf setup live mac (heard_of setup.plan.controller bytes.items)
-  IsEventOf live event.Tick = Unit {0}
-  IsEventOf live (event.Give slot subslot value) = Unit {0}
-  IsEventOf live event.Stop = Unit {0}
+  abbrev pub IsEventOf : Event → Type 0
+  IsEventOf (event.Frame bytes) = IsOf setup mac (heard_of setup.plan.controller bytes.items)
+  IsEventOf event.Tick = Unit {0}
+  IsEventOf (event.Give slot subslot value) = Unit {0}
+  IsEventOf event.Stop = Unit {0}
 
-  pub event_placed : (live : Live) (one : Event) → IsEventOf live one → IsPlaced mac live → PlacedTurn (turn_of setup live one)
+  pub event_placed : (live : Live) (one : Event) → IsEventOf one → IsPlaced mac live → PlacedTurn (turn_of setup live one)
   event_placed live (event.Frame bytes) is p = heard_placed live (heard_of setup.plan.controller bytes.items) is p
   event_placed live event.Tick is p = ticked_placed live live.stands refl p
   event_placed live (event.Give slot subslot value) is p =

@@ -127,9 +127,9 @@ module _ (setup : Setup) (good : IsSetup setup) where
   decided_right live response asks.PrmEnd is well = judged_right live response asks.PrmEnd is well
   decided_right live response (asks.Release sequence) is well = stays_right _ (unasked live live.phase is)
 
-  pub responded_right : (live : Live) (response : Response) (asked : Option Request) → live.asked ≡ asked → IsLive live → IsWell setup (Responds response) → IsRight setup (responded setup live response asked)
-  responded_right live response (Some request) now is fit =
+  pub responded_right : (live : Live) (response : Response) (asked : Option Request) → IsLive live → IsWell setup (Responds response) → IsRight setup (responded setup live response asked)
+  responded_right live response (Some request) is fit =
       either (is_answer setup request response.header) _ _
       (λ answers. decided_right live response request is (λ connects. fit (ap (λ (one : Request). is_answer setup one response.header) (sym connects) ∙ answers)))
       (λ other. stays_right live is)
-  responded_right live response None now is fit = stays_right live is
+  responded_right live response None is fit = stays_right live is

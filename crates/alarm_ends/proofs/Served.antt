@@ -1,5 +1,5 @@
 -- What a device answers to the first call of its controller: the Connect alone may be done, and then its blocks choose well.
-use Rattle.std.proofs.Common.{◌≡◌, ◌+◌, ◌-◌, ℕ, suc, Bool, true, false, cond, List, [], ◌∷◌, Option, Some, None, option_map, Result, Ok, Err, refl, sym, ap, subst, ◌∙◌, arith}
+use Rattle.std.proofs.Common.{◌≡◌, ◌+◌, ℕ, suc, Bool, true, false, cond, List, [], ◌∷◌, Option, Some, None, Result, Ok, Err, refl, sym, ap, subst, ◌∙◌, arith}
 use Rattle.std.specs.List.{AllByRecursion}
 use Rattle.std.proofs.lemmas.Bool.{false≢true}
 use Rattle.wire.specs.Codec.{◌>>=◌}
@@ -18,7 +18,6 @@ use Rattle.pnio_status.specs.declared.operation.Operation.TheVariants as operati
 use Rattle.pnio_status.specs.Operation.{operation_of}
 use Rattle.connect_requests.specs.Request.{Request}
 use Rattle.record_blocks.specs.declared.write_record.IodWriteReq.{IodWriteReq}
-use Rattle.record_writes.specs.declared.taken.TakenRecord.{TakenRecord}
 use Rattle.record_writes.specs.declared.write.Effect.{Effect}
 use Rattle.record_writes.specs.declared.write.Effect.TheVariants.{Stores, Keeps}
 use Rattle.record_writes.specs.declared.write.Write.{Write}

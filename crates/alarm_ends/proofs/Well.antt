@@ -1,10 +1,9 @@
 -- What a controller hears of its device chooses well, where it answers the Connect, and the calls that a device hears have their sizes.
-use Rattle.std.proofs.Common.{◌≡◌, ◌⊎◌, inl, inr, ◌==◌, ◌&&◌, ◌<◌, ℕ, Bool, true, false, cond, List, [], ◌∷◌, length, Option, Some, None, refl, sym, ap, subst, ◌∙◌, arith}
+use Rattle.std.proofs.Common.{◌≡◌, ◌⊎◌, inl, inr, ◌==◌, ◌&&◌, ◌<◌, ℕ, Bool, true, false, cond, List, [], ◌∷◌, length, Option, Some, None, refl, sym, ap, subst, ◌∙◌}
 use Rattle.std.specs.Prelude.{nat_eq, nat_le}
 use Rattle.std.specs.List.{AllByRecursion}
 use Rattle.std.specs.Cmp.Lexicographic.{pointwise}
 use Rattle.std.proofs.lemmas.Bool.{eqb-true, leb-false, leb-true}
-use Rattle.pn_values.specs.declared.identity.Identity.{Identity}
 use Rattle.pn_values.specs.declared.mac.Mac.{Mac}
 use Rattle.frame_codec.specs.declared.udp.Caller.{Caller}
 use Rattle.frame_laws.specs.Sendable.{IsMac}
@@ -29,7 +28,7 @@ use Rattle.controller_frames.specs.Requests.{call_for}
 use Rattle.controller_frames.specs.Sent as said
 use Rattle.controller_frames.specs.Sent.{call_frame, calls_at}
 use Rattle.controller_core.specs.Answers.{is_answer}
-use Rattle.hearing_laws.specs.Hearing.{comes, mine_told, own_told}
+use Rattle.hearing_laws.specs.Hearing.{comes}
 use Rattle.hearing_laws.specs.Stations.{IsCalled, IsCaller, IsNumbered, IsSetup}
 use Rattle.both_ends.specs.Small as small
 use Rattle.both_ends.specs.Small.{ToController, ToDevice}
