@@ -8,7 +8,9 @@ use Rattle.pn_values.specs.declared.identity.Identity.{Identity}
 use Rattle.pn_values.specs.declared.mac.Mac.{Mac}
 use Rattle.record_blocks.specs.declared.alarm_ack.AlarmAck.{AlarmAck}
 use Rattle.record_blocks.specs.declared.alarm_notification.AlarmNotification.{AlarmNotification}
-use Rattle.rpc_core.specs.Cache.{Kept as Answer, again, kept_of, new, old, told_by}
+use Rattle.frame_codec.specs.declared.udp.Caller.{Caller}
+use Rattle.rpc_core.specs.Cache.{Kept as Answer, again, kept_of, looked, new, old, told_by}
+use Rattle.rpc_core.specs.Call.{Asked as Call}
 use Rattle.pnio_status.specs.declared.operation.Operation.{Operation}
 use Rattle.pnio_status.specs.declared.operation.Operation.TheVariants as operation
 use Rattle.connect_requests.specs.Request.{Request}
@@ -27,7 +29,7 @@ use Rattle.relations.specs.Connect.{connect_of}
 use Rattle.relations.specs.Link.{Link}
 use Rattle.alarm_exchange.specs.Line.{more_taken, with_come}
 use Rattle.device_frames.specs.declared.event.Event.TheVariants.{Frame}
-use Rattle.device_frames.specs.Heard.{Heard, heard_of}
+use Rattle.device_frames.specs.Heard.{Heard, Told, Calls, heard_of}
 use Rattle.device_frames.specs.Sent.{Sent, IdentifyAnswer, GetAnswer, SetAnswer, ArpReply, CallAnswer, Again, ReadyCall, Ends, Exchanges, bytes_of}
 use Rattle.device_core.specs.State.{Station, Live}
 use Rattle.device_core.specs.Machine.{heard_step, judged_step}
@@ -49,7 +51,7 @@ use Rattle.device_ends.specs.Owed.{IsOfKept, IsOwed}
 use Rattle.device_ends.specs.Small.{IsHeardAs, IsPlanned, IsPlannedAs, IsPlannedCall, heard_as, kept_in, link_of, small_of}
 use Rattle.device_ends.specs.Small as ends
 use Rattle.world_ends.specs.View.{IsSaidAs, rules_of}
-use Rattle.alarm_ends.proofs.Told.{IsGood, IsNotedAs, IsNotedBy, IsToldAs, noted_at, noted_by, noted_in, noted_of, reply_of, told_in, told_of}
+use Rattle.alarm_ends.proofs.Told.{IsCallIn, IsCalledAs, IsGood, IsNotedAs, IsNotedBy, IsToldAs, IsWell, IsWellSent, noted_at, noted_by, noted_in, noted_of, reply_of, told_in, told_of}
 use Rattle.alarm_ends.specs.Over.{taken_by, taken_of}
 use Rattle.alarm_ends.proofs.Lists.{Extends, each_behind, each_on, more_extends, none_some, some_is, unchanged}
 use Rattle.hearing_laws.specs.Stations.{IsSetup}
@@ -63,12 +65,15 @@ use Rattle.alarm_ends.proofs.Tied.{Goes, IsFresh, IsHeard, IsSaid, IsTied, heard
 
 -- ---- a frame
 
--- What either end hears of alarms in it was said; a Connect in it is the first call; and what the controller hears in it is of its device.
+-- What either end hears of alarms in it was said; a Connect in it is the first call, and each call has its sizes; what the controller hears
+-- in it is of its device, and a positive answer to the Connect chooses well.
 pub record IsIn (setup : Setup) (identity : Identity) (r : Relation) (frame : List ℕ) : Type 0 where
   pub noted : IsSaid r.alarms.pdus r.acks (noted_of setup frame)
   pub told : IsHeard r.told (told_of identity frame)
   pub first : (sequence : ℕ) → heard_as (heard_of identity (Frame (record { items = frame }))) ≡ small.Call sequence small.Connects → sequence ≡ 0
+  pub called : IsCallIn (heard_of identity (Frame (record { items = frame })))
   pub good : IsGood identity.mac (heard_by setup.plan.controller frame)
+  pub well : IsWell setup (heard_by setup.plan.controller frame)
 
 in_stays : (setup : Setup) (identity : Identity) (r next : Relation) (frame : List ℕ) → Extends r.alarms.pdus next.alarms.pdus → Extends r.acks next.acks → Extends r.told next.told
     → IsIn setup identity r frame → IsIn setup identity next frame
@@ -76,7 +81,9 @@ in_stays setup identity r next frame p a t is = record {
   noted = said_stays r.alarms.pdus next.alarms.pdus r.acks next.acks (noted_of setup frame) p a is.noted;
   told = heard_stays r.told next.told (told_of identity frame) t is.told;
   first = is.first;
+  called = is.called;
   good = is.good;
+  well = is.well;
 }
 
 -- ---- both ends
@@ -182,6 +189,16 @@ module _ (setup : Setup) (station : Station) (live : Live) (controlling : Contro
     unlinked None e none = e
     unlinked (Some link) e none = absurd (follows.linked (link_of link) (ap (λ (l : Option Link). option_map link_of l) e) none)
 
+    -- where a call of number 0 is new there is no relation
+    pub unlinked_new : (caller : Caller) (address : List ℕ) (call : Call) → heard ≡ Told caller address (Calls call) → call.header.sequence ≡ 0
+        → looked call.header.activity call.header.sequence live.rest.calls ≡ new → live.rest.link ≡ None
+    unlinked_new caller address call is zero_is fresh =
+        let plan : IsPlannedCall rules setup.activity station.real call = subst (λ (h : Heard). IsPlanned rules setup.activity station.real h) is planned in
+        let told : told_by 0 (kept_of setup.activity live.rest.calls) ≡ new =
+        ap (λ (n : ℕ). told_by n (kept_of setup.activity live.rest.calls)) (sym zero_is)
+        ∙ (ap (λ (a : List ℕ). told_by call.header.sequence (kept_of a live.rest.calls)) (sym plan.own) ∙ fresh) in
+        unlinked live.rest.link refl (ap (λ (k : Option Answer). option_map kept_in k) (new_none (kept_of setup.activity live.rest.calls) told))
+
     -- a relation that is made now is the first one, and that of the plan
     pub makes_planned : (after : Option Link) (messages : List Sent) (makes : Makes live.rest.calls live.rest.link heard after messages) → (kept_at setup live ≡ None) × (makes.request ≡ rules.request)
     makes_planned after messages makes =
@@ -208,6 +225,7 @@ module _ (setup : Setup) (station : Station) (live : Live) (controlling : Contro
         (owed : AllByRecursion (IsOwed heard live) (heard_step outcomes station live heard).sent)
         (meant : AllByRecursion (IsHeardAs rules station.identity) (heard_step outcomes station live heard).sent)
         (noted : AllByRecursion (IsNotedAs setup station.identity) (heard_step outcomes station live heard).sent)
+        (well : AllByRecursion (IsWellSent setup station.identity) (heard_step outcomes station live heard).sent)
         (goes : Goes setup follows.relation live.rest.link (heard_step outcomes station live heard).live.rest.link (heard_step outcomes station live heard).sent now)
         (sized : AreSizedIn (request_for setup.plan setup.ar) (heard_step outcomes station live heard).live.rest.link) where
       abbrev r : Relation
@@ -228,12 +246,14 @@ module _ (setup : Setup) (station : Station) (live : Live) (controlling : Contro
           (stays owed_so.kept.frame (follows.again (kept_in owed_so.kept) (ap (λ (k : Option Answer). option_map kept_in k) kept)))
 
       in_by : (frame : List ℕ) (says : Option (Notice AlarmNotification)) → IsNotedBy setup station.identity frame says → IsSaid next.alarms.pdus next.acks says
-          → rules.to_device frame ≡ small.Idle → IsIn setup station.identity next frame
-      in_by frame says heard_so is idle_is = record {
+          → rules.to_device frame ≡ small.Idle → IsWell setup (heard_by setup.plan.controller frame) → IsIn setup station.identity next frame
+      in_by frame says heard_so is idle_is well_so = record {
         noted = as_said heard_so.0;
         told = subst (λ (o : Option (Notice AlarmAck)). IsHeard next.told o) (sym heard_so.1) tt;
         first = λ sequence e. absurd (idle_call sequence (sym idle_is ∙ e));
+        called = λ caller address call is_call other. absurd (other idle_is);
         good = heard_so.2;
+        well = well_so;
       }
         where
           as_said : (noted_of setup frame ≡ says) ⊎ (noted_of setup frame ≡ None) → IsSaid next.alarms.pdus next.acks (noted_of setup frame)
@@ -244,26 +264,26 @@ module _ (setup : Setup) (station : Station) (live : Live) (controlling : Contro
           idle_call sequence e = absurd cc
 
       message_in : (message : Sent) → IsOwed heard live message → IsHeardAs rules station.identity message → IsNotedAs setup station.identity message
-          → IsSaid next.alarms.pdus next.acks (noted_in message) → IsIn setup station.identity next (bytes_of station.identity message)
-      message_in (Again frame) owed_so heard_so noted_so is = again_in frame owed_so
-      message_in (Exchanges route frame) owed_so heard_so noted_so is = in_by _ (noted_by frame) noted_so is heard_so.0
-      message_in (Ends farewell) owed_so heard_so noted_so is = in_by _ (Some notice.Abort) noted_so is heard_so.0
-      message_in (IdentifyAnswer asker running xid) owed_so heard_so noted_so is = in_by _ None noted_so is heard_so.0
-      message_in (GetAnswer asker running request) owed_so heard_so noted_so is = in_by _ None noted_so is heard_so.0
-      message_in (SetAnswer asker request answers) owed_so heard_so noted_so is = in_by _ None noted_so is heard_so.0
-      message_in (ArpReply asker address target) owed_so heard_so noted_so is = in_by _ None noted_so is heard_so.0
-      message_in (CallAnswer caller address answer) owed_so heard_so noted_so is = in_by _ None noted_so is heard_so.0
-      message_in (ReadyCall address ready) owed_so heard_so noted_so is = in_by _ None noted_so is heard_so.0
+          → IsWellSent setup station.identity message → IsSaid next.alarms.pdus next.acks (noted_in message) → IsIn setup station.identity next (bytes_of station.identity message)
+      message_in (Again frame) owed_so heard_so noted_so well_so is = again_in frame owed_so
+      message_in (Exchanges route frame) owed_so heard_so noted_so well_so is = in_by _ (noted_by frame) noted_so is heard_so.0 well_so
+      message_in (Ends farewell) owed_so heard_so noted_so well_so is = in_by _ (Some notice.Abort) noted_so is heard_so.0 well_so
+      message_in (IdentifyAnswer asker running xid) owed_so heard_so noted_so well_so is = in_by _ None noted_so is heard_so.0 well_so
+      message_in (GetAnswer asker running request) owed_so heard_so noted_so well_so is = in_by _ None noted_so is heard_so.0 well_so
+      message_in (SetAnswer asker request answers) owed_so heard_so noted_so well_so is = in_by _ None noted_so is heard_so.0 well_so
+      message_in (ArpReply asker address target) owed_so heard_so noted_so well_so is = in_by _ None noted_so is heard_so.0 well_so
+      message_in (CallAnswer caller address answer) owed_so heard_so noted_so well_so is = in_by _ None noted_so is heard_so.0 well_so
+      message_in (ReadyCall address ready) owed_so heard_so noted_so well_so is = in_by _ None noted_so is heard_so.0 well_so
 
       messages_in : (messages : List Sent) → AllByRecursion (IsOwed heard live) messages → AllByRecursion (IsHeardAs rules station.identity) messages → AllByRecursion (IsNotedAs setup station.identity) messages
-          → AllByRecursion (λ message. IsSaid next.alarms.pdus next.acks (noted_in message)) messages → AllByRecursion (IsIn setup station.identity next) (map (bytes_of station.identity) messages)
-      messages_in [] owed_so heard_so noted_so is = tt
-      messages_in (message ∷ messages) owed_so heard_so noted_so is =
-          (message_in message owed_so.0 heard_so.0 noted_so.0 is.0, messages_in messages owed_so.1 heard_so.1 noted_so.1 is.1)
+          → AllByRecursion (IsWellSent setup station.identity) messages → AllByRecursion (λ message. IsSaid next.alarms.pdus next.acks (noted_in message)) messages → AllByRecursion (IsIn setup station.identity next) (map (bytes_of station.identity) messages)
+      messages_in [] owed_so heard_so noted_so well_so is = tt
+      messages_in (message ∷ messages) owed_so heard_so noted_so well_so is =
+          (message_in message owed_so.0 heard_so.0 noted_so.0 well_so.0 is.0, messages_in messages owed_so.1 heard_so.1 noted_so.1 well_so.1 is.1)
 
       frames_in : AllByRecursion (IsIn setup station.identity next) (heard_step outcomes station live heard).frames
       unfolding heard_step judged_step
-      frames_in = messages_in (heard_step outcomes station live heard).sent owed meant noted goes.said
+      frames_in = messages_in (heard_step outcomes station live heard).sent owed meant noted well goes.said
 
       pub device_follows : Follows setup station (heard_step outcomes station live heard).live controlling (sent ++ (heard_step outcomes station live heard).frames) (raised ++ now) taken
       device_follows =
@@ -439,12 +459,14 @@ module _ (setup : Setup) (station : Station) (live : Live) (controlling : Contro
   first_said (said.Ends route header reason) sequence e = absurd cc
 
   said_in : (next : Relation) (message : said.Sent) → (k : ℕ) × (slice_get next.told k ≡ Some message) → IsSaidAs setup station message → IsToldAs setup station.identity message
-      → IsIn setup station.identity next (said.bytes_of setup message)
-  said_in next message there meant told = record {
+      → IsCalledAs setup station.identity message → IsIn setup station.identity next (said.bytes_of setup message)
+  said_in next message there meant told called = record {
     noted = subst (λ (h : controller.Heard). IsSaid next.alarms.pdus next.acks (noted_at h)) (sym told.1) tt;
     told = as_told told.0;
     first = λ sequence e. as_first sequence e meant.1;
+    called = called;
     good = subst (λ (h : controller.Heard). IsGood station.identity.mac h) (sym told.1) tt;
+    well = subst (λ (h : controller.Heard). IsWell setup h) (sym told.1) tt;
   }
     where
       as_told : (told_of station.identity (said.bytes_of setup message) ≡ told_in message) ⊎ (told_of station.identity (said.bytes_of setup message) ≡ None)
@@ -462,13 +484,14 @@ module _ (setup : Setup) (station : Station) (live : Live) (controlling : Contro
 
   all_said_in : (then : Relation) (messages : List said.Sent) → AllByRecursion (λ message. (k : ℕ) × (slice_get then.told k ≡ Some message)) messages
       → AllByRecursion (IsSaidAs setup station) messages → AllByRecursion (IsToldAs setup station.identity) messages
-      → AllByRecursion (IsIn setup station.identity then) (map (said.bytes_of setup) messages)
-  all_said_in then [] there meant told = tt
-  all_said_in then (message ∷ messages) there meant told = (said_in then message there.0 meant.0 told.0, all_said_in then messages there.1 meant.1 told.1)
+      → AllByRecursion (IsCalledAs setup station.identity) messages → AllByRecursion (IsIn setup station.identity then) (map (said.bytes_of setup) messages)
+  all_said_in then [] there meant told called = tt
+  all_said_in then (message ∷ messages) there meant told called =
+      (said_in then message there.0 meant.0 told.0 called.0, all_said_in then messages there.1 meant.1 told.1 called.1)
 
   turn_follows : (turn : Turn) (now : List AlarmNotification) → Turned turn now → AllByRecursion (IsSaidAs setup station) turn.sent → AllByRecursion (IsToldAs setup station.identity) turn.sent
-      → IsLive turn.live → IsPlaced station.identity.mac turn.live → Follows setup station live turn.live (sent ++ map (said.bytes_of setup) turn.sent) raised (taken ++ now)
-  turn_follows turn now turned_so meant told lives placed_so =
+      → AllByRecursion (IsCalledAs setup station.identity) turn.sent → IsLive turn.live → IsPlaced station.identity.mac turn.live → Follows setup station live turn.live (sent ++ map (said.bytes_of setup) turn.sent) raised (taken ++ now)
+  turn_follows turn now turned_so meant told called lives placed_so =
       let r = follows.relation in
       let next = turned_so.next in
       let pdus : Extends r.alarms.pdus next.alarms.pdus = subst (λ (xs : List (ℕ × AlarmNotification)). Extends r.alarms.pdus xs) (sym turned_so.pdus_are) (unchanged r.alarms.pdus) in
@@ -490,7 +513,7 @@ module _ (setup : Setup) (station : Station) (live : Live) (controlling : Contro
         again = λ answer is. stays answer.frame (follows.again answer is);
         frames = each_behind (IsIn setup station.identity next) sent (map (said.bytes_of setup) turn.sent)
             (each_on (IsIn setup station.identity r) (IsIn setup station.identity next) sent stays follows.frames)
-            (all_said_in next turn.sent places meant told);
+            (all_said_in next turn.sent places meant told called);
         good = follows.good;
         apart = follows.apart;
         real = follows.real;
@@ -502,8 +525,10 @@ module _ (setup : Setup) (station : Station) (live : Live) (controlling : Contro
   -- an event at the controller
   pub controller_follows : (one : Event) → IsEventIn one → AllByRecursion (IsSaidAs setup station) (turn_of setup controlling one).sent
       → AllByRecursion (IsToldAs setup station.identity) (turn_of setup controlling one).sent
+      → AllByRecursion (IsCalledAs setup station.identity) (turn_of setup controlling one).sent
       → IsLive (turn_of setup controlling one).live → IsPlaced station.identity.mac (turn_of setup controlling one).live → Follows setup station live (turn_of setup controlling one).live (sent ++ map (said.bytes_of setup) (turn_of setup controlling one).sent) raised (taken ++ taken_at one)
   controller_follows one is =
       subst (λ (l : ControllerLive). AllByRecursion (IsSaidAs setup station) (turn_of setup l one).sent → AllByRecursion (IsToldAs setup station.identity) (turn_of setup l one).sent
+      → AllByRecursion (IsCalledAs setup station.identity) (turn_of setup l one).sent
       → IsLive (turn_of setup l one).live → IsPlaced station.identity.mac (turn_of setup l one).live → Follows setup station live (turn_of setup l one).live (sent ++ map (said.bytes_of setup) (turn_of setup l one).sent) raised (taken ++ taken_at one)) follows.same
       (turn_follows (turn_of setup follows.relation.live one) (taken_at one) (event_turned one is))

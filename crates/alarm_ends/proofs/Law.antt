@@ -56,10 +56,12 @@ use Rattle.world_ends.specs.Played.{AreMade, AreMeant, Begins, CanMeet, last_wor
 use Rattle.world_ends.specs.View.{IsMeant, IsMeantAtController, IsMeantAtDevice, rules_of}
 use Rattle.sending_laws.specs.Messages.{CanBeSent as CanBeSaid}
 use Rattle.sending_laws.specs.Sized.{IsLive, IsSized, IsSizedEvent}
-use Rattle.alarm_ends.specs.Sized.{AreFit, AreSizedModules, IsFit, IsFitWith}
+use Rattle.alarm_ends.specs.Sized.{AreSizedModules}
 use Rattle.alarm_ends.proofs.Related.{IsRight, responded_right}
+use Rattle.alarm_ends.proofs.Served.{all_served}
+use Rattle.alarm_ends.proofs.Well.{all_called, all_well}
 use Rattle.alarm_ends.proofs.Placed.{IsEventOf, IsOf, IsPlaced, event_placed, first_placed}
-use Rattle.alarm_ends.proofs.Told.{IsGood, noted_at, told_at}
+use Rattle.alarm_ends.proofs.Told.{IsCallIn, IsGood, IsWell, noted_at, told_at}
 use Rattle.alarm_ends.proofs.Messages.{HearsSo, all_noted, all_ready, all_told, both_sized, other_mac}
 use Rattle.alarm_ends.proofs.Sizes.{turn_sized}
 use Rattle.alarm_ends.specs.Over.{IsOneOfTheLastTwo, raised_in, raised_over, raised_with, taken_by, taken_from, taken_in, taken_over, taken_with}
@@ -67,17 +69,17 @@ use Rattle.alarm_ends.proofs.Opening.{asks_unheard}
 use Rattle.alarm_ends.proofs.Lists.{each_at, holds_if, none_some}
 use Rattle.alarm_ends.proofs.Turns.{step_raises, step_turns}
 use Rattle.alarm_ends.proofs.Tied.{Goes, IsHeard, IsSaid, IsUnraised, raise_on, turn_on}
-use Rattle.alarm_ends.proofs.Follows.{Follows, IsEventIn, IsIn, controller_follows, device_follows, kept_at, makes_fresh, makes_planned, taken_at}
+use Rattle.alarm_ends.proofs.Follows.{Follows, IsEventIn, IsIn, controller_follows, device_follows, kept_at, makes_fresh, makes_planned, taken_at, unlinked_new}
 
 -- ---- what a controller hears of its device
 
-of_device : (setup : Setup) (live : ControllerLive) (mac : Mac) (heard : controller.Heard) → IsGood mac heard → IsFit setup live heard → IsOf setup live mac heard
-of_device setup live mac (controller.Answers source answer) good fit = good.0
-of_device setup live mac (controller.Responds response) good fit = fit
-of_device setup live mac (controller.Calls caller call) good fit = good.0
-of_device setup live mac (controller.Alarms source header told) good fit = tt
-of_device setup live mac controller.Nothing good fit = tt
-of_device setup live mac (controller.Cyclic source frame_id body) good fit = tt
+of_device : (setup : Setup) (mac : Mac) (heard : controller.Heard) → IsGood mac heard → IsWell setup heard → IsOf setup mac heard
+of_device setup mac (controller.Answers source answer) good fit = good.0
+of_device setup mac (controller.Responds response) good fit = fit
+of_device setup mac (controller.Calls caller call) good fit = good.0
+of_device setup mac (controller.Alarms source header told) good fit = tt
+of_device setup mac controller.Nothing good fit = tt
+of_device setup mac (controller.Cyclic source frame_id body) good fit = tt
 
 -- what becomes of a controller with it has its sizes
 module _ (goes_sized : (setup : Setup) (live : ControllerLive) (one : Event) → IsSetup setup → IsLive live → IsSizedEvent setup one → IsRight setup (turn_of setup live one))
@@ -87,9 +89,9 @@ module _ (goes_sized : (setup : Setup) (live : ControllerLive) (one : Event) →
       subst (λ (h : controller.Heard). IsRight setup (turned setup live h)) e
       (goes_sized setup live (event.Frame (record { items = octets })) good lives (subst (λ (h : controller.Heard). IsSized h) (sym e) sized))
 
-  heard_right : (octets : List ℕ) (heard : controller.Heard) → heard_by setup.plan.controller octets ≡ heard → IsGood mac heard → IsFit setup live heard → IsRight setup (turned setup live heard)
+  heard_right : (octets : List ℕ) (heard : controller.Heard) → heard_by setup.plan.controller octets ≡ heard → IsGood mac heard → IsWell setup heard → IsRight setup (turned setup live heard)
   heard_right octets (controller.Answers source answer) e is fit = right_by octets (controller.Answers source answer) e is.1
-  heard_right octets (controller.Responds response) e is fit = responded_right setup good live response live.asked refl lives fit
+  heard_right octets (controller.Responds response) e is fit = responded_right setup good live response live.asked lives fit
   heard_right octets (controller.Calls caller call) e is fit = right_by octets (controller.Calls caller call) e (is.1, is.2, is.3)
   heard_right octets (controller.Alarms source header told) e is fit = right_by octets (controller.Alarms source header told) e is
   heard_right octets controller.Nothing e is fit = right_by octets controller.Nothing e tt
@@ -173,7 +175,7 @@ module _ {F : Type 0} where
 
     -- ---- the device
 
-    module _ (heard : Heard) (now : List AlarmNotification) (first : (sequence : ℕ) → heard_as heard ≡ small.Call sequence small.Connects → sequence ≡ 0)
+    module _ (heard : Heard) (now : List AlarmNotification) (first : (sequence : ℕ) → heard_as heard ≡ small.Call sequence small.Connects → sequence ≡ 0) (called : IsCallIn heard)
         (made : AtDevice image failures asked before heard after) (meant : IsMeantAtDevice before heard) where
       device_on : ((outcomes : List Outcome) → Goes setup follows.relation live.rest.link (heard_step outcomes station live heard).live.rest.link (heard_step outcomes station live heard).sent now)
           → FollowsAt after (raised ++ now) taken
@@ -186,11 +188,15 @@ module _ {F : Type 0} where
           (λ makes. (makes_planned setup station live before.controller.live before.sent raised taken follows heard meant.planned first step.live.rest.link step.sent makes).1)
           (step_turns outcomes station live heard) in
           let heard_so = meant.sent outcomes heard_it.steps.sendable in
+          let owes = so.owed rules setup.activity outcomes station live heard meant.planned in
+          let serves = all_served setup station live outcomes heard meant.planned
+          (unlinked_new setup station live before.controller.live before.sent raised taken follows heard meant.planned first) owes in
           let all : Follows setup station step.live before.controller.live (before.sent ++ step.frames) (raised ++ now) taken =
           device_follows setup station live before.controller.live before.sent raised taken follows heard meant.planned first outcomes now
-          (so.goes_on rules setup.activity outcomes station live heard meant.planned heard_so) (so.owed rules setup.activity outcomes station live heard meant.planned)
+          (so.goes_on rules setup.activity outcomes station live heard meant.planned heard_so) owes
           heard_so (all_noted hears setup station.identity step.sent heard_it.steps.sendable turn.messages
-          (all_ready hears setup station.identity follows.good heard live step.sent follows.sized (so.owed rules setup.activity outcomes station live heard meant.planned)))
+          (all_ready hears setup station.identity follows.good heard live step.sent follows.sized owes))
+          (all_well hears setup station follows.good live heard meant.planned called step.sent heard_it.steps.sendable owes heard_so serves)
           (goes outcomes) turn.link in
           subst (λ (c : Controlling). Follows c.setup after.device.station after.device.live c.live after.sent (raised ++ now) taken) (sym made.controller)
           (subst (λ (s : Station). Follows setup s after.device.live before.controller.live after.sent (raised ++ now) taken) (sym heard_it.steps.same)
@@ -199,10 +205,10 @@ module _ {F : Type 0} where
           (sym (heard_it.behind ∙ ap (λ (frames : List (List ℕ)). before.sent ++ frames) heard_it.steps.frames)) all)))
 
     -- anything but an alarm that is raised
-    device_quiet : (heard : Heard) → IsUnraised heard → IsHeard follows.relation.told (told_at heard) → ((sequence : ℕ) → heard_as heard ≡ small.Call sequence small.Connects → sequence ≡ 0)
+    device_quiet : (heard : Heard) → IsUnraised heard → IsHeard follows.relation.told (told_at heard) → ((sequence : ℕ) → heard_as heard ≡ small.Call sequence small.Connects → sequence ≡ 0) → IsCallIn heard
         → AtDevice image failures asked before heard after → IsMeantAtDevice before heard → FollowsAt after (raised ++ []) taken
-    device_quiet heard unraised is first made meant =
-        device_on heard [] first made meant (λ outcomes.
+    device_quiet heard unraised is first called made meant =
+        device_on heard [] first called made meant (λ outcomes.
         turn_on setup follows.relation station.real.modules.items live.rest.calls live.rest.link heard (heard_step outcomes station live heard).live.rest.link (heard_step outcomes station live heard).sent
         follows.tied is unraised
         (makes_fresh setup station live before.controller.live before.sent raised taken follows heard meant.planned first (heard_step outcomes station live heard).live.rest.link (heard_step outcomes station live heard).sent)
@@ -211,7 +217,7 @@ module _ {F : Type 0} where
     device_raises : (slot subslot : ℕ) (octets : List ℕ) → AtDevice image failures asked before (Raised slot subslot octets) after → IsMeantAtDevice before (Raised slot subslot octets)
         → FollowsAt after (raised ++ raised_in (raised_to station.real.modules.items slot subslot octets live.rest.link)) taken
     device_raises slot subslot octets made meant =
-        device_on (Raised slot subslot octets) _ (λ sequence e. absurd (idle_call sequence e)) made meant (λ outcomes.
+        device_on (Raised slot subslot octets) _ (λ sequence e. absurd (idle_call sequence e)) (λ caller address call e other. absurd (other refl)) made meant (λ outcomes.
         raise_on setup follows.relation station.real.modules.items live.rest.link slot subslot octets (heard_step outcomes station live (Raised slot subslot octets)).live.rest.link
         (heard_step outcomes station live (Raised slot subslot octets)).sent follows.tied (step_raises outcomes station live slot subslot octets))
       where
@@ -228,7 +234,7 @@ module _ {F : Type 0} where
         → IsMeantAtDevice before (heard_of station.identity (Frame (record { items = octets }))) → Comes image failures asked skipped before Device octets after → FollowsAt after (raised ++ []) taken
     comes_to_device octets true is meant comes = raised_none after raised taken (same_follows comes)
     comes_to_device octets false is meant comes =
-        device_quiet (heard_of station.identity (Frame (record { items = octets }))) (unraised_frame station.identity octets) is.told is.first comes meant
+        device_quiet (heard_of station.identity (Frame (record { items = octets }))) (unraised_frame station.identity octets) is.told is.first is.called comes meant
 
     delivered_to_device : (octets : Option (List ℕ))
         → ((frame : List ℕ) → octets ≡ Some frame → IsIn setup station.identity follows.relation frame)
@@ -242,7 +248,7 @@ module _ {F : Type 0} where
 
     controller_on : (one : Event) (now : List AlarmNotification) → IsEventIn setup station live before.controller.live before.sent raised taken follows one
         → taken_at setup station live before.controller.live before.sent raised taken follows one ≡ now
-        → IsMeantAtController before one → (IsRight setup (turn_of setup before.controller.live one) × IsEventOf setup station.identity.mac follows.apart before.controller.live one) → after ≡ at_controller before one → FollowsAt after raised (taken ++ now)
+        → IsMeantAtController before one → (IsRight setup (turn_of setup before.controller.live one) × IsEventOf setup station.identity.mac follows.apart one) → after ≡ at_controller before one → FollowsAt after raised (taken ++ now)
     controller_on one now is takes meant fit made =
         let turn = turn_of setup before.controller.live one in
         let sized = fit.0 in
@@ -251,56 +257,57 @@ module _ {F : Type 0} where
         let same : after ≡ there =
         made ∙ (ap (λ (c : Controlling). record { device = before.device; controller = c; sent = before.sent ++ (step_of before.controller one).frames }) (controller_is before.controller one)
         ∙ ap (λ (frames : List (List ℕ)). record { device = before.device; controller = with_live before.controller turn.live; sent = before.sent ++ frames }) (frames_are before.controller one)) in
+        let sayable = both_sized setup turn.sent sized.1 placed.sent in
         let all : FollowsAt there raised (taken ++ taken_at setup station live before.controller.live before.sent raised taken follows one) =
-        controller_follows setup station live before.controller.live before.sent raised taken follows one is meant (all_told hears setup station.identity follows.good follows.apart turn.sent (both_sized setup turn.sent sized.1 placed.sent)) sized.0 placed.live in
+        controller_follows setup station live before.controller.live before.sent raised taken follows one is meant (all_told hears setup station.identity follows.good follows.apart turn.sent sayable)
+        (all_called hears setup station follows.good turn.sent sayable meant) sized.0 placed.live in
         subst (λ (w : World F). FollowsAt w raised (taken ++ now)) (sym same) (subst (λ (xs : List AlarmNotification). FollowsAt there raised (taken ++ xs)) takes all)
 
     comes_to_controller : (octets : List ℕ) (skipped : Bool) → IsIn setup station.identity follows.relation octets
-        → IsMeantAtController before (event.Frame (record { items = octets })) → IsFit setup before.controller.live (heard_by setup.plan.controller octets)
+        → IsMeantAtController before (event.Frame (record { items = octets }))
         → Comes image failures asked skipped before Controller octets after → FollowsAt after raised (taken ++ taken_in skipped before.controller octets)
-    comes_to_controller octets true is meant told comes = taken_none after raised taken (same_follows comes)
-    comes_to_controller octets false is meant told comes =
+    comes_to_controller octets true is meant comes = taken_none after raised taken (same_follows comes)
+    comes_to_controller octets false is meant comes =
         controller_on (event.Frame (record { items = octets })) (taken_by before.controller.live (heard_by setup.plan.controller octets)) is.noted
         (ap (λ (l : ControllerLive). taken_by l (heard_by setup.plan.controller octets)) follows.same) meant (
-          heard_right so.goes_sized setup before.controller.live station.identity.mac follows.good follows.lives octets (heard_by setup.plan.controller octets) refl is.good told,
-          of_device setup before.controller.live station.identity.mac (heard_by setup.plan.controller octets) is.good told,
+          heard_right so.goes_sized setup before.controller.live station.identity.mac follows.good follows.lives octets (heard_by setup.plan.controller octets) refl is.good is.well,
+          of_device setup station.identity.mac (heard_by setup.plan.controller octets) is.good is.well,
         ) comes
 
     delivered_to_controller : (octets : Option (List ℕ))
         → ((frame : List ℕ) → octets ≡ Some frame → IsIn setup station.identity follows.relation frame)
         → ((frame : List ℕ) → octets ≡ Some frame → IsMeantAtController before (event.Frame (record { items = frame })))
-        → ((frame : List ℕ) → octets ≡ Some frame → IsFit setup before.controller.live (heard_by setup.plan.controller frame))
         → Delivers image failures asked octets before Controller after → FollowsAt after raised (taken ++ taken_from before octets)
-    delivered_to_controller None is meant told comes = taken_none after raised taken (same_follows comes)
-    delivered_to_controller (Some octets) is meant told comes =
-        comes_to_controller octets (is_skipped before.device before.controller Controller octets) (is octets refl) (meant octets refl) (told octets refl) comes
+    delivered_to_controller None is meant comes = taken_none after raised taken (same_follows comes)
+    delivered_to_controller (Some octets) is meant comes =
+        comes_to_controller octets (is_skipped before.device before.controller Controller octets) (is octets refl) (meant octets refl) comes
 
     -- ---- any move
 
-    one_follows : (one : Move) → Happens image failures asked before one after → IsMeant before one → IsFitWith before one
+    one_follows : (one : Move) → Happens image failures asked before one after → IsMeant before one
         → FollowsAt after (raised ++ raised_with before one) (taken ++ taken_with before one)
-    one_follows (move.Deliver Device number) happens meant told =
+    one_follows (move.Deliver Device number) happens meant =
         taken_none after (raised ++ []) taken (delivered_to_device (slice_get before.sent number) (λ frame there. in_at number frame there) meant happens)
-    one_follows (move.Deliver Controller number) happens meant told =
+    one_follows (move.Deliver Controller number) happens meant =
         raised_none after raised (taken ++ taken_from before (slice_get before.sent number))
-        (delivered_to_controller (slice_get before.sent number) (λ frame there. in_at number frame there) meant told happens)
-    one_follows (move.Tick Device) happens meant told = taken_none after (raised ++ []) taken (device_quiet Ticks tt tt never_first happens meant)
-    one_follows (move.Tick Controller) happens meant told = raised_none after raised (taken ++ []) (controller_on event.Tick [] tt refl meant (so.goes_sized setup before.controller.live event.Tick follows.good follows.lives tt, tt) happens)
-    one_follows (move.Input slot subslot value) happens meant told = taken_none after (raised ++ []) taken (device_quiet (Given slot subslot value.items) tt tt never_first happens meant)
-    one_follows (move.Alarm slot subslot octets) happens meant told = taken_none after _ taken (device_raises slot subslot octets.items happens meant)
-    one_follows (move.Give slot subslot value) happens meant told = raised_none after raised (taken ++ []) (controller_on (event.Give slot subslot value) [] tt refl meant
+        (delivered_to_controller (slice_get before.sent number) (λ frame there. in_at number frame there) meant happens)
+    one_follows (move.Tick Device) happens meant = taken_none after (raised ++ []) taken (device_quiet Ticks tt tt never_first (λ caller address call e other. absurd (other refl)) happens meant)
+    one_follows (move.Tick Controller) happens meant = raised_none after raised (taken ++ []) (controller_on event.Tick [] tt refl meant (so.goes_sized setup before.controller.live event.Tick follows.good follows.lives tt, tt) happens)
+    one_follows (move.Input slot subslot value) happens meant = taken_none after (raised ++ []) taken (device_quiet (Given slot subslot value.items) tt tt never_first (λ caller address call e other. absurd (other refl)) happens meant)
+    one_follows (move.Alarm slot subslot octets) happens meant = taken_none after _ taken (device_raises slot subslot octets.items happens meant)
+    one_follows (move.Give slot subslot value) happens meant = raised_none after raised (taken ++ []) (controller_on (event.Give slot subslot value) [] tt refl meant
         (so.goes_sized setup before.controller.live (event.Give slot subslot value) follows.good follows.lives tt, tt) happens)
-    one_follows move.Stop happens meant told = raised_none after raised (taken ++ []) (controller_on event.Stop [] tt refl meant (so.goes_sized setup before.controller.live event.Stop follows.good follows.lives tt, tt) happens)
+    one_follows move.Stop happens meant = raised_none after raised (taken ++ []) (controller_on event.Stop [] tt refl meant (so.goes_sized setup before.controller.live event.Stop follows.good follows.lives tt, tt) happens)
 
   -- ---- any run
 
   pub run_follows : DeviceSo → HearsSo → (image : F → Image) (failures : F → ℕ) (asked : F → List Call → F → Type 0) (w : World F) (raised taken : List AlarmNotification) → FollowsAt w raised taken
-      → (run : List (Move × World F)) → AreMade image failures asked w run → AreMeant w run → AreFit w run
+      → (run : List (Move × World F)) → AreMade image failures asked w run → AreMeant w run
       → FollowsAt (last_world w run) (raised ++ raised_over w run) (taken ++ taken_over w run)
-  run_follows so hears image failures asked w raised taken follows [] made meant told = taken_none w (raised ++ []) taken (raised_none w raised taken follows)
-  run_follows so hears image failures asked w raised taken follows (one ∷ run) made meant told =
-      let next = one_follows so hears image failures asked w one.1 raised taken follows one.0 made.0 meant.0 told.0 in
-      let all = run_follows so hears image failures asked one.1 (raised ++ raised_with w one.0) (taken ++ taken_with w one.0) next run made.1 meant.1 told.1 in
+  run_follows so hears image failures asked w raised taken follows [] made meant = taken_none w (raised ++ []) taken (raised_none w raised taken follows)
+  run_follows so hears image failures asked w raised taken follows (one ∷ run) made meant =
+      let next = one_follows so hears image failures asked w one.1 raised taken follows one.0 made.0 meant.0 in
+      let all = run_follows so hears image failures asked one.1 (raised ++ raised_with w one.0) (taken ++ taken_with w one.0) next run made.1 meant.1 in
       subst (λ (xs : List AlarmNotification). FollowsAt (last_world one.1 run) xs (taken ++ (taken_with w one.0 ++ taken_over one.1 run))) (append_assoc raised (raised_with w one.0) (raised_over one.1 run))
       (subst (λ (xs : List AlarmNotification). FollowsAt (last_world one.1 run) ((raised ++ raised_with w one.0) ++ raised_over one.1 run) xs) (append_assoc taken (taken_with w one.0) (taken_over one.1 run)) all)
 
@@ -333,6 +340,8 @@ module _ {F : Type 0} where
         good = subst (λ (h : controller.Heard). IsGood first.device.station.identity.mac h) (sym unheard) tt;
         told = subst (λ (h : Heard). IsHeard [] (told_at h)) (sym asks_it) tt;
         first = λ sequence e. absurd (idle_call sequence (ap heard_as (sym asks_it) ∙ e));
+        called = λ caller address call e other. absurd (other (ap heard_as asks_it));
+        well = subst (λ (h : controller.Heard). IsWell first.controller.setup h) (sym unheard) tt;
       },
       tt,
     );
@@ -384,16 +393,16 @@ opening_asks law identity controlling good =
 module _ {F : Type 0} where
   pub follows_so : DeviceSo → HearsSo → (setup : Setup) (identity : Identity) → IsSetup setup → CanMeet setup identity → (image : F → Image) (failures : F → ℕ) (asked : F → List Call → F → Type 0)
       → (first : World F) (run : List (Move × World F)) → Begins setup identity first → AreSizedModules first.device.station.real.modules.items
-      → AreMade image failures asked first run → AreMeant first run → AreFit first run
+      → AreMade image failures asked first run → AreMeant first run
       → FollowsAt (last_world first run) (raised_over first run) (taken_over first run)
-  follows_so so hears setup identity good can image failures asked first run begins real made meant sized =
+  follows_so so hears setup identity good can image failures asked first run begins real made meant =
       let own : IsSetup first.controller.setup = subst (λ (s : Setup). IsSetup s) (sym begins.of_setup) good in
       let apart : first.device.station.identity.mac ≡ first.controller.setup.plan.controller.mac → ⊥ =
       subst (λ (s : Setup). first.device.station.identity.mac ≡ s.plan.controller.mac → ⊥) (sym begins.of_setup)
       (subst (λ (i : Identity). i.mac ≡ setup.plan.controller.mac → ⊥) (sym begins.of_device) can.apart) in
       let from = begins_so so setup identity first begins own apart real first.controller.setup.plan.controller.mac (identify_asked first.controller.setup.plan)
       (opening_asks hears.identify first.device.station.identity first.controller own) in
-      run_follows so hears image failures asked first [] [] from run made meant sized
+      run_follows so hears image failures asked first [] [] from run made meant
 
 -- ---- the last of those that were raised
 

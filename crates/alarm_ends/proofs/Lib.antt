@@ -10,4 +10,6 @@ pub mod Related
 pub mod Placed
 pub mod Follows
 pub mod Differs
+pub mod Served
+pub mod Well
 pub mod Law

@@ -5,6 +5,7 @@ use Rattle.std.specs.List.{AllByRecursion}
 use Rattle.std.specs.Cmp.Lexicographic.{other_text, pointwise, same_text}
 use Rattle.pn_values.specs.declared.identity.Identity.{Identity}
 use Rattle.pn_values.specs.declared.mac.Mac.{Mac}
+use Rattle.pn_values.specs.declared.real.Real.{Real}
 use Rattle.frame_codec.specs.declared.arp.Arp.{Arp}
 use Rattle.frame_codec.specs.declared.udp.Caller.{Caller}
 use Rattle.frame_codec.specs.declared.udp.Endpoint.{Endpoint}
@@ -38,12 +39,13 @@ use Rattle.plans.specs.declared.parts.Controller.{Controller}
 use Rattle.plan_connect.specs.Request.{request_for}
 use Rattle.relations.specs.declared.ready.Ready.{Ready}
 use Rattle.relations.specs.declared.farewell.Farewell.{Farewell}
+use Rattle.relations.specs.Connect.{connect_blocks, differing_of}
 use Rattle.relations.specs.Farewells.{said_by}
 use Rattle.device_frames.specs.Heard as device
 use Rattle.device_frames.specs.Heard.{Heard, heard_of, is_own}
 use Rattle.device_frames.specs.Sendable.{IsSendable}
 use Rattle.device_frames.specs.Sent as sent
-use Rattle.device_frames.specs.Sent.{bytes_of, ready_frame}
+use Rattle.device_frames.specs.Sent.{bytes_of, ready_frame, response_frame}
 use Rattle.device_core.specs.State.{Live}
 use Rattle.controller_frames.specs.declared.request.Request.{Request}
 use Rattle.controller_frames.specs.declared.request.Request.TheVariants as asks
@@ -60,6 +62,7 @@ use Rattle.hearing_laws.specs.Stations.{IsAddress, IsCalled, IsCaller, IsDevice,
 use Rattle.sending_laws.specs.Messages.{CanBeSent as CanBeSaid}
 use Rattle.sending_laws.specs.Sized.{IsNoted}
 use Rattle.device_ends.specs.Owed.{IsOwed}
+use Rattle.alarm_ends.specs.Sized.{IsChosenWell}
 use Rattle.alarm_ends.proofs.Lists.{holds_if}
 use Rattle.alarm_ends.proofs.Sizes.{AreSizedIn, IsSizedFrame, IsSizedSent}
 use Rattle.alarm_ends.proofs.Told.{IsGood, IsNotedAs, IsNotedBy, IsToldAs, IsToldBy, noted_at, noted_by, noted_of, reply_of, told_at, told_of}
@@ -138,6 +141,14 @@ pub record HearsSo : Type 0 where
       → IsDevice identity → IsMac ready.partner.mac → IsAddress ready.partner.address → IsAddress address → CanBeCalled controllers (ready_call ready)
       → heard_by mine (ready_frame identity address ready)
       ≡ mine_told mine ready.partner.mac (calls_at ready.partner.address) (controller.Calls (record { mac = identity.mac; endpoint = calls_at address }) (ready_call ready))
+  pub response_at_controller : (mine : Controller) (identity : Identity) (caller : Caller) (address : List ℕ) (answer : Response)
+      → IsDevice identity → IsCaller caller → IsAddress address → CanBeAnswered answer
+      → heard_by mine (response_frame identity caller address answer) ≡ mine_told mine caller.mac caller.endpoint (controller.Responds answer)
+  pub response_long : (mine : Controller) (identity : Identity) (caller : Caller) (address : List ℕ) (answer : Response)
+      → IsDevice identity → IsCaller caller → IsAddress address → IsCallHeader answer.header → 1372 < length answer.blocks
+      → heard_by mine (response_frame identity caller address answer) ≡ controller.Nothing
+  pub chosen : (setup : Setup) (identity : Identity) (real : Real) → IsSetup setup → IsDevice identity
+      → IsChosenWell (connect_blocks identity (request_for setup.plan setup.ar) (differing_of (request_for setup.plan setup.ar) real))
   pub response_no_call : (interface : Interface) (response : Response) (more : List ℕ) → IsErr (call_of interface (response_bytes response ++ more))
 
 -- ---- addresses

@@ -44,7 +44,8 @@ use Rattle.controller_core.specs.Connect.{found_in, is_whole, nothing}
 use Rattle.controller_core.specs.Machine.{Turn, acks_in, addressed, answered, behind_data, brought, called, come, connected, decided, done, first, flow_later, flowed, found, given, is_again, judged, later, noticed, outputs_of, over, readied, ready_in, related_by, released, requests_of, responded, standing, stays, stopped, taken, turn_of, turned, where_due, writing}
 use Rattle.controller_core.specs.State.{Live}
 use Rattle.sending_laws.specs.Sized.{Found}
-use Rattle.alarm_ends.specs.Sized.{IsChosenWell, IsFit}
+use Rattle.alarm_ends.specs.Sized.{IsChosenWell}
+use Rattle.alarm_ends.proofs.Told.{IsWell}
 use Rattle.alarm_ends.proofs.Lists.{each_behind}
 use Rattle.alarm_ends.proofs.Turns.{frame_route}
 use Rattle.alarm_ends.proofs.Messages.{IsAimed}
@@ -59,13 +60,13 @@ pub record IsPlaced (mac : Mac) (live : Live) : Type 0 where
   pub addressing : live.asked ≡ Some asks.Address → live.device ≡ mac
 
 -- this station alone answers it and calls it, and chooses no FrameID of alarms for outputs
-abbrev pub IsOf : Setup → Live → Mac → Heard → Type 0
-IsOf setup live mac (Answers source answer) = source ≡ mac
-IsOf setup live mac (Responds response) = IsFit setup live (Responds response)
-IsOf setup live mac (Calls caller call) = caller.mac ≡ mac
-IsOf setup live mac Nothing = Unit {0}
-IsOf setup live mac (Comes source frame_id body) = Unit {0}
-IsOf setup live mac (Alarms source header told) = Unit {0}
+abbrev pub IsOf : Setup → Mac → Heard → Type 0
+IsOf setup mac (Answers source answer) = source ≡ mac
+IsOf setup mac (Responds response) = IsWell setup (Responds response)
+IsOf setup mac (Calls caller call) = caller.mac ≡ mac
+IsOf setup mac Nothing = Unit {0}
+IsOf setup mac (Comes source frame_id body) = Unit {0}
+IsOf setup mac (Alarms source header told) = Unit {0}
 
 module _ (setup : Setup) (mac : Mac) (apart : mac ≡ setup.plan.controller.mac → ⊥) where
   pub record PlacedTurn (turn : Turn) : Type 0 where
@@ -167,12 +168,12 @@ module _ (setup : Setup) (mac : Mac) (apart : mac ≡ setup.plan.controller.mac 
   decided_placed live response (asks.Release sequence) now well p =
       stays_placed (record live { asked = None }) (record { plain = p.plain; partner = p.partner; asking = λ e. absurd cc; giving = p.giving; addressing = λ e. absurd cc })
 
-  responded_placed : (live : Live) (response : Response) (asked : Option Request) → live.asked ≡ asked → IsFit setup live (Responds response) → IsPlaced mac live
+  responded_placed : (live : Live) (response : Response) (asked : Option Request) → live.asked ≡ asked → IsWell setup (Responds response) → IsPlaced mac live
       → PlacedTurn (responded setup live response asked)
   responded_placed live response (Some request) now fit p =
       if_so (is_answer setup request response.header) _ _
       (λ answers. decided_placed live response request now
-      (λ connects. fit (now ∙ ap (λ (one : Request). Some one) connects) (ap (λ (one : Request). is_answer setup one response.header) (sym connects) ∙ answers)) p)
+      (λ connects. fit (ap (λ (one : Request). is_answer setup one response.header) (sym connects) ∙ answers)) p)
       (λ other. stays_placed live p)
   responded_placed live response None now fit p = stays_placed live p
 
@@ -243,7 +244,7 @@ module _ (setup : Setup) (mac : Mac) (apart : mac ≡ setup.plan.controller.mac 
 
   -- ---- what is heard
 
-  heard_placed : (live : Live) (heard : Heard) → IsOf setup live mac heard → IsPlaced mac live → PlacedTurn (turned setup live heard)
+  heard_placed : (live : Live) (heard : Heard) → IsOf setup mac heard → IsPlaced mac live → PlacedTurn (turned setup live heard)
   heard_placed live Nothing is p = stays_placed live p
   heard_placed live (Answers source answer) is p = answered_placed live source answer live.phase refl is p
   heard_placed live (Responds response) is p = responded_placed live response live.asked refl is p
@@ -300,13 +301,13 @@ module _ (setup : Setup) (mac : Mac) (apart : mac ≡ setup.plan.controller.mac 
 
   -- ---- events
 
-  abbrev pub IsEventOf : Live → Event → Type 0
-  IsEventOf live (event.Frame bytes) = IsOf setup live mac (heard_of setup.plan.controller bytes.items)
-  IsEventOf live event.Tick = Unit {0}
-  IsEventOf live (event.Give slot subslot value) = Unit {0}
-  IsEventOf live event.Stop = Unit {0}
+  abbrev pub IsEventOf : Event → Type 0
+  IsEventOf (event.Frame bytes) = IsOf setup mac (heard_of setup.plan.controller bytes.items)
+  IsEventOf event.Tick = Unit {0}
+  IsEventOf (event.Give slot subslot value) = Unit {0}
+  IsEventOf event.Stop = Unit {0}
 
-  pub event_placed : (live : Live) (one : Event) → IsEventOf live one → IsPlaced mac live → PlacedTurn (turn_of setup live one)
+  pub event_placed : (live : Live) (one : Event) → IsEventOf one → IsPlaced mac live → PlacedTurn (turn_of setup live one)
   event_placed live (event.Frame bytes) is p = heard_placed live (heard_of setup.plan.controller bytes.items) is p
   event_placed live event.Tick is p = ticked_placed live live.stands refl p
   event_placed live (event.Give slot subslot value) is p =

@@ -22,7 +22,8 @@ use Rattle.controller_core.specs.State.{Live}
 use Rattle.hearing_laws.specs.Stations.{IsNumbered, IsSetup}
 use Rattle.sending_laws.specs.Messages.{CanBeSent}
 use Rattle.sending_laws.specs.Sized.{AreFew, Found, IsFew, IsLive}
-use Rattle.alarm_ends.specs.Sized.{IsChosenWell, IsFit}
+use Rattle.alarm_ends.specs.Sized.{IsChosenWell}
+use Rattle.alarm_ends.proofs.Told.{IsWell}
 
 -- what it keeps has its sizes, and what it sends
 abbrev pub IsRight : Setup → Turn → Type 0
@@ -126,9 +127,9 @@ module _ (setup : Setup) (good : IsSetup setup) where
   decided_right live response asks.PrmEnd is well = judged_right live response asks.PrmEnd is well
   decided_right live response (asks.Release sequence) is well = stays_right _ (unasked live live.phase is)
 
-  pub responded_right : (live : Live) (response : Response) (asked : Option Request) → live.asked ≡ asked → IsLive live → IsFit setup live (Responds response) → IsRight setup (responded setup live response asked)
-  responded_right live response (Some request) now is fit =
+  pub responded_right : (live : Live) (response : Response) (asked : Option Request) → IsLive live → IsWell setup (Responds response) → IsRight setup (responded setup live response asked)
+  responded_right live response (Some request) is fit =
       either (is_answer setup request response.header) _ _
-      (λ answers. decided_right live response request is (λ connects. fit (now ∙ ap (λ (one : Request). Some one) connects) (ap (λ (one : Request). is_answer setup one response.header) (sym connects) ∙ answers)))
+      (λ answers. decided_right live response request is (λ connects. fit (ap (λ (one : Request). is_answer setup one response.header) (sym connects) ∙ answers)))
       (λ other. stays_right live is)
-  responded_right live response None now is fit = stays_right live is
+  responded_right live response None is fit = stays_right live is

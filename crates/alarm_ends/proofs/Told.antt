@@ -1,5 +1,5 @@
 -- What either end of a network says of alarms, and what the other hears of it.
-use Rattle.std.specs.Prelude.{◌≡◌, ◌⊎◌, ◌<◌, ℕ, List, Option, Some, None}
+use Rattle.std.specs.Prelude.{◌≡◌, ◌⊎◌, ◌<◌, true, ℕ, List, Option, Some, None}
 use Rattle.pn_values.specs.declared.identity.Identity.{Identity}
 use Rattle.pn_values.specs.declared.mac.Mac.{Mac}
 use Rattle.record_blocks.specs.declared.alarm_ack.AlarmAck.{AlarmAck}
@@ -19,9 +19,17 @@ use Rattle.controller_frames.specs.Heard as controller
 use Rattle.controller_frames.specs.Heard.{heard_of as heard_by}
 use Rattle.controller_frames.specs.Sent as said
 use Rattle.frame_laws.specs.Sendable.{IsMac}
+use Rattle.frame_codec.specs.declared.udp.Caller.{Caller}
+use Rattle.rpc_core.specs.Call.{Asked as Call}
+use Rattle.rpc_core.specs.Response.{is_done}
 use Rattle.rpc_core.specs.Sendable.{IsHeader}
+use Rattle.controller_frames.specs.declared.request.Request.TheVariants as asks
+use Rattle.controller_core.specs.Answers.{is_answer}
+use Rattle.both_ends.specs.Small as small
+use Rattle.device_ends.specs.Small.{heard_as}
 use Rattle.hearing_laws.specs.Stations.{IsCaller}
 use Rattle.sending_laws.specs.Sized.{IsNotice}
+use Rattle.alarm_ends.specs.Sized.{IsChosenWell}
 
 -- ---- at the device
 
@@ -93,6 +101,25 @@ IsGood mac controller.Nothing = Unit {0}
 IsGood mac (controller.Responds response) = Unit {0}
 IsGood mac (controller.Cyclic source frame_id body) = Unit {0}
 
+-- a positive answer to the Connect chooses well
+abbrev pub IsWell : Setup → controller.Heard → Type 0
+IsWell setup (controller.Responds response) = is_answer setup asks.Connect response.header ≡ true → is_done response.status ≡ true → IsChosenWell response.blocks
+IsWell setup controller.Nothing = Unit {0}
+IsWell setup (controller.Answers source answer) = Unit {0}
+IsWell setup (controller.Calls caller call) = Unit {0}
+IsWell setup (controller.Cyclic source frame_id body) = Unit {0}
+IsWell setup (controller.Alarms source header told) = Unit {0}
+
+-- ---- what a device hears of its controller
+
+pub record IsSizedCall (call : Call) : Type 0 where
+  pub header : IsHeader call.header
+  pub maximum : call.args_maximum < 4294967296
+
+-- a call of a start-up has its sizes
+abbrev pub IsCallIn : device.Heard → Type 0
+IsCallIn heard = (caller : Caller) (address : List ℕ) (call : Call) → heard ≡ device.Told caller address (device.Calls call) → (heard_as heard ≡ small.Idle → ⊥) → IsSizedCall call
+
 -- ---- what is heard as it is said
 
 -- what is heard of octets by the device, and by the controller
@@ -125,3 +152,22 @@ IsToldBy setup identity octets says = ((told_of identity octets ≡ says) ⊎ (t
 -- a message of the controller
 abbrev pub IsToldAs : Setup → Identity → said.Sent → Type 0
 IsToldAs setup identity message = IsToldBy setup identity (said.bytes_of setup message) (told_in message)
+
+-- a message of the device of which a controller hears no other positive answer to its Connect
+abbrev pub IsWellBy : Setup → List ℕ → Type 0
+IsWellBy setup octets = IsWell setup (heard_by setup.plan.controller octets)
+
+abbrev pub IsWellSent : Setup → Identity → sent.Sent → Type 0
+IsWellSent setup identity (sent.Again frame) = Unit {0}
+IsWellSent setup identity (sent.Exchanges route frame) = IsWellBy setup (bytes_of identity (sent.Exchanges route frame))
+IsWellSent setup identity (sent.Ends farewell) = IsWellBy setup (bytes_of identity (sent.Ends farewell))
+IsWellSent setup identity (sent.IdentifyAnswer asker running xid) = IsWellBy setup (bytes_of identity (sent.IdentifyAnswer asker running xid))
+IsWellSent setup identity (sent.GetAnswer asker running request) = IsWellBy setup (bytes_of identity (sent.GetAnswer asker running request))
+IsWellSent setup identity (sent.SetAnswer asker request answers) = IsWellBy setup (bytes_of identity (sent.SetAnswer asker request answers))
+IsWellSent setup identity (sent.ArpReply asker address target) = IsWellBy setup (bytes_of identity (sent.ArpReply asker address target))
+IsWellSent setup identity (sent.CallAnswer caller address answer) = IsWellBy setup (bytes_of identity (sent.CallAnswer caller address answer))
+IsWellSent setup identity (sent.ReadyCall address ready) = IsWellBy setup (bytes_of identity (sent.ReadyCall address ready))
+
+-- a message of the controller, in which a call has its sizes
+abbrev pub IsCalledAs : Setup → Identity → said.Sent → Type 0
+IsCalledAs setup identity message = IsCallIn (heard_of identity (comes_in (record { items = said.bytes_of setup message })))

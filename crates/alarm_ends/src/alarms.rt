@@ -5,9 +5,10 @@ ghost use Rattle.alarm_exchange.specs.World.{IsPrefixOf};
 ghost use Rattle.network_world.specs.declared.moves.Move.{Move};
 ghost use Rattle.network_world.specs.World.{World};
 ghost use Rattle.world_ends.specs.Played.{AreMade, Begins, CanMeet, last_world};
-ghost use Rattle.alarm_ends.specs.Sized.{AreFit, AreSizedModules};
+ghost use Rattle.alarm_ends.specs.Sized.{AreSizedModules};
 ghost use Rattle.alarm_ends.specs.Over.{IsOneOfTheLastTwo, raised_over, taken_over};
 
+use crate::chosen::answers_choose_well;
 use controller_frames::Setup;
 use controller_laws::alarms_are_taken_in_order;
 use device_ends::{device_goes_on, device_sends_what_it_owes};
@@ -15,7 +16,8 @@ use flash_model::Flash;
 use frame_laws::frames_are_read;
 use hearing_laws::{
     alarms_are_heard, calls_are_heard, calls_can_be_sent, confirmations_are_heard, ends_are_heard,
-    ready_answers_are_heard, ready_calls_are_heard, requests_are_heard, stations_are_real,
+    ready_answers_are_heard, ready_calls_are_heard, requests_are_heard, responses_are_heard,
+    stations_are_real,
 };
 use pn_values::Identity;
 use rpc_core::calls_and_responses_differ;
@@ -28,21 +30,21 @@ pub fn worlds_take_alarms<F: Flash<S>, const S: usize>(setup: &Setup, identity: 
     // While at most 32,768 alarms are raised, those that the controller took begin those that the device raised, in their order, each once,
     ensures front { CanMeet setup.now identity.now →
         (first : World F) (run : List (Move × World F)) → Begins setup.now identity.now first
-        → AreMade F.image F.failures F.asked first run → AreSizedModules first.device.station.real.modules.items → AreFit first run
+        → AreMade F.image F.failures F.asked first run → AreSizedModules first.device.station.real.modules.items
         → length (raised_over first run) ≤ 32768 → IsPrefixOf (taken_over first run) (raised_over first run) }
     // and lack at most the last.
     ensures last { CanMeet setup.now identity.now →
         (first : World F) (run : List (Move × World F)) → Begins setup.now identity.now first
-        → AreMade F.image F.failures F.asked first run → AreSizedModules first.device.station.real.modules.items → AreFit first run
+        → AreMade F.image F.failures F.asked first run → AreSizedModules first.device.station.real.modules.items
         → length (raised_over first run) ≤ 32768 → length (raised_over first run) ≤ length (taken_over first run) + 1 }
     // It shows the last that it took: of those that were raised the last, or the one before it, and none before the first was raised.
     ensures shown { CanMeet setup.now identity.now →
         (first : World F) (run : List (Move × World F)) → Begins setup.now identity.now first
-        → AreMade F.image F.failures F.asked first run → AreSizedModules first.device.station.real.modules.items → AreFit first run
+        → AreMade F.image F.failures F.asked first run → AreSizedModules first.device.station.real.modules.items
         → (last_world first run).controller.live.alarm ≡ last_of (taken_over first run) }
     ensures alarm { CanMeet setup.now identity.now →
         (first : World F) (run : List (Move × World F)) → Begins setup.now identity.now first
-        → AreMade F.image F.failures F.asked first run → AreSizedModules first.device.station.real.modules.items → AreFit first run
+        → AreMade F.image F.failures F.asked first run → AreSizedModules first.device.station.real.modules.items
         → length (raised_over first run) ≤ 32768
         → IsOneOfTheLastTwo (raised_over first run) (last_world first run).controller.live.alarm }
 {
@@ -53,6 +55,8 @@ pub fn worlds_take_alarms<F: Flash<S>, const S: usize>(setup: &Setup, identity: 
     calls_are_heard();
     ready_answers_are_heard();
     ready_calls_are_heard();
+    responses_are_heard();
+    answers_choose_well();
     calls_and_responses_differ();
     confirmations_are_heard();
     alarms_are_heard();

@@ -29,31 +29,34 @@ hears_so g c = record {
   agreed_at_controller = c.ready_answers_are_heard.ensures.controller;
   ready_can = c.calls_can_be_sent.ensures.ready;
   ready_at_controller = c.ready_calls_are_heard.ensures.controller;
+  response_at_controller = c.responses_are_heard.ensures.controller;
+  response_long = c.responses_are_heard.ensures.long;
+  chosen = c.answers_choose_well.ensures;
   response_no_call = c.calls_and_responses_differ.ensures.answered;
 }
 
 pub returns-clause-front : goal.returns-clause-front
-returns-clause-front g c = λ can first run begins made real sized few.
+returns-clause-front g c = λ can first run begins made real few.
     let follows = follows_so (device_so g c) (hears_so g c) c.args.setup.now c.args.identity.now c.stations_are_real.ensures.setup can
-    g.F.Flash.image g.F.Flash.failures g.F.Flash.asked first run begins real made (c.worlds_start_up.ensures.meant can first run begins made) sized in
+    g.F.Flash.image g.F.Flash.failures g.F.Flash.asked first run begins real made (c.worlds_start_up.ensures.meant can first run begins made) in
     in_order (last_world first run) (raised_over first run) (taken_over first run) follows c.alarms_are_taken_in_order.ensures.prefix few
 
 pub returns-clause-last : goal.returns-clause-last
-returns-clause-last g c = λ can first run begins made real sized few.
+returns-clause-last g c = λ can first run begins made real few.
     let follows = follows_so (device_so g c) (hears_so g c) c.args.setup.now c.args.identity.now c.stations_are_real.ensures.setup can
-    g.F.Flash.image g.F.Flash.failures g.F.Flash.asked first run begins real made (c.worlds_start_up.ensures.meant can first run begins made) sized in
+    g.F.Flash.image g.F.Flash.failures g.F.Flash.asked first run begins real made (c.worlds_start_up.ensures.meant can first run begins made) in
     lacks_one (last_world first run) (raised_over first run) (taken_over first run) follows c.alarms_are_taken_in_order.ensures.last few
 
 pub returns-clause-shown : goal.returns-clause-shown
-returns-clause-shown g c = λ can first run begins made real sized.
+returns-clause-shown g c = λ can first run begins made real.
     let follows = follows_so (device_so g c) (hears_so g c) c.args.setup.now c.args.identity.now c.stations_are_real.ensures.setup can
-    g.F.Flash.image g.F.Flash.failures g.F.Flash.asked first run begins real made (c.worlds_start_up.ensures.meant can first run begins made) sized in
+    g.F.Flash.image g.F.Flash.failures g.F.Flash.asked first run begins real made (c.worlds_start_up.ensures.meant can first run begins made) in
     shows (last_world first run) (raised_over first run) (taken_over first run) follows c.alarms_are_taken_in_order.ensures.shown
 
 pub returns-clause-alarm : goal.returns-clause-alarm
-returns-clause-alarm g c = λ can first run begins made real sized few.
+returns-clause-alarm g c = λ can first run begins made real few.
     let follows = follows_so (device_so g c) (hears_so g c) c.args.setup.now c.args.identity.now c.stations_are_real.ensures.setup can
-    g.F.Flash.image g.F.Flash.failures g.F.Flash.asked first run begins real made (c.worlds_start_up.ensures.meant can first run begins made) sized in
+    g.F.Flash.image g.F.Flash.failures g.F.Flash.asked first run begins real made (c.worlds_start_up.ensures.meant can first run begins made) in
     last_shown (raised_over first run) (taken_over first run) (last_world first run).controller.live.alarm
     (in_order (last_world first run) (raised_over first run) (taken_over first run) follows c.alarms_are_taken_in_order.ensures.prefix few)
     (lacks_one (last_world first run) (raised_over first run) (taken_over first run) follows c.alarms_are_taken_in_order.ensures.last few)
