@@ -8,6 +8,7 @@ use std::test::Fail;
 mod ends;
 mod failing;
 mod lines;
+mod operations;
 mod rows;
 
 /// The Set of the station's name, permanent, and what is printed of one that is done, as long as there is no controller.
