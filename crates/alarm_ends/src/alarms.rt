@@ -24,8 +24,7 @@ use rpc_core::calls_and_responses_differ;
 use sending_laws::messages_can_be_sent;
 use world_ends::worlds_start_up;
 
-/// The alarms of a relation of this set-up with this device, over the worlds of any moves, whatever the flash of the device does, where
-/// what either end says of alarms is heard by the other as it is said, or not at all.
+/// The alarms of a relation of this set-up with this device, over the worlds of any moves, whatever the flash of the device does.
 pub fn worlds_take_alarms<F: Flash<S>, const S: usize>(setup: &Setup, identity: &Identity)
     // While at most 32,768 alarms are raised, those that the controller took begin those that the device raised, in their order, each once,
     ensures front { CanMeet setup.now identity.now →
