@@ -1,8 +1,9 @@
 //! A plan as it lies in the memory of the host.
-ghost use Rattle.std.specs.Prelude.{◌≡◌, ◌≤◌, length, map, take};
+ghost use Rattle.std.specs.Prelude.{◌≡◌, ◌≤◌, ◌<◌, length, map, take};
 ghost use Rattle.plans.specs.Plan.{AreShort};
 ghost use Rattle.port_operations.specs.Stations.{module_of, parameter_of, submodule_of};
 ghost use Rattle.controller_operations.specs.Plans.{parts_of, record_of};
+ghost use Rattle.plan_operations.specs.Readings.{IsNothing};
 
 use controller_operations::{WrittenPlan, WrittenRecord};
 use plans::{Plan, PlanRecord};
@@ -10,7 +11,9 @@ use pn_values::{ParameterRecord, RealModule, RealSubmodule};
 use port_operations::{Module, Parameter, Submodule};
 
 /// Makes it a plan of nothing.
-pub fn clear(written: &mut WrittenPlan) {
+pub fn clear(written: &mut WrittenPlan)
+    ensures { IsNothing written.new }
+{
     written.name = [0; 240];
     written.controller_name = [0; 240];
     written.name_length = 0;
@@ -29,11 +32,23 @@ pub fn clear(written: &mut WrittenPlan) {
     written.station_type = [0; 28];
     written.module_count = 0;
     written.record_count = 0;
-    for index in 0..16usize {
-        written.modules[index] = no_module();
+    clear_modules(&mut written.modules);
+    clear_records(&mut written.records);
+}
+
+fn clear_modules(places: &mut [Module])
+    ensures { length places.new ≡ length places.old }
+{
+    for index in 0..places.len() {
+        places[index] = no_module();
     }
-    for index in 0..32usize {
-        written.records[index] = no_record();
+}
+
+fn clear_records(places: &mut [WrittenRecord])
+    ensures { length places.new ≡ length places.old }
+{
+    for index in 0..places.len() {
+        places[index] = no_record();
     }
 }
 
@@ -69,7 +84,9 @@ pub fn put(written: &mut WrittenPlan, plan: &Plan)
 
 /// Fills in the type of a station: one that is too long has its length and no octets.
 pub fn put_type(written: &mut WrittenPlan, station_type: &[u8])
-    ensures { parts_of written.new ≡ parts_of written.old }
+    ensures kept { parts_of written.new ≡ parts_of written.old }
+    ensures octets { length station_type.now ≤ 28 → take written.new.station_type_length written.new.station_type ≡ station_type.now }
+    ensures long { 28 < length station_type.now → 28 < written.new.station_type_length }
 {
     written.station_type_length = length_of(station_type);
     if station_type.len() <= 28 {
@@ -78,7 +95,10 @@ pub fn put_type(written: &mut WrittenPlan, station_type: &[u8])
 }
 
 // How long a type of station is: one that is too long for 32 bits stays too long.
-fn length_of(station_type: &[u8]) -> u32 {
+fn length_of(station_type: &[u8]) -> u32
+    ensures short { length station_type.now ≤ 28 → result ≡ length station_type.now }
+    ensures long { 28 < length station_type.now → 28 < result }
+{
     if station_type.len() <= 0xFFFF_FFFF {
         station_type.len() as u32
     } else {
