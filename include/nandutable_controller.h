@@ -149,7 +149,7 @@ static inline uint32_t pn_plan_read(pn_plan *plan, const uint8_t *text, size_t l
 }
 
 /* For a message: at which key the first fault of a catalogue stands, as `Project.Slots[1].Slot`, with a zero behind it. 0 where it
- * stands at none. */
+ * stands at none. What is left of the room is zeros; with no text or no room nothing changes. */
 static inline uint32_t pn_plan_where(const uint8_t *text, size_t length, char *where, size_t size)
 {
     if (text == NULL || where == NULL || size == 0)

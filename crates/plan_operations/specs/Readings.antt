@@ -16,7 +16,9 @@ pub record IsFault (text : List ℕ) (answer : ℕ) : Type 0 where
 pub record IsTyped (text : List ℕ) (written : WrittenPlan) : Type 0 where
   pub found : Catalogue
   pub reading : Found text found
-  pub octets : length found.access_point.station_type ≤ 28 → take written.station_type_length written.station_type ≡ found.access_point.station_type
+  pub octets :
+      length found.access_point.station_type ≤ 28
+      → take written.station_type_length written.station_type ≡ found.access_point.station_type
   pub long : 28 < length found.access_point.station_type → 28 < written.station_type_length
 
 -- a plan of nothing: no list of it holds anything
