@@ -14,8 +14,8 @@
  *         pn_controller_frame(&controller, &op, octets, length); // or pn_controller_tick, pn_controller_give, pn_controller_stop
  *     }
  *
- * The calls of the controller lie in libnandutable-controller.a: proved sources as plain Rust. pn_plan_read lies in
- * libnandutable-plan.a: its edge to C is not proved.
+ * The calls of the controller lie in libnandutable-controller.a, those that read a plan in libnandutable-plan.a: proved sources as
+ * plain Rust.
  *
  * Under the MIT licence or the Apache License 2.0, as you choose. */
 #ifndef NANDUTABLE_CONTROLLER_H
@@ -130,9 +130,11 @@ _Static_assert(sizeof(pn_plan) == 4272, "another layout than the library's");
  * answered PN_OK for, and a room of PN_CONTROLLER_SIZE octets on a multiple of 16.
  * pn_controller_step carries one operation out on a room into which pn_controller_put put a controller and that only these calls
  * changed since.
+ * pn_plan_make reads a catalogue into a plan of `size` octets, and pn_plan_show writes at which key the first fault of one stands. What
+ * they write to has been written to before.
  * No pointer is null, with a length of 0 neither; the operation, what is given, the plan, the numbers and the room lie apart. */
 uint32_t pn_plan_make(const uint8_t *text, size_t length, size_t size, pn_plan *plan);
-uint32_t pn_plan_where(const uint8_t *text, size_t length, char *where, size_t size);
+uint32_t pn_plan_show(const uint8_t *text, size_t length, char *where, size_t size);
 uint32_t pn_controller_judge(size_t size, uint32_t abi, size_t op_size, const pn_plan *plan, const uint8_t ar[16]);
 void pn_controller_put(void *room, const pn_plan *plan, const uint8_t ar[16], const uint8_t activity[16]);
 uint32_t pn_controller_step(void *room, pn_op *op, const uint8_t *given, size_t length);
@@ -140,11 +142,21 @@ uint32_t pn_controller_step(void *room, pn_op *op, const uint8_t *given, size_t 
 /* Reads the catalogue of a station, whose keys are those of GSDML. PN_OK, or a number of PN_PLAN_JSON and so on. */
 static inline uint32_t pn_plan_read(pn_plan *plan, const uint8_t *text, size_t length)
 {
+    if (text == NULL || plan == NULL)
+        return PN_PLAN_NULL;
+    memset(plan, 0, sizeof *plan);
     return pn_plan_make(text, length, sizeof *plan, plan);
 }
 
 /* For a message: at which key the first fault of a catalogue stands, as `Project.Slots[1].Slot`, with a zero behind it. 0 where it
- * stands at none. pn_plan_where (above) is used as it is. */
+ * stands at none. What is left of the room is zeros; with no text or no room nothing changes. */
+static inline uint32_t pn_plan_where(const uint8_t *text, size_t length, char *where, size_t size)
+{
+    if (text == NULL || where == NULL || size == 0)
+        return 0;
+    memset(where, 0, size);
+    return pn_plan_show(text, length, where, size);
+}
 
 /* The station that a plan expects, for a device that is to be it: what a catalogue does not say (the MAC address, texts of I&M0)
  * is left as it was. */

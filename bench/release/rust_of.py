@@ -360,12 +360,17 @@ def listed(found, gone):
 
 
 def with_parts_of_slices(text):
-    """An export that takes a slice, which C passes as a pointer and a length, as one that takes these two."""
+    """An export that takes a slice, which C passes as a pointer and a length, as one that takes these two; and the allocator, of
+    which C passes nothing, as a name in it."""
     for found in re.finditer(r'extern "C" fn \w+\(([^)]*)\)[^{]*\{\n', text):
         head, made = found.group(), []
-        for name, inside in re.findall(r"(\w+): &\[(\w+)\]", found.group(1)):
-            head = head.replace(f"{name}: &[{inside}]", f"{name}: *const {inside}, {name}_length: usize")
-            made.append(f"    // SAFETY: the caller says that so many lie there.\n    let {name} = unsafe {{ std::slice::from_raw_parts({name}, {name}_length) }};\n")
+        for name, write, inside in re.findall(r"(\w+): &(mut )?\[(\w+)\]", found.group(1)):
+            head = head.replace(f"{name}: &{write}[{inside}]", f"{name}: *{write or 'const '}{inside}, {name}_length: usize")
+            parts = "from_raw_parts_mut" if write else "from_raw_parts"
+            made.append(f"    // SAFETY: the caller says that so many lie there.\n    let {name} = unsafe {{ core::slice::{parts}({name}, {name}_length) }};\n")
+        if re.search(r"\balloc: Global\b", head):
+            head = re.sub(r",\s*alloc: Global\b", "", head)
+            made.append("    let alloc = Global;\n")
         text = text.replace(found.group(), head + "".join(made))
     return text
 

@@ -1,0 +1,10 @@
+-- the places so far are what is given
+use Rattle.std.proofs.Common.{◌≡◌, length, map, take}
+use Rattle.port_operations.specs.Stations.{submodule_of}
+use Rattle.plan_operations.proofs.written.put_submodules.Given as goal
+
+abbrev pub invariant-loop-index : goal.invariant-loop-index
+invariant-loop-index l = record {
+  items : map submodule_of (take l.index l.places) ≡ take l.index l.given;
+  len : length l.places ≡ length l.initial.places;
+}
