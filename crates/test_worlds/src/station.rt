@@ -65,7 +65,7 @@ fn copied(real: &Real) -> Real {
     Real { modules }
 }
 
-/// The plan of a catalogue. Like the two functions behind it it has no contract, so that what such a call promises is read here alone.
+/// The plan of a catalogue. It has no contract, so that what reading one promises is read here alone.
 fn plan_of(alloc: Global, catalogue: &str) -> Option<Plan> {
     plan_from_json(alloc, catalogue.as_bytes()).ok()
 }

@@ -30,8 +30,7 @@ fn calls_cut_short(rt: HostRuntime) -> Result<(), Fail> {
     is_untouched(&rt, device, Some(Phase::Exchanging))
 }
 
-// The status of a call whose blocks are cut at a length: there is no block, or no whole one, or the record is shorter than
-// RecordDataLength.
+// The status of a call whose blocks are cut at a length: there is no block, no whole one, or a record shorter than RecordDataLength.
 fn status_of_cut(code: u8, length: usize) -> [u8; 4] {
     match length {
         0 => [code, 0x81, 0x40, 1],
@@ -65,14 +64,14 @@ fn blocks_cut_short(rt: HostRuntime) -> Result<(), Fail> {
             are_refused_cut(&rt, &mut device, (operation, code, blocks), &mut sequence)?;
         }
     }
-    is_as_it_was(&rt, &device);
-    Ok(())
+    is_as_it_was(&rt, &device)
 }
 
 // The relation is where it was, and no date is stored.
-fn is_as_it_was(rt: &impl Abort, device: &Station) {
+fn is_as_it_was(rt: &impl Abort, device: &Station) -> Result<(), Fail> {
     is_in(rt, device, Some(Phase::Started));
     same(rt, device.running().im2.as_bytes(), [b' '; 16].as_slice());
+    Ok(())
 }
 
 // The end of each block of a Connect; ErrorCode1 of its fields; and both codes where the blocks end in front of it: there is no
@@ -110,8 +109,7 @@ fn connects_cut_short(rt: HostRuntime) -> Result<(), Fail> {
     for length in 0..BLOCKS.len() {
         let part = call(CONNECT, sequence, BLOCKS.get(..length).ok_or("is longer")?);
         let [code, other] = codes_of_connect(length);
-        let status = [0xDB, 0x81, code, other];
-        is_served(&rt, &mut device, &part, (142, status));
+        is_served(&rt, &mut device, &part, (142, [0xDB, 0x81, code, other]));
         sequence = sequence.wrapping_add(1);
     }
     is_in(&rt, &device, None);
@@ -161,8 +159,7 @@ fn counts_in_calls(rt: HostRuntime) -> Result<(), Fail> {
             }
         }
     }
-    is_as_it_was(&rt, &device);
-    Ok(())
+    is_as_it_was(&rt, &device)
 }
 
 // ArgsLength and ActualCount alike: there is no block, one octet of a block, or less than they say.
@@ -175,13 +172,11 @@ fn counts_alike(rt: HostRuntime) -> Result<(), Fail> {
             let whole = call(operation, sequence, blocks);
             let other = bent(whole.as_slice(), 126, 4, number);
             let other = bent(other.as_slice(), 138, 4, number);
-            let status = [code, 0x81, 0x40, wanted];
-            is_served(&rt, &mut device, &other, (142, status));
+            is_served(&rt, &mut device, &other, (142, [code, 0x81, 0x40, wanted]));
             sequence = sequence.wrapping_add(1);
         }
     }
-    is_as_it_was(&rt, &device);
-    Ok(())
+    is_as_it_was(&rt, &device)
 }
 
 // RecordDataLength: that of a Write has to be the record's own; a Read gives no more than so many octets of it.
@@ -198,8 +193,7 @@ fn lengths_of_records(rt: HostRuntime) -> Result<(), Fail> {
         is_served(&rt, &mut device, &asked, (read.saturating_add(206), [0; 4]));
         sequence = sequence.wrapping_add(2);
     }
-    is_as_it_was(&rt, &device);
-    Ok(())
+    is_as_it_was(&rt, &device)
 }
 
 // What serves a call of an operation, the code of its negative answers, its blocks, and the octets of its positive answer.
@@ -240,8 +234,7 @@ fn is_answered(
     takes(rt, &mut device, &frame(bytes.as_slice()), &mut outbox);
     let sent = outbox.as_slice().first().ok_or("is answered")?;
     same(rt, sent.len(), length);
-    let status = sent.as_slice().get(122..126);
-    same(rt, status, Some([0; 4].as_slice()));
+    same(rt, sent.as_slice().get(122..126), Some([0; 4].as_slice()));
     same(rt, sent.as_slice().get(130..134), bytes.get(122..126));
     Ok(())
 }

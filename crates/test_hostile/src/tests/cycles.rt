@@ -110,45 +110,25 @@ fn is_counted(rt: &impl Abort, device: &mut Station, counter: u16, note: Note) {
     is_noted(rt, device, &bytes, note);
 }
 
-// A first CycleCounter, and what becomes of frames with others behind it.
-const COUNTERS: [(u16, [(u16, Note); 3]); 3] = [
-    (
-        0,
-        [
-            (0, Note::StaleCycle),
-            (65_535, Note::StaleCycle),
-            (1, Note::Done),
-        ],
-    ),
-    (
-        1,
-        [
-            (1, Note::StaleCycle),
-            (0, Note::StaleCycle),
-            (61_441, Note::Done),
-        ],
-    ),
-    (
-        65_535,
-        [
-            (61_440, Note::StaleCycle),
-            (65_535, Note::StaleCycle),
-            (0, Note::Done),
-        ],
-    ),
+// A first CycleCounter, two with which a frame behind it is stale, and one with which it is newer.
+const COUNTERS: [(u16, [u16; 2], u16); 3] = [
+    (0, [0, 65_535], 1),
+    (1, [1, 0], 61_441),
+    (65_535, [61_440, 65_535], 0),
 ];
 
-/// A relation in this phase takes a first CycleCounter, and this becomes of the others behind it.
+/// A relation in this phase takes a first CycleCounter, then neither of two stale ones, and then a newer one.
 fn are_counted(
     rt: &impl Abort,
     phase: Phase,
-    (first, others): (u16, [(u16, Note); 3]),
+    (first, stale, newer): (u16, [u16; 2], u16),
 ) -> Result<(), Fail> {
     let mut device = at(Some(phase))?;
     is_counted(rt, &mut device, first, Note::Done);
-    for (counter, note) in others {
-        is_counted(rt, &mut device, counter, note);
+    for counter in stale {
+        is_counted(rt, &mut device, counter, Note::StaleCycle);
     }
+    is_counted(rt, &mut device, newer, Note::Done);
     Ok(())
 }
 

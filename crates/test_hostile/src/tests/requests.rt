@@ -1,5 +1,4 @@
-// DCP frames that are cut short, or whose lengths are wrong. What has to become of each is computed here, from the rules
-// of the standard alone.
+// DCP frames that are cut short, or whose lengths are wrong. What has to become of each is computed here, by the standard alone.
 use super::samples::Fate::{self, Answered, Fault, Filter, NotMine};
 use super::samples::{GET, NAMED, SAMPLES, Sample, frame};
 use script_runner::run;
@@ -219,16 +218,16 @@ fn lengths(alloc: Global, frame: &[u8], place: usize, is_get: bool) -> Result<Ve
         return Ok(places);
     };
     let length = usize::from(u16::from_be_bytes([*high, *low]));
+    let end = frame
+        .len()
+        .saturating_sub(rest.len())
+        .saturating_add(length);
     let mut data = rest.get(..length).unwrap_or(&[]);
     for _ in 0..17 {
         if data.is_empty() || is_get {
             break;
         }
-        let behind = frame
-            .len()
-            .saturating_sub(rest.len())
-            .saturating_add(length);
-        places.push(behind.saturating_sub(data.len()).saturating_add(2))?;
+        places.push(end.saturating_sub(data.len()).saturating_add(2))?;
         data = match first_block(data) {
             Some((_, behind)) => behind,
             None => &[],
@@ -246,12 +245,7 @@ fn number_at(frame: &[u8], place: usize) -> Option<u16> {
 }
 
 /// The frame with another number of two bytes at a place.
-fn with_number(
-    alloc: Global,
-    frame: &[u8],
-    place: usize,
-    number: u16,
-) -> Result<Vec<u8>, AllocError> {
+fn with_number(alloc: Global, frame: &[u8], place: usize, number: u16) -> Result<Vec<u8>, Fail> {
     let [high, low] = number.to_be_bytes();
     let mut bytes = Vec::new(alloc);
     for (index, byte) in frame.iter().enumerate() {
