@@ -324,8 +324,12 @@ def without_unused_imports(text):
 def is_used(name, path, rest):
     word = name.split(" as ")[-1] if name != "self" else path.rstrip(":").split("::")[-1]
     code = re.sub(r"//[^\n]*", "", rest)
-    return bool(re.search(rf"\b{word}\b", code)) or word == "*" or word in TRAITS
+    is_needed = any(word in names and re.search(rf"\b{macro}\b", code) for macro, names in NEEDED.items())
+    return bool(re.search(rf"\b{word}\b", code)) or word == "*" or word in TRAITS or is_needed
 
+
+# What a macro of another file needs where it is used, though its name does not stand there.
+NEEDED = {"read_headed": ("read_fields", "version_at")}
 
 # What is imported for its methods alone.
 TRAITS = ("ByteOrder", "Flags", "Flash", "Write", "Sink", "Entry", "BufRead")
@@ -375,6 +379,11 @@ def with_parts_of_slices(text):
     return text
 
 
+def with_plain_proofs(text):
+    """What a constant has the check prove, `prove!`, Rust's compiler reckons: `assert!`."""
+    return text.replace("const _: () = prove!(", "const _: () = assert!(")
+
+
 def plain(text):
     """The Rust of a proved source."""
     tokens = tokens_of(without_handle_of_expect(text))
@@ -387,7 +396,7 @@ def plain(text):
     tokens = with_plain_tests(tokens)
     tokens = without_unused_handles(tokens)
     tokens = without_unused_turns(tokens)
-    text = with_parts_of_slices(with_plain_main(text_of(tokens)))
+    text = with_plain_proofs(with_parts_of_slices(with_plain_main(text_of(tokens))))
     return tidy(without_unused_imports(without_model_import(text)))
 
 

@@ -4,8 +4,7 @@ use Rattle.std.specs.Prelude.{nat_eq, slice_get}
 use Rattle.std.specs.Cmp.Lexicographic.{pointwise}
 use Rattle.std.specs.List.{AllByRecursion}
 use Rattle.std.proofs.lemmas.List.{length-append}
-use Rattle.flash_model.specs.Calls.{Call}
-use Rattle.flash_model.specs.Image.{Image}
+use Rattle.flash_model.specs.declared.flash.Flash.{Ghosts as Flash}
 use Rattle.settings_store.specs.Machine.{Outcome}
 use Rattle.pn_values.specs.declared.identity.Identity.{Identity}
 use Rattle.pn_values.specs.declared.mac.Mac.{Mac}
@@ -159,7 +158,7 @@ module _ {F : Type 0} where
   taken_none : (w : World F) (raised taken : List AlarmNotification) → FollowsAt w raised taken → FollowsAt w raised (taken ++ [])
   taken_none w raised taken follows = subst (λ (xs : List AlarmNotification). FollowsAt w raised xs) (sym (append-nil taken)) follows
 
-  module _ (so : DeviceSo) (hears : HearsSo) (image : F → Image) (failures : F → ℕ) (asked : F → List Call → F → Type 0) (before after : World F) (raised taken : List AlarmNotification)
+  module _ (so : DeviceSo) (hears : HearsSo) {S : ℕ} (as_flash : Flash F S) (before after : World F) (raised taken : List AlarmNotification)
       (follows : FollowsAt before raised taken) where
     abbrev setup : Setup
     setup = before.controller.setup
@@ -176,7 +175,7 @@ module _ {F : Type 0} where
     -- ---- the device
 
     module _ (heard : Heard) (now : List AlarmNotification) (first : (sequence : ℕ) → heard_as heard ≡ small.Call sequence small.Connects → sequence ≡ 0) (called : IsCallIn heard)
-        (made : AtDevice image failures asked before heard after) (meant : IsMeantAtDevice before heard) where
+        (made : AtDevice as_flash before heard after) (meant : IsMeantAtDevice before heard) where
       device_on : ((outcomes : List Outcome) → Goes setup follows.relation live.rest.link (heard_step outcomes station live heard).live.rest.link (heard_step outcomes station live heard).sent now)
           → FollowsAt after (raised ++ now) taken
       device_on goes =
@@ -206,7 +205,7 @@ module _ {F : Type 0} where
 
     -- anything but an alarm that is raised
     device_quiet : (heard : Heard) → IsUnraised heard → IsHeard follows.relation.told (told_at heard) → ((sequence : ℕ) → heard_as heard ≡ small.Call sequence small.Connects → sequence ≡ 0) → IsCallIn heard
-        → AtDevice image failures asked before heard after → IsMeantAtDevice before heard → FollowsAt after (raised ++ []) taken
+        → AtDevice as_flash before heard after → IsMeantAtDevice before heard → FollowsAt after (raised ++ []) taken
     device_quiet heard unraised is first called made meant =
         device_on heard [] first called made meant (λ outcomes.
         turn_on setup follows.relation station.real.modules.items live.rest.calls live.rest.link heard (heard_step outcomes station live heard).live.rest.link (heard_step outcomes station live heard).sent
@@ -214,7 +213,7 @@ module _ {F : Type 0} where
         (makes_fresh setup station live before.controller.live before.sent raised taken follows heard meant.planned first (heard_step outcomes station live heard).live.rest.link (heard_step outcomes station live heard).sent)
         (step_turns outcomes station live heard))
 
-    device_raises : (slot subslot : ℕ) (octets : List ℕ) → AtDevice image failures asked before (Raised slot subslot octets) after → IsMeantAtDevice before (Raised slot subslot octets)
+    device_raises : (slot subslot : ℕ) (octets : List ℕ) → AtDevice as_flash before (Raised slot subslot octets) after → IsMeantAtDevice before (Raised slot subslot octets)
         → FollowsAt after (raised ++ raised_in (raised_to station.real.modules.items slot subslot octets live.rest.link)) taken
     device_raises slot subslot octets made meant =
         device_on (Raised slot subslot octets) _ (λ sequence e. absurd (idle_call sequence e)) (λ caller address call e other. absurd (other refl)) made meant (λ outcomes.
@@ -231,7 +230,7 @@ module _ {F : Type 0} where
     in_at number octets there = each_at (IsIn setup station.identity follows.relation) before.sent number octets follows.frames there
 
     comes_to_device : (octets : List ℕ) (skipped : Bool) → IsIn setup station.identity follows.relation octets
-        → IsMeantAtDevice before (heard_of station.identity (Frame (record { items = octets }))) → Comes image failures asked skipped before Device octets after → FollowsAt after (raised ++ []) taken
+        → IsMeantAtDevice before (heard_of station.identity (Frame (record { items = octets }))) → Comes as_flash skipped before Device octets after → FollowsAt after (raised ++ []) taken
     comes_to_device octets true is meant comes = raised_none after raised taken (same_follows comes)
     comes_to_device octets false is meant comes =
         device_quiet (heard_of station.identity (Frame (record { items = octets }))) (unraised_frame station.identity octets) is.told is.first is.called comes meant
@@ -239,7 +238,7 @@ module _ {F : Type 0} where
     delivered_to_device : (octets : Option (List ℕ))
         → ((frame : List ℕ) → octets ≡ Some frame → IsIn setup station.identity follows.relation frame)
         → ((frame : List ℕ) → octets ≡ Some frame → IsMeantAtDevice before (heard_of station.identity (Frame (record { items = frame }))))
-        → Delivers image failures asked octets before Device after → FollowsAt after (raised ++ []) taken
+        → Delivers as_flash octets before Device after → FollowsAt after (raised ++ []) taken
     delivered_to_device None is meant comes = raised_none after raised taken (same_follows comes)
     delivered_to_device (Some octets) is meant comes =
         comes_to_device octets (is_skipped before.device before.controller Device octets) (is octets refl) (meant octets refl) comes
@@ -265,7 +264,7 @@ module _ {F : Type 0} where
 
     comes_to_controller : (octets : List ℕ) (skipped : Bool) → IsIn setup station.identity follows.relation octets
         → IsMeantAtController before (event.Frame (record { items = octets }))
-        → Comes image failures asked skipped before Controller octets after → FollowsAt after raised (taken ++ taken_in skipped before.controller octets)
+        → Comes as_flash skipped before Controller octets after → FollowsAt after raised (taken ++ taken_in skipped before.controller octets)
     comes_to_controller octets true is meant comes = taken_none after raised taken (same_follows comes)
     comes_to_controller octets false is meant comes =
         controller_on (event.Frame (record { items = octets })) (taken_by before.controller.live (heard_by setup.plan.controller octets)) is.noted
@@ -277,14 +276,14 @@ module _ {F : Type 0} where
     delivered_to_controller : (octets : Option (List ℕ))
         → ((frame : List ℕ) → octets ≡ Some frame → IsIn setup station.identity follows.relation frame)
         → ((frame : List ℕ) → octets ≡ Some frame → IsMeantAtController before (event.Frame (record { items = frame })))
-        → Delivers image failures asked octets before Controller after → FollowsAt after raised (taken ++ taken_from before octets)
+        → Delivers as_flash octets before Controller after → FollowsAt after raised (taken ++ taken_from before octets)
     delivered_to_controller None is meant comes = taken_none after raised taken (same_follows comes)
     delivered_to_controller (Some octets) is meant comes =
         comes_to_controller octets (is_skipped before.device before.controller Controller octets) (is octets refl) (meant octets refl) comes
 
     -- ---- any move
 
-    one_follows : (one : Move) → Happens image failures asked before one after → IsMeant before one
+    one_follows : (one : Move) → Happens as_flash before one after → IsMeant before one
         → FollowsAt after (raised ++ raised_with before one) (taken ++ taken_with before one)
     one_follows (move.Deliver Device number) happens meant =
         taken_none after (raised ++ []) taken (delivered_to_device (slice_get before.sent number) (λ frame there. in_at number frame there) meant happens)
@@ -301,13 +300,13 @@ module _ {F : Type 0} where
 
   -- ---- any run
 
-  pub run_follows : DeviceSo → HearsSo → (image : F → Image) (failures : F → ℕ) (asked : F → List Call → F → Type 0) (w : World F) (raised taken : List AlarmNotification) → FollowsAt w raised taken
-      → (run : List (Move × World F)) → AreMade image failures asked w run → AreMeant w run
+  pub run_follows : DeviceSo → HearsSo → {S : ℕ} (as_flash : Flash F S) (w : World F) (raised taken : List AlarmNotification) → FollowsAt w raised taken
+      → (run : List (Move × World F)) → AreMade as_flash w run → AreMeant w run
       → FollowsAt (last_world w run) (raised ++ raised_over w run) (taken ++ taken_over w run)
-  run_follows so hears image failures asked w raised taken follows [] made meant = taken_none w (raised ++ []) taken (raised_none w raised taken follows)
-  run_follows so hears image failures asked w raised taken follows (one ∷ run) made meant =
-      let next = one_follows so hears image failures asked w one.1 raised taken follows one.0 made.0 meant.0 in
-      let all = run_follows so hears image failures asked one.1 (raised ++ raised_with w one.0) (taken ++ taken_with w one.0) next run made.1 meant.1 in
+  run_follows so hears as_flash w raised taken follows [] made meant = taken_none w (raised ++ []) taken (raised_none w raised taken follows)
+  run_follows so hears as_flash w raised taken follows (one ∷ run) made meant =
+      let next = one_follows so hears as_flash w one.1 raised taken follows one.0 made.0 meant.0 in
+      let all = run_follows so hears as_flash one.1 (raised ++ raised_with w one.0) (taken ++ taken_with w one.0) next run made.1 meant.1 in
       subst (λ (xs : List AlarmNotification). FollowsAt (last_world one.1 run) xs (taken ++ (taken_with w one.0 ++ taken_over one.1 run))) (append_assoc raised (raised_with w one.0) (raised_over one.1 run))
       (subst (λ (xs : List AlarmNotification). FollowsAt (last_world one.1 run) ((raised ++ raised_with w one.0) ++ raised_over one.1 run) xs) (append_assoc taken (taken_with w one.0) (taken_over one.1 run)) all)
 
@@ -391,18 +390,18 @@ opening_asks law identity controlling good =
 -- ---- from the beginning
 
 module _ {F : Type 0} where
-  pub follows_so : DeviceSo → HearsSo → (setup : Setup) (identity : Identity) → IsSetup setup → CanMeet setup identity → (image : F → Image) (failures : F → ℕ) (asked : F → List Call → F → Type 0)
+  pub follows_so : DeviceSo → HearsSo → (setup : Setup) (identity : Identity) → IsSetup setup → CanMeet setup identity → {S : ℕ} (as_flash : Flash F S)
       → (first : World F) (run : List (Move × World F)) → Begins setup identity first → AreSizedModules first.device.station.real.modules.items
-      → AreMade image failures asked first run → AreMeant first run
+      → AreMade as_flash first run → AreMeant first run
       → FollowsAt (last_world first run) (raised_over first run) (taken_over first run)
-  follows_so so hears setup identity good can image failures asked first run begins real made meant =
+  follows_so so hears setup identity good can as_flash first run begins real made meant =
       let own : IsSetup first.controller.setup = subst (λ (s : Setup). IsSetup s) (sym begins.of_setup) good in
       let apart : first.device.station.identity.mac ≡ first.controller.setup.plan.controller.mac → ⊥ =
       subst (λ (s : Setup). first.device.station.identity.mac ≡ s.plan.controller.mac → ⊥) (sym begins.of_setup)
       (subst (λ (i : Identity). i.mac ≡ setup.plan.controller.mac → ⊥) (sym begins.of_device) can.apart) in
       let from = begins_so so setup identity first begins own apart real first.controller.setup.plan.controller.mac (identify_asked first.controller.setup.plan)
       (opening_asks hears.identify first.device.station.identity first.controller own) in
-      run_follows so hears image failures asked first [] [] from run made meant
+      run_follows so hears as_flash first [] [] from run made meant
 
 -- ---- the last of those that were raised
 

@@ -15,7 +15,7 @@ use Rattle.record_blocks.specs.declared.alarm_notification.AlarmNotification.{Al
 use Rattle.cyclic_data.specs.declared.place.PlaceKind.TheVariants.{Data as at_data}
 use Rattle.cyclic_data.specs.Image.{cell_at, changed, has_size}
 use Rattle.cyclic_exchange.specs.declared.route.Route.{Route}
-use Rattle.cyclic_exchange.specs.declared.units.Tick.{Tick}
+use Rattle.cyclic_exchange.specs.Units.{Brought}
 use Rattle.cyclic_exchange.specs.Cyclic.{Cyclic}
 use Rattle.cyclic_exchange.specs.Process.{provided_at, with_good}
 use Rattle.cyclic_exchange.specs.Received.{behind_frame}
@@ -271,7 +271,7 @@ module _ (setup : Setup) (mac : Mac) (apart : mac ≡ setup.plan.controller.mac 
   requests_placed device (Some (asks.Release sequence)) own = (tt, tt)
   requests_placed device None own = tt
 
-  flowed_placed : (live : Live) (is_request : Bool) (tick : Tick) (reason : Option Abort) → live.stands ≡ true → IsPlaced mac live → PlacedTurn (flowed live is_request tick reason)
+  flowed_placed : (live : Live) (is_request : Bool) (tick : Brought) (reason : Option Abort) → live.stands ≡ true → IsPlaced mac live → PlacedTurn (flowed live is_request tick reason)
   flowed_placed live is_request tick (Some reason) up p = record { live = over_placed _ live p; sent = (partner_other live up p, tt) }
   flowed_placed live is_request tick None up p = record {
     live = p;

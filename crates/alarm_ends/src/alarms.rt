@@ -29,21 +29,21 @@ pub fn worlds_take_alarms<F: Flash<S>, const S: usize>(setup: &Setup, identity: 
     // While at most 32,768 alarms are raised, those that the controller took begin those that the device raised, in their order, each once,
     ensures front { CanMeet setup.now identity.now →
         (first : World F) (run : List (Move × World F)) → Begins setup.now identity.now first
-        → AreMade F.image F.failures F.asked first run → AreSizedModules first.device.station.real.modules.items
+        → AreMade F.Flash first run → AreSizedModules first.device.station.real.modules.items
         → length (raised_over first run) ≤ 32768 → IsPrefixOf (taken_over first run) (raised_over first run) }
     // and lack at most the last.
     ensures last { CanMeet setup.now identity.now →
         (first : World F) (run : List (Move × World F)) → Begins setup.now identity.now first
-        → AreMade F.image F.failures F.asked first run → AreSizedModules first.device.station.real.modules.items
+        → AreMade F.Flash first run → AreSizedModules first.device.station.real.modules.items
         → length (raised_over first run) ≤ 32768 → length (raised_over first run) ≤ length (taken_over first run) + 1 }
     // It shows the last that it took: of those that were raised the last, or the one before it, and none before the first was raised.
     ensures shown { CanMeet setup.now identity.now →
         (first : World F) (run : List (Move × World F)) → Begins setup.now identity.now first
-        → AreMade F.image F.failures F.asked first run → AreSizedModules first.device.station.real.modules.items
+        → AreMade F.Flash first run → AreSizedModules first.device.station.real.modules.items
         → (last_world first run).controller.live.alarm ≡ last_of (taken_over first run) }
     ensures alarm { CanMeet setup.now identity.now →
         (first : World F) (run : List (Move × World F)) → Begins setup.now identity.now first
-        → AreMade F.image F.failures F.asked first run → AreSizedModules first.device.station.real.modules.items
+        → AreMade F.Flash first run → AreSizedModules first.device.station.real.modules.items
         → length (raised_over first run) ≤ 32768
         → IsOneOfTheLastTwo (raised_over first run) (last_world first run).controller.live.alarm }
 {

@@ -39,6 +39,6 @@ pub use module_blocks::{
 pub use reading::{read_alarm_ack, read_block, read_expected};
 pub use record_blocks::{
     AlarmAck, AlarmData, AlarmNotification, FilterModule, FilterModules, FilterSubmodule, Im0, Im1,
-    Im2, Im3, Im4, ImFilterData, IodReadReq, IodReadRes, IodWriteReq, IodWriteRes,
+    Im2, Im3, Im4, ImFilterData, IodReadReq, IodReadRes, IodWriteReq, IodWriteRes, RecordHeader,
 };
 pub use writing::{block_len, notification_front, write_block};

@@ -10,15 +10,17 @@ use Rattle.connect_blocks.specs.declared.control.ControlBlock.{ControlBlock}
 use Rattle.connect_blocks.specs.declared.iocr.IocrBlockRes.{IocrBlockRes}
 use Rattle.record_blocks.specs.declared.alarm_ack.AlarmAck.{AlarmAck}
 use Rattle.record_blocks.specs.declared.alarm_notification.AlarmNotification.{AlarmNotification}
+use Rattle.record_blocks.specs.declared.record_header.RecordHeader.{RecordHeader}
 use Rattle.record_blocks.specs.declared.write_record.IodWriteReq.{IodWriteReq}
 use Rattle.record_blocks.specs.declared.write_record.IodWriteRes.{IodWriteRes}
 use Rattle.record_blocks.specs.AlarmAck.{alarm_ack}
 use Rattle.record_blocks.specs.AlarmNotification.{alarm_notification, alarm_place, alarm_subject}
+use Rattle.record_blocks.specs.RecordHeader.{record_header}
 use Rattle.record_blocks.specs.WriteRecord.{iod_write_req, iod_write_res}
 use Rattle.block_codec.specs.declared.block.Block.{Block}
 use Rattle.block_codec.specs.declared.block.Block.TheVariants as is
 use Rattle.block_codec.specs.Block.{fields_of, kind_of}
-use Rattle.block_laws.specs.Writable.{CanBeWritten, IsAck, IsAlarm, IsArAnswer, IsControl, IsIocrAnswer, IsWrite, IsWritten}
+use Rattle.block_laws.specs.Writable.{CanBeWritten, IsAck, IsAlarm, IsArAnswer, IsControl, IsIocrAnswer, IsRecord, IsWrite, IsWritten}
 
 -- ---- what the formats of fields take
 
@@ -34,9 +36,9 @@ control_size : (wanted : Option ℕ) (block : ControlBlock) → IsControl block 
 unfolding control command
 control_size wanted block is = omega (arith, is.ar_uuid)
 
-write_fits : (block : IodWriteReq) → IsWrite block → iod_write_req.Fits block
-unfolding iod_write_req
-write_fits block is = (
+record_fits : (header : RecordHeader) → IsRecord header → record_header.Fits header
+unfolding record_header
+record_fits header is = (
   omega (arith, is.seq_number),
   (
     is.ar_uuid,
@@ -44,47 +46,34 @@ write_fits block is = (
       omega (arith, is.api),
       (
         omega (arith, is.slot_number),
-        (omega (arith, is.subslot_number), (tt, (omega (arith, is.index), (omega (arith, is.record_data_length), tt)))),
+        (omega (arith, is.subslot_number), (tt, (omega (arith, is.index), omega (arith, is.record_data_length)))),
       ),
     ),
   ),
 )
 
+record_size : (header : RecordHeader) → IsRecord header → record_header.size header ≡ 34
+unfolding record_header
+record_size header is = omega (arith, is.ar_uuid)
+
+write_fits : (block : IodWriteReq) → IsWrite block → iod_write_req.Fits block
+unfolding iod_write_req
+write_fits block is = (record_fits block.header is.header, tt)
+
 write_size : (block : IodWriteReq) → IsWrite block → iod_write_req.size block < 1000
 unfolding iod_write_req
-write_size block is = omega (arith, is.ar_uuid)
+write_size block is = omega (arith, record_size block.header is.header)
 
 written_fits : (block : IodWriteRes) → IsWritten block → iod_write_res.Fits block
 unfolding iod_write_res
 written_fits block is = (
-  omega (arith, is.seq_number),
-  (
-    is.ar_uuid,
-    (
-      omega (arith, is.api),
-      (
-        omega (arith, is.slot_number),
-        (
-          omega (arith, is.subslot_number),
-          (
-            tt,
-            (
-              omega (arith, is.index),
-              (
-                omega (arith, is.record_data_length),
-                (omega (arith, is.additional_value_1), (omega (arith, is.additional_value_2), (omega (arith, is.pnio_status), tt))),
-              ),
-            ),
-          ),
-        ),
-      ),
-    ),
-  ),
+  record_fits block.header is.header,
+  (omega (arith, is.additional_value_1), (omega (arith, is.additional_value_2), (omega (arith, is.pnio_status), tt))),
 )
 
 written_size : (block : IodWriteRes) → IsWritten block → iod_write_res.size block < 1000
 unfolding iod_write_res
-written_size block is = omega (arith, is.ar_uuid)
+written_size block is = omega (arith, record_size block.header is.header)
 
 ar_fits : (block : ArBlockRes) → IsArAnswer block → ar_block_res.Fits block
 unfolding ar_block_res

@@ -5,6 +5,7 @@ use Rattle.connect_blocks.specs.declared.control.ControlBlock.{ControlBlock}
 use Rattle.connect_blocks.specs.declared.iocr.IocrBlockRes.{IocrBlockRes}
 use Rattle.record_blocks.specs.declared.alarm_ack.AlarmAck.{AlarmAck}
 use Rattle.record_blocks.specs.declared.alarm_notification.AlarmNotification.{AlarmNotification}
+use Rattle.record_blocks.specs.declared.record_header.RecordHeader.{RecordHeader}
 use Rattle.record_blocks.specs.declared.write_record.IodWriteReq.{IodWriteReq}
 use Rattle.record_blocks.specs.declared.write_record.IodWriteRes.{IodWriteRes}
 use Rattle.block_codec.specs.declared.block.Block.{Block}
@@ -18,25 +19,23 @@ pub record IsControl (block : ControlBlock) : Type 0 where
   pub control_command : block.control_command < 65536
   pub control_block_properties : block.control_block_properties < 65536
 
+-- which record, in which call
+pub record IsRecord (header : RecordHeader) : Type 0 where
+  pub seq_number : header.seq_number < 65536
+  pub ar_uuid : length header.ar_uuid ≡ 16
+  pub api : header.api < 4294967296
+  pub slot_number : header.slot_number < 65536
+  pub subslot_number : header.subslot_number < 65536
+  pub index : header.index < 65536
+  pub record_data_length : header.record_data_length < 4294967296
+
 -- what stands in front of a record that is written
 pub record IsWrite (block : IodWriteReq) : Type 0 where
-  pub seq_number : block.seq_number < 65536
-  pub ar_uuid : length block.ar_uuid ≡ 16
-  pub api : block.api < 4294967296
-  pub slot_number : block.slot_number < 65536
-  pub subslot_number : block.subslot_number < 65536
-  pub index : block.index < 65536
-  pub record_data_length : block.record_data_length < 4294967296
+  pub header : IsRecord block.header
 
 -- how the record was taken
 pub record IsWritten (block : IodWriteRes) : Type 0 where
-  pub seq_number : block.seq_number < 65536
-  pub ar_uuid : length block.ar_uuid ≡ 16
-  pub api : block.api < 4294967296
-  pub slot_number : block.slot_number < 65536
-  pub subslot_number : block.subslot_number < 65536
-  pub index : block.index < 65536
-  pub record_data_length : block.record_data_length < 4294967296
+  pub header : IsRecord block.header
   pub additional_value_1 : block.additional_value_1 < 65536
   pub additional_value_2 : block.additional_value_2 < 65536
   pub pnio_status : block.pnio_status < 4294967296

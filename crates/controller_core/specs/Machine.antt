@@ -31,12 +31,11 @@ use Rattle.pn_alarms.specs.Message.{ToController}
 use Rattle.pn_alarms.specs.Receiver.{taken_as}
 use Rattle.pn_alarms.specs.Sending.{due}
 use Rattle.cyclic_exchange.specs.declared.route.Route.{Route}
-use Rattle.cyclic_exchange.specs.declared.units.Tick.{Tick}
 use Rattle.cyclic_exchange.specs.Cyclic.{Cyclic}
 use Rattle.cyclic_exchange.specs.Opening.{begun_of, ended_of, opened, related}
 use Rattle.cyclic_exchange.specs.Process.{provided_at}
 use Rattle.cyclic_exchange.specs.Received.{behind_frame}
-use Rattle.cyclic_exchange.specs.Units.{cyclic_later, tick_of}
+use Rattle.cyclic_exchange.specs.Units.{Brought, cyclic_later, tick_of}
 use Rattle.plans.specs.declared.parts.Parts.{Parts}
 use Rattle.plans.specs.declared.parts.Times.{Times}
 use Rattle.plans.specs.Packed.{layout_in}
@@ -308,12 +307,12 @@ abbrev pub due_frames : Live → Bool → Bool → Bool → List Sent
 due_frames live is_ack is_request is_cyclic =
     where_due is_ack (acks_of live) ++ (where_due is_request (requests_of live.device live.asked) ++ where_due is_cyclic (outputs_of live))
 
-abbrev pub flowed : Live → Bool → Tick → Option Abort → Turn
+abbrev pub flowed : Live → Bool → Brought → Option Abort → Turn
 flowed live is_request tick (Some reason) = ended_by live reason
 flowed live is_request tick None = record { live = live; sent = due_frames live tick.is_alarm is_request tick.is_cyclic }
 
 -- a unit passes: what is due of the relation, where it stands, and the request again
-abbrev pub brought : Live → Tick
+abbrev pub brought : Live → Brought
 brought live = tick_of live.cyclic (due live.alarms.sending)
 
 abbrev pub ticked : Live → Turn

@@ -467,9 +467,9 @@ impl Controller {
         }
         let due = self.alarms.tick();
         let tick = self.exchange.tick(due);
-        match tick.ending {
+        match tick.ending() {
             Some(reason) => self.end_by(reason, outbox),
-            None => self.send_due(tick.is_alarm, is_again, tick.is_cyclic, outbox),
+            None => self.send_due(tick.is_alarm(), is_again, tick.is_cyclic(), outbox),
         }
     }
 

@@ -21,7 +21,7 @@ use Rattle.pn_alarms.specs.declared.receiver.Taken.{Taken}
 use Rattle.pn_alarms.specs.declared.receiver.Taken.TheVariants.{New, Again, Refused}
 use Rattle.pn_alarms.specs.Message.{ToController as Notice}
 use Rattle.pn_alarms.specs.Receiver.{taken_as}
-use Rattle.cyclic_exchange.specs.declared.units.Tick.{Tick}
+use Rattle.cyclic_exchange.specs.Units.{Brought}
 use Rattle.plans.specs.declared.parts.Parts.{Parts}
 use Rattle.controller_frames.specs.declared.setup.Setup.{Setup}
 use Rattle.controller_frames.specs.declared.request.Request.{Request}
@@ -396,7 +396,7 @@ module _ (setup : Setup) where
       (due_say now is_request (requests_of live.device live.asked) (requests_say live.device live.phase live.asked live.asked refl in_step))
       (due_say now is_cyclic (outputs_of live) (tt, tt)))
 
-  flowed_goes : (live after : Live) (is_request : Bool) (tick : Tick) (ending : Option Abort) → IsInStep setup.plan live.phase live.asked → after.phase ≡ live.phase → after.asked ≡ live.asked
+  flowed_goes : (live after : Live) (is_request : Bool) (tick : Brought) (ending : Option Abort) → IsInStep setup.plan live.phase live.asked → after.phase ≡ live.phase → after.asked ≡ live.asked
       → GoesOn setup.plan small.Nothing live (flowed after is_request tick ending)
   flowed_goes live after is_request tick (Some reason) in_step phase asked =
       record { in_step = inl refl; moves = inr (inl refl); says = (tt, tt) }

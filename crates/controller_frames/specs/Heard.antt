@@ -76,6 +76,11 @@ heard_content address source (ArpPacket arp) = Nothing
 heard_content address source (UdpDatagram from to body) =
     if is_to address to then heard_body (record { mac = source; endpoint = from }) body else Nothing
 
+-- the content of a frame from this station, or one that cannot be read
+abbrev pub heard_by : List ℕ → Mac → Result Content FrameFault → Heard
+heard_by address source (Ok content) = heard_content address source content
+heard_by address source (Err fault) = Nothing
+
 -- a frame that can be read is for the controller alone
 abbrev pub heard_frame : Controller → Meaning → Heard
 heard_frame controller meaning =

@@ -81,13 +81,15 @@ control_of setup command = record { ar_uuid = setup.ar; session_key = 1; control
 -- what stands in front of a record that is written: its SeqNumber is that of its call
 abbrev pub write_of : Setup → ℕ → PlanRecord → IodWriteReq
 write_of setup number entry = record {
-  seq_number = number + 1;
-  ar_uuid = setup.ar;
-  api = 0;
-  slot_number = entry.slot;
-  subslot_number = entry.subslot;
-  index = entry.index;
-  record_data_length = length entry.data.items;
+  header = record {
+    seq_number = number + 1;
+    ar_uuid = setup.ar;
+    api = 0;
+    slot_number = entry.slot;
+    subslot_number = entry.subslot;
+    index = entry.index;
+    record_data_length = length entry.data.items;
+  };
 }
 
 -- the record behind its block; where the plan has none, nothing

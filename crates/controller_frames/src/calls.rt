@@ -9,7 +9,7 @@ ghost use Rattle.frame_codec.specs.Outbox.{boxed};
 
 use crate::{Request, Setup};
 use arrayvec::ArrayVec;
-use block_codec::{Block, ControlBlock, IodWriteReq, write_block};
+use block_codec::{Block, ControlBlock, IodWriteReq, RecordHeader, write_block};
 use connect_blocks::control_len;
 use frame_codec::{Endpoint, Layered, Outbox, Payload, RPC_PORT, Udp};
 use plans::{PlanRecord, Station};
@@ -74,14 +74,16 @@ fn put_record(setup: &Setup, number: u16, entry: &PlanRecord, blocks: &mut Array
 {
     let octets = entry.data.as_slice();
     let block = IodWriteReq {
-        // SeqNumber of a Write counts within the relation, where the Connect was 0.
-        seq_number: number + 1,
-        ar_uuid: setup.ar,
-        api: 0,
-        slot_number: entry.slot,
-        subslot_number: entry.subslot,
-        index: entry.index,
-        record_data_length: octets.len() as u32,
+        header: RecordHeader {
+            // SeqNumber of a Write counts within the relation, where the Connect was 0.
+            seq_number: number + 1,
+            ar_uuid: setup.ar,
+            api: 0,
+            slot_number: entry.slot,
+            subslot_number: entry.subslot,
+            index: entry.index,
+            record_data_length: octets.len() as u32,
+        },
     };
     let _size = iod_write_req_len(&block);
     write_block(blocks, &Block::IodWriteReq(block));

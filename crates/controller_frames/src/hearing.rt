@@ -1,18 +1,17 @@
 //! What a frame says to a controller.
 ghost use Rattle.std.specs.Prelude.{◌≡◌, ◌==◌, ◌&&◌, IfSome, nat_eq};
 ghost use Rattle.std.specs.Cmp.Lexicographic.{pointwise};
-ghost use Rattle.controller_frames.specs.Heard.{Cyclic, heard_alarm, heard_answer, heard_body, heard_of, heard_real_time};
+ghost use Rattle.controller_frames.specs.Heard.{Cyclic, heard_alarm, heard_answer, heard_body, heard_by, heard_of, heard_real_time};
 ghost use Rattle.controller_frames.specs.Heard.{is_to as is_to_by};
 ghost use Rattle.controller_frames.specs.Told.{told};
 ghost use Rattle.dcp_core.specs.Answer.{answer_of};
-ghost use Rattle.frame_codec.specs.Frame.{frame_of};
-ghost use Rattle.frame_codec.specs.Meaning.{IsNoRealTime};
+ghost use Rattle.frame_codec.specs.Frame.{datagram};
 ghost use Rattle.pn_alarms.specs.Message.{alarm_of};
 
 use block_codec::AlarmNotification;
 use frame_codec::{
-    Bytes, Caller, DCP_GET_SET, DCP_IDENTIFY_RESPONSE, Endpoint, Layered, Payload, RPC_PORT,
-    RealTimeFrame, is_alarm, is_cyclic, read, read_real_time,
+    Bytes, Caller, ContentKind, DCP_GET_SET, DCP_IDENTIFY_RESPONSE, Endpoint, RPC_PORT,
+    RealTimeFrame, datagram_at, frame_id_at, is_alarm, is_cyclic, open, read_real_time,
 };
 use plans::Controller;
 use pn_alarms::{Header, Notice, read_alarm};
@@ -99,24 +98,19 @@ fn is_to(address: [u8; 4], to: &Endpoint) -> bool
     to.address == address && to.port == RPC_PORT
 }
 
-/// What a frame says that is not of EtherType 0x8892.
+/// What a packet of IPv4 from this station says to a controller.
 #[inline(never)]
-#[tactic(auto, unfolding(crate::specs::Heard::heard_of))]
-fn heard_datagram<'a>(controller: &Controller, bytes: &'a Bytes) -> Hearing<'a>
-    requires { IsNoRealTime (frame_of bytes.now.items) }
-    ensures { told result ≡ heard_of controller.now bytes.now.items }
+fn heard_datagram<'a>(controller: &Controller, source: Mac, content: &'a [u8]) -> Hearing<'a>
+    ensures { told result ≡ heard_by controller.now.address source (datagram.read content.now) }
 {
-    let Ok(layered) = read(bytes.as_slice()) else {
+    let Ok(udp) = datagram_at(content) else {
         return Hearing::Nothing;
     };
-    let Payload::Udp(udp) = layered.payload else {
-        return Hearing::Nothing;
-    };
-    if !layered.destination.is(&controller.mac) || !is_to(controller.address, &udp.destination) {
+    if !is_to(controller.address, &udp.destination) {
         return Hearing::Nothing;
     }
     let caller = Caller {
-        mac: layered.source,
+        mac: source,
         endpoint: udp.source,
     };
     heard_body(caller, udp.body)
@@ -138,18 +132,22 @@ pub fn cyclic_in<'a>(controller: &Controller, bytes: &'a Bytes) -> Option<RealTi
 
 /// What a frame says to a controller. It hangs on the octets, and on the controller's address of Ethernet and its IP address.
 #[inline(always)]
-#[tactic(auto, unfolding(crate::specs::Heard::heard_of))]
+#[tactic(auto, unfolding(crate::specs::Heard::heard_of, frame_codec::specs::Frame::arp))]
 pub fn heard<'a>(controller: &Controller, bytes: &'a Bytes) -> Hearing<'a>
     ensures { told result ≡ heard_of controller.now bytes.now.items }
 {
-    match read_real_time(bytes.as_slice()) {
-        Some(frame) => {
-            if frame.destination.is(&controller.mac) {
-                heard_real_time(frame.source, frame.frame_id, frame.body)
-            } else {
-                Hearing::Nothing
-            }
-        }
-        None => heard_datagram(controller, bytes),
+    let Ok(frame) = open(bytes.as_slice()) else {
+        return Hearing::Nothing;
+    };
+    if !frame.destination.is(&controller.mac) {
+        return Hearing::Nothing;
+    }
+    match frame.kind {
+        ContentKind::RealTime => match frame_id_at(frame.content) {
+            Ok((frame_id, body)) => heard_real_time(frame.source, frame_id, body),
+            Err(_) => Hearing::Nothing,
+        },
+        ContentKind::Internet => heard_datagram(controller, frame.source, frame.content),
+        ContentKind::Arp => Hearing::Nothing,
     }
 }

@@ -17,7 +17,7 @@ use Rattle.pn_alarms.specs.declared.receiver.Taken.TheVariants.{New, Again, Refu
 use Rattle.pn_alarms.specs.Controller.{with_ack}
 use Rattle.pn_alarms.specs.Message.{ToController}
 use Rattle.pn_alarms.specs.Receiver.{taken_as}
-use Rattle.cyclic_exchange.specs.declared.units.Tick.{Tick}
+use Rattle.cyclic_exchange.specs.Units.{Brought}
 use Rattle.cyclic_exchange.specs.Received.{behind_frame}
 use Rattle.plans.specs.declared.parts.Parts.{Parts}
 use Rattle.controller_frames.specs.declared.setup.Setup.{Setup}
@@ -234,7 +234,7 @@ heard_kept setup live (Alarms source header told) k =
 
 -- ---- units, and the application
 
-flowed_kept : (live : Live) (is_request : Bool) (tick : Tick) (reason : Option Abort) → Kept (stays live) → Kept (flowed live is_request tick reason)
+flowed_kept : (live : Live) (is_request : Bool) (tick : Brought) (reason : Option Abort) → Kept (stays live) → Kept (flowed live is_request tick reason)
 flowed_kept live is_request tick (Some reason) k = ends (cause_of reason) live (flowed live is_request tick (Some reason)).sent
 flowed_kept live is_request tick None k = same live live (due_frames live tick.is_alarm is_request tick.is_cyclic) refl refl refl k
 

@@ -5,6 +5,7 @@
 mod fault;
 mod image;
 mod judge;
+mod laid_out;
 mod layout;
 mod octets;
 mod place;
@@ -21,6 +22,3 @@ pub use received::ReceivedImage;
 pub use status::{DataStatus, GOOD};
 pub use tail::{CyclicTail, ShortFrame, put_cyclic, read_cyclic};
 pub use timing::{Consumer, Provider};
-
-#[cfg(test)]
-mod tests;

@@ -3,11 +3,11 @@ ghost use Rattle.std.specs.Prelude.{◌≡◌, ◌≤◌, [], length, map, repli
 ghost use Rattle.cyclic_data.specs.declared.place.PlaceKind.TheVariants.{Data};
 ghost use Rattle.cyclic_data.specs.Image.{zero_cell, cell_at, with_frame, output_of};
 
+use crate::laid_out::LaidOut;
 use crate::layout::Layout;
-use crate::octets::{blank, status_at, value_at, write_at};
-use crate::place::{Place, PlaceKind};
+use crate::octets::write_at;
+use crate::place::PlaceKind;
 use crate::status::GOOD;
-use arrayvec::ArrayVec;
 use std::marker::Model;
 
 /// As many zeros as the longest data has, and more.
@@ -17,9 +17,7 @@ static ZEROS: [u8; 1440] = [0; 1440];
 /// that no octet that came in is ever sent.
 #[derive(Drop)]
 pub struct ReceivedImage {
-    data_length: u16,
-    places: ArrayVec<Place, 128>,
-    octets: [u8; 1440],
+    laid_out: LaidOut,
 }
 
 // Clauses see a cell for each place.
@@ -32,9 +30,12 @@ impl Model for ReceivedImage {
     ghost use Rattle.cyclic_data.specs.Image.{cell_of};
     ghost use Rattle.cyclic_data.specs.Held.{IsReceived};
 
-    ghost view = { λ image. record { data_length = image.data_length; cells = map (cell_of image.octets) image.places.items } };
+    ghost view = { λ image. record {
+      data_length = image.laid_out.data_length;
+      cells = map (cell_of image.laid_out.octets) image.laid_out.places.items;
+    } };
 
-    ghost invariant = { λ image. IsReceived image.data_length image.places.items image.octets };
+    ghost invariant = { λ image. IsReceived image.laid_out.data_length image.laid_out.places.items image.laid_out.octets };
 }
 
 /// So many zeros.
@@ -52,9 +53,7 @@ impl ReceivedImage {
         ensures { result ≡ record { data_length = 0; cells = [] } }
     {
         ReceivedImage {
-            data_length: 0,
-            places: ArrayVec::new(),
-            octets: blank(),
+            laid_out: LaidOut::new(),
         }
     }
 
@@ -62,10 +61,7 @@ impl ReceivedImage {
     pub fn start(&mut self, layout: &Layout)
         ensures { self.new ≡ record { data_length = layout.now.data_length; cells = map zero_cell layout.now.places } }
     {
-        self.data_length = layout.data_length;
-        self.places.clear();
-        let _ = self.places.try_extend_from_slice(layout.places.as_slice());
-        self.octets = blank();
+        self.laid_out.start(layout);
     }
 
     /// DataLength, in octets.
@@ -73,7 +69,7 @@ impl ReceivedImage {
         ensures value { result ≡ self.now.data_length }
         ensures few { result ≤ 1440 }
     {
-        self.data_length
+        self.laid_out.data_length
     }
 
     /// Takes the octets of a frame, as many as DataLength counts; what is behind them is not looked at.
@@ -81,7 +77,8 @@ impl ReceivedImage {
         requires { self.old.data_length ≤ length octets.now }
         ensures { self.new ≡ with_frame octets.now self.old }
     {
-        write_at(&mut self.octets, 0, &octets[..self.data_length as usize]);
+        let size = self.laid_out.data_length as usize;
+        write_at(&mut self.laid_out.octets, 0, &octets[..size]);
     }
 
     /// The data of a submodule, if it has data in these frames, whatever its IOPS.
@@ -90,14 +87,14 @@ impl ReceivedImage {
             ≡ option_map (λ cell. cell.value) (cell_at Data slot subslot self.now.cells) }
         ensures short { IfSome result (λ value. length value.now ≤ 1440) }
     {
-        value_at(&self.octets, self.places.as_slice(), slot, subslot)
+        self.laid_out.value(slot, subslot)
     }
 
     /// The status at a place, if there is this place.
     pub fn status(&self, kind: PlaceKind, slot: u16, subslot: u16) -> Option<u8>
         ensures { result ≡ option_map (λ cell. cell.status) (cell_at kind slot subslot self.now.cells) }
     {
-        status_at(&self.octets, self.places.as_slice(), kind, slot, subslot)
+        self.laid_out.status(kind, slot, subslot)
     }
 
     /// The output of a submodule, if it has data in these frames: its data in the last frame that was taken, and zeros where

@@ -2,10 +2,11 @@
 use Rattle.std.specs.Prelude.{◌==◌, ◌&&◌, Bool, true, false, Option, Some, None, if◌then◌else◌}
 use Rattle.cyclic_data.specs.Timing.{Hearing, held_on, is_due, unit_later}
 use Rattle.pn_alarms.specs.declared.abort.Abort.{Abort}
-use Rattle.pn_alarms.specs.declared.abort.Abort.TheVariants.{DataHold, Other}
+use Rattle.pn_alarms.specs.declared.abort.Abort.TheVariants.{DataHold, Activity, Other}
 use Rattle.pn_alarms.specs.declared.repeats.Due.{Due}
 use Rattle.pn_alarms.specs.declared.repeats.Due.TheVariants.{Nothing, Again, Spent}
-use Rattle.cyclic_exchange.specs.declared.units.Tick.{Tick}
+use Rattle.cyclic_exchange.specs.declared.units.Brings.{Brings}
+use Rattle.cyclic_exchange.specs.declared.units.Brings.TheVariants as brings
 use Rattle.cyclic_exchange.specs.Cyclic.{Cyclic}
 
 -- whether the data hold time is over with this unit: it runs while data is exchanged
@@ -26,12 +27,27 @@ is_again Nothing = false
 is_again Again = true
 is_again Spent = false
 
+-- what a unit brings: why the relation ends, if it does, and what is sent
+pub record Brought : Type 0 where
+  pub ending : Option Abort
+  pub is_alarm : Bool
+  pub is_cyclic : Bool
+
+abbrev pub brought_by : Brings → Brought
+brought_by brings.Nothing = record { ending = None; is_alarm = false; is_cyclic = false }
+brought_by brings.Cyclic = record { ending = None; is_alarm = false; is_cyclic = true }
+brought_by brings.Alarm = record { ending = None; is_alarm = true; is_cyclic = false }
+brought_by brings.Both = record { ending = None; is_alarm = true; is_cyclic = true }
+brought_by brings.DataHold = record { ending = Some DataHold; is_alarm = false; is_cyclic = false }
+brought_by brings.Activity = record { ending = Some Activity; is_alarm = false; is_cyclic = false }
+brought_by brings.Other = record { ending = Some Other; is_alarm = false; is_cyclic = false }
+
 -- where the relation ends nothing more is done; else an alarm's data may be due again, and a frame
-abbrev pub tick_by : Cyclic → Due → Option Abort → Tick
+abbrev pub tick_by : Cyclic → Due → Option Abort → Brought
 tick_by cyclic alarm (Some reason) = record { ending = Some reason; is_alarm = false; is_cyclic = false }
 tick_by cyclic alarm None = record { ending = None; is_alarm = is_again alarm; is_cyclic = is_due cyclic.sending }
 
-abbrev pub tick_of : Cyclic → Due → Tick
+abbrev pub tick_of : Cyclic → Due → Brought
 tick_of cyclic alarm = tick_by cyclic alarm (ending_of cyclic alarm)
 
 -- a unit later

@@ -1,32 +1,133 @@
 //! The units of time.
-ghost use Rattle.std.specs.Prelude.{◌≡◌, Some, false};
+ghost use Rattle.std.specs.Prelude.{◌≡◌, ◌&&◌, None, Some, false, is_none, not};
 ghost use Rattle.cyclic_exchange.specs.Units.{cyclic_later, tick_of};
 
 use crate::CyclicExchange;
 use pn_alarms::{Abort, Due};
+use std::marker::Model;
+use std::mem::size_of;
 
-/// What a unit of time brings.
-#[derive(Clone, Copy, Debug, PartialEq, Eq)]
+/// What a unit of time brings. It is one octet, so that most units, which bring nothing, cost little.
+#[derive(Drop)]
 pub struct Tick {
-    /// The relation ends for this reason, and nothing else is sent.
-    pub ending: Option<Abort>,
-    /// What was sent as an alarm's data is sent again.
-    pub is_alarm: bool,
-    /// A cyclic frame is sent.
-    pub is_cyclic: bool,
+    brings: Brings,
 }
 
+// What is sent, or why the relation ends: the reasons of `Abort` stand here one by one, since a variant with a field takes two octets.
+#[derive(Clone, Copy)]
+enum Brings {
+    Nothing,
+    Cyclic,
+    Alarm,
+    Both,
+    DataHold,
+    Activity,
+    Other,
+}
+
+// Clauses see why the relation ends, and what is sent.
+impl Model for Tick {
+    ghost use Rattle.cyclic_exchange.specs.Units.{Brought, brought_by};
+
+    ghost Value = { Brought };
+
+    ghost view = { λ tick. brought_by tick.brings };
+}
+
+const _: () = prove!(size_of::<Tick>() == 1);
+
 impl Tick {
-    /// The relation ends.
+    /// Nothing.
     #[inline(always)]
-    fn ending(reason: Abort) -> Tick
-        ensures { result ≡ record { ending = Some reason; is_alarm = false; is_cyclic = false } }
+    pub fn nothing() -> Tick
+        ensures { result ≡ record { ending = None; is_alarm = false; is_cyclic = false } }
     {
         Tick {
-            ending: Some(reason),
-            is_alarm: false,
-            is_cyclic: false,
+            brings: Brings::Nothing,
         }
+    }
+
+    /// The relation ends, and nothing else is sent.
+    #[inline(always)]
+    pub fn ends(reason: Abort) -> Tick
+        ensures { result ≡ record { ending = Some reason; is_alarm = false; is_cyclic = false } }
+    {
+        let brings = match reason {
+            Abort::DataHold => Brings::DataHold,
+            Abort::Activity => Brings::Activity,
+            Abort::Other => Brings::Other,
+        };
+        Tick { brings }
+    }
+
+    /// The relation does not end, and this is sent: what was sent as an alarm's data, again, and a cyclic frame.
+    #[inline(always)]
+    fn sends(is_alarm: bool, is_cyclic: bool) -> Tick
+        ensures { result ≡ record { ending = None; is_alarm = is_alarm; is_cyclic = is_cyclic } }
+    {
+        let brings = match (is_alarm, is_cyclic) {
+            (false, false) => Brings::Nothing,
+            (false, true) => Brings::Cyclic,
+            (true, false) => Brings::Alarm,
+            (true, true) => Brings::Both,
+        };
+        Tick { brings }
+    }
+
+    /// The same, where the relation does not end.
+    #[inline(always)]
+    pub fn without_end(self) -> Tick
+        ensures { result ≡ record self { ending = None } }
+    {
+        match self.brings {
+            Brings::DataHold | Brings::Activity | Brings::Other => Tick::nothing(),
+            _ => self,
+        }
+    }
+
+    /// Whether it is nothing.
+    #[inline(always)]
+    pub fn is_nothing(&self) -> bool
+        ensures { result ≡ (is_none self.now.ending && (not self.now.is_alarm && not self.now.is_cyclic)) }
+    {
+        matches!(self.brings, Brings::Nothing)
+    }
+
+    /// Whether a cyclic frame is sent, and nothing else.
+    #[inline(always)]
+    pub fn is_cyclic_alone(&self) -> bool
+        ensures { result ≡ (is_none self.now.ending && (not self.now.is_alarm && self.now.is_cyclic)) }
+    {
+        matches!(self.brings, Brings::Cyclic)
+    }
+
+    /// Why the relation ends, if it does; then nothing else is sent.
+    #[inline(always)]
+    pub fn ending(&self) -> Option<Abort>
+        ensures { result ≡ self.now.ending }
+    {
+        match self.brings {
+            Brings::DataHold => Some(Abort::DataHold),
+            Brings::Activity => Some(Abort::Activity),
+            Brings::Other => Some(Abort::Other),
+            _ => None,
+        }
+    }
+
+    /// Whether what was sent as an alarm's data is sent again.
+    #[inline(always)]
+    pub fn is_alarm(&self) -> bool
+        ensures { result ≡ self.now.is_alarm }
+    {
+        matches!(self.brings, Brings::Alarm | Brings::Both)
+    }
+
+    /// Whether a cyclic frame is sent.
+    #[inline(always)]
+    pub fn is_cyclic(&self) -> bool
+        ensures { result ≡ self.now.is_cyclic }
+    {
+        matches!(self.brings, Brings::Cyclic | Brings::Both)
     }
 }
 
@@ -42,15 +143,12 @@ impl CyclicExchange {
         // A unit counts also where the relation ends with it, so that the interval never shifts.
         let is_cyclic = self.provider.due();
         if self.begun && self.consumer.expired() {
-            return Tick::ending(Abort::DataHold);
+            return Tick::ends(Abort::DataHold);
         }
-        if let Due::Spent = alarm {
-            return Tick::ending(Abort::Other);
-        }
-        Tick {
-            ending: None,
-            is_alarm: matches!(alarm, Due::Again),
-            is_cyclic,
+        match alarm {
+            Due::Nothing => Tick::sends(false, is_cyclic),
+            Due::Again => Tick::sends(true, is_cyclic),
+            Due::Spent => Tick::ends(Abort::Other),
         }
     }
 }

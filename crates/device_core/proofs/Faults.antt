@@ -2,8 +2,7 @@
 use Rattle.std.proofs.Common.{◌≡◌, Bool, true, false, List, [], ◌∷◌, ◌++◌, map, refl, sym, ap, subst, ◌∙◌, append_assoc, ℕ}
 use Rattle.std.proofs.lemmas.List.{append-nil}
 use Rattle.std.proofs.lemmas.Bool.{cond-false}
-use Rattle.flash_model.specs.Calls.{Call}
-use Rattle.flash_model.specs.Image.{Image}
+use Rattle.flash_model.specs.declared.flash.Flash.{Ghosts as Flash}
 use Rattle.pn_values.specs.declared.set_item.SetItem.{SetItem}
 use Rattle.pn_values.specs.declared.set_item.SetItem.TheVariants.{Ask, Signal, Answer}
 use Rattle.pn_values.specs.declared.set_item.BlockError.{BlockError}
@@ -109,10 +108,10 @@ still_there false now stays there = refl
 pub no_event : {F : Type 0} (state : State F) (taken : List (List ℕ)) → RunGoesOn state [] taken taken state
 no_event state taken = record { frames = []; handed_on = sym (append-nil taken); each = (refl, refl) }
 
-pub event_more : {F : Type 0} (image : F → Image) (failures : F → ℕ) (asked : F → List Call → F → Type 0) (old mid new : State F) (events : List Event) (event : Event) (before between now : List (List ℕ))
+pub event_more : {F : Type 0} {S : ℕ} (as_flash : Flash F S) (old mid new : State F) (events : List Event) (event : Event) (before between now : List (List ℕ))
     → mid.station ≡ old.station → (mid.live.values.is_lost ≡ false → RunGoesOn old events before between mid)
-    → HandsOn image failures asked mid (heard_of mid.station.identity event) between now new → new.live.values.is_lost ≡ false → RunGoesOn old (events ++ event ∷ []) before now new
-event_more image failures asked old mid new events event before between now same so_far on there =
+    → HandsOn as_flash mid (heard_of mid.station.identity event) between now new → new.live.values.is_lost ≡ false → RunGoesOn old (events ++ event ∷ []) before now new
+event_more as_flash old mid new events event before between now same so_far on there =
     let was = so_far (still_there _ _ on.steps.stretch.stays_lost there) in
     record {
       frames = was.frames ++ on.sent;

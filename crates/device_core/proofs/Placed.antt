@@ -1,7 +1,6 @@
 -- Events one by one, and one more.
 use Rattle.std.proofs.Common.{ℕ, List, [], ◌∷◌, ◌++◌, refl, subst}
-use Rattle.flash_model.specs.Calls.{Call}
-use Rattle.flash_model.specs.Image.{Image}
+use Rattle.flash_model.specs.declared.flash.Flash.{Ghosts as Flash}
 use Rattle.settings_store.specs.Machine.{Outcome}
 use Rattle.settings_store.specs.Carries.{OneByOne}
 use Rattle.device_frames.specs.declared.event.Event.{Event}
@@ -12,35 +11,35 @@ use Rattle.device_core.specs.Steps.{EventByEvent}
 use Rattle.device_core.proofs.Machine.{snoc, joined}
 
 -- the items of one event, on this state
-abbrev pub IsPlaced : {F : Type 0} → (F → Image) → (F → ℕ) → (F → List Call → F → Type 0) → List Outcome → Station → F → Live → Event → F → Type 0
-IsPlaced image failures asked outcomes station old live event new =
-    OneByOne image failures asked outcomes (record { flash = old; values = live.values }) (items_of station live (heard_of station.identity event))
+abbrev pub IsPlaced : {F : Type 0} {S : ℕ} → Flash F S → List Outcome → Station → F → Live → Event → F → Type 0
+IsPlaced as_flash outcomes station old live event new =
+    OneByOne as_flash outcomes (record { flash = old; values = live.values }) (items_of station live (heard_of station.identity event))
     (record { flash = new; values = (step_of outcomes station live event).live.values })
 
 -- with no outcome said of any
-placed_quietly : {F : Type 0} (image : F → Image) (failures : F → ℕ) (asked : F → List Call → F → Type 0) (station : Station) (old mid new : F) (live : Live) (events : List Event) (event : Event)
-    → EventByEvent image failures asked [] station old live events mid → IsPlaced image failures asked [] station mid (run_of [] station live events).live event new
-    → EventByEvent image failures asked [] station old live (events ++ event ∷ []) new
-placed_quietly image failures asked station old mid new live [] event run step =
-    (new, subst (λ f. IsPlaced image failures asked [] station f live event new) run step, refl)
-placed_quietly image failures asked station old mid new live (first ∷ events) event run step =
-    (run.0, run.1, placed_quietly image failures asked station run.0 mid new (step_of [] station live first).live events event run.2 step)
+placed_quietly : {F : Type 0} {S : ℕ} (as_flash : Flash F S) (station : Station) (old mid new : F) (live : Live) (events : List Event) (event : Event)
+    → EventByEvent as_flash [] station old live events mid → IsPlaced as_flash [] station mid (run_of [] station live events).live event new
+    → EventByEvent as_flash [] station old live (events ++ event ∷ []) new
+placed_quietly as_flash station old mid new live [] event run step =
+    (new, subst (λ f. IsPlaced as_flash [] station f live event new) run step, refl)
+placed_quietly as_flash station old mid new live (first ∷ events) event run step =
+    (run.0, run.1, placed_quietly as_flash station run.0 mid new (step_of [] station live first).live events event run.2 step)
 
 -- with outcomes for each
-placed_snoc : {F : Type 0} (image : F → Image) (failures : F → ℕ) (asked : F → List Call → F → Type 0) (front : List (List Outcome)) (last : List Outcome) (station : Station) (old mid new : F) (live : Live) (events : List Event) (event : Event)
-    → EventByEvent image failures asked front station old live events mid → IsPlaced image failures asked last station mid (run_of front station live events).live event new
-    → EventByEvent image failures asked (snoc front events last) station old live (events ++ event ∷ []) new
+placed_snoc : {F : Type 0} {S : ℕ} (as_flash : Flash F S) (front : List (List Outcome)) (last : List Outcome) (station : Station) (old mid new : F) (live : Live) (events : List Event) (event : Event)
+    → EventByEvent as_flash front station old live events mid → IsPlaced as_flash last station mid (run_of front station live events).live event new
+    → EventByEvent as_flash (snoc front events last) station old live (events ++ event ∷ []) new
 unfolding snoc
-placed_snoc image failures asked front last station old mid new live [] event run step =
-    (new, subst (λ f. IsPlaced image failures asked last station f live event new) run step, refl)
-placed_snoc image failures asked front last station old mid new live (first ∷ events) event run step =
-    (run.0, run.1, placed_snoc image failures asked (later_steps front) last station run.0 mid new (step_of (first_step front) station live first).live events event run.2 step)
+placed_snoc as_flash front last station old mid new live [] event run step =
+    (new, subst (λ f. IsPlaced as_flash last station f live event new) run step, refl)
+placed_snoc as_flash front last station old mid new live (first ∷ events) event run step =
+    (run.0, run.1, placed_snoc as_flash (later_steps front) last station run.0 mid new (step_of (first_step front) station live first).live events event run.2 step)
 
-pub placed_more : {F : Type 0} (image : F → Image) (failures : F → ℕ) (asked : F → List Call → F → Type 0) (front : List (List Outcome)) (last : List Outcome) (station : Station) (old mid new : F) (live : Live) (events : List Event) (event : Event)
-    → EventByEvent image failures asked front station old live events mid → IsPlaced image failures asked last station mid (run_of front station live events).live event new
-    → EventByEvent image failures asked (joined front events last) station old live (events ++ event ∷ []) new
+pub placed_more : {F : Type 0} {S : ℕ} (as_flash : Flash F S) (front : List (List Outcome)) (last : List Outcome) (station : Station) (old mid new : F) (live : Live) (events : List Event) (event : Event)
+    → EventByEvent as_flash front station old live events mid → IsPlaced as_flash last station mid (run_of front station live events).live event new
+    → EventByEvent as_flash (joined front events last) station old live (events ++ event ∷ []) new
 unfolding joined
-placed_more image failures asked [] [] station old mid new live events event run step = placed_quietly image failures asked station old mid new live events event run step
-placed_more image failures asked [] (outcome ∷ outcomes) station old mid new live events event run step =
-    placed_snoc image failures asked [] (outcome ∷ outcomes) station old mid new live events event run step
-placed_more image failures asked (one ∷ front) last station old mid new live events event run step = placed_snoc image failures asked (one ∷ front) last station old mid new live events event run step
+placed_more as_flash [] [] station old mid new live events event run step = placed_quietly as_flash station old mid new live events event run step
+placed_more as_flash [] (outcome ∷ outcomes) station old mid new live events event run step =
+    placed_snoc as_flash [] (outcome ∷ outcomes) station old mid new live events event run step
+placed_more as_flash (one ∷ front) last station old mid new live events event run step = placed_snoc as_flash (one ∷ front) last station old mid new live events event run step

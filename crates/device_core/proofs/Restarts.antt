@@ -1,7 +1,7 @@
 -- A cycle and the start after it, from a start, a run and a start.
 use Rattle.std.proofs.Common.{rules, ◌≡◌, ℕ, false, List, [], Result, Ok, Err, IsOk, IfOk, IfErr, MatchResult, refl, sym, ap, subst, ◌∙◌, inl, inr}
-use Rattle.flash_model.specs.Calls.{Call}
 use Rattle.flash_model.specs.Image.{Image}
+use Rattle.flash_model.specs.declared.flash.Flash.{Ghosts as Flash}
 use Rattle.pn_values.specs.declared.settings.Settings.{Settings}
 use Rattle.settings_journal.specs.declared.journal.BootFault.{BootFault}
 use Rattle.settings_journal.specs.declared.journal.BootFault.TheVariants.{FlashFault, Foreign}
@@ -27,10 +27,10 @@ answers_by station live runs outcomes event asker request is identify =
     (identify_heard outcomes station live (heard_of station.identity event) asker request is identify)
 
 -- a device that started on a flash
-is_started_from : {F : Type 0} (image : F → Image) (station : Station) (flash : F) (device : State F) → device.station ≡ station
-    → device.live ≡ started device.live.values.stored device.live.values.room → StartsWith (image flash) device.live.values.stored device.live.values.room → image device.flash ≡ image flash
-    → IsStarted image station device
-is_started_from image station flash device station_is fresh starts image_is = record {
+is_started_from : {F : Type 0} {S : ℕ} (as_flash : Flash F S) (station : Station) (flash : F) (device : State F) → device.station ≡ station
+    → device.live ≡ started device.live.values.stored device.live.values.room → StartsWith (as_flash.image flash) device.live.values.stored device.live.values.room → as_flash.image device.flash ≡ as_flash.image flash
+    → IsStarted as_flash station device
+is_started_from as_flash station flash device station_is fresh starts image_is = record {
   station_is = station_is;
   nothing_else = fresh;
   starts = subst (λ i. StartsWith i device.live.values.stored device.live.values.room) (sym image_is) starts;
@@ -39,15 +39,15 @@ is_started_from image station flash device station_is fresh starts image_is = re
 }
 
 -- the same where the start may be refused
-pub is_started_if : {F : Type 0} (image : F → Image) (station : Station) (ran : State F) (flash : F) (again : Result (State F) (BootFault × F)) → ran.station ≡ station
+pub is_started_if : {F : Type 0} {S : ℕ} (as_flash : Flash F S) (station : Station) (ran : State F) (flash : F) (again : Result (State F) (BootFault × F)) → ran.station ≡ station
     → IfOk again (λ device. device.station ≡ ran.station)
     → IfOk again (λ device. device.live ≡ started device.live.values.stored device.live.values.room)
-    → IfOk again (λ device. StartsWith (image flash) device.live.values.stored device.live.values.room)
-    → MatchResult again (λ device. image device.flash ≡ image flash) (λ refused. image refused.1 ≡ image flash)
-    → IfOk again (IsStarted image station)
-is_started_if image station ran flash (Ok again) is_station same fresh starts image_is =
-    is_started_from image station flash again (same ∙ is_station) fresh starts image_is
-is_started_if image station ran flash (Err refused) is_station same fresh starts image_is = tt
+    → IfOk again (λ device. StartsWith (as_flash.image flash) device.live.values.stored device.live.values.room)
+    → MatchResult again (λ device. as_flash.image device.flash ≡ as_flash.image flash) (λ refused. as_flash.image refused.1 ≡ as_flash.image flash)
+    → IfOk again (IsStarted as_flash station)
+is_started_if as_flash station ran flash (Ok again) is_station same fresh starts image_is =
+    is_started_from as_flash station flash again (same ∙ is_station) fresh starts image_is
+is_started_if as_flash station ran flash (Err refused) is_station same fresh starts image_is = tt
 
 -- a start on a legal end has what its commands make of the first settings
 ends_made : (image : Image) (accepted : List Accepted) (first : Settings) (live : Live)
@@ -61,46 +61,46 @@ device_of : {F : Type 0} → F → Station → Settings → ℕ → State F
 device_of flash station first room = record { flash = flash; station = station; live = started first room }
 
 -- a run from a start is a cycle
-cycled_from : {F : Type 0} (image : F → Image) (failures : F → ℕ) (asked : F → List Call → F → Type 0) (station : Station) (flash begun : F) (first : Settings) (room : ℕ)
-    (events : List Event) (before now : List (List ℕ)) (ran : State F) → image begun ≡ image flash → failures begun ≡ failures flash → asked flash [] begun
-    → (runs : Runs image failures asked (device_of begun station first room) events before now ran)
-    → Cycled image failures asked station flash first room events before now runs.outcomes ran.flash
+cycled_from : {F : Type 0} {S : ℕ} (as_flash : Flash F S) (station : Station) (flash begun : F) (first : Settings) (room : ℕ)
+    (events : List Event) (before now : List (List ℕ)) (ran : State F) → as_flash.image begun ≡ as_flash.image flash → as_flash.failures begun ≡ as_flash.failures flash → as_flash.asked flash [] begun
+    → (runs : Runs as_flash (device_of begun station first room) events before now ran)
+    → Cycled as_flash station flash first room events before now runs.outcomes ran.flash
 unfolding device_of
-cycled_from image failures asked station flash begun first room events before now ran same_image same_failures quiet runs =
+cycled_from as_flash station flash begun first room events before now ran same_image same_failures quiet runs =
     let end = cycle_of runs.outcomes station first room events in
     let values : ran.live.values ≡ end.live.values = ap (λ l. l.values) runs.live in
     record {
       begun = begun;
       begins = (same_image, same_failures, quiet);
-      caused = subst (λ n. IsCaused n (failures ran.flash) (started first room).values end.live.values) same_failures
-          (subst (λ v. IsCaused (failures begun) (failures ran.flash) (started first room).values v) values runs.stretch.caused);
+      caused = subst (λ n. IsCaused n (as_flash.failures ran.flash) (started first room).values end.live.values) same_failures
+          (subst (λ v. IsCaused (as_flash.failures begun) (as_flash.failures ran.flash) (started first room).values v) values runs.stretch.caused);
       quiet = λ fine. runs.quiet (ap (λ v. v.has_failed) values ∙ fine);
       placed = runs.placed;
       handed_on = runs.frames;
-      safe = subst (λ i. CrashSafe false first end.accepted i (image ran.flash)) same_image runs.stretch.safe;
+      safe = subst (λ i. CrashSafe false first end.accepted i (as_flash.image ran.flash)) same_image runs.stretch.safe;
       untouched = runs.stretch.untouched;
     }
 
 -- the run of a device that started so
-run_from : {F : Type 0} (image : F → Image) (failures : F → ℕ) (asked : F → List Call → F → Type 0) (station : Station) (first : Settings) (room : ℕ) (events : List Event)
+run_from : {F : Type 0} {S : ℕ} (as_flash : Flash F S) (station : Station) (first : Settings) (room : ℕ) (events : List Event)
     (before now : List (List ℕ)) (begun ran : State F) → begun.live ≡ started first room → begun.station ≡ station
-    → Runs image failures asked begun events before now ran → Runs image failures asked (device_of begun.flash station first room) events before now ran
+    → Runs as_flash begun events before now ran → Runs as_flash (device_of begun.flash station first room) events before now ran
 unfolding device_of
-run_from image failures asked station first room events before now begun ran live is_station run =
-    subst (λ s. Runs image failures asked s events before now ran) (same_state begun (device_of begun.flash station first room) refl is_station live) run
+run_from as_flash station first room events before now begun ran live is_station run =
+    subst (λ s. Runs as_flash s events before now ran) (same_state begun (device_of begun.flash station first room) refl is_station live) run
 
-pub cycle_restarts : {F : Type 0} (image : F → Image) (failures : F → ℕ) (asked : F → List Call → F → Type 0) (power_up : F → F → Type 0) (station : Station) (flash : F) (first : Settings) (room : ℕ)
+pub cycle_restarts : {F : Type 0} {S : ℕ} (as_flash : Flash F S) (power_up : F → F → Type 0) (station : Station) (flash : F) (first : Settings) (room : ℕ)
     (events : List Event) (before now : List (List ℕ)) (begun ran : State F) (back : F) (again : State F)
-    → begun.live ≡ started first room → begun.station ≡ station → image begun.flash ≡ image flash → failures begun.flash ≡ failures flash → asked flash [] begun.flash
-    → LeftByDevice (image flash) → Runs image failures asked begun events before now ran → power_up ran.flash back → image back ≡ image ran.flash
-    → ((settings : Settings) (room : ℕ) → StartsWith (image back) settings room → again.live ≡ started settings room)
-    → again.live ≡ started again.live.values.stored again.live.values.room → StartsWith (image back) again.live.values.stored again.live.values.room
-    → again.station ≡ ran.station → image again.flash ≡ image back → failures again.flash ≡ failures back → asked back [] again.flash
-    → Restarts image failures asked power_up station flash first room events before now again
+    → begun.live ≡ started first room → begun.station ≡ station → as_flash.image begun.flash ≡ as_flash.image flash → as_flash.failures begun.flash ≡ as_flash.failures flash → as_flash.asked flash [] begun.flash
+    → LeftByDevice (as_flash.image flash) → Runs as_flash begun events before now ran → power_up ran.flash back → as_flash.image back ≡ as_flash.image ran.flash
+    → ((settings : Settings) (room : ℕ) → StartsWith (as_flash.image back) settings room → again.live ≡ started settings room)
+    → again.live ≡ started again.live.values.stored again.live.values.room → StartsWith (as_flash.image back) again.live.values.stored again.live.values.room
+    → again.station ≡ ran.station → as_flash.image again.flash ≡ as_flash.image back → as_flash.failures again.flash ≡ as_flash.failures back → as_flash.asked back [] again.flash
+    → Restarts as_flash power_up station flash first room events before now again
 unfolding device_of
-cycle_restarts image failures asked power_up station flash first room events before now begun ran back again live is_station same_image same_failures quiet left run powered kept known fresh starts same_station image_is failures_is none_asked =
-    let runs = run_from image failures asked station first room events before now begun ran live is_station run in
-    let cycled = cycled_from image failures asked station flash begun.flash first room events before now ran same_image same_failures quiet runs in
+cycle_restarts as_flash power_up station flash first room events before now begun ran back again live is_station same_image same_failures quiet left run powered kept known fresh starts same_station image_is failures_is none_asked =
+    let runs = run_from as_flash station first room events before now begun ran live is_station run in
+    let cycled = cycled_from as_flash station flash begun.flash first room events before now ran same_image same_failures quiet runs in
     let end = cycle_of runs.outcomes station first room events in
     let values = ap (λ l. l.values) runs.live in
     record {
@@ -109,38 +109,38 @@ cycle_restarts image failures asked power_up station flash first room events bef
       back = back;
       powered = powered;
       cycled = cycled;
-      has = ends_made (image back) _ first again.live known (subst (λ i. LegalEnd i end.accepted first) (sym kept) (cycled.safe.legal refl left));
+      has = ends_made (as_flash.image back) _ first again.live known (subst (λ i. LegalEnd i end.accepted first) (sym kept) (cycled.safe.legal refl left));
       clean = λ fine.
           known end.live.values.stored end.live.values.room
           (subst (λ i. StartsWith i end.live.values.stored end.live.values.room) (sym kept)
-          (subst (λ v. StartsWith (image ran.flash) v.stored v.room) values (runs.stretch.holds (ap (λ v. v.has_failed) values ∙ fine))));
-      is_started = is_started_from image station back again (same_station ∙ runs.same) fresh starts image_is;
+          (subst (λ v. StartsWith (as_flash.image ran.flash) v.stored v.room) values (runs.stretch.holds (ap (λ v. v.has_failed) values ∙ fine))));
+      is_started = is_started_from as_flash station back again (same_station ∙ runs.same) fresh starts image_is;
       left = subst LeftByDevice (sym (image_is ∙ kept)) (cycled.safe.left left);
       same = (image_is ∙ kept, failures_is, none_asked);
     }
 
 -- the same where the start may be refused
-pub restarts_if : {F : Type 0} (image : F → Image) (failures : F → ℕ) (asked : F → List Call → F → Type 0) (power_up : F → F → Type 0) (station : Station) (flash : F) (first : Settings) (room : ℕ)
+pub restarts_if : {F : Type 0} {S : ℕ} (as_flash : Flash F S) (power_up : F → F → Type 0) (station : Station) (flash : F) (first : Settings) (room : ℕ)
     (events : List Event) (before now : List (List ℕ)) (begun ran : State F) (back : F) (again : Result (State F) (BootFault × F))
-    → begun.live ≡ started first room → begun.station ≡ station → image begun.flash ≡ image flash → failures begun.flash ≡ failures flash → asked flash [] begun.flash
-    → LeftByDevice (image flash) → Runs image failures asked begun events before now ran → power_up ran.flash back → image back ≡ image ran.flash
-    → ((settings : Settings) (room : ℕ) → StartsWith (image back) settings room → MatchResult again (λ device. device.live ≡ started settings room) (λ refused. refused.0 ≡ FlashFault))
+    → begun.live ≡ started first room → begun.station ≡ station → as_flash.image begun.flash ≡ as_flash.image flash → as_flash.failures begun.flash ≡ as_flash.failures flash → as_flash.asked flash [] begun.flash
+    → LeftByDevice (as_flash.image flash) → Runs as_flash begun events before now ran → power_up ran.flash back → as_flash.image back ≡ as_flash.image ran.flash
+    → ((settings : Settings) (room : ℕ) → StartsWith (as_flash.image back) settings room → MatchResult again (λ device. device.live ≡ started settings room) (λ refused. refused.0 ≡ FlashFault))
     → IfOk again (λ device. device.live ≡ started device.live.values.stored device.live.values.room)
-    → IfOk again (λ device. StartsWith (image back) device.live.values.stored device.live.values.room)
+    → IfOk again (λ device. StartsWith (as_flash.image back) device.live.values.stored device.live.values.room)
     → IfOk again (λ device. device.station ≡ ran.station)
-    → MatchResult again (λ device. image device.flash ≡ image back) (λ refused. image refused.1 ≡ image back)
-    → MatchResult again (λ device. failures device.flash ≡ failures back) (λ refused. HasBootCause refused.0 (failures back) (failures refused.1))
-    → MatchResult again (λ device. asked back [] device.flash) (λ refused. asked back [] refused.1)
-    → IfOk again (λ device. Restarts image failures asked power_up station flash first room events before now device)
-restarts_if image failures asked power_up station flash first room events before now begun ran back (Ok again) live is_station same_image same_failures quiet left run powered kept known fresh starts same image_is cause none_asked =
-    cycle_restarts image failures asked power_up station flash first room events before now begun ran back again live is_station same_image same_failures quiet left run powered kept
+    → MatchResult again (λ device. as_flash.image device.flash ≡ as_flash.image back) (λ refused. as_flash.image refused.1 ≡ as_flash.image back)
+    → MatchResult again (λ device. as_flash.failures device.flash ≡ as_flash.failures back) (λ refused. HasBootCause refused.0 (as_flash.failures back) (as_flash.failures refused.1))
+    → MatchResult again (λ device. as_flash.asked back [] device.flash) (λ refused. as_flash.asked back [] refused.1)
+    → IfOk again (λ device. Restarts as_flash power_up station flash first room events before now device)
+restarts_if as_flash power_up station flash first room events before now begun ran back (Ok again) live is_station same_image same_failures quiet left run powered kept known fresh starts same image_is cause none_asked =
+    cycle_restarts as_flash power_up station flash first room events before now begun ran back again live is_station same_image same_failures quiet left run powered kept
     known fresh starts same image_is cause none_asked
-restarts_if image failures asked power_up station flash first room events before now begun ran back (Err refused) live is_station same_image same_failures quiet left run powered kept known fresh starts same image_is cause none_asked = tt
+restarts_if as_flash power_up station flash first room events before now begun ran back (Err refused) live is_station same_image same_failures quiet left run powered kept known fresh starts same image_is cause none_asked = tt
 
 -- a start that is refused, from what the start says
-pub refuses_from : {F : Type 0} (image : F → Image) (failures : F → ℕ) (asked : F → List Call → F → Type 0) (flash : F) (fault : BootFault) (left : F)
-    → HasBootCause fault (failures flash) (failures left) → image left ≡ image flash → asked flash [] left → (fault ≡ Foreign → IsForeign (image flash)) → Refuses image failures asked flash fault left
-refuses_from image failures asked flash fault left cause same none_asked foreign = record {
+pub refuses_from : {F : Type 0} {S : ℕ} (as_flash : Flash F S) (flash : F) (fault : BootFault) (left : F)
+    → HasBootCause fault (as_flash.failures flash) (as_flash.failures left) → as_flash.image left ≡ as_flash.image flash → as_flash.asked flash [] left → (fault ≡ Foreign → IsForeign (as_flash.image flash)) → Refuses as_flash flash fault left
+refuses_from as_flash flash fault left cause same none_asked foreign = record {
   cause = cause;
   same = same;
   none_asked = none_asked;
@@ -148,19 +148,19 @@ refuses_from image failures asked flash fault left cause same none_asked foreign
 }
 
 -- a start after the cycle that is refused
-pub refused_if : {F : Type 0} (image : F → Image) (failures : F → ℕ) (asked : F → List Call → F → Type 0) (power_up : F → F → Type 0) (station : Station) (flash : F) (events : List Event)
+pub refused_if : {F : Type 0} {S : ℕ} (as_flash : Flash F S) (power_up : F → F → Type 0) (station : Station) (flash : F) (events : List Event)
     (before now : List (List ℕ)) (begun ran : State F) (back : F) (again : Result (State F) (BootFault × F))
     → begun.live ≡ started begun.live.values.stored begun.live.values.room → begun.station ≡ station
-    → StartsWith (image flash) begun.live.values.stored begun.live.values.room → image begun.flash ≡ image flash → failures begun.flash ≡ failures flash → asked flash [] begun.flash
-    → Runs image failures asked begun events before now ran → power_up ran.flash back → image back ≡ image ran.flash
-    → IfErr again (λ refused. refused.0 ≡ Foreign → IsForeign (image back))
-    → MatchResult again (λ device. image device.flash ≡ image back) (λ refused. image refused.1 ≡ image back)
-    → MatchResult again (λ device. failures device.flash ≡ failures back) (λ refused. HasBootCause refused.0 (failures back) (failures refused.1))
-    → MatchResult again (λ device. asked back [] device.flash) (λ refused. asked back [] refused.1)
-    → IfErr again (λ refused. IsRefused image failures asked power_up station flash events before now refused.0 refused.1)
-refused_if image failures asked power_up station flash events before now begun ran back (Ok again) live is_station starts same_image same_failures quiet run powered kept foreign same cause none_asked = tt
-refused_if image failures asked power_up station flash events before now begun ran back (Err refused) live is_station starts same_image same_failures quiet run powered kept foreign same cause none_asked =
-    let runs = run_from image failures asked station _ _ events before now begun ran live is_station run in
+    → StartsWith (as_flash.image flash) begun.live.values.stored begun.live.values.room → as_flash.image begun.flash ≡ as_flash.image flash → as_flash.failures begun.flash ≡ as_flash.failures flash → as_flash.asked flash [] begun.flash
+    → Runs as_flash begun events before now ran → power_up ran.flash back → as_flash.image back ≡ as_flash.image ran.flash
+    → IfErr again (λ refused. refused.0 ≡ Foreign → IsForeign (as_flash.image back))
+    → MatchResult again (λ device. as_flash.image device.flash ≡ as_flash.image back) (λ refused. as_flash.image refused.1 ≡ as_flash.image back)
+    → MatchResult again (λ device. as_flash.failures device.flash ≡ as_flash.failures back) (λ refused. HasBootCause refused.0 (as_flash.failures back) (as_flash.failures refused.1))
+    → MatchResult again (λ device. as_flash.asked back [] device.flash) (λ refused. as_flash.asked back [] refused.1)
+    → IfErr again (λ refused. IsRefused as_flash power_up station flash events before now refused.0 refused.1)
+refused_if as_flash power_up station flash events before now begun ran back (Ok again) live is_station starts same_image same_failures quiet run powered kept foreign same cause none_asked = tt
+refused_if as_flash power_up station flash events before now begun ran back (Err refused) live is_station starts same_image same_failures quiet run powered kept foreign same cause none_asked =
+    let runs = run_from as_flash station _ _ events before now begun ran live is_station run in
     inr (record {
       first = begun.live.values.stored;
       room = begun.live.values.room;
@@ -168,10 +168,10 @@ refused_if image failures asked power_up station flash events before now begun r
       lost = ran.flash;
       back = back;
       starts = starts;
-      cycled = cycled_from image failures asked station flash begun.flash _ _ events before now ran same_image same_failures quiet runs;
+      cycled = cycled_from as_flash station flash begun.flash _ _ events before now ran same_image same_failures quiet runs;
       powered = powered;
       kept = kept;
-      refuses = refuses_from image failures asked back refused.0 refused.1 cause same none_asked foreign;
+      refuses = refuses_from as_flash back refused.0 refused.1 cause same none_asked foreign;
     })
 
 pub never_refused : {F : Type 0} (is_reliable : F → Type 0) (again : Result (State F) (BootFault × F))

@@ -1,7 +1,6 @@
 -- How a call comes out, from what serves it.
 use Rattle.std.proofs.Common.{◌≡◌, ℕ, false, List, map, Result, Ok, Err, IfErr, OnOk, IsOk, refl, ap, ◌∙◌}
-use Rattle.flash_model.specs.Calls.{Call as Asking}
-use Rattle.flash_model.specs.Image.{Image}
+use Rattle.flash_model.specs.declared.flash.Flash.{Ghosts as Flash}
 use Rattle.settings_store.specs.Carries.{Holds}
 use Rattle.pnio_status.specs.declared.operation.Operation.{Operation}
 use Rattle.pnio_status.specs.declared.call_fault.CallFault.{CallFault}
@@ -50,14 +49,14 @@ pub effect_as : (station : Station) (live : Live) (caller : Caller) (call : Call
 effect_as station live caller call made write effect is asks = ap (judged_write station live caller call) is ∙ ap (judged_effect station live caller call write.request) asks
 
 -- a call that is new, of an operation that asks nothing of the settings
-pub new_steps : {F : Type 0} (image : F → Image) (failures : F → ℕ) (asked : F → List Asking → F → Type 0) (old new : State F) (caller : Caller) (call : Call) (blocks : List ℕ) (asks operation : Operation)
-    (frames : List (List ℕ)) (said : Note) → Holds (image old.flash) old.live.values → asks ≡ operation
+pub new_steps : {F : Type 0} {S : ℕ} (as_flash : Flash F S) (old new : State F) (caller : Caller) (call : Call) (blocks : List ℕ) (asks operation : Operation)
+    (frames : List (List ℕ)) (said : Note) → Holds (as_flash.image old.flash) old.live.values → asks ≡ operation
     → is_asking (judged_new old.station old.live caller call blocks operation) ≡ false
     → new ≡ with_rest old (end_of old.station old.live (judged_new old.station old.live caller call blocks operation)).rest
     → frames ≡ map (bytes_of old.station.identity) (end_of old.station old.live (judged_new old.station old.live caller call blocks operation)).sent
     → said ≡ (end_of old.station old.live (judged_new old.station old.live caller call blocks operation)).note
     → AreSendable old.station.identity (end_of old.station old.live (judged_new old.station old.live caller call blocks operation)).sent
-    → (heard : Heard) → judged old.station old.live heard ≡ judged_new old.station old.live caller call blocks asks → Steps image failures asked old heard frames said new
-new_steps image failures asked old new caller call blocks asks operation frames said holds asks_so none is frames_are note_is sendable heard judged_so =
-    quiet_steps image failures asked old new heard (judged_new old.station old.live caller call blocks operation) frames said holds
+    → (heard : Heard) → judged old.station old.live heard ≡ judged_new old.station old.live caller call blocks asks → Steps as_flash old heard frames said new
+new_steps as_flash old new caller call blocks asks operation frames said holds asks_so none is frames_are note_is sendable heard judged_so =
+    quiet_steps as_flash old new heard (judged_new old.station old.live caller call blocks operation) frames said holds
     (judged_so ∙ ap (judged_new old.station old.live caller call blocks) asks_so) none is frames_are note_is sendable

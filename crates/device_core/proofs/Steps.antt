@@ -2,8 +2,7 @@
 use Rattle.std.proofs.lemmas.Bool.{cond_both, cond-true}
 use Rattle.std.proofs.Common.{◌≡◌, ◌≢◌, ℕ, false, List, [], ◌∷◌, ◌++◌, map, Option, None, is_some, refl, sym, ap, subst, ◌∙◌, inl, arith}
 use Rattle.std.proofs.lemmas.List.{append-nil, map-append}
-use Rattle.flash_model.specs.Calls.{Call}
-use Rattle.flash_model.specs.Image.{Image}
+use Rattle.flash_model.specs.declared.flash.Flash.{Ghosts as Flash}
 use Rattle.pn_values.specs.declared.mac.Mac.{Mac}
 use Rattle.pn_values.specs.declared.set_item.BlockError.{BlockError}
 use Rattle.pn_values.specs.declared.settings.Settings.{Settings}
@@ -61,8 +60,8 @@ pub record IsQuiet {F : Type 0} (old new : State F) (heard : Heard) (frames : Li
   pub note_is : said ≡ (finished old.station.identity old.live.rest (judged old.station old.live heard) []).note
 
 -- where nothing is asked for, nothing happens to the settings
-pub no_stretch : {F : Type 0} (image : F → Image) (failures : F → ℕ) (state : store.State F) → Holds (image state.flash) state.values → Stretch image failures state [] state
-no_stretch image failures state holds = record {
+pub no_stretch : {F : Type 0} {S : ℕ} (as_flash : Flash F S) (state : store.State F) → Holds (as_flash.image state.flash) state.values → Stretch as_flash state [] state
+no_stretch as_flash state holds = record {
   caused = inl (refl, refl);
   safe = record { left = λ left. left; legal = λ fine left. inl (state.values.room, holds fine); untouched = λ failed. refl };
   holds = holds;
@@ -73,10 +72,10 @@ no_stretch image failures state holds = record {
   stays_lost = λ lost. lost;
 }
 
-pub is_quiet_steps : {F : Type 0} (image : F → Image) (failures : F → ℕ) (asked : F → List Call → F → Type 0) (old new : State F) (heard : Heard) (frames : List (List ℕ)) (said : Note)
-    → Holds (image old.flash) old.live.values → IsQuiet old new heard frames said → Steps image failures asked old heard frames said new
+pub is_quiet_steps : {F : Type 0} {S : ℕ} (as_flash : Flash F S) (old new : State F) (heard : Heard) (frames : List (List ℕ)) (said : Note)
+    → Holds (as_flash.image old.flash) old.live.values → IsQuiet old new heard frames said → Steps as_flash old heard frames said new
 unfolding quiet_step
-is_quiet_steps image failures asked old new heard frames said holds parts =
+is_quiet_steps as_flash old new heard frames said holds parts =
     let step = heard_step [] old.station old.live heard in
     let quiet = is_quiet [] old.station old.live heard parts.asks_nothing in
     let none : step.accepted ≡ [] = ap (λ s. s.accepted) quiet in
@@ -94,11 +93,11 @@ is_quiet_steps image failures asked old new heard frames said holds parts =
       sendable = sendable;
       note = note_is;
       quiet = λ _. refl;
-      placed = subst (λ items. OneByOne image failures asked [] (store_of old) items (store_of new)) (sym nothing) same_store;
-      stretch = subst (λ a. Stretch image failures (store_of old) a (store_of new)) (sym none)
-          (subst (λ s. Stretch image failures (store_of old) [] s) (sym same_store) (no_stretch image failures (store_of old) holds));
-      continues = λ first front so_far. subst (λ a. Stretch image failures first a (store_of new)) (sym (ap (λ a. front ++ a) none ∙ append-nil front))
-          (subst (λ s. Stretch image failures first front s) (sym same_store) so_far);
+      placed = subst (λ items. OneByOne as_flash [] (store_of old) items (store_of new)) (sym nothing) same_store;
+      stretch = subst (λ a. Stretch as_flash (store_of old) a (store_of new)) (sym none)
+          (subst (λ s. Stretch as_flash (store_of old) [] s) (sym same_store) (no_stretch as_flash (store_of old) holds));
+      continues = λ first front so_far. subst (λ a. Stretch as_flash first a (store_of new)) (sym (ap (λ a. front ++ a) none ∙ append-nil front))
+          (subst (λ s. Stretch as_flash first front s) (sym same_store) so_far);
       goes_on = step_goes_on [] old.station old.live new.live heard frames said [] live_is frames_are note_is (ap (λ items. (carried [] old.live.values items).answers) (sym nothing))
           (record {
             done = [];
@@ -113,13 +112,13 @@ is_quiet_steps image failures asked old new heard frames said holds parts =
     }
 
 -- what was judged and asks nothing of the settings
-pub quiet_steps : {F : Type 0} (image : F → Image) (failures : F → ℕ) (asked : F → List Call → F → Type 0) (old new : State F) (heard : Heard) (what : Judged) (frames : List (List ℕ)) (said : Note)
-    → Holds (image old.flash) old.live.values → judged old.station old.live heard ≡ what → is_asking what ≡ false
+pub quiet_steps : {F : Type 0} {S : ℕ} (as_flash : Flash F S) (old new : State F) (heard : Heard) (what : Judged) (frames : List (List ℕ)) (said : Note)
+    → Holds (as_flash.image old.flash) old.live.values → judged old.station old.live heard ≡ what → is_asking what ≡ false
     → new ≡ with_rest old (end_of old.station old.live what).rest → frames ≡ map (bytes_of old.station.identity) (end_of old.station old.live what).sent → said ≡ (end_of old.station old.live what).note
-    → AreSendable old.station.identity (end_of old.station old.live what).sent → Steps image failures asked old heard frames said new
-quiet_steps image failures asked old new heard what frames said holds judged_so none is frames_are note_is sendable =
+    → AreSendable old.station.identity (end_of old.station old.live what).sent → Steps as_flash old heard frames said new
+quiet_steps as_flash old new heard what frames said holds judged_so none is frames_are note_is sendable =
     let end = ap (end_of old.station old.live) judged_so in
-    is_quiet_steps image failures asked old new heard frames said holds (record {
+    is_quiet_steps as_flash old new heard frames said holds (record {
       asks_nothing = ap is_asking judged_so ∙ none;
       flash = ap (λ s. s.flash) is;
       same = ap (λ s. s.station) is;
@@ -130,19 +129,19 @@ quiet_steps image failures asked old new heard what frames said holds judged_so 
     })
 
 -- what was judged a move
-pub moves_steps : {F : Type 0} (image : F → Image) (failures : F → ℕ) (asked : F → List Call → F → Type 0) (old new : State F) (heard : Heard) (rest : Rest) (sent : List Sent) (frames : List (List ℕ)) (said : Note)
-    → Holds (image old.flash) old.live.values → judged old.station old.live heard ≡ Moves rest sent
+pub moves_steps : {F : Type 0} {S : ℕ} (as_flash : Flash F S) (old new : State F) (heard : Heard) (rest : Rest) (sent : List Sent) (frames : List (List ℕ)) (said : Note)
+    → Holds (as_flash.image old.flash) old.live.values → judged old.station old.live heard ≡ Moves rest sent
     → new ≡ with_rest old rest → frames ≡ map (bytes_of old.station.identity) sent → said ≡ note.Done
-    → AreSendable old.station.identity sent → Steps image failures asked old heard frames said new
-moves_steps image failures asked old new heard rest sent frames said holds moves is frames_are done sendable =
-    quiet_steps image failures asked old new heard (Moves rest sent) frames said holds moves refl is frames_are done sendable
+    → AreSendable old.station.identity sent → Steps as_flash old heard frames said new
+moves_steps as_flash old new heard rest sent frames said holds moves is frames_are done sendable =
+    quiet_steps as_flash old new heard (Moves rest sent) frames said holds moves refl is frames_are done sendable
 
 -- what was judged to be refused
-pub refuses_steps : {F : Type 0} (image : F → Image) (failures : F → ℕ) (asked : F → List Call → F → Type 0) (state : State F) (heard : Heard) (why : Note) (frames : List (List ℕ)) (said : Note)
-    → Holds (image state.flash) state.live.values → judged state.station state.live heard ≡ Refuses why → frames ≡ [] → said ≡ why
-    → Steps image failures asked state heard frames said state
-refuses_steps image failures asked state heard why frames said holds refuses none is =
-    quiet_steps image failures asked state state heard (Refuses why) frames said holds refuses refl refl none is tt
+pub refuses_steps : {F : Type 0} {S : ℕ} (as_flash : Flash F S) (state : State F) (heard : Heard) (why : Note) (frames : List (List ℕ)) (said : Note)
+    → Holds (as_flash.image state.flash) state.live.values → judged state.station state.live heard ≡ Refuses why → frames ≡ [] → said ≡ why
+    → Steps as_flash state heard frames said state
+refuses_steps as_flash state heard why frames said holds refuses none is =
+    quiet_steps as_flash state state heard (Refuses why) frames said holds refuses refl refl none is tt
 
 -- an Identify request
 identify_leaves : (station : Station) (live : Live) (asker : Mac) (request : Asked)
@@ -150,16 +149,16 @@ identify_leaves : (station : Station) (live : Live) (asker : Mac) (request : Ask
 identify_leaves station live asker request = cond_both (matches station.identity live.values.running request) _ _
     (λ what. (is_asking what ≡ false) × ((finished station.identity live.rest what []).rest ≡ live.rest)) (λ _. (refl, refl)) (λ _. (refl, refl))
 
-pub identify_steps : {F : Type 0} (image : F → Image) (failures : F → ℕ) (asked : F → List Call → F → Type 0) (state : State F) (asker : Mac) (request : Asked) (frames : List (List ℕ)) (said : Note)
-    → Holds (image state.flash) state.live.values → request.service ≡ service.Identify
+pub identify_steps : {F : Type 0} {S : ℕ} (as_flash : Flash F S) (state : State F) (asker : Mac) (request : Asked) (frames : List (List ℕ)) (said : Note)
+    → Holds (as_flash.image state.flash) state.live.values → request.service ≡ service.Identify
     → frames ≡ map (bytes_of state.station.identity) (finished state.station.identity state.live.rest (identified state.station state.live asker request) []).sent
     → said ≡ (finished state.station.identity state.live.rest (identified state.station state.live asker request) []).note
     → AreSendable state.station.identity (finished state.station.identity state.live.rest (identified state.station state.live asker request) []).sent
-    → Steps image failures asked state (Asks asker request) frames said state
-identify_steps image failures asked state asker request frames said holds identify frames_are note_is sendable =
+    → Steps as_flash state (Asks asker request) frames said state
+identify_steps as_flash state asker request frames said holds identify frames_are note_is sendable =
     let is = ap (λ s. judged_request state.station state.live asker s request) identify in
     let leaves = identify_leaves state.station state.live asker request in
-    is_quiet_steps image failures asked state state (Asks asker request) frames said holds (record {
+    is_quiet_steps as_flash state state (Asks asker request) frames said holds (record {
       asks_nothing = ap is_asking is ∙ leaves.0;
       flash = refl;
       same = refl;
@@ -170,23 +169,23 @@ identify_steps image failures asked state asker request frames said holds identi
     })
 
 -- a Get
-pub get_steps : {F : Type 0} (image : F → Image) (failures : F → ℕ) (asked : F → List Call → F → Type 0) (state : State F) (asker : Mac) (request : Asked) (frames : List (List ℕ)) (said : Note)
-    → Holds (image state.flash) state.live.values → request.service ≡ service.Get
+pub get_steps : {F : Type 0} {S : ℕ} (as_flash : Flash F S) (state : State F) (asker : Mac) (request : Asked) (frames : List (List ℕ)) (said : Note)
+    → Holds (as_flash.image state.flash) state.live.values → request.service ≡ service.Get
     → frames ≡ bytes_of state.station.identity (GetAnswer asker state.live.values.running request) ∷ [] → said ≡ note.Done
-    → IsSendable state.station.identity (GetAnswer asker state.live.values.running request) → Steps image failures asked state (Asks asker request) frames said state
-get_steps image failures asked state asker request frames said holds get frames_are done sendable =
-    moves_steps image failures asked state state (Asks asker request) state.live.rest (GetAnswer asker state.live.values.running request ∷ []) frames said holds
+    → IsSendable state.station.identity (GetAnswer asker state.live.values.running request) → Steps as_flash state (Asks asker request) frames said state
+get_steps as_flash state asker request frames said holds get frames_are done sendable =
+    moves_steps as_flash state state (Asks asker request) state.live.rest (GetAnswer asker state.live.values.running request ∷ []) frames said holds
     (ap (λ s. judged_request state.station state.live asker s request) get) refl frames_are done (sendable, tt)
 
 -- what was judged and asks the settings for something, which is carried out
-pub settled_steps : {F : Type 0} (image : F → Image) (failures : F → ℕ) (asked : F → List Call → F → Type 0) (old new : State F) (heard : Heard) (what : Judged) (answers : List BlockError)
+pub settled_steps : {F : Type 0} {S : ℕ} (as_flash : Flash F S) (old new : State F) (heard : Heard) (what : Judged) (answers : List BlockError)
     (frames : List (List ℕ)) (said : Note) → judged old.station old.live heard ≡ what
-    → Carries image failures asked (store_of old) (items_in what) answers (store_of new)
+    → Carries as_flash (store_of old) (items_in what) answers (store_of new)
     → new.station ≡ old.station → new.live.rest ≡ (finished old.station.identity old.live.rest what answers).rest
     → frames ≡ map (bytes_of old.station.identity) (finished old.station.identity old.live.rest what answers).sent → said ≡ (finished old.station.identity old.live.rest what answers).note
-    → AreSendable old.station.identity (finished old.station.identity old.live.rest what answers).sent → Steps image failures asked old heard frames said new
+    → AreSendable old.station.identity (finished old.station.identity old.live.rest what answers).sent → Steps as_flash old heard frames said new
 unfolding judged_step
-settled_steps image failures asked old new heard what answers frames said is_what carries same rest frames_are note_is sendable =
+settled_steps as_flash old new heard what answers frames said is_what carries same rest frames_are note_is sendable =
     let step = heard_step carries.outcomes old.station old.live heard in
     let is = judged_as carries.outcomes old.station old.live heard what is_what in
     let items : items_of old.station old.live heard ≡ items_in what = ap items_in is_what in
@@ -205,23 +204,23 @@ settled_steps image failures asked old new heard what answers frames said is_wha
       sendable = sendable_now;
       note = note_now;
       quiet = carries.quiet;
-      placed = subst (λ i. OneByOne image failures asked carries.outcomes (store_of old) i (store_of new)) (sym items) carries.placed;
-      stretch = subst (λ a. Stretch image failures (store_of old) a (store_of new)) accepted carries.stretch;
-      continues = subst (λ a. Continues image failures (store_of old) a (store_of new)) accepted carries.continues;
+      placed = subst (λ i. OneByOne as_flash carries.outcomes (store_of old) i (store_of new)) (sym items) carries.placed;
+      stretch = subst (λ a. Stretch as_flash (store_of old) a (store_of new)) accepted carries.stretch;
+      continues = subst (λ a. Continues as_flash (store_of old) a (store_of new)) accepted carries.continues;
       goes_on = step_goes_on carries.outcomes old.station old.live new.live heard frames said answers live_now frames_now note_now
           (carries.answers_are ∙ ap (λ i. (carried carries.outcomes old.live.values i).answers) (sym items))
           (subst (λ i. GoesOn old.live.values i answers new.live.values) (sym items) carries.goes_on);
     }
 
 -- a Set of a station: ERR, where a reset ends the relation, and the answer behind it
-pub asked_set_steps : {F : Type 0} (image : F → Image) (failures : F → ℕ) (asked : F → List Call → F → Type 0) (old new : State F) (asker : Mac) (request : Asked) (answers : List BlockError) (frames : List (List ℕ)) (said : Note)
-    → request.service ≡ service.Set → Carries image failures asked (store_of old) (plan_of (is_some old.live.rest.link) request) answers (store_of new) → new.station ≡ old.station
+pub asked_set_steps : {F : Type 0} {S : ℕ} (as_flash : Flash F S) (old new : State F) (asker : Mac) (request : Asked) (answers : List BlockError) (frames : List (List ℕ)) (said : Note)
+    → request.service ≡ service.Set → Carries as_flash (store_of old) (plan_of (is_some old.live.rest.link) request) answers (store_of new) → new.station ≡ old.station
     → new.live.rest ≡ (finished old.station.identity old.live.rest (Sets asker request (is_some old.live.rest.link)) answers).rest
     → frames ≡ map (bytes_of old.station.identity) (farewells_at (resets (plan_of (is_some old.live.rest.link) request) answers) old.live.rest.link) ++ bytes_of old.station.identity (SetAnswer asker request answers) ∷ []
     → said ≡ note.Done → AreSendable old.station.identity (farewells_at (resets (plan_of (is_some old.live.rest.link) request) answers) old.live.rest.link)
-    → IsSendable old.station.identity (SetAnswer asker request answers) → Steps image failures asked old (Asks asker request) frames said new
-asked_set_steps image failures asked old new asker request answers frames said set carries same rest frames_are done ends last =
-    settled_steps image failures asked old new (Asks asker request) (Sets asker request (is_some old.live.rest.link)) answers frames said
+    → IsSendable old.station.identity (SetAnswer asker request answers) → Steps as_flash old (Asks asker request) frames said new
+asked_set_steps as_flash old new asker request answers frames said set carries same rest frames_are done ends last =
+    settled_steps as_flash old new (Asks asker request) (Sets asker request (is_some old.live.rest.link)) answers frames said
     (ap (λ s. judged_request old.station old.live asker s request) set) carries same rest
     (frames_are ∙ sym (map-append (bytes_of old.station.identity) (farewells_at (resets (plan_of (is_some old.live.rest.link) request) answers) old.live.rest.link) (SetAnswer asker request answers ∷ []))) done
     (all_sendable old.station.identity _ (SetAnswer asker request answers ∷ []) ends (last, tt))
@@ -243,9 +242,9 @@ refused_heard : (outcomes : List Outcome) (station : Station) (live : Live) (hea
 unfolding heard_step
 refused_heard outcomes station live heard refused = refused_judged outcomes station live (judged station live heard) refused
 
-pub refused_step : {F : Type 0} (image : F → Image) (failures : F → ℕ) (asked : F → List Call → F → Type 0) (old new : State F) (heard : Heard) (frames : List (List ℕ)) (said : Note)
-    → Steps image failures asked old heard frames said new → said ≢ note.Done → (new ≡ old) × (frames ≡ [])
-refused_step image failures asked old new heard frames said steps refused =
+pub refused_step : {F : Type 0} {S : ℕ} (as_flash : Flash F S) (old new : State F) (heard : Heard) (frames : List (List ℕ)) (said : Note)
+    → Steps as_flash old heard frames said new → said ≢ note.Done → (new ≡ old) × (frames ≡ [])
+refused_step as_flash old new heard frames said steps refused =
     let nothing = refused_heard steps.outcomes old.station old.live heard (λ done. refused (steps.note ∙ done)) in
     (same_state new old (steps.stretch.untouched nothing.none_accepted) steps.same (steps.live ∙ nothing.live_is), steps.frames ∙ nothing.none_sent)
 
@@ -268,9 +267,9 @@ identify_heard outcomes station live heard asker request is identify =
     (sym (judged_as outcomes station live heard (identified station live asker request) (ap (judged station live) is ∙ ap (λ s. judged_request station live asker s request) identify)))
     (identify_judged outcomes station live asker request)
 
-pub identify_step : {F : Type 0} (image : F → Image) (failures : F → ℕ) (asked : F → List Call → F → Type 0) (old new : State F) (heard : Heard) (frames : List (List ℕ)) (said : Note)
-    → Steps image failures asked old heard frames said new → (asker : Mac) (request : Asked) → heard ≡ Asks asker request → request.service ≡ service.Identify → Identifies old asker request frames said new
-identify_step image failures asked old new heard frames said steps asker request is identify =
+pub identify_step : {F : Type 0} {S : ℕ} (as_flash : Flash F S) (old new : State F) (heard : Heard) (frames : List (List ℕ)) (said : Note)
+    → Steps as_flash old heard frames said new → (asker : Mac) (request : Asked) → heard ≡ Asks asker request → request.service ≡ service.Identify → Identifies old asker request frames said new
+identify_step as_flash old new heard frames said steps asker request is identify =
     let one = identify_heard steps.outcomes old.station old.live heard asker request is identify in
     record {
       unchanged = same_state new old (steps.stretch.untouched one.none_accepted) steps.same (steps.live ∙ one.unchanged);
@@ -296,10 +295,10 @@ moved_again : (outcomes : List Outcome) (station : Station) (live : Live) (frame
 unfolding judged_step
 moved_again outcomes station live frame = record { live_is = refl; none_accepted = refl; sent = refl; done = refl }
 
-pub again_step : {F : Type 0} (image : F → Image) (failures : F → ℕ) (asked : F → List Call → F → Type 0) (old new : State F) (heard : Heard) (frames : List (List ℕ)) (said : Note)
-    → Steps image failures asked old heard frames said new → (call : Called) (frame : List ℕ) → IsServed old.live heard call
+pub again_step : {F : Type 0} {S : ℕ} (as_flash : Flash F S) (old new : State F) (heard : Heard) (frames : List (List ℕ)) (said : Note)
+    → Steps as_flash old heard frames said new → (call : Called) (frame : List ℕ) → IsServed old.live heard call
     → looked call.header.activity call.header.sequence old.live.rest.calls ≡ again frame → IsAgain old frame frames said new
-again_step image failures asked old new heard frames said steps call frame served told =
+again_step as_flash old new heard frames said steps call frame served told =
     let is = judged_as steps.outcomes old.station old.live heard (Moves old.live.rest (Again frame ∷ [])) (again_judged old.station old.live heard call frame served told) in
     let one = subst (IsSame old.live frame) (sym is) (moved_again steps.outcomes old.station old.live frame) in
     record {

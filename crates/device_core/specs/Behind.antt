@@ -2,6 +2,8 @@
 use Rattle.std.specs.Prelude.{ℕ, Bool, List, None, map}
 use Rattle.rpc_core.specs.Call.{asked}
 use Rattle.pnio_status.specs.declared.operation.Operation.{Operation}
+use Rattle.relations.specs.declared.time.Elapsed.{Elapsed}
+use Rattle.relations.specs.Timers.{due_behind, left_behind}
 use Rattle.device_frames.specs.Relation.{due_frames}
 use Rattle.device_frames.specs.Sendable.{AreSendable}
 use Rattle.device_frames.specs.Sent.{Sent, bytes_of}
@@ -27,6 +29,12 @@ abbrev pub due_in : {F : Type 0} → State F → Bool → Bool → Bool → List
 due_in old is_alarm is_ready is_cyclic =
     due_frames old.live.values.running.suite.address old.live.rest.units
     (record { farewell = None; is_alarm = is_alarm; is_ready = is_ready; is_cyclic = is_cyclic }) old.live.rest.link
+
+-- what is sent behind a unit of time that brought this
+abbrev pub brought : {F : Type 0} → State F → Elapsed → List Sent
+brought old elapsed =
+    let link = old.live.rest.link in
+    due_frames old.live.values.running.suite.address old.live.rest.units (due_behind elapsed link) (left_behind elapsed.tick.ending link)
 
 -- what a call that is served comes to, if it asks for this
 abbrev pub called : {F : Type 0} → State F → Serving → Operation → Judged

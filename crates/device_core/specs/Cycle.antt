@@ -1,7 +1,6 @@
 -- A cycle of a device, from a start to the next one after a power failure.
 use Rattle.std.specs.Prelude.{◌≡◌, ◌⊎◌, ℕ, false, None, List, [], ◌∷◌, ◌++◌}
-use Rattle.flash_model.specs.Calls.{Call}
-use Rattle.flash_model.specs.Image.{Image}
+use Rattle.flash_model.specs.declared.flash.Flash.{Ghosts as Flash}
 use Rattle.pn_values.specs.declared.settings.Settings.{Settings}
 use Rattle.settings_journal.specs.declared.journal.BootFault.{BootFault}
 use Rattle.settings_journal.specs.declared.journal.BootFault.TheVariants.{Foreign}
@@ -38,22 +37,22 @@ IsMadeOf accepted first settings =
 -- The events of a cycle were run, from a start on the flash that gave the first settings, with whatever outcomes the flash
 -- chose for the calls that store: there are none where no commit failed, each has its cause in its own item, what was sent
 -- was handed on, what was left of the flash is safe, and where no command was accepted it was left as the start left it.
-pub record Cycled {F : Type 0} (image : F → Image) (failures : F → ℕ) (asked : F → List Call → F → Type 0) (station : Station) (flash : F) (first : Settings) (room : ℕ) (events : List Event) (before now : List (List ℕ)) (outcomes : List (List Outcome)) (lost : F) : Type 0 where
+pub record Cycled {F : Type 0} {S : ℕ} (as_flash : Flash F S) (station : Station) (flash : F) (first : Settings) (room : ℕ) (events : List Event) (before now : List (List ℕ)) (outcomes : List (List Outcome)) (lost : F) : Type 0 where
   pub begun : F
-  pub begins : (image begun ≡ image flash) × (failures begun ≡ failures flash) × asked flash [] begun
-  pub caused : IsCaused (failures flash) (failures lost) (started first room).values (cycle_of outcomes station first room events).live.values
+  pub begins : (as_flash.image begun ≡ as_flash.image flash) × (as_flash.failures begun ≡ as_flash.failures flash) × as_flash.asked flash [] begun
+  pub caused : IsCaused (as_flash.failures flash) (as_flash.failures lost) (started first room).values (cycle_of outcomes station first room events).live.values
   pub quiet : (cycle_of outcomes station first room events).live.values.has_failed ≡ false → outcomes ≡ []
-  pub placed : EventByEvent image failures asked outcomes station begun (started first room) events lost
+  pub placed : EventByEvent as_flash outcomes station begun (started first room) events lost
   pub handed_on : now ≡ before ++ (cycle_of outcomes station first room events).frames
-  pub safe : CrashSafe false first (cycle_of outcomes station first room events).accepted (image flash) (image lost)
+  pub safe : CrashSafe false first (cycle_of outcomes station first room events).accepted (as_flash.image flash) (as_flash.image lost)
   pub untouched : (cycle_of outcomes station first room events).accepted ≡ [] → lost ≡ begun
 
 -- A device that has just started, on whatever image: it is what it was told to be, what the image is read as runs and nothing
 -- else, Identify is answered by that alone, and each output that it shows is zeros.
-pub record IsStarted {F : Type 0} (image : F → Image) (station : Station) (device : State F) : Type 0 where
+pub record IsStarted {F : Type 0} {S : ℕ} (as_flash : Flash F S) (station : Station) (device : State F) : Type 0 where
   pub station_is : device.station ≡ station
   pub nothing_else : device.live ≡ started device.live.values.stored device.live.values.room
-  pub starts : StartsWith (image device.flash) device.live.values.stored device.live.values.room
+  pub starts : StartsWith (as_flash.image device.flash) device.live.values.stored device.live.values.room
   pub answers : AnswersBy station device.live.values.stored device.live
   pub shows : (slot subslot : ℕ) → output_of station.real slot subslot (output_in slot subslot device.live.rest.link) ≡ zero_output station.real slot subslot
 
@@ -62,41 +61,41 @@ pub record IsStarted {F : Type 0} (image : F → Image) (station : Station) (dev
 -- answered 'done', make of the first settings; where no commit failed, just what the cycle stored. Nothing else is left of
 -- the cycle, Identify is answered by those settings and the identity alone, and the image is again one that this device
 -- left. `power_up` relates a flash to itself with its power back.
-pub record Restarts {F : Type 0} (image : F → Image) (failures : F → ℕ) (asked : F → List Call → F → Type 0) (power_up : F → F → Type 0) (station : Station) (flash : F) (first : Settings) (room : ℕ) (events : List Event) (before now : List (List ℕ)) (restarted : State F) : Type 0 where
+pub record Restarts {F : Type 0} {S : ℕ} (as_flash : Flash F S) (power_up : F → F → Type 0) (station : Station) (flash : F) (first : Settings) (room : ℕ) (events : List Event) (before now : List (List ℕ)) (restarted : State F) : Type 0 where
   pub outcomes : List (List Outcome)
   pub lost : F
   pub back : F
   pub powered : power_up lost back
-  pub cycled : Cycled image failures asked station flash first room events before now outcomes lost
+  pub cycled : Cycled as_flash station flash first room events before now outcomes lost
   pub has : IsMadeOf (cycle_of outcomes station first room events).accepted first restarted.live.values.stored
   pub clean : (cycle_of outcomes station first room events).live.values.has_failed ≡ false →
       restarted.live ≡ started (cycle_of outcomes station first room events).live.values.stored (cycle_of outcomes station first room events).live.values.room
-  pub is_started : IsStarted image station restarted
-  pub left : LeftByDevice (image restarted.flash)
-  pub same : (image restarted.flash ≡ image lost) × (failures restarted.flash ≡ failures back) × asked back [] restarted.flash
+  pub is_started : IsStarted as_flash station restarted
+  pub left : LeftByDevice (as_flash.image restarted.flash)
+  pub same : (as_flash.image restarted.flash ≡ as_flash.image lost) × (as_flash.failures restarted.flash ≡ as_flash.failures back) × as_flash.asked back [] restarted.flash
 
 -- A start was refused for a cause of its own; it asked nothing of the flash but reads, and no byte changed. A flash is foreign where it cannot be read.
-pub record Refuses {F : Type 0} (image : F → Image) (failures : F → ℕ) (asked : F → List Call → F → Type 0) (flash : F) (fault : BootFault) (left : F) : Type 0 where
-  pub cause : HasBootCause fault (failures flash) (failures left)
-  pub same : image left ≡ image flash
-  pub none_asked : asked flash [] left
-  pub foreign : fault ≡ Foreign → IsForeign (image left)
+pub record Refuses {F : Type 0} {S : ℕ} (as_flash : Flash F S) (flash : F) (fault : BootFault) (left : F) : Type 0 where
+  pub cause : HasBootCause fault (as_flash.failures flash) (as_flash.failures left)
+  pub same : as_flash.image left ≡ as_flash.image flash
+  pub none_asked : as_flash.asked flash [] left
+  pub foreign : fault ≡ Foreign → IsForeign (as_flash.image left)
 
 -- The start after a cycle was refused: the first start gave settings, the events were run, and power came back.
-pub record RefusesAfter {F : Type 0} (image : F → Image) (failures : F → ℕ) (asked : F → List Call → F → Type 0) (power_up : F → F → Type 0) (station : Station) (flash : F) (events : List Event) (before now : List (List ℕ)) (fault : BootFault) (left : F) : Type 0 where
+pub record RefusesAfter {F : Type 0} {S : ℕ} (as_flash : Flash F S) (power_up : F → F → Type 0) (station : Station) (flash : F) (events : List Event) (before now : List (List ℕ)) (fault : BootFault) (left : F) : Type 0 where
   pub first : Settings
   pub room : ℕ
   pub outcomes : List (List Outcome)
   pub lost : F
   pub back : F
-  pub starts : StartsWith (image flash) first room
-  pub cycled : Cycled image failures asked station flash first room events before now outcomes lost
+  pub starts : StartsWith (as_flash.image flash) first room
+  pub cycled : Cycled as_flash station flash first room events before now outcomes lost
   pub powered : power_up lost back
-  pub kept : image back ≡ image lost
-  pub refuses : Refuses image failures asked back fault left
+  pub kept : as_flash.image back ≡ as_flash.image lost
+  pub refuses : Refuses as_flash back fault left
 
 -- A start was refused: the first one, and nothing was handed on, or the one after the cycle.
-abbrev pub IsRefused : {F : Type 0} → (F → Image) → (F → ℕ) → (F → List Call → F → Type 0) → (F → F → Type 0) → Station → F → List Event → List (List ℕ) → List (List ℕ) → BootFault → F → Type 0
-IsRefused {F} image failures asked power_up station flash events before now fault left =
-    ((now ≡ before) × Refuses image failures asked flash fault left)
-    ⊎ RefusesAfter image failures asked power_up station flash events before now fault left
+abbrev pub IsRefused : {F : Type 0} {S : ℕ} → Flash F S → (F → F → Type 0) → Station → F → List Event → List (List ℕ) → List (List ℕ) → BootFault → F → Type 0
+IsRefused {F} as_flash power_up station flash events before now fault left =
+    ((now ≡ before) × Refuses as_flash flash fault left)
+    ⊎ RefusesAfter as_flash power_up station flash events before now fault left

@@ -1,7 +1,6 @@
 -- What a step and a run do, whatever the flash does.
 use Rattle.std.specs.Prelude.{◌≡◌, ◌+◌, length, ℕ, true, false, Some, List, [], ◌∷◌, ◌++◌, if◌then◌else◌}
-use Rattle.flash_model.specs.Calls.{Call}
-use Rattle.flash_model.specs.Image.{Image}
+use Rattle.flash_model.specs.declared.flash.Flash.{Ghosts as Flash}
 use Rattle.pn_values.specs.declared.mac.Mac.{Mac}
 use Rattle.pn_values.specs.declared.identity.Identity.{Identity}
 use Rattle.pn_values.specs.declared.settings.Settings.{Settings}
@@ -30,7 +29,7 @@ use Rattle.device_core.specs.Faults.{StepGoesOn}
 -- and the note are those of the step, there are no outcomes where no commit failed, each has its cause in its own item, what
 -- happened to the settings is a stretch of a cycle and continues any, and whatever the flash does the device goes on. Each message that
 -- is sent can be sent: it fits a frame, and so is read as what is written.
-pub record Steps {F : Type 0} (image : F → Image) (failures : F → ℕ) (asked : F → List Call → F → Type 0) (old : State F) (heard : Heard) (sent : List (List ℕ)) (said : Note) (new : State F) : Type 0 where
+pub record Steps {F : Type 0} {S : ℕ} (as_flash : Flash F S) (old : State F) (heard : Heard) (sent : List (List ℕ)) (said : Note) (new : State F) : Type 0 where
   pub outcomes : List Outcome
   pub same : new.station ≡ old.station
   pub live : new.live ≡ (heard_step outcomes old.station old.live heard).live
@@ -38,10 +37,15 @@ pub record Steps {F : Type 0} (image : F → Image) (failures : F → ℕ) (aske
   pub sendable : AreSendable old.station.identity (heard_step outcomes old.station old.live heard).sent
   pub note : said ≡ (heard_step outcomes old.station old.live heard).note
   pub quiet : new.live.values.has_failed ≡ old.live.values.has_failed → outcomes ≡ []
-  pub placed : OneByOne image failures asked outcomes (store_of old) (items_of old.station old.live heard) (store_of new)
-  pub stretch : Stretch image failures (store_of old) (heard_step outcomes old.station old.live heard).accepted (store_of new)
-  pub continues : Continues image failures (store_of old) (heard_step outcomes old.station old.live heard).accepted (store_of new)
+  pub placed : OneByOne as_flash outcomes (store_of old) (items_of old.station old.live heard) (store_of new)
+  pub stretch : Stretch as_flash (store_of old) (heard_step outcomes old.station old.live heard).accepted (store_of new)
+  pub continues : Continues as_flash (store_of old) (heard_step outcomes old.station old.live heard).accepted (store_of new)
   pub goes_on : StepGoesOn old.station old.live heard sent said new.live
+
+-- a flash that never fails stays one, and over it no commit fails that did not before
+abbrev pub StaysReliable : {F : Type 0} {S : ℕ} → Flash F S → State F → State F → Type 0
+StaysReliable as_flash old new =
+    as_flash.is_reliable old.flash → as_flash.is_reliable new.flash × (new.live.values.has_failed ≡ old.live.values.has_failed)
 
 -- An Identify request changes nothing. It is answered, by identity and running settings alone, where it matches them.
 pub record Identifies {F : Type 0} (old : State F) (asker : Mac) (request : Asked) (sent : List (List ℕ)) (said : Note) (new : State F) : Type 0 where
@@ -84,33 +88,33 @@ pub record IsAgain {F : Type 0} (old : State F) (frame : List ℕ) (sent : List 
   pub done : said ≡ Done
 
 -- what a run hands on of a step: its frames, unless power is lost
-pub record HandsOn {F : Type 0} (image : F → Image) (failures : F → ℕ) (asked : F → List Call → F → Type 0) (old : State F) (heard : Heard) (before now : List (List ℕ)) (new : State F) : Type 0 where
+pub record HandsOn {F : Type 0} {S : ℕ} (as_flash : Flash F S) (old : State F) (heard : Heard) (before now : List (List ℕ)) (new : State F) : Type 0 where
   pub sent : List (List ℕ)
   pub said : Note
-  pub steps : Steps image failures asked old heard sent said new
+  pub steps : Steps as_flash old heard sent said new
   pub handed_on : now ≡ before ++ (if new.live.values.is_lost then [] else sent)
 
 -- The events one by one: each is judged on the state that the events before it made, and its items begin with the flash
 -- that the event before it left.
-abbrev pub EventByEvent : {F : Type 0} → (F → Image) → (F → ℕ) → (F → List Call → F → Type 0) → List (List Outcome) → Station → F → Live → List Event → F → Type 0
-EventByEvent image failures asked outcomes station old live [] new = new ≡ old
-EventByEvent {F} image failures asked outcomes station old live (event ∷ events) new =
+abbrev pub EventByEvent : {F : Type 0} {S : ℕ} → Flash F S → List (List Outcome) → Station → F → Live → List Event → F → Type 0
+EventByEvent as_flash outcomes station old live [] new = new ≡ old
+EventByEvent {F} as_flash outcomes station old live (event ∷ events) new =
     let next = (step_of (first_step outcomes) station live event).live in
-    (between : F) × OneByOne image failures asked (first_step outcomes) (record { flash = old; values = live.values })
+    (between : F) × OneByOne as_flash (first_step outcomes) (record { flash = old; values = live.values })
     (items_of station live (heard_of station.identity event)) (record { flash = between; values = next.values })
-    × EventByEvent image failures asked (later_steps outcomes) station between next events new
+    × EventByEvent as_flash (later_steps outcomes) station between next events new
 
 -- Steps after one another, for some outcomes of each, none where no commit failed, which have their cause each in its own
 -- item of its own event; what happened to the settings is a stretch of a cycle. Before and now are what the sink has taken;
 -- once power is lost it takes no more.
-pub record Runs {F : Type 0} (image : F → Image) (failures : F → ℕ) (asked : F → List Call → F → Type 0) (old : State F) (events : List Event) (before now : List (List ℕ)) (new : State F) : Type 0 where
+pub record Runs {F : Type 0} {S : ℕ} (as_flash : Flash F S) (old : State F) (events : List Event) (before now : List (List ℕ)) (new : State F) : Type 0 where
   pub outcomes : List (List Outcome)
   pub same : new.station ≡ old.station
   pub live : new.live ≡ (run_of outcomes old.station old.live events).live
   pub frames : now ≡ before ++ (run_of outcomes old.station old.live events).frames
   pub quiet : new.live.values.has_failed ≡ old.live.values.has_failed → outcomes ≡ []
-  pub placed : EventByEvent image failures asked outcomes old.station old.flash old.live events new.flash
-  pub stretch : Stretch image failures (store_of old) (run_of outcomes old.station old.live events).accepted (store_of new)
+  pub placed : EventByEvent as_flash outcomes old.station old.flash old.live events new.flash
+  pub stretch : Stretch as_flash (store_of old) (run_of outcomes old.station old.live events).accepted (store_of new)
   pub after_loss : old.live.values.is_lost ≡ true → now ≡ before
 
 -- the step with no flash call failing

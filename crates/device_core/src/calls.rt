@@ -19,7 +19,7 @@ ghost use Rattle.device_core.specs.Judged.{Writes, answer_from, came_with, kept_
 ghost use Rattle.device_core.specs.Judged.{judged_write, outcome_of};
 ghost use Rattle.device_core.specs.Behind.{CanSend, behind, called, frames_of};
 ghost use Rattle.device_core.specs.Machine.{end_of, written_as as comes_out};
-ghost use Rattle.device_core.specs.Steps.{Steps};
+ghost use Rattle.device_core.specs.Steps.{StaysReliable, Steps};
 ghost use Rattle.frame_codec.specs.Outbox.{boxed};
 
 use crate::arp::is_running;
@@ -48,10 +48,8 @@ impl<F: Flash<S>, const S: usize> Device<F, S> {
     ) -> Note
         requires stored { Holds (F.image self.old.flash) self.old.live.values }
         requires empty { outbox.old.items ≡ [] }
-        ensures steps { Steps F.image F.failures F.asked self.old (Told caller.now address (said_by body.now)) (boxed outbox.new) result
-            self.new }
-        ensures reliable { F.is_reliable self.old.flash → F.is_reliable self.new.flash
-            × (self.new.live.values.has_failed ≡ self.old.live.values.has_failed) }
+        ensures steps { Steps F.Flash self.old (Told caller.now address (said_by body.now)) (boxed outbox.new) result self.new }
+        ensures reliable { StaysReliable F.Flash self.old self.new }
     {
         if !is_running(self.store.running(), address) {
             return Note::NotMine;
@@ -94,9 +92,8 @@ impl<F: Flash<S>, const S: usize> Device<F, S> {
         requires empty { outbox.old.items ≡ [] }
         ensures steps { (heard : Hears) → judged self.old.station self.old.live heard
             ≡ judged_call self.old.station self.old.live caller.now (asked call.now) (operation_of call.now.header.operation) →
-            Steps F.image F.failures F.asked self.old heard (boxed outbox.new) result self.new }
-        ensures reliable { F.is_reliable self.old.flash → F.is_reliable self.new.flash
-            × (self.new.live.values.has_failed ≡ self.old.live.values.has_failed) }
+            Steps F.Flash self.old heard (boxed outbox.new) result self.new }
+        ensures reliable { StaysReliable F.Flash self.old self.new }
     {
         let Some(operation) = Operation::of(call.header.operation) else {
             // An operation that is none cannot be answered: a status says which kind of call failed.
@@ -142,14 +139,9 @@ impl<F: Flash<S>, const S: usize> Device<F, S> {
             (answer_from self.now.live.values.running.suite.address caller.now (asked call.now) operation (Err Arguments)) }
         ensures note { result ≡ Note.Done }
     {
-        let status = CallFault::Arguments.number(operation);
-        send_response(
-            &self.identity,
-            self.store.running().suite.address(),
-            caller,
-            &call.response(status, &[]),
-            outbox,
-        );
+        let address = self.store.running().suite.address();
+        let response = call.response(CallFault::Arguments.number(operation), &[]);
+        send_response(&self.identity, address, caller, &response, outbox);
         Note::Done
     }
 
@@ -158,9 +150,8 @@ impl<F: Flash<S>, const S: usize> Device<F, S> {
         requires stored { Holds (F.image self.old.flash) self.old.live.values }
         requires empty { outbox.old.items ≡ [] }
         ensures steps { (heard : Hears) → judged self.old.station self.old.live heard ≡ called self.old serving.now serving.now.operation →
-            Steps F.image F.failures F.asked self.old heard (boxed outbox.new) result self.new }
-        ensures reliable { F.is_reliable self.old.flash → F.is_reliable self.new.flash
-            × (self.new.live.values.has_failed ≡ self.old.live.values.has_failed) }
+            Steps F.Flash self.old heard (boxed outbox.new) result self.new }
+        ensures reliable { StaysReliable F.Flash self.old self.new }
     {
         match serving.operation {
             Operation::Connect => self.connect(serving, outbox),
@@ -298,9 +289,8 @@ impl<F: Flash<S>, const S: usize> Device<F, S> {
         requires stored { Holds (F.image self.old.flash) self.old.live.values }
         requires empty { outbox.old.items ≡ [] }
         ensures steps { (heard : Hears) → judged self.old.station self.old.live heard ≡ called self.old serving.now operation.Write →
-            Steps F.image F.failures F.asked self.old heard (boxed outbox.new) result self.new }
-        ensures reliable { F.is_reliable self.old.flash → F.is_reliable self.new.flash
-            × (self.new.live.values.has_failed ≡ self.old.live.values.has_failed) }
+            Steps F.Flash self.old heard (boxed outbox.new) result self.new }
+        ensures reliable { StaysReliable F.Flash self.old self.new }
     {
         match judge_write(serving.blocks, self.relation.uuid(), &self.real) {
             Ok(Write { request, effect }) => match effect {
@@ -344,9 +334,8 @@ impl<F: Flash<S>, const S: usize> Device<F, S> {
         requires empty { outbox.old.items ≡ [] }
         ensures steps { (heard : Hears) → judged self.old.station self.old.live heard
             ≡ Writes serving.now.caller.now self.old.live.values.running.suite.address (asked serving.now.call.now) header.now value →
-            Steps F.image F.failures F.asked self.old heard (boxed outbox.new) result self.new }
-        ensures reliable { F.is_reliable self.old.flash → F.is_reliable self.new.flash
-            × (self.new.live.values.has_failed ≡ self.old.live.values.has_failed) }
+            Steps F.Flash self.old heard (boxed outbox.new) result self.new }
+        ensures reliable { StaysReliable F.Flash self.old self.new }
     {
         let address = self.store.running().suite.address();
         let came = written_as(self.store.carry(&SetItem::Ask(Command::SetIm(value))));

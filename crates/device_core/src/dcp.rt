@@ -12,7 +12,7 @@ ghost use Rattle.device_core.specs.Behind.{CanSend, frames_of};
 ghost use Rattle.device_core.specs.Judged.{identified};
 ghost use Rattle.device_core.specs.Machine.{farewells_at, finished, is_done as is_done_by, is_reset as is_reset_by, is_signal};
 ghost use Rattle.device_core.specs.Machine.{lamp_after as lamp_of, link_after, resets};
-ghost use Rattle.device_core.specs.Steps.{Steps};
+ghost use Rattle.device_core.specs.Steps.{StaysReliable, Steps};
 ghost use Rattle.frame_codec.specs.Outbox.{boxed};
 
 use crate::{Device, Note};
@@ -42,10 +42,8 @@ impl<F: Flash<S>, const S: usize> Device<F, S> {
     ) -> Note
         requires stored { Holds (F.image self.old.flash) self.old.live.values }
         requires empty { outbox.old.items ≡ [] }
-        ensures steps { Steps F.image F.failures F.asked self.old (heard_request asker (request_of frame_id body.now)) (boxed outbox.new)
-            result self.new }
-        ensures reliable { F.is_reliable self.old.flash → F.is_reliable self.new.flash
-            × (self.new.live.values.has_failed ≡ self.old.live.values.has_failed) }
+        ensures steps { Steps F.Flash self.old (heard_request asker (request_of frame_id body.now)) (boxed outbox.new) result self.new }
+        ensures reliable { StaysReliable F.Flash self.old self.new }
     {
         match &read_request(frame_id, body) {
             Ok(request) => self.serve(asker, request, outbox),
@@ -57,9 +55,8 @@ impl<F: Flash<S>, const S: usize> Device<F, S> {
     fn serve(&mut self, asker: Mac, request: &Request<'_>, outbox: &mut Outbox) -> Note
         requires stored { Holds (F.image self.old.flash) self.old.live.values }
         requires empty { outbox.old.items ≡ [] }
-        ensures steps { Steps F.image F.failures F.asked self.old (Asks asker (asked request.now)) (boxed outbox.new) result self.new }
-        ensures reliable { F.is_reliable self.old.flash → F.is_reliable self.new.flash
-            × (self.new.live.values.has_failed ≡ self.old.live.values.has_failed) }
+        ensures steps { Steps F.Flash self.old (Asks asker (asked request.now)) (boxed outbox.new) result self.new }
+        ensures reliable { StaysReliable F.Flash self.old self.new }
     {
         match request.service {
             Service::Identify => self.identify(asker, request, outbox),
@@ -104,9 +101,8 @@ impl<F: Flash<S>, const S: usize> Device<F, S> {
     fn set(&mut self, asker: Mac, request: &Request<'_>, outbox: &mut Outbox) -> Note
         requires service { request.now.service ≡ Service.Set }
         requires empty { outbox.old.items ≡ [] }
-        ensures steps { Steps F.image F.failures F.asked self.old (Asks asker (asked request.now)) (boxed outbox.new) result self.new }
-        ensures reliable { F.is_reliable self.old.flash → F.is_reliable self.new.flash
-            × (self.new.live.values.has_failed ≡ self.old.live.values.has_failed) }
+        ensures steps { Steps F.Flash self.old (Asks asker (asked request.now)) (boxed outbox.new) result self.new }
+        ensures reliable { StaysReliable F.Flash self.old self.new }
     {
         fill_plan(request, is_in_operation(&self.relation), &mut self.plan);
         let answers = self.store.carry_out(self.plan.as_slice());

@@ -27,15 +27,15 @@ pub fn cycle<F: Flash<S>, const S: usize, K: Sink, P: FnOnce(F) -> F>(
     // Whatever frames, ticks and flash faults come, inside a flash call too: the restarted device has the settings that
     // all accepted commands of the cycle, or all but a last one not answered positively, make of the cycle's first values.
     ensures headline { LeftByDevice (F.image flash) → (first : Settings) (room : ℕ) → StartsWith (F.image flash) first room →
-        IfOk result (λ device. Restarts F.image F.failures F.asked (P.post power_up) (record { identity = identity; real = real }) flash
+        IfOk result (λ device. Restarts F.Flash (P.post power_up) (record { identity = identity; real = real }) flash
         first room events.now (K.taken sink.old) (K.taken sink.new) device) }
 
     // A device that is given back has just started, whoever left what the flash held.
-    ensures fresh { IfOk result (IsStarted F.image (record { identity = identity; real = real })) }
+    ensures fresh { IfOk result (IsStarted F.Flash (record { identity = identity; real = real })) }
 
     // What this device left is never foreign to it, and a start is refused where a read fails and only there.
     ensures left { LeftByDevice (F.image flash) → IfErr result (λ refused. refused.0 ≡ BootFault.FlashFault) }
-    ensures refused { IfErr result (λ refused. IsRefused F.image F.failures F.asked (P.post power_up)
+    ensures refused { IfErr result (λ refused. IsRefused F.Flash (P.post power_up)
         (record { identity = identity; real = real }) flash events.now (K.taken sink.old) (K.taken sink.new) refused.0 refused.1) }
     ensures reliable { F.is_reliable flash → ((lost flash : F) → P.post power_up lost flash → F.is_reliable lost → F.is_reliable flash) →
         LeftByDevice (F.image flash) → IsOk result }

@@ -12,7 +12,7 @@ use frame_codec::Outbox;
 impl<F: Flash<S>, const S: usize> Device<F, S> {
     /// Takes the events in order, and hands the frames on, up to the event in which power is lost.
     pub fn run<K: Sink>(&mut self, events: &[Event], sink: &mut K)
-        ensures runs { Runs F.image F.failures F.asked self.old events.now (K.taken sink.old) (K.taken sink.new) self.new }
+        ensures runs { Runs F.Flash self.old events.now (K.taken sink.old) (K.taken sink.new) self.new }
 
         // With no flash call failing.
         ensures exact { F.failures self.new.flash ≡ F.failures self.old.flash → F.failures self.old.flash < 2 ^ 64 - 1 →
@@ -37,7 +37,7 @@ impl<F: Flash<S>, const S: usize> Device<F, S> {
 
     // One event of a run.
     fn take<K: Sink>(&mut self, event: &Event, outbox: &mut Outbox, sink: &mut K)
-        ensures steps { HandsOn F.image F.failures F.asked self.old (heard_of self.old.station.identity event.now) (K.taken sink.old)
+        ensures steps { HandsOn F.Flash self.old (heard_of self.old.station.identity event.now) (K.taken sink.old)
             (K.taken sink.new) self.new }
         ensures reliable { F.is_reliable self.old.flash → self.old.live.values.has_failed ≡ false →
             F.is_reliable self.new.flash × (self.new.live.values.has_failed ≡ false) }

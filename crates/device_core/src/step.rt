@@ -2,43 +2,44 @@
 ghost use Rattle.std.specs.Prelude.{◌≡◌, ◌≢◌, ◌<◌, ◌-◌, ◌^◌, [], true, false, List, ℕ, Option, map, option_map};
 ghost use Rattle.settings_store.specs.Carries.{Holds};
 ghost use Rattle.dcp_core.specs.Request.{Asked};
-ghost use Rattle.device_frames.specs.Heard.{Asks, heard_alarm, heard_content, heard_of};
-ghost use Rattle.frame_codec.specs.Meaning.{ArpPacket, RealTime, UdpDatagram, content_of};
+ghost use Rattle.device_frames.specs.Heard.{Asks, heard_alarm, heard_by, heard_content, heard_of};
+ghost use Rattle.frame_codec.specs.Frame.{arp, datagram, frame_of};
+ghost use Rattle.frame_codec.specs.Meaning.{IsNoRealTime, RealTime};
 ghost use Rattle.pn_alarms.specs.Message.{message_of};
 ghost use Rattle.device_frames.specs.declared.event.Event.TheVariants.{Frame};
 ghost use Rattle.relations.specs.Farewells.{farewell_of};
 ghost use Rattle.relations.specs.Link.{Link, flow_of};
+ghost use Rattle.relations.specs.Timers.{left_behind};
 ghost use Rattle.device_core.specs.State.{Live, Station, with_rest};
 ghost use Rattle.device_frames.specs.Sendable.{AreSendable};
 ghost use Rattle.device_frames.specs.Sent.{bytes_of};
 ghost use Rattle.device_core.specs.Judged.{judged_alarm, judged_message, judged_cyclic, judged_given, judged_raised, judged_received};
 ghost use Rattle.device_core.specs.Judged.{ticked};
 ghost use Rattle.device_frames.specs.Relation.{farewells_in, inputs_of};
-ghost use Rattle.device_core.specs.Behind.{CanSend, behind, due_in, frames_of};
+ghost use Rattle.device_core.specs.Behind.{CanSend, behind, brought, due_in, frames_of};
 ghost use Rattle.device_core.specs.Machine.{end_of};
 ghost use Rattle.rpc_core.specs.Call.{Asked as Called};
 ghost use Rattle.rpc_core.specs.Cache.{looked, again};
 ghost use Rattle.device_core.specs.Faults.{StepGoesOn};
-ghost use Rattle.device_core.specs.Steps.{Steps, Identifies, IsServed, IsAgain, IsExactStep};
+ghost use Rattle.device_core.specs.Steps.{Steps, Identifies, IsServed, IsAgain, IsExactStep, StaysReliable};
 ghost use Rattle.frame_codec.specs.Outbox.{boxed};
 
 use crate::{Device, Event, Note};
 use dcp_core::Service;
 use device_frames::{
-    Caller, RealTimeKind, is_asked, is_called, kind_of, read_layers, real_time_in, send_alarm,
+    Caller, RealTimeKind, is_asked, is_called, kind_of, open_frame, real_time_in, send_alarm,
     send_alarm_again, send_alarm_reply, send_farewell, send_inputs, send_ready_again,
 };
 use flash_model::Flash;
-use frame_codec::{Arp, Bytes, Layered, Outbox, Payload, Udp};
+use frame_codec::{Bytes, ContentKind, OpenFrame, Outbox, RealTimeFrame, datagram_at, packet_at};
 use pn_alarms::{Abort, Header, Message, PduFate, read_message};
 use pn_values::Mac;
-use relations::Received;
+use relations::{Elapsed, Received};
 
 impl<F: Flash<S>, const S: usize> Device<F, S> {
     /// Takes an event, and puts the frames to be sent into the box, which holds nothing else then.
     pub fn step(&mut self, event: &Event, outbox: &mut Outbox) -> Note
-        ensures steps { Steps F.image F.failures F.asked self.old (heard_of self.old.station.identity event.now) (boxed outbox.new) result
-            self.new }
+        ensures steps { Steps F.Flash self.old (heard_of self.old.station.identity event.now) (boxed outbox.new) result self.new }
 
         // With no flash call failing.
         ensures exact { F.failures self.new.flash ≡ F.failures self.old.flash → F.failures self.old.flash < 2 ^ 64 - 1 →
@@ -69,11 +70,11 @@ impl<F: Flash<S>, const S: usize> Device<F, S> {
     // What comes of an event.
     fn respond(&mut self, event: &Event, outbox: &mut Outbox) -> Note
         requires empty { outbox.old.items ≡ [] }
-        ensures steps { Steps F.image F.failures F.asked self.old (heard_of self.old.station.identity event.now) (boxed outbox.new) result
-            self.new }
-        ensures reliable { F.is_reliable self.old.flash → F.is_reliable self.new.flash
-            × (self.new.live.values.has_failed ≡ self.old.live.values.has_failed) }
+        ensures steps { Steps F.Flash self.old (heard_of self.old.station.identity event.now) (boxed outbox.new) result self.new }
+        ensures reliable { StaysReliable F.Flash self.old self.new }
     {
+        // The invariant is known where a field is used.
+        let _ = &self.identity;
         match event {
             Event::Tick => self.tick(outbox),
             Event::Input(slot, subslot, value) => self.give(*slot, *subslot, value.as_slice()),
@@ -84,86 +85,32 @@ impl<F: Flash<S>, const S: usize> Device<F, S> {
         }
     }
 
-    // A frame: it is read first, and then its destination is looked at. Real-time frames are read by themselves, since they come each
-    // interval.
+    // A frame: it is read first, and then its destination is looked at. Real-time frames are looked for first, and what is rare stands
+    // outside: where both were opened as one, its addresses were laid in memory for a cyclic frame too.
     #[inline(never)]
     fn hear(&mut self, bytes: &Bytes, outbox: &mut Outbox) -> Note
-        requires empty { outbox.old.items ≡ [] }
-        ensures steps { Steps F.image F.failures F.asked self.old (heard_of self.old.station.identity (Frame bytes.now)) (boxed outbox.new)
-            result self.new }
-        ensures reliable { F.is_reliable self.old.flash → F.is_reliable self.new.flash
-            × (self.new.live.values.has_failed ≡ self.old.live.values.has_failed) }
-    {
-        // The invariant is known where a field is used.
-        let _ = &self.identity;
-        match real_time_in(bytes) {
-            Some(frame) => self.hear_real_time(
-                frame.destination,
-                frame.source,
-                frame.frame_id,
-                frame.body,
-                outbox,
-            ),
-            None => self.hear_other(bytes, outbox),
-        }
-    }
-
-    // A frame that is no real-time frame, or none.
-    #[inline(never)]
-    fn hear_other(&mut self, bytes: &Bytes, outbox: &mut Outbox) -> Note
-        requires empty { outbox.old.items ≡ [] }
-        ensures steps { Steps F.image F.failures F.asked self.old (heard_of self.old.station.identity (Frame bytes.now)) (boxed outbox.new)
-            result self.new }
-        ensures reliable { F.is_reliable self.old.flash → F.is_reliable self.new.flash
-            × (self.new.live.values.has_failed ≡ self.old.live.values.has_failed) }
-    {
-        // The invariant is known where a field is used.
-        let _ = &self.identity;
-        match read_layers(bytes) {
-            Some(layered) => self.hear_layers(&layered, outbox),
-            None => Note::Fault,
-        }
-    }
-
-    // A frame by its layers.
-    #[inline(always)]
-    fn hear_layers(&mut self, layered: &Layered, outbox: &mut Outbox) -> Note
         requires stored { Holds (F.image self.old.flash) self.old.live.values }
         requires empty { outbox.old.items ≡ [] }
-        ensures steps { Steps F.image F.failures F.asked self.old
-            (heard_content self.old.station.identity layered.now.destination layered.now.source (content_of layered.now.payload))
-            (boxed outbox.new) result self.new }
-        ensures reliable { F.is_reliable self.old.flash → F.is_reliable self.new.flash
-            × (self.new.live.values.has_failed ≡ self.old.live.values.has_failed) }
+        ensures steps { Steps F.Flash self.old (heard_of self.old.station.identity (Frame bytes.now)) (boxed outbox.new) result self.new }
+        ensures reliable { StaysReliable F.Flash self.old self.new }
     {
-        let (destination, source) = (layered.destination, layered.source);
-        match &layered.payload {
-            Payload::RealTime { frame_id, body } => {
-                self.hear_real_time(destination, source, *frame_id, body, outbox)
-            }
-            Payload::Arp(packet) => self.hear_packet(destination, source, packet, outbox),
-            Payload::Udp(datagram) => self.hear_udp(destination, source, datagram, outbox),
+        match real_time_in(bytes) {
+            Some(frame) => self.hear_real_time(&frame, outbox),
+            None => self.hear_other(bytes, outbox),
         }
     }
 
     // A frame of EtherType 0x8892.
     #[inline(always)]
-    fn hear_real_time(
-        &mut self,
-        destination: Mac,
-        source: Mac,
-        frame_id: u16,
-        body: &[u8],
-        outbox: &mut Outbox,
-    ) -> Note
+    fn hear_real_time(&mut self, frame: &RealTimeFrame, outbox: &mut Outbox) -> Note
         requires stored { Holds (F.image self.old.flash) self.old.live.values }
         requires empty { outbox.old.items ≡ [] }
-        ensures steps { Steps F.image F.failures F.asked self.old
-            (heard_content self.old.station.identity destination source (RealTime frame_id body.now)) (boxed outbox.new) result self.new }
-        ensures reliable { F.is_reliable self.old.flash → F.is_reliable self.new.flash
-            × (self.new.live.values.has_failed ≡ self.old.live.values.has_failed) }
+        ensures steps { Steps F.Flash self.old (heard_content self.old.station.identity frame.now.destination frame.now.source
+            (RealTime frame.now.frame_id frame.now.body.now)) (boxed outbox.new) result self.new }
+        ensures reliable { StaysReliable F.Flash self.old self.new }
     {
-        match kind_of(&self.identity, destination, frame_id) {
+        let (source, frame_id, body) = (frame.source, frame.frame_id, frame.body);
+        match kind_of(&self.identity, frame.destination, frame_id) {
             RealTimeKind::Cyclic => self.hear_cyclic(source, frame_id, body),
             RealTimeKind::Alarm => self.read_alarm(source, body, outbox),
             RealTimeKind::Request => self.read_and_serve(source, frame_id, body, outbox),
@@ -171,50 +118,61 @@ impl<F: Flash<S>, const S: usize> Device<F, S> {
         }
     }
 
-    // A packet of ARP.
+    // A frame that is no frame of real-time data.
     #[inline(never)]
-    fn hear_packet(
-        &mut self,
-        destination: Mac,
-        asker: Mac,
-        packet: &Arp,
-        outbox: &mut Outbox,
-    ) -> Note
+    fn hear_other(&mut self, bytes: &Bytes, outbox: &mut Outbox) -> Note
         requires stored { Holds (F.image self.old.flash) self.old.live.values }
         requires empty { outbox.old.items ≡ [] }
-        ensures steps { Steps F.image F.failures F.asked self.old
-            (heard_content self.old.station.identity destination asker (ArpPacket packet.now)) (boxed outbox.new) result self.new }
-        ensures reliable { F.is_reliable self.old.flash → F.is_reliable self.new.flash
-            × (self.new.live.values.has_failed ≡ self.old.live.values.has_failed) }
+        requires other { IsNoRealTime (frame_of bytes.now.items) }
+        ensures steps { Steps F.Flash self.old (heard_of self.old.station.identity (Frame bytes.now)) (boxed outbox.new) result self.new }
+        ensures reliable { StaysReliable F.Flash self.old self.new }
     {
-        if !is_asked(&self.identity, destination) {
+        let Some(frame) = open_frame(bytes) else {
+            return Note::Fault;
+        };
+        match frame.kind {
+            // Its FrameID is not whole.
+            ContentKind::RealTime => Note::Fault,
+            ContentKind::Arp => self.hear_packet(&frame, outbox),
+            ContentKind::Internet => self.hear_udp(&frame, outbox),
+        }
+    }
+
+    // A packet of ARP.
+    #[inline(never)]
+    fn hear_packet(&mut self, frame: &OpenFrame, outbox: &mut Outbox) -> Note
+        requires stored { Holds (F.image self.old.flash) self.old.live.values }
+        requires empty { outbox.old.items ≡ [] }
+        ensures steps { Steps F.Flash self.old (heard_by self.old.station.identity frame.now.destination frame.now.source
+            (arp.read frame.now.content.now)) (boxed outbox.new) result self.new }
+        ensures reliable { StaysReliable F.Flash self.old self.new }
+    {
+        let Ok(packet) = packet_at(frame.content) else {
+            return Note::Fault;
+        };
+        if !is_asked(&self.identity, frame.destination) {
             return Note::NotMine;
         }
-        self.resolve(asker, packet, outbox)
+        self.resolve(frame.source, &packet, outbox)
     }
 
     // A datagram, to whatever IP address.
     #[inline(never)]
-    fn hear_udp(
-        &mut self,
-        destination: Mac,
-        source: Mac,
-        datagram: &Udp,
-        outbox: &mut Outbox,
-    ) -> Note
+    fn hear_udp(&mut self, frame: &OpenFrame, outbox: &mut Outbox) -> Note
         requires stored { Holds (F.image self.old.flash) self.old.live.values }
         requires empty { outbox.old.items ≡ [] }
-        ensures steps { Steps F.image F.failures F.asked self.old
-            (heard_content self.old.station.identity destination source
-            (UdpDatagram datagram.now.source datagram.now.destination datagram.now.body.now)) (boxed outbox.new) result self.new }
-        ensures reliable { F.is_reliable self.old.flash → F.is_reliable self.new.flash
-            × (self.new.live.values.has_failed ≡ self.old.live.values.has_failed) }
+        ensures steps { Steps F.Flash self.old (heard_by self.old.station.identity frame.now.destination frame.now.source
+            (datagram.read frame.now.content.now)) (boxed outbox.new) result self.new }
+        ensures reliable { StaysReliable F.Flash self.old self.new }
     {
-        if !is_called(&self.identity, destination, datagram.destination.port) {
+        let Ok(datagram) = datagram_at(frame.content) else {
+            return Note::Fault;
+        };
+        if !is_called(&self.identity, frame.destination, datagram.destination.port) {
             return Note::NotMine;
         }
         let caller = Caller {
-            mac: source,
+            mac: frame.source,
             endpoint: datagram.source,
         };
         self.hear_datagram(&caller, datagram.destination.address, datagram.body, outbox)
@@ -225,10 +183,8 @@ impl<F: Flash<S>, const S: usize> Device<F, S> {
     fn read_alarm(&mut self, source: Mac, body: &[u8], outbox: &mut Outbox) -> Note
         requires stored { Holds (F.image self.old.flash) self.old.live.values }
         requires empty { outbox.old.items ≡ [] }
-        ensures steps { Steps F.image F.failures F.asked self.old (heard_alarm source (message_of body.now)) (boxed outbox.new) result
-            self.new }
-        ensures reliable { F.is_reliable self.old.flash → F.is_reliable self.new.flash
-            × (self.new.live.values.has_failed ≡ self.old.live.values.has_failed) }
+        ensures steps { Steps F.Flash self.old (heard_alarm source (message_of body.now)) (boxed outbox.new) result self.new }
+        ensures reliable { StaysReliable F.Flash self.old self.new }
     {
         match read_message(body) {
             Ok((header, message)) => self.hear_alarm(source, &header, &message, outbox),
@@ -243,23 +199,37 @@ impl<F: Flash<S>, const S: usize> Device<F, S> {
         ensures frames { boxed outbox.new ≡ frames_of self.old (ticked self.old.live) }
         ensures sendable { CanSend self.old (ticked self.old.live) }
         ensures note { result ≡ Note.Done }
-        // Its invariant, for those who do not look into it.
-        ensures stored { Holds (F.image self.old.flash) self.old.live.values }
     {
         // The lamp's time and CycleCounter go on over the ends of relations: they belong to the station.
         self.lamp = self.lamp.saturating_sub(1);
         self.units = self.units.wrapping_add(1);
         let elapsed = self.relation.elapse();
-        // Most units bring nothing, and nothing is made for them.
+        // Most units bring nothing, and nothing is made for them. Of the others most bring inputs alone, which have a way of their own.
         if elapsed.is_nothing() {
             return Note::Done;
         }
-        match elapsed.tick.ending {
+        if elapsed.is_inputs() {
+            return self.send_inputs(outbox);
+        }
+        self.bring(&elapsed, outbox)
+    }
+
+    // What a unit of time brings: a timeout ends the relation, and else what is due is sent.
+    #[inline(never)]
+    fn bring(&mut self, elapsed: &Elapsed, outbox: &mut Outbox) -> Note
+        requires empty { outbox.old.items ≡ [] }
+        ensures state { self.new ≡ with_rest self.old
+            (record self.old.live.rest { link = left_behind elapsed.now.tick.ending self.old.live.rest.link }) }
+        ensures frames { boxed outbox.new ≡ map (bytes_of self.old.station.identity) (brought self.old elapsed.now) }
+        ensures sendable { AreSendable self.old.station.identity (brought self.old elapsed.now) }
+        ensures note { result ≡ Note.Done }
+    {
+        match elapsed.tick.ending() {
             Some(reason) => self.end(reason, outbox),
-            None => self.send_due(
-                elapsed.tick.is_alarm,
+            None => self.send_each(
+                elapsed.tick.is_alarm(),
                 elapsed.is_ready,
-                elapsed.tick.is_cyclic,
+                elapsed.tick.is_cyclic(),
                 outbox,
             ),
         }
@@ -281,29 +251,17 @@ impl<F: Flash<S>, const S: usize> Device<F, S> {
         }
     }
 
-    // What is due with a unit of time is sent: mostly inputs alone, which have a way of their own.
-    #[inline(always)]
-    fn send_due(&self, is_alarm: bool, is_ready: bool, is_cyclic: bool, outbox: &mut Outbox)
-        requires { outbox.old.items ≡ [] }
-        ensures frames { boxed outbox.new ≡ map (bytes_of self.now.station.identity) (due_in self.now is_alarm is_ready is_cyclic) }
-        ensures sendable { AreSendable self.now.station.identity (due_in self.now is_alarm is_ready is_cyclic) }
-    {
-        match (is_alarm, is_ready, is_cyclic) {
-            // The one thing that is due each interval has a way of its own, which costs no look at the others.
-            (false, false, true) => self.send_inputs(outbox),
-            _ => self.send_each(is_alarm, is_ready, is_cyclic, outbox),
-        }
-    }
-
     // Inputs are due, and nothing else.
     #[inline(never)]
-    fn send_inputs(&self, outbox: &mut Outbox)
+    fn send_inputs(&self, outbox: &mut Outbox) -> Note
         requires { outbox.old.items ≡ [] }
+        ensures note { result ≡ Note.Done }
         ensures frames { boxed outbox.new
             ≡ map (bytes_of self.now.station.identity) (inputs_of self.now.live.rest.units (flow_of self.now.live.rest.link)) }
         ensures sendable { AreSendable self.now.station.identity (inputs_of self.now.live.rest.units (flow_of self.now.live.rest.link)) }
     {
         send_inputs(&self.identity, self.units, true, &self.relation, outbox);
+        Note::Done
     }
 
     // An alarm, ApplicationReady and inputs, as far as each is due.
@@ -335,8 +293,6 @@ impl<F: Flash<S>, const S: usize> Device<F, S> {
     fn give(&mut self, slot: u16, subslot: u16, value: &[u8]) -> Note
         ensures state { self.new ≡ behind self.old (judged_given self.old.live slot subslot value.now) }
         ensures note { result ≡ (end_of self.old.station self.old.live (judged_given self.old.live slot subslot value.now)).note }
-        // Its invariant, for those who do not look into it.
-        ensures stored { Holds (F.image self.old.flash) self.old.live.values }
     {
         if self.relation.give(slot, subslot, value) {
             Note::Done
@@ -354,8 +310,6 @@ impl<F: Flash<S>, const S: usize> Device<F, S> {
         ensures sendable { CanSend self.old (judged_raised self.old.station self.old.live slot subslot octets.now) }
         ensures note { result ≡ (end_of self.old.station self.old.live
             (judged_raised self.old.station self.old.live slot subslot octets.now)).note }
-        // Its invariant, for those who do not look into it.
-        ensures stored { Holds (F.image self.old.flash) self.old.live.values }
     {
         if !self.relation.raise(&self.real, slot, subslot, octets) {
             return Note::Refused;

@@ -249,18 +249,18 @@ placed_plain real api slot subslot index = judged_plain
 targeted_plain : (standing : Option (List ℕ)) (real : Real) (request : IodWriteReq) → IsPlainIn (targeted standing real request)
 unfolding targeted
 targeted_plain standing real request =
-    bind_plain (in_relation standing request.ar_uuid) (λ _. placed real request.api request.slot_number request.subslot_number request.index)
-    (related_plain standing request.ar_uuid) (λ _. placed_plain real request.api request.slot_number request.subslot_number request.index)
+    bind_plain (in_relation standing request.header.ar_uuid) (λ _. placed real request.header.api request.header.slot_number request.header.subslot_number request.header.index)
+    (related_plain standing request.header.ar_uuid) (λ _. placed_plain real request.header.api request.header.slot_number request.header.subslot_number request.header.index)
 
 written_plain : (real : Real) (request : IodWriteReq) (behind : List ℕ) → IsPlainIn (written real request behind)
 unfolding written
 written_plain real request behind = judged_plain
     ((not (is_known real request), fault.Index)
-    ∷ (is_read_only (record_with request.index), fault.Access)
-    ∷ (nat_lt (length behind) request.record_data_length, fault.WriteLength)
+    ∷ (is_read_only (record_with request.header.index), fault.Access)
+    ∷ (nat_lt (length behind) request.header.record_data_length, fault.WriteLength)
     ∷ [])
-    (or_fault fault.WriteLength (effect_of real request (take request.record_data_length behind))) (tt, (tt, (tt, tt)))
-    (fault_plain fault.WriteLength (effect_of real request (take request.record_data_length behind)) tt)
+    (or_fault fault.WriteLength (effect_of real request (take request.header.record_data_length behind))) (tt, (tt, (tt, tt)))
+    (fault_plain fault.WriteLength (effect_of real request (take request.header.record_data_length behind)) tt)
 
 request_plain : (standing : Option (List ℕ)) (real : Real) (request : IodWriteReq) (behind : List ℕ) → IsPlainIn (write_judged standing real request behind)
 unfolding write_judged

@@ -96,6 +96,11 @@ heard_content identity destination source (ArpPacket arp) =
 heard_content identity destination source (UdpDatagram from to body) =
     if is_own identity destination && to.port == 34964 then Told (record { mac = source; endpoint = from }) to.address (said_by body) else Elsewhere
 
+-- the content of a frame between these stations, or one that cannot be read
+abbrev pub heard_by : Identity → Mac → Mac → Result Content FrameFault → Heard
+heard_by identity destination source (Ok content) = heard_content identity destination source content
+heard_by identity destination source (Err fault) = Unreadable
+
 -- a frame is read first, and then its destination is looked at
 abbrev pub heard_frame : Identity → Result Meaning FrameFault → Heard
 heard_frame identity (Ok meaning) = heard_content identity meaning.destination meaning.source meaning.content

@@ -1,15 +1,16 @@
 //! What a frame is to a device.
-ghost use Rattle.std.specs.Prelude.{◌≡◌, ◌==◌, ◌&&◌, ◌||◌, IfNone, IfSome, List, ℕ, nat_eq, option_map};
+ghost use Rattle.std.specs.Prelude.{◌≡◌, ◌==◌, ◌&&◌, ◌||◌, IfNone, IfSome, List, ℕ, nat_eq};
 ghost use Rattle.std.specs.Cmp.Lexicographic.{pointwise};
-ghost use Rattle.device_frames.specs.Heard.{broadcast, heard_content, heard_of, is_own as is_own_by, is_taken as is_taken_by};
+ghost use Rattle.device_frames.specs.Heard.{Unreadable, broadcast, heard_content, heard_of, is_own as is_own_by, is_taken as is_taken_by};
 ghost use Rattle.device_frames.specs.Hearing.{heard_as, heard_in};
 ghost use Rattle.device_frames.specs.declared.event.Event.TheVariants.{Frame};
 ghost use Rattle.frame_codec.specs.Frame.{frame_of};
-ghost use Rattle.frame_codec.specs.Meaning.{IsNoRealTime, RealTime, meaning_of};
+ghost use Rattle.frame_codec.specs.Meaning.{IsNoRealTime, RealTime};
+ghost use Rattle.frame_codec.specs.declared.ethernet.ContentKind.TheVariants as kind;
 
 use frame_codec::{
-    Bytes, DCP_GET_SET, DCP_IDENTIFY_REQUEST, Layered, RPC_PORT, RealTimeFrame, is_alarm,
-    is_cyclic, read, read_real_time,
+    Bytes, DCP_GET_SET, DCP_IDENTIFY_REQUEST, OpenFrame, RPC_PORT, RealTimeFrame, is_alarm,
+    is_cyclic, open, read_real_time,
 };
 use pn_values::{Identity, Mac};
 
@@ -34,12 +35,16 @@ pub fn real_time_in(bytes: &Bytes) -> Option<RealTimeFrame<'_>>
     read_real_time(bytes.as_slice())
 }
 
-/// Reads a frame, if it can be read.
-#[tactic(auto, unfolding(crate::specs::Heard::heard_of))]
-pub fn read_layers(bytes: &Bytes) -> Option<Layered<'_>>
-    ensures { (identity : Identity) → heard_of identity (Frame bytes.now) ≡ heard_in identity (option_map meaning_of result) }
+/// Reads the Ethernet header of a frame, if it can be read.
+#[inline(always)]
+#[tactic(auto, using(crate::proofs::Unread::other_is_unread), unfolding(crate::specs::Heard::heard_of))]
+pub fn open_frame(bytes: &Bytes) -> Option<OpenFrame<'_>>
+    ensures said { (identity : Identity) → heard_of identity (Frame bytes.now) ≡ heard_in identity result }
+    // Where it is no frame of real-time data for all its EtherType, its FrameID is not whole.
+    ensures short { IfSome result (λ frame. IsNoRealTime (frame_of bytes.now.items) → frame.kind ≡ kind.RealTime →
+        (identity : Identity) → heard_of identity (Frame bytes.now) ≡ Unreadable) }
 {
-    read(bytes.as_slice()).ok()
+    open(bytes.as_slice()).ok()
 }
 
 /// What a frame of EtherType 0x8892 is to a device.

@@ -11,7 +11,7 @@ use Rattle.pn_values.specs.declared.mac.Mac.{Mac}
 use Rattle.frame_codec.specs.declared.fault.FrameFault.{FrameFault}
 use Rattle.frame_codec.specs.FrameId.{is_alarm, is_cyclic}
 use Rattle.frame_codec.specs.Meaning.{Content, RealTime, ArpPacket, UdpDatagram, Meaning, IsOther}
-use Rattle.frame_codec.specs.Frame.{content_under, frame_bytes, frame_of, link, padding_of, real_time, type_of}
+use Rattle.frame_codec.specs.Frame.{content_under, ethernet, frame_bytes, frame_of, padding_of, real_time, type_of}
 use Rattle.frame_laws.specs.Sendable.{CanBeSent, IsMac, IsTag, carrying}
 use Rattle.dcp_core.specs.declared.request.DcpFault.{DcpFault}
 use Rattle.dcp_core.specs.Request.{Asked}
@@ -195,7 +195,7 @@ module _ (setup : Setup) (identity : Identity) where
       (subst (λ (m : Mac). P (heard_content identity meaning.destination m found.content)) (sym is.1) (each found.content is.2))
   by_read P meaning (Err fault) is unreadable each = unreadable
 
-  by_frame : IsSound link → (P : Heard → Type 0) (meaning : Meaning) → IsMac meaning.destination → IsMac meaning.source → IsTag meaning.tag → P Unreadable
+  by_frame : IsSound ethernet → (P : Heard → Type 0) (meaning : Meaning) → IsMac meaning.destination → IsMac meaning.source → IsTag meaning.tag → P Unreadable
       → ((content : Content) → (content_under (type_of meaning.content)).read (rest_of meaning) ≡ Ok content → P (heard_content identity meaning.destination meaning.source content))
       → Brings P meaning
   unfolding heard_of
@@ -203,7 +203,7 @@ module _ (setup : Setup) (identity : Identity) where
       by_read P meaning (frame_of (frame_bytes meaning)) (reads_as sound meaning one other tagged) unreadable each
 
   -- real-time data is heard as such, under the number that its FrameID's two octets are
-  real_time_heard : IsSound link → (P : Heard → Type 0) (destination source : Mac) (tag : Option ℕ) (frame_id : ℕ) (body : List ℕ) → IsMac destination → IsMac source → IsTag tag → P Unreadable
+  real_time_heard : IsSound ethernet → (P : Heard → Type 0) (destination source : Mac) (tag : Option ℕ) (frame_id : ℕ) (body : List ℕ) → IsMac destination → IsMac source → IsTag tag → P Unreadable
       → P (heard_content identity destination source (RealTime (big_number 2 (big_bytes 2 frame_id)) (body ++ padding_of (carrying destination source tag (RealTime frame_id body)))))
       → Brings P (carrying destination source tag (RealTime frame_id body))
   unfolding real_time
@@ -216,20 +216,20 @@ module _ (setup : Setup) (identity : Identity) where
       (sym (real_time_is frame_id behind content (ap (λ (xs : List ℕ). real_time.read xs) (sym rest_is) ∙ read))) there)
 
   -- a datagram and a packet of ARP bring nothing
-  datagram_silent : IsSound link → (destination source : Mac) (tag : Option ℕ) (from to : Endpoint) (body : List ℕ) → IsMac destination → IsMac source → IsTag tag
+  datagram_silent : IsSound ethernet → (destination source : Mac) (tag : Option ℕ) (from to : Endpoint) (body : List ℕ) → IsMac destination → IsMac source → IsTag tag
       → BringsNone rules (frame_bytes (carrying destination source tag (UdpDatagram from to body)))
   datagram_silent sound destination source tag from to body one other tagged =
       let meaning = carrying destination source tag (UdpDatagram from to body) in
       by_frame sound IsNone meaning one other tagged refl (λ content read. other_none destination source content (datagram_other (rest_of meaning) content read))
 
-  packet_silent : IsSound link → (destination source : Mac) (tag : Option ℕ) (packet : Arp) → IsMac destination → IsMac source → IsTag tag
+  packet_silent : IsSound ethernet → (destination source : Mac) (tag : Option ℕ) (packet : Arp) → IsMac destination → IsMac source → IsTag tag
       → BringsNone rules (frame_bytes (carrying destination source tag (ArpPacket packet)))
   packet_silent sound destination source tag packet one other tagged =
       let meaning = carrying destination source tag (ArpPacket packet) in
       by_frame sound IsNone meaning one other tagged refl (λ content read. other_none destination source content (arp_other (rest_of meaning) content read))
 
   -- nothing is brought by real-time data of another station than the partner, or of another FrameID
-  data_silent : IsSound link → (destination source : Mac) (tag : Option ℕ) (frame_id : ℕ) (body : List ℕ) → IsMac destination → IsMac source → IsTag tag
+  data_silent : IsSound ethernet → (destination source : Mac) (tag : Option ℕ) (frame_id : ℕ) (body : List ℕ) → IsMac destination → IsMac source → IsTag tag
       → is_of_partner (route_for setup) source (big_number 2 (big_bytes 2 frame_id)) ≡ false
       → BringsNone rules (frame_bytes (carrying destination source tag (RealTime frame_id body)))
   data_silent sound destination source tag frame_id body one other tagged foreign =
@@ -249,7 +249,7 @@ module _ (setup : Setup) (identity : Identity) where
   OneOf shown heard = AreAtMost (octets_of shown) (brought_in setup heard)
 
   -- a frame of outputs brings the octets of its image, or nothing
-  pub outputs_bring : IsSound link → (source : Mac) (route : Route) (shown : Image) (counter : ℕ) → IsMac route.partner → IsMac source → route.sent_tag < 65536
+  pub outputs_bring : IsSound ethernet → (source : Mac) (route : Route) (shown : Image) (counter : ℕ) → IsMac route.partner → IsMac source → route.sent_tag < 65536
       → shown.data_length ≡ (zeros_for setup).data_length
       → BringsNone rules (frame_bytes (carrying route.partner source (Some route.sent_tag) (RealTime route.sent_id (cyclic_body shown counter))))
       ⊎ (rules.brought_by (frame_bytes (carrying route.partner source (Some route.sent_tag) (RealTime route.sent_id (cyclic_body shown counter)))) ≡ Some (octets_of shown))
@@ -278,7 +278,7 @@ module _ (setup : Setup) (identity : Identity) where
 
   -- ---- what a device sends
 
-  module _ (sound : IsSound link) (apart : pointwise nat_eq identity.mac.octets setup.plan.controller.mac.octets ≡ false) where
+  module _ (sound : IsSound ethernet) (apart : pointwise nat_eq identity.mac.octets setup.plan.controller.mac.octets ≡ false) where
     own_foreign : (frame_id : ℕ) → is_of_partner (route_for setup) identity.mac frame_id ≡ false
     own_foreign frame_id = ap (λ (b : Bool). b && frame_id == 0xC000) apart
 
@@ -307,7 +307,7 @@ module _ (setup : Setup) (identity : Identity) where
 
   -- ---- what a controller sends
 
-  module _ (sound : IsSound link) (six : IsMac setup.plan.controller.mac) where
+  module _ (sound : IsSound ethernet) (six : IsMac setup.plan.controller.mac) where
     abbrev mine : Mac
     mine = setup.plan.controller.mac
 

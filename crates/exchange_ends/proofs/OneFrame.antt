@@ -3,11 +3,10 @@ use Rattle.std.proofs.Common.{◌≡◌, ◌++◌, ℕ, Bool, true, false, List,
 use Rattle.std.specs.Prelude.{nat_eq, option_map}
 use Rattle.std.specs.Cmp.Lexicographic.{pointwise, same_text}
 use Rattle.wire.specs.Codec.{IsSound, IsSoundWhole}
-use Rattle.flash_model.specs.Calls.{Call}
-use Rattle.flash_model.specs.Image.{Image as FlashImage}
+use Rattle.flash_model.specs.declared.flash.Flash.{Ghosts as Flash}
 use Rattle.pn_values.specs.declared.identity.Identity.{Identity}
 use Rattle.pn_values.specs.declared.mac.Mac.{Mac}
-use Rattle.frame_codec.specs.Frame.{layers, link as link_format}
+use Rattle.frame_codec.specs.Frame.{ethernet, layers}
 use Rattle.frame_laws.specs.Sendable.{IsMac}
 use Rattle.cyclic_data.specs.declared.place.PlaceKind.TheVariants.{Data}
 use Rattle.cyclic_data.specs.Image.{Shown as Image, cell_at, octets_of, output_of, with_frame}
@@ -62,9 +61,9 @@ other_mac one other apart = by_test (pointwise nat_eq one.octets other.octets) r
 
 -- ---- runs
 
-module _ (sound : IsSound link_format) (whole : IsSoundWhole layers) {F : Type 0} (setup : Setup) (identity : Identity) (apart : pointwise nat_eq identity.mac.octets setup.plan.controller.mac.octets ≡ false)
+module _ (sound : IsSound ethernet) (whole : IsSoundWhole layers) {F : Type 0} (setup : Setup) (identity : Identity) (apart : pointwise nat_eq identity.mac.octets setup.plan.controller.mac.octets ≡ false)
     (six : IsMac setup.plan.controller.mac) (there : ArePlaced setup) (first : World F) (begins : Begins setup identity first)
-    (image : F → FlashImage) (failures : F → ℕ) (asked : F → List Call → F → Type 0) (run : List (Move × World F)) (made : AreMade image failures asked first run) (meant : AreMeant first run) where
+    {S : ℕ} (as_flash : Flash F S) (run : List (Move × World F)) (made : AreMade as_flash first run) (meant : AreMeant first run) where
   abbrev rules : Outputs Image Image
   rules = outputs_of setup identity
 
@@ -78,7 +77,7 @@ module _ (sound : IsSound link_format) (whole : IsSoundWhole layers) {F : Type 0
       let moves = moves_of (cut.front ++ cut.one ∷ []) in
       let given_is : came.point.given ≡ image_given setup moves =
       ap (λ (s : Shown Image Image). s.given) (sym point_is)
-      ∙ given_in_run sound whole setup identity apart six first begins there.once image failures asked run made meant cut.front cut.one cut.rest cut.all in
+      ∙ given_in_run sound whole setup identity apart six first begins there.once as_flash run made meant cut.front cut.one cut.rest cut.all in
       let taken : taken_in link ≡ image_given setup moves =
       came.shown ∙ (ap (λ (i : Image). with_frame (octets_of i) (zeros_for setup)) given_is ∙ image_shown setup there moves) in
       record {
@@ -103,7 +102,7 @@ module _ (sound : IsSound link_format) (whole : IsSoundWhole layers) {F : Type 0
   as_given law =
       subst (λ (s : Shown Image Image). AreAsGiven rules (shown_of first) (shown_run run) s.accepted s.outputs) (last_shown first run)
       (law rules (shown_of first) (shown_run run) (shows_none sound whole setup identity apart six first begins)
-      (shown_runs sound whole setup identity apart six first begins image failures asked run made meant))
+      (shown_runs sound whole setup identity apart six first begins as_flash run made meant))
 
   zeros_if : (accepted : Bool) (outputs : Image) → AreAsGiven rules (shown_of first) (shown_run run) accepted outputs → accepted ≡ false → outputs ≡ zeros_for setup
   zeros_if false outputs so e = so

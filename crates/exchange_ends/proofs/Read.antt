@@ -5,7 +5,7 @@ use Rattle.wire.specs.Formats.{big_bytes, big_number}
 use Rattle.frame_codec.specs.declared.fault.FrameFault.{FrameFault}
 use Rattle.frame_codec.specs.declared.fault.FrameFault.TheVariants.{TooLong, TooShort}
 use Rattle.frame_codec.specs.Meaning.{Content, RealTime, ArpPacket, UdpDatagram, Meaning, IsOther}
-use Rattle.frame_codec.specs.Frame.{arp, content_under, datagram, datagram_in, frame_bytes, frame_of, layers, link, link_of, longest, mac, padding_of, real_time, tag_and_type, type_of}
+use Rattle.frame_codec.specs.Frame.{arp, content_under, datagram, datagram_in, ethernet, frame_bytes, frame_of, header_of, layers, longest, mac, padding_of, real_time, tag_and_type, type_of}
 use Rattle.frame_codec.specs.declared.arp.Arp.{Arp}
 use Rattle.frame_codec.specs.Arp.{arp_packet}
 use Rattle.frame_codec.specs.Internet.{packet}
@@ -16,10 +16,10 @@ use Rattle.frame_laws.specs.Sendable.{IsMac, IsTag}
 abbrev ValueOf : {F A : Type 0} → Codec F A → Type 0
 ValueOf {A = A} codec = A
 
-abbrev pub LinkHeader : Type 0
-LinkHeader = ValueOf link
+abbrev pub EthernetHeader : Type 0
+EthernetHeader = ValueOf ethernet
 
--- ---- the link header
+-- ---- the Ethernet header
 
 tag_fits : (tag : Option ℕ) (content : Content) → IsTag tag → tag_and_type.Fits (tag, type_of content)
 unfolding tag_and_type
@@ -30,41 +30,41 @@ tag_fits (Some tag) (RealTime frame_id body) is = (omega arith, (omega (arith, i
 tag_fits (Some tag) (ArpPacket packet) is = (omega arith, (omega (arith, is), omega arith))
 tag_fits (Some tag) (UdpDatagram from to body) is = (omega arith, (omega (arith, is), omega arith))
 
-link_fits : (meaning : Meaning) → IsMac meaning.destination → IsMac meaning.source → IsTag meaning.tag → link.Fits (link_of meaning)
-unfolding link mac
-link_fits meaning destination source tag = (destination, (source, tag_fits meaning.tag meaning.content tag))
+header_fits : (meaning : Meaning) → IsMac meaning.destination → IsMac meaning.source → IsTag meaning.tag → ethernet.Fits (header_of meaning)
+unfolding ethernet mac
+header_fits meaning destination source tag = (destination, (source, tag_fits meaning.tag meaning.content tag))
 
--- what stands behind the link header
+-- what stands behind the Ethernet header
 abbrev pub rest_of : Meaning → List ℕ
 rest_of meaning = (content_under (type_of meaning.content)).write meaning.content ++ padding_of meaning
 
-parts : IsSound link → (meaning : Meaning) → frame_bytes meaning ≡ link.write (link_of meaning) (rest_of meaning)
+parts : IsSound ethernet → (meaning : Meaning) → frame_bytes meaning ≡ ethernet.write (header_of meaning) (rest_of meaning)
 unfolding frame_bytes layers
 parts sound meaning =
-    let header = link_of meaning in
+    let header = header_of meaning in
     let body = (content_under (type_of meaning.content)).write meaning.content in
-    ap (λ (xs : List ℕ). xs ++ padding_of meaning) (sound.local header body) ∙ append_assoc (link.write header []) body (padding_of meaning)
+    ap (λ (xs : List ℕ). xs ++ padding_of meaning) (sound.local header body) ∙ append_assoc (ethernet.write header []) body (padding_of meaning)
     ∙ sym (sound.local header (rest_of meaning))
 
-link_read : IsSound link → (meaning : Meaning) → IsMac meaning.destination → IsMac meaning.source → IsTag meaning.tag
-    → link.read (frame_bytes meaning) ≡ Ok (link_of meaning, rest_of meaning)
-link_read sound meaning one other tagged =
-    ap (λ (xs : List ℕ). link.read xs) (parts sound meaning)
-    ∙ sound.again _ (link_of meaning) (rest_of meaning) (sound.written (link_of meaning) (rest_of meaning) (link_fits meaning one other tagged))
+header_read : IsSound ethernet → (meaning : Meaning) → IsMac meaning.destination → IsMac meaning.source → IsTag meaning.tag
+    → ethernet.read (frame_bytes meaning) ≡ Ok (header_of meaning, rest_of meaning)
+header_read sound meaning one other tagged =
+    ap (λ (xs : List ℕ). ethernet.read xs) (parts sound meaning)
+    ∙ sound.again _ (header_of meaning) (rest_of meaning) (sound.written (header_of meaning) (rest_of meaning) (header_fits meaning one other tagged))
 
 -- ---- the frame
 
--- what was read is between these stations, and its content is what stands behind the link header
+-- what was read is between these stations, and its content is what stands behind the Ethernet header
 abbrev pub IsReadAs : Meaning → List ℕ → Result Meaning FrameFault → Type 0
 IsReadAs meaning rest (Ok found) =
     (found.destination ≡ meaning.destination) × (found.source ≡ meaning.source) × ((content_under (type_of meaning.content)).read rest ≡ Ok found.content)
 IsReadAs meaning rest (Err fault) = Unit {0}
 
-abbrev headed : LinkHeader → Result Content FrameFault → Result (LinkHeader × Content) FrameFault
+abbrev headed : EthernetHeader → Result Content FrameFault → Result (EthernetHeader × Content) FrameFault
 headed header r = r >>= λ y. Ok (header, y)
 
 made : (meaning : Meaning) (rest : List ℕ) (r : Result Content FrameFault) → (content_under (type_of meaning.content)).read rest ≡ r
-    → IsReadAs meaning rest (headed (link_of meaning) r >>= λ x. Ok (record { destination = x.0.destination; source = x.0.source; tag = x.0.tag; content = x.1 }))
+    → IsReadAs meaning rest (headed (header_of meaning) r >>= λ x. Ok (record { destination = x.0.destination; source = x.0.source; tag = x.0.tag; content = x.1 }))
 made meaning rest (Ok content) e = (refl, refl, e)
 made meaning rest (Err fault) e = tt
 
@@ -72,15 +72,15 @@ judged : (meaning : Meaning) (rest : List ℕ) (long : Bool) (r : Result Meaning
 judged meaning rest true r is = tt
 judged meaning rest false r is = is
 
--- the link header in front decides
-under : (meaning : Meaning) (bytes rest : List ℕ) → link.read bytes ≡ Ok (link_of meaning, rest) → IsReadAs meaning rest (frame_of bytes)
+-- the Ethernet header in front decides
+under : (meaning : Meaning) (bytes rest : List ℕ) → ethernet.read bytes ≡ Ok (header_of meaning, rest) → IsReadAs meaning rest (frame_of bytes)
 unfolding frame_of layers
 under meaning bytes rest e =
     rw e (judged meaning rest (nat_lt (longest meaning.tag) (length bytes)) _ (made meaning rest ((content_under (type_of meaning.content)).read rest) refl))
 
-pub reads_as : IsSound link → (meaning : Meaning) → IsMac meaning.destination → IsMac meaning.source → IsTag meaning.tag
+pub reads_as : IsSound ethernet → (meaning : Meaning) → IsMac meaning.destination → IsMac meaning.source → IsTag meaning.tag
     → IsReadAs meaning (rest_of meaning) (frame_of (frame_bytes meaning))
-reads_as sound meaning one other tagged = under meaning (frame_bytes meaning) (rest_of meaning) (link_read sound meaning one other tagged)
+reads_as sound meaning one other tagged = under meaning (frame_bytes meaning) (rest_of meaning) (header_read sound meaning one other tagged)
 
 -- ---- the contents
 

@@ -4,7 +4,7 @@ use Rattle.std.specs.Prelude.{◌%◌, is_some, nat_eq}
 use Rattle.std.specs.List.{AllByRecursion}
 use Rattle.std.specs.Cmp.Lexicographic.{pointwise}
 use Rattle.wire.specs.Codec.{IsSound}
-use Rattle.frame_codec.specs.Frame.{link as link_format}
+use Rattle.frame_codec.specs.Frame.{ethernet}
 use Rattle.pn_values.specs.declared.mac.Mac.{Mac}
 use Rattle.pn_values.specs.declared.real.RealModule.{RealModule}
 use Rattle.pn_values.specs.declared.set_item.BlockError.{BlockError}
@@ -296,7 +296,7 @@ module _ (setup : Setup) (station : Station) where
     pub calls : AreSendable station.identity sent → AreKeptSilent after.calls
     pub known : AllByRecursion IsKnown sent
 
-  module _ (sound : IsSound link_format) (apart : pointwise nat_eq station.identity.mac.octets setup.plan.controller.mac.octets ≡ false) where
+  module _ (sound : IsSound ethernet) (apart : pointwise nat_eq station.identity.mac.octets setup.plan.controller.mac.octets ≡ false) where
     known_silent : (message : Sent) → IsSendable station.identity message → IsKnown message → BringsNone rules (bytes_of station.identity message)
     known_silent (IdentifyAnswer asker running xid) can known = message_silent setup station.identity sound apart (IdentifyAnswer asker running xid) can tt
     known_silent (GetAnswer asker running request) can known = message_silent setup station.identity sound apart (GetAnswer asker running request) can tt

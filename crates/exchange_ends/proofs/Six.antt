@@ -8,7 +8,7 @@ use Rattle.frame_codec.specs.declared.fault.FrameFault.TheVariants.{TooLong}
 use Rattle.frame_codec.specs.declared.udp.Caller.{Caller}
 use Rattle.frame_codec.specs.FrameId.{is_alarm, is_cyclic}
 use Rattle.frame_codec.specs.Meaning.{Content, RealTime, ArpPacket, UdpDatagram, Meaning}
-use Rattle.frame_codec.specs.Frame.{frame_of, layers, link, longest, mac}
+use Rattle.frame_codec.specs.Frame.{ethernet, frame_of, layers, longest, mac}
 use Rattle.frame_laws.specs.Sendable.{IsMac}
 use Rattle.dcp_core.specs.declared.request.DcpFault.{DcpFault}
 use Rattle.dcp_core.specs.Response.{Answered}
@@ -25,7 +25,7 @@ use Rattle.controller_frames.specs.declared.setup.Setup.{Setup}
 use Rattle.controller_frames.specs.Heard.{Nothing, Cyclic, heard_alarm, heard_answer, heard_body, heard_call, heard_content, heard_first, heard_of, heard_read, heard_real_time, heard_response, is_to}
 use Rattle.controller_core.specs.declared.event.Event.{Event}
 use Rattle.controller_core.specs.declared.event.Event.TheVariants.{Frame, Give, Stop, Tick}
-use Rattle.exchange_ends.proofs.Read.{LinkHeader}
+use Rattle.exchange_ends.proofs.Read.{EthernetHeader}
 use Rattle.exchange_ends.proofs.Turns.{IsSix, IsSixAt}
 
 holds_if : {A : Type 0} (P : A → Type 0) (b : Bool) (x y : A) → P x → P y → P (cond b x y)
@@ -39,7 +39,7 @@ bind_ok (Err fault) next y e = absurd cc
 layers_read : (bytes : List ℕ) (meaning : Meaning) → frame_of bytes ≡ Ok meaning → layers.read bytes ≡ Ok meaning
 unfolding frame_of
 layers_read bytes meaning e =
-    let there = bind_ok (link.read bytes) (λ header. cond (nat_lt (longest header.0.tag) (length bytes)) (Err TooLong) (layers.read bytes)) meaning e in
+    let there = bind_ok (ethernet.read bytes) (λ header. cond (nat_lt (longest header.0.tag) (length bytes)) (Err TooLong) (layers.read bytes)) meaning e in
     by_length (nat_lt (longest there.0.0.tag) (length bytes)) there.2
   where
     by_length : (b : Bool) → cond b (Err TooLong) (layers.read bytes) ≡ Ok meaning → layers.read bytes ≡ Ok meaning
@@ -47,13 +47,13 @@ layers_read bytes meaning e =
     by_length false f = f
 
 source_six : IsSoundWhole layers → (bytes : List ℕ) (meaning : Meaning) → frame_of bytes ≡ Ok meaning → IsMac meaning.source
-unfolding layers link mac
+unfolding layers ethernet mac
 source_six sound bytes meaning e =
     let spelled = sound.takes bytes meaning (layers_read bytes meaning e) in
     let header = spelled.2.1 in
     let source = header.2.2.1 in
     ap (λ (m : Meaning). length m.source.octets) (sym spelled.1)
-    ∙ (ap (λ (l : LinkHeader). length l.source.octets) (sym header.1)
+    ∙ (ap (λ (l : EthernetHeader). length l.source.octets) (sym header.1)
     ∙ (ap (λ (m : Mac). length m.octets) (sym source.1) ∙ source.2.0))
 
 six_answer : (source : Mac) (read : Result Answered DcpFault) → IsMac source → IsSix (heard_answer source read)

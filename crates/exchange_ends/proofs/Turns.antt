@@ -26,7 +26,7 @@ use Rattle.cyclic_data.specs.declared.tail.CyclicTail.{CyclicTail}
 use Rattle.cyclic_data.specs.declared.tail.ShortFrame.{ShortFrame}
 use Rattle.cyclic_data.specs.Tail.{cyclic_of}
 use Rattle.cyclic_exchange.specs.declared.route.Route.{Route}
-use Rattle.cyclic_exchange.specs.declared.units.Tick.{Tick}
+use Rattle.cyclic_exchange.specs.Units.{Brought}
 use Rattle.cyclic_exchange.specs.Received.{behind_frame, behind_read, is_new, is_of_partner, taken_from}
 use Rattle.controller_frames.specs.declared.request.Request.{Request}
 use Rattle.controller_frames.specs.declared.request.Request.TheVariants as asks
@@ -284,7 +284,7 @@ module _ (size : ℕ) where
   acks_tell shown live (Some ack) way = ((tt, way), tt)
   acks_tell shown live None way = tt
 
-  flowed_tells : (live : Live) (is_request : Bool) (tick : Tick) (ending : Option Abort) → IsKept size live → Tells live.cyclic.shown (flowed live is_request tick ending)
+  flowed_tells : (live : Live) (is_request : Bool) (tick : Brought) (ending : Option Abort) → IsKept size live → Tells live.cyclic.shown (flowed live is_request tick ending)
   flowed_tells live is_request tick (Some reason) k = record { told = ((tt, k.way), tt); same = refl; kept = k }
   flowed_tells live is_request tick None k =
       let shown = live.cyclic.shown in

@@ -3,11 +3,10 @@ use Rattle.std.proofs.Common.{◌≡◌, ◌⊎◌, inl, inr, ℕ, Bool, true, f
 use Rattle.std.specs.Prelude.{slice_get, nat_eq}
 use Rattle.std.specs.Cmp.Lexicographic.{pointwise}
 use Rattle.std.specs.List.{AllByRecursion}
-use Rattle.flash_model.specs.Calls.{Call}
-use Rattle.flash_model.specs.Image.{Image as FlashImage}
+use Rattle.flash_model.specs.declared.flash.Flash.{Ghosts as Flash}
 use Rattle.wire.specs.Codec.{IsSound, IsSoundWhole}
 use Rattle.pn_values.specs.declared.identity.Identity.{Identity}
-use Rattle.frame_codec.specs.Frame.{layers, link}
+use Rattle.frame_codec.specs.Frame.{ethernet, layers}
 use Rattle.frame_laws.specs.Sendable.{IsMac}
 use Rattle.rpc_core.specs.Cache.{Kept as Answer}
 use Rattle.cyclic_data.specs.Image.{Shown as Image}
@@ -84,7 +83,7 @@ all_addressed : (shown : Image) (sent : List Sent) → AllByRecursion (IsSaid sh
 all_addressed shown [] all = tt
 all_addressed shown (message ∷ sent) all = (all.0.1, all_addressed shown sent all.1)
 
-module _ (sound : IsSound link) (whole : IsSoundWhole layers) {F : Type 0} where
+module _ (sound : IsSound ethernet) (whole : IsSoundWhole layers) {F : Type 0} where
   abbrev rules_at : World F → Outputs Image Image
   rules_at w = outputs_of w.controller.setup w.device.station.identity
 
@@ -129,8 +128,8 @@ module _ (sound : IsSound link) (whole : IsSoundWhole layers) {F : Type 0} where
 
   -- ---- a step of the device
 
-  module _ (image : F → FlashImage) (failures : F → ℕ) (asked : F → List Call → F → Type 0) where
-    at_device_shows : (before after : World F) (heard : Heard) → Holds before → IsMeantAtDevice before heard → AtDevice image failures asked before heard after
+  module _ {S : ℕ} (as_flash : Flash F S) where
+    at_device_shows : (before after : World F) (heard : Heard) → Holds before → IsMeantAtDevice before heard → AtDevice as_flash before heard after
         → Refines before after before.controller.live.cyclic.shown (ShowsAtDevice (rules_at before) (brought_in before.controller.setup heard) (shown_of before) (shown_of after))
     at_device_shows before after heard holds meant made =
         let hears = made.hears in
@@ -179,14 +178,14 @@ module _ (sound : IsSound link) (whole : IsSoundWhole layers) {F : Type 0} where
     module _ (before after : World F) (holds : Holds before) where
       comes_to_device : (number : ℕ) (octets : List ℕ) (skipped : Bool) → slice_get before.sent number ≡ Some octets
           → IsMeantAtDevice before (heard_of before.device.station.identity (Frame (record { items = octets })))
-          → Comes image failures asked skipped before Device octets after
+          → Comes as_flash skipped before Device octets after
           → Refines before after before.controller.live.cyclic.shown (ShowsBehind (rules_at before) (shown_of before) (small.ComesToDevice number) (shown_of after))
       comes_to_device number octets true there meant comes = rests before after _ holds comes
       comes_to_device number octets false there meant comes =
           does before after _ _ _ _ (λ steps. record { frame = octets; there = there; steps = steps }) (at_device_shows before after _ holds meant comes)
 
       comes_to_controller : (number : ℕ) (octets : List ℕ) (skipped : Bool)
-          → Comes image failures asked skipped before Controller octets after
+          → Comes as_flash skipped before Controller octets after
           → Refines before after before.controller.live.cyclic.shown (ShowsBehind (rules_at before) (shown_of before) (small.ComesToController number) (shown_of after))
       comes_to_controller number octets true comes = rests before after _ holds comes
       comes_to_controller number octets false comes =
@@ -194,20 +193,20 @@ module _ (sound : IsSound link) (whole : IsSoundWhole layers) {F : Type 0} where
 
       delivered_to_device : (number : ℕ) (octets : Option (List ℕ)) → slice_get before.sent number ≡ octets
           → ((frame : List ℕ) → octets ≡ Some frame → IsMeantAtDevice before (heard_of before.device.station.identity (Frame (record { items = frame }))))
-          → Delivers image failures asked octets before Device after
+          → Delivers as_flash octets before Device after
           → Refines before after before.controller.live.cyclic.shown (ShowsBehind (rules_at before) (shown_of before) (small.ComesToDevice number) (shown_of after))
       delivered_to_device number None there meant comes = rests before after _ holds comes
       delivered_to_device number (Some octets) there meant comes =
           comes_to_device number octets (is_skipped before.device before.controller Device octets) there (meant octets refl) comes
 
       delivered_to_controller : (number : ℕ) (octets : Option (List ℕ))
-          → Delivers image failures asked octets before Controller after
+          → Delivers as_flash octets before Controller after
           → Refines before after before.controller.live.cyclic.shown (ShowsBehind (rules_at before) (shown_of before) (small.ComesToController number) (shown_of after))
       delivered_to_controller number None comes = rests before after _ holds comes
       delivered_to_controller number (Some octets) comes =
           comes_to_controller number octets (is_skipped before.device before.controller Controller octets) comes
 
-      happens_shows : (one : Move) → IsMeant before one → Happens image failures asked before one after
+      happens_shows : (one : Move) → IsMeant before one → Happens as_flash before one after
           → Refines before after (shown_with before.controller.live one) (ShowsBehind (rules_at before) (shown_of before) (move_of one) (shown_of after))
       happens_shows (move.Deliver Device number) meant happens = delivered_to_device number (slice_get before.sent number) refl meant happens
       happens_shows (move.Deliver Controller number) meant happens = delivered_to_controller number (slice_get before.sent number) happens
@@ -222,7 +221,7 @@ module _ (sound : IsSound link) (whole : IsSoundWhole layers) {F : Type 0} where
     -- ---- runs
 
     runs : (rules : Outputs Image Image) (before : World F) (run : List (Move × World F)) → rules_at before ≡ rules → Holds before
-        → AreMade image failures asked before run → AreMeant before run → IsShownRun rules (shown_of before) (shown_run run)
+        → AreMade as_flash before run → AreMeant before run → IsShownRun rules (shown_of before) (shown_run run)
     runs rules before [] same holds made meant = tt
     runs rules before (one ∷ run) same holds made meant =
         let step = happens_shows before one.1 holds one.0 meant.0 made.0 in
@@ -234,7 +233,7 @@ module _ (sound : IsSound link) (whole : IsSoundWhole layers) {F : Type 0} where
 
     -- what the controller sends of its outputs at each point of a run: what was given until then
     given_at : (setup : Setup) (places_once : ArePlacedOnce setup) (so_far : List Move) (before : World F) (run : List (Move × World F)) → Holds before → before.controller.live.cyclic.shown ≡ image_given setup so_far
-        → AreMade image failures asked before run → AreMeant before run
+        → AreMade as_flash before run → AreMeant before run
         → (front : List (Move × World F)) (one : Move × World F) (later : List (Move × World F)) → run ≡ front ++ one ∷ later
         → one.1.controller.live.cyclic.shown ≡ image_given setup (so_far ++ moves_of (front ++ one ∷ []))
     given_at setup once so_far before [] holds was made meant [] one later e = absurd cc
@@ -291,15 +290,15 @@ module _ (sound : IsSound link) (whole : IsSoundWhole layers) {F : Type 0} where
     first_given : first.controller.live.cyclic.shown ≡ image_given setup []
     first_given = ap (λ (l : ControllerLive). l.cyclic.shown) begins.made ∙ first_image setup
 
-    pub given_in_run : ArePlacedOnce setup → (image : F → FlashImage) (failures : F → ℕ) (asked : F → List Call → F → Type 0) (run : List (Move × World F)) → AreMade image failures asked first run
+    pub given_in_run : ArePlacedOnce setup → {S : ℕ} (as_flash : Flash F S) (run : List (Move × World F)) → AreMade as_flash first run
         → AreMeant first run → (front : List (Move × World F)) (one : Move × World F) (later : List (Move × World F)) → run ≡ front ++ one ∷ later
         → one.1.controller.live.cyclic.shown ≡ image_given setup (moves_of (front ++ one ∷ []))
-    given_in_run once image failures asked run made meant front one later e =
-        given_at image failures asked setup once [] first run holds_first first_given made meant front one later e
+    given_in_run once as_flash run made meant front one later e =
+        given_at as_flash setup once [] first run holds_first first_given made meant front one later e
 
-    pub shown_runs : (image : F → FlashImage) (failures : F → ℕ) (asked : F → List Call → F → Type 0) (run : List (Move × World F)) → AreMade image failures asked first run
+    pub shown_runs : {S : ℕ} (as_flash : Flash F S) (run : List (Move × World F)) → AreMade as_flash first run
         → AreMeant first run → IsShownRun (outputs_of setup identity) (shown_of first) (shown_run run)
-    shown_runs image failures asked run made meant = runs image failures asked (outputs_of setup identity) first run rules_are holds_first made meant
+    shown_runs as_flash run made meant = runs as_flash (outputs_of setup identity) first run rules_are holds_first made meant
 
 pub last_shown : {F : Type 0} (first : World F) (run : List (Move × World F)) → shown_last (shown_of first) (shown_run run) ≡ shown_of (last_world first run)
 last_shown first [] = refl

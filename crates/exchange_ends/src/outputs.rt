@@ -23,14 +23,14 @@ pub fn worlds_show_what_is_given<F: Flash<S>, const S: usize>(setup: &Setup, ide
     // All outputs that the device shows are zeros while it has accepted no cyclic frame in its relation.
     ensures zeros { CanMeet setup.now identity.now →
         (first : World F) (run : List (Move × World F)) → Begins setup.now identity.now first
-        → AreMade F.image F.failures F.asked first run
+        → AreMade F.Flash first run
         → (link : Link) → (last_world first run).device.live.rest.link ≡ Some link → has_accepted link ≡ false
         → (slot subslot : ℕ) → output_in slot subslot (Some link) ≡ zero_for setup.now slot subslot }
     // From then on all of them come from one frame, which the controller sent with an earlier move, and each is the value that was
     // given last for its submodule then, or zeros where none was.
     ensures values { CanMeet setup.now identity.now →
         (first : World F) (run : List (Move × World F)) → Begins setup.now identity.now first
-        → AreMade F.image F.failures F.asked first run
+        → AreMade F.Flash first run
         → (link : Link) → (last_world first run).device.live.rest.link ≡ Some link → has_accepted link ≡ true
         → AreOfOneFrame setup.now identity.now first run link }
 {

@@ -4,9 +4,8 @@ use Rattle.pn_alarms.specs.declared.abort.Abort.{Abort}
 use Rattle.pn_alarms.specs.declared.repeats.Due.{Due}
 use Rattle.pn_alarms.specs.Device.{end_later}
 use Rattle.pn_alarms.specs.Sending.{due}
-use Rattle.cyclic_exchange.specs.declared.units.Tick.{Tick}
 use Rattle.cyclic_exchange.specs.Units.{cyclic_later}
-use Rattle.cyclic_exchange.specs.Units.{ending_of as cyclic_ending, is_silent as is_cyclic_silent, tick_of as cyclic_tick}
+use Rattle.cyclic_exchange.specs.Units.{Brought, ending_of as cyclic_ending, is_silent as is_cyclic_silent, tick_of as cyclic_tick}
 use Rattle.exchanges.specs.Flow.{Flow}
 
 -- whether the data hold time is over with this unit: it runs while data is exchanged
@@ -22,7 +21,7 @@ abbrev pub ending_of : Flow → Option Abort
 ending_of flow = cyclic_ending flow.cyclic (alarm_due flow)
 
 -- where the relation ends nothing more is done; else the alarm may be due again, and a frame of inputs
-abbrev pub tick_of : Flow → Tick
+abbrev pub tick_of : Flow → Brought
 tick_of flow = cyclic_tick flow.cyclic (alarm_due flow)
 
 -- a unit later

@@ -5,6 +5,7 @@ ghost use Rattle.exchanges.specs.Units.{flow_later, tick_of};
 
 use crate::DataExchange;
 use cyclic_exchange::{Received, Tick};
+use pn_alarms::Due;
 use pn_values::Mac;
 
 impl DataExchange {
@@ -24,7 +25,10 @@ impl DataExchange {
         ensures brought { result ≡ tick_of self.old }
         ensures state { self.new ≡ flow_later self.old }
     {
-        let alarm = self.alarms.tick();
-        self.cyclic.tick(alarm)
+        match self.alarms.tick() {
+            // Mostly no alarm is due: what follows from one is then not even asked.
+            Due::Nothing => self.cyclic.tick(Due::Nothing),
+            due => self.cyclic.tick(due),
+        }
     }
 }

@@ -3,15 +3,15 @@ use Rattle.std.proofs.Common.{◌≡◌, ℕ, ◌+◌, ◌-◌, ◌≤◌, Bool,
 use Rattle.std.proofs.lemmas.Bool.{ltb-false, le-ltb}
 use Rattle.std.proofs.lemmas.List.{length-append, length-replicate}
 use Rattle.wire.proofs.Fields.{bind_ok}
-use Rattle.frame_codec.specs.declared.link.LinkHeader.{LinkHeader}
+use Rattle.frame_codec.specs.declared.ethernet.EthernetHeader.{EthernetHeader}
 use Rattle.frame_codec.specs.declared.fault.FrameFault.{FrameFault}
 use Rattle.frame_codec.specs.declared.fault.FrameFault.TheVariants.{TooLong}
 use Rattle.frame_codec.specs.Meaning.{Content, RealTime, ArpPacket, UdpDatagram, Meaning}
 use Rattle.frame_codec.specs.Arp.{arp_head, operation, holder, arp_packet}
 use Rattle.frame_codec.specs.Internet.{size_behind, internet_size, internet_way, internet_header, udp_header, udp, packet}
-use Rattle.frame_codec.specs.Frame.{profinet, address_resolution, internet, mac, tag_and_type, link, real_time, arp, datagram, content_under, content_size, content_with, link_of, layers, longest, IsFrame, FitsFrame, frame_of, frame_bytes, padding_of, with_behind, type_of, IsReadBack}
+use Rattle.frame_codec.specs.Frame.{profinet, address_resolution, internet, mac, tag_and_type, ethernet, real_time, arp, datagram, content_under, content_size, content_with, header_of, layers, longest, IsFrame, FitsFrame, frame_of, frame_bytes, padding_of, with_behind, type_of, IsReadBack}
 use Rattle.wire.proofs.Wholes.{loose_behind}
-use Rattle.frame_codec.proofs.Layers.{link_sound, arp_packet_onward, packet_onward, content_under_sound, layers_sound, layers_onward}
+use Rattle.frame_codec.proofs.Layers.{ethernet_sound, arp_packet_onward, packet_onward, content_under_sound, layers_sound, layers_onward}
 
 -- ---- reading
 
@@ -20,19 +20,19 @@ judged : (b : Bool) (r : Result Meaning FrameFault) (meaning : Meaning) → cond
 judged true r meaning e = absurd cc
 judged false r meaning e = (refl, e)
 
--- the link header that stands in front of a frame
-record HasLink (bytes : List ℕ) (meaning : Meaning) : Type 0 where
-  header : LinkHeader
+-- the Ethernet header that stands in front of a frame
+record HasHeader (bytes : List ℕ) (meaning : Meaning) : Type 0 where
+  header : EthernetHeader
   rest : List ℕ
-  reads : link.read bytes ≡ Ok (header, rest)
+  reads : ethernet.read bytes ≡ Ok (header, rest)
   tag : header.tag ≡ meaning.tag
 
-link_in : (bytes : List ℕ) (meaning : Meaning) → layers.Spells bytes meaning → HasLink bytes meaning
+header_in : (bytes : List ℕ) (meaning : Meaning) → layers.Spells bytes meaning → HasHeader bytes meaning
 unfolding layers
-link_in bytes meaning spelled = record {
+header_in bytes meaning spelled = record {
   header = spelled.0.0;
   rest = spelled.2.0;
-  reads = link_sound.again bytes spelled.0.0 spelled.2.0 spelled.2.1;
+  reads = ethernet_sound.again bytes spelled.0.0 spelled.2.0 spelled.2.1;
   tag = ap (λ (m : Meaning). m.tag) spelled.1;
 }
 
@@ -40,19 +40,19 @@ link_in bytes meaning spelled = record {
 pub frame_takes : (bytes : List ℕ) (meaning : Meaning) → frame_of bytes ≡ Ok meaning → IsFrame bytes meaning
 unfolding frame_of
 frame_takes bytes meaning e =
-    let a = bind_ok (link.read bytes) (λ header. cond (ltb (longest header.0.tag) (length bytes)) (Err TooLong) (layers.read bytes)) meaning e in
+    let a = bind_ok (ethernet.read bytes) (λ header. cond (ltb (longest header.0.tag) (length bytes)) (Err TooLong) (layers.read bytes)) meaning e in
     let j = judged (ltb (longest a.0.0.tag) (length bytes)) (layers.read bytes) meaning a.2 in
     let spelled = layers_sound.takes bytes meaning j.1 in
-    let h = link_in bytes meaning spelled in
+    let h = header_in bytes meaning spelled in
     let one : a.0.0 ≡ h.header = cc in
     let short : length bytes ≤ longest a.0.0.tag = ltb-false _ _ j.0 in
-    record { spelled = spelled; short = subst (λ (tag : Option ℕ). length bytes ≤ longest tag) (ap (λ (x : LinkHeader). x.tag) one ∙ h.tag) short }
+    record { spelled = spelled; short = subst (λ (tag : Option ℕ). length bytes ≤ longest tag) (ap (λ (x : EthernetHeader). x.tag) one ∙ h.tag) short }
 
 -- a frame is read
 pub frame_again : (bytes : List ℕ) (meaning : Meaning) → IsFrame bytes meaning → frame_of bytes ≡ Ok meaning
 unfolding frame_of
 frame_again bytes meaning frame =
-    let h = link_in bytes meaning frame.spelled in
+    let h = header_in bytes meaning frame.spelled in
     let short : length bytes ≤ longest h.header.tag = subst (λ (tag : Option ℕ). length bytes ≤ longest tag) (sym h.tag) frame.short in
     rw (h.reads, le-ltb _ _ short) (layers_sound.again bytes meaning frame.spelled)
 
@@ -69,26 +69,26 @@ frame_behind first more bytes meaning frame e short = record {
 abbrev body_of : Content → List ℕ
 body_of content = (content_under (type_of content)).write content
 
--- the link header and the content make the layers
+-- the Ethernet header and the content make the layers
 pub joined : (meaning : Meaning) (ether_type : ℕ) (front bytes : List ℕ) → ether_type ≡ type_of meaning.content
-    → front ≡ link.write (record (link_of meaning) { ether_type = ether_type }) [] → bytes ≡ front ++ (content_under (type_of meaning.content)).write meaning.content → bytes ≡ layers.write meaning
+    → front ≡ ethernet.write (record (header_of meaning) { ether_type = ether_type }) [] → bytes ≡ front ++ (content_under (type_of meaning.content)).write meaning.content → bytes ≡ layers.write meaning
 unfolding layers
 joined meaning ether_type front bytes kind one both =
-    both ∙ ap (λ (xs : List ℕ). xs ++ body_of meaning.content) (one ∙ ap (λ (n : ℕ). link.write (record (link_of meaning) { ether_type = n }) []) kind)
-    ∙ sym (link_sound.local (link_of meaning) (body_of meaning.content))
+    both ∙ ap (λ (xs : List ℕ). xs ++ body_of meaning.content) (one ∙ ap (λ (n : ℕ). ethernet.write (record (header_of meaning) { ether_type = n }) []) kind)
+    ∙ sym (ethernet_sound.local (header_of meaning) (body_of meaning.content))
 
 -- both fit
 pub both_fit : (meaning : Meaning) (ether_type : ℕ) → ether_type ≡ type_of meaning.content
-    → link.Fits (record (link_of meaning) { ether_type = ether_type }) → (content_under (type_of meaning.content)).Fits meaning.content → layers.Fits meaning
+    → ethernet.Fits (record (header_of meaning) { ether_type = ether_type }) → (content_under (type_of meaning.content)).Fits meaning.content → layers.Fits meaning
 unfolding layers
-both_fit meaning ether_type kind one other = (subst (λ (n : ℕ). link.Fits (record (link_of meaning) { ether_type = n })) kind one, other)
+both_fit meaning ether_type kind one other = (subst (λ (n : ℕ). ethernet.Fits (record (header_of meaning) { ether_type = n })) kind one, other)
 
--- how long a link header is
-abbrev link_size : Option ℕ → ℕ
-link_size None = 14
-link_size (Some tag) = 18
+-- how long an Ethernet header is
+abbrev header_size : Option ℕ → ℕ
+header_size None = 14
+header_size (Some tag) = 18
 
-tag_size_is : (tag : Option ℕ) (content : Content) → tag_and_type.size (tag, type_of content) + 12 ≡ link_size tag
+tag_size_is : (tag : Option ℕ) (content : Content) → tag_and_type.size (tag, type_of content) + 12 ≡ header_size tag
 unfolding tag_and_type
 tag_size_is None (RealTime frame_id body) = refl
 tag_size_is None (ArpPacket asked) = refl
@@ -103,8 +103,8 @@ content_size_is (RealTime frame_id body) fits = refl
 content_size_is (ArpPacket asked) fits = omega (arith, fits.1.1.0.0, fits.1.1.0.1, fits.1.1.1.0, fits.1.1.1.1)
 content_size_is (UdpDatagram source destination body) fits = omega (arith, fits.0.0.1.1.1.0, fits.0.0.1.1.1.1)
 
-size_is : (meaning : Meaning) → layers.Fits meaning → layers.size meaning ≡ link_size meaning.tag + content_size meaning.content
-unfolding layers link mac
+size_is : (meaning : Meaning) → layers.Fits meaning → layers.size meaning ≡ header_size meaning.tag + content_size meaning.content
+unfolding layers ethernet mac
 size_is meaning fits =
     omega (arith, fits.0.0, fits.0.1.0, tag_size_is meaning.tag meaning.content, content_size_is meaning.content fits.1)
 
@@ -124,12 +124,12 @@ content_behind (UdpDatagram source destination body) more fits =
 layers_behind : (meaning : Meaning) (more : List ℕ) → layers.Fits meaning → layers.Spells (layers.write meaning ++ more) (with_behind meaning more)
 unfolding layers
 layers_behind meaning more fits =
-    let header = link_of meaning in
+    let header = header_of meaning in
     let body = body_of meaning.content in
-    let parts : link.write header body ++ more ≡ link.write header (body ++ more) =
-    ap (λ (xs : List ℕ). xs ++ more) (link_sound.local header body) ∙ append_assoc (link.write header []) body more ∙ sym (link_sound.local header (body ++ more)) in
-    let front : link.Spells (link.write header body ++ more) header (body ++ more) =
-    subst (λ (xs : List ℕ). link.Spells xs header (body ++ more)) (sym parts) (link_sound.written header (body ++ more) fits.0) in
+    let parts : ethernet.write header body ++ more ≡ ethernet.write header (body ++ more) =
+    ap (λ (xs : List ℕ). xs ++ more) (ethernet_sound.local header body) ∙ append_assoc (ethernet.write header []) body more ∙ sym (ethernet_sound.local header (body ++ more)) in
+    let front : ethernet.Spells (ethernet.write header body ++ more) header (body ++ more) =
+    subst (λ (xs : List ℕ). ethernet.Spells xs header (body ++ more)) (sym parts) (ethernet_sound.written header (body ++ more) fits.0) in
     ((header, content_with meaning.content more), refl, (body ++ more, front, content_behind meaning.content more fits.1))
 
 -- what is written is a frame, with more behind it up to the limit
@@ -139,7 +139,7 @@ written_is_frame meaning more fits short = record {
   short = omega (arith, short, length-append (layers.write meaning) more);
 }
 
-most_of : (tag : Option ℕ) (content size : ℕ) → content ≤ 1500 → size ≡ (link_size tag + content) + (60 - (link_size tag + content)) → size ≤ longest tag
+most_of : (tag : Option ℕ) (content size : ℕ) → content ≤ 1500 → size ≡ (header_size tag + content) + (60 - (header_size tag + content)) → size ≤ longest tag
 most_of None content size room e = omega arith
 most_of (Some tag) content size room e = omega arith
 

@@ -9,7 +9,7 @@ use Rattle.wire.proofs.Judged.{checked_sound, checked_onward, fixed_sound, fixed
 use Rattle.wire.proofs.Kept.{kept_sound, kept_onward, cut_sound, cut_onward}
 use Rattle.wire.proofs.Wholes.{everything_sound, refused_sound, ends_by_sound, seen_whole_sound, pick_sound, loose_sound, loose_behind}
 use Rattle.pn_values.specs.declared.mac.Mac.{Mac}
-use Rattle.frame_codec.specs.declared.link.LinkHeader.{LinkHeader}
+use Rattle.frame_codec.specs.declared.ethernet.EthernetHeader.{EthernetHeader}
 use Rattle.frame_codec.specs.declared.arp.Arp.{Arp}
 use Rattle.frame_codec.specs.declared.arp.ArpOperation.{ArpOperation}
 use Rattle.frame_codec.specs.declared.arp.ArpOperation.TheVariants.{Request, Reply}
@@ -21,9 +21,9 @@ use Rattle.frame_codec.specs.declared.fault.FrameFault.TheVariants as fault
 use Rattle.frame_codec.specs.Meaning.{Content, RealTime, ArpPacket, UdpDatagram, Meaning}
 use Rattle.frame_codec.specs.Arp.{operation_of, number_of_operation, operation, arp_head, holder, arp_packet}
 use Rattle.frame_codec.specs.Internet.{size_behind, internet_size, no_fragment, internet_way, internet_header, udp_header, udp, passes, segment, inside, packet}
-use Rattle.frame_codec.specs.Frame.{vlan, profinet, address_resolution, internet, mac, tag_and_type_of, parts_of_tag, tag_and_type, link, real_time_in, real_time, arp_in, arp, packet_in, datagram_in, datagram, content_under, content_with, layers, with_behind}
+use Rattle.frame_codec.specs.Frame.{vlan, profinet, address_resolution, internet, mac, tag_and_type_of, parts_of_tag, tag_and_type, ethernet, real_time_in, real_time, arp_in, arp, packet_in, datagram_in, datagram, content_under, content_with, layers, with_behind}
 
--- ---- the link header
+-- ---- the Ethernet header
 
 mac_sound : IsSound mac
 unfolding mac
@@ -38,9 +38,9 @@ tag_and_type_sound = seen_sound tag_and_type_of parts_of_tag _ back (then_by_sou
     back (None, ether_type) = refl
     back (Some tag, ether_type) = refl
 
-pub link_sound : IsSound link
-unfolding link
-link_sound = seen_sound _ _ _ (λ header. refl) (then_by_sound _ _ mac_sound (λ _. then_by_sound _ _ mac_sound (λ _. tag_and_type_sound)))
+pub ethernet_sound : IsSound ethernet
+unfolding ethernet
+ethernet_sound = seen_sound _ _ _ (λ header. refl) (then_by_sound _ _ mac_sound (λ _. then_by_sound _ _ mac_sound (λ _. tag_and_type_sound)))
 
 mac_onward : IsOnward mac
 unfolding mac
@@ -51,9 +51,9 @@ unfolding tag_and_type
 tag_and_type_onward = seen_onward tag_and_type_of parts_of_tag _ (then_by_onward _ _ (number_onward fault.TooShort 2)
     (λ first. when_onward (number fault.TooShort 2 ⨾ number fault.TooShort 2) (first == vlan) (then_by_onward _ _ (number_onward fault.TooShort 2) (λ _. number_onward fault.TooShort 2))))
 
-pub link_onward : IsOnward link
-unfolding link
-link_onward = seen_onward _ (λ (header : LinkHeader). (header.destination, (header.source, (header.tag, header.ether_type)))) _
+pub ethernet_onward : IsOnward ethernet
+unfolding ethernet
+ethernet_onward = seen_onward _ (λ (header : EthernetHeader). (header.destination, (header.source, (header.tag, header.ether_type)))) _
     (then_by_onward _ _ mac_onward (λ _. then_by_onward _ _ mac_onward (λ _. tag_and_type_onward)))
 
 -- ---- ARP
@@ -209,7 +209,7 @@ content_under_sound ether_type =
 
 pub layers_sound : IsSoundWhole layers
 unfolding layers
-layers_sound = seen_whole_sound _ _ _ (λ meaning. refl) (ends_by_sound _ _ link_sound (λ (header : LinkHeader). content_under_sound header.ether_type))
+layers_sound = seen_whole_sound _ _ _ (λ meaning. refl) (ends_by_sound _ _ ethernet_sound (λ (header : EthernetHeader). content_under_sound header.ether_type))
 
 -- ---- more behind what is spelled
 
@@ -257,7 +257,7 @@ unfolding layers
 layers_onward bytes more meaning s = (
   (s.0.0, content_with s.0.1 more),
   ap (λ (m : Meaning). with_behind m more) s.1,
-  (s.2.0 ++ more, link_onward.onward bytes s.0.0 s.2.0 more s.2.1, (content_under_behind s.0.0.ether_type).behind s.2.0 s.0.1 more s.2.2),
+  (s.2.0 ++ more, ethernet_onward.onward bytes s.0.0 s.2.0 more s.2.1, (content_under_behind s.0.0.ether_type).behind s.2.0 s.0.1 more s.2.2),
 )
 
 -- ---- what two writers append

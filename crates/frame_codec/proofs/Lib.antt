@@ -2,5 +2,4 @@ pub mod Sums
 pub mod Layers
 pub mod Datagrams
 pub mod Frames
-pub mod Others
 pub mod Fitting

@@ -5,7 +5,10 @@ use Rattle.wire.specs.Codec.{Codec, Whole, ◌>>=◌}
 use Rattle.wire.specs.Formats.{raw, number, then_by, ◌⨾◌, seen, when}
 use Rattle.wire.specs.Whole.{everything, refused, ends_by, seen_whole, pick, loose}
 use Rattle.wire.specs.Checks.{variant}
-use Rattle.frame_codec.specs.declared.link.LinkHeader.{LinkHeader}
+use Rattle.frame_codec.specs.declared.ethernet.ContentKind.{ContentKind}
+use Rattle.frame_codec.specs.declared.ethernet.ContentKind.TheVariants as kind
+use Rattle.frame_codec.specs.declared.ethernet.EthernetHeader.{EthernetHeader}
+use Rattle.frame_codec.specs.declared.layered.OpenFrame.{OpenFrame}
 use Rattle.frame_codec.specs.declared.fault.FrameFault.{FrameFault}
 use Rattle.frame_codec.specs.declared.fault.FrameFault.TheVariants.{TooShort, TooLong, Tag, EtherType}
 use Rattle.frame_codec.specs.declared.arp.Arp.{Arp}
@@ -36,7 +39,7 @@ internet = 0x0800
 unfoldable pub mac : Codec FrameFault Mac
 mac = seen (λ octets. record { octets = octets }) (λ address. address.octets) (raw TooShort 6)
 
--- the tag's word and the EtherType of a link header, from its first EtherType and what follows a tag's
+-- the tag's word and the EtherType of an Ethernet header, from its first EtherType and what follows a tag's
 abbrev pub tag_and_type_of : ℕ × Option (ℕ × ℕ) → Option ℕ × ℕ
 tag_and_type_of (first, None) = (None, first)
 tag_and_type_of (first, Some tagged) = (Some tagged.0, tagged.1)
@@ -51,9 +54,9 @@ unfoldable pub tag_and_type : Codec FrameFault (Option ℕ × ℕ)
 tag_and_type = seen tag_and_type_of parts_of_tag
     (then_by (number TooShort 2) (λ first. when (first == vlan) (number TooShort 2 ⨾ number TooShort 2)))
 
--- the link header
-unfoldable pub link : Codec FrameFault LinkHeader
-link = seen (λ x. record { destination = x.0; source = x.1.0; tag = x.1.1.0; ether_type = x.1.1.1 })
+-- the Ethernet header
+unfoldable pub ethernet : Codec FrameFault EthernetHeader
+ethernet = seen (λ x. record { destination = x.0; source = x.1.0; tag = x.1.1.0; ether_type = x.1.1.1 })
     (λ header. (header.destination, (header.source, (header.tag, header.ether_type))))
     (mac ⨾ mac ⨾ tag_and_type)
 
@@ -113,6 +116,21 @@ content_under ether_type =
     pick (ether_type == vlan) (refused Tag) (pick (ether_type == profinet) real_time
     (pick (ether_type == address_resolution) arp (pick (ether_type == internet) datagram (refused EtherType))))
 
+-- what follows the Ethernet header behind an EtherType, or why nothing that is read does
+abbrev pub kind_of : ℕ → Result ContentKind FrameFault
+kind_of ether_type =
+    if ether_type == vlan then Err Tag
+    else if ether_type == profinet then Ok kind.RealTime
+    else if ether_type == address_resolution then Ok kind.Arp
+    else if ether_type == internet then Ok kind.Internet
+    else Err EtherType
+
+-- the content of a kind
+abbrev pub content_as : ContentKind → Whole FrameFault Content
+content_as kind.RealTime = real_time
+content_as kind.Arp = arp
+content_as kind.Internet = datagram
+
 -- the EtherType of a content
 abbrev pub type_of : Content → ℕ
 type_of (RealTime frame_id body) = profinet
@@ -121,15 +139,15 @@ type_of (UdpDatagram source destination body) = internet
 
 -- ---- the frame
 
--- the link header of a frame of this meaning
-abbrev pub link_of : Meaning → LinkHeader
-link_of meaning = record { destination = meaning.destination; source = meaning.source; tag = meaning.tag; ether_type = type_of meaning.content }
+-- the Ethernet header of a frame of this meaning
+abbrev pub header_of : Meaning → EthernetHeader
+header_of meaning = record { destination = meaning.destination; source = meaning.source; tag = meaning.tag; ether_type = type_of meaning.content }
 
 -- the layers of a frame, however long it is
 unfoldable pub layers : Whole FrameFault Meaning
 layers = seen_whole (λ x. record { destination = x.0.destination; source = x.0.source; tag = x.0.tag; content = x.1 })
-    (λ meaning. (link_of meaning, meaning.content))
-    (ends_by link (λ (header : LinkHeader). content_under header.ether_type))
+    (λ meaning. (header_of meaning, meaning.content))
+    (ends_by ethernet (λ (header : EthernetHeader). content_under header.ether_type))
 
 -- how long a frame may be: a tag is on top
 abbrev pub longest : Option ℕ → ℕ
@@ -141,10 +159,15 @@ pub record IsFrame (bytes : List ℕ) (meaning : Meaning) : Type 0 where
   pub spelled : layers.Spells bytes meaning
   pub short : length bytes ≤ longest meaning.tag
 
--- the meaning of a frame, or its first fault: first the link header is read, then the length is judged, then the rest
+-- the meaning of a frame, or its first fault: first the Ethernet header is read, then the length is judged, then the rest
 unfoldable pub frame_of : List ℕ → Result Meaning FrameFault
-frame_of bytes = link.read bytes >>= λ header.
+frame_of bytes = ethernet.read bytes >>= λ header.
     if nat_lt (longest header.0.tag) (length bytes) then Err TooLong else layers.read bytes
+
+-- what a frame means whose content is still to be read, or why its content cannot be
+abbrev pub opened_as : OpenFrame → Result Meaning FrameFault
+opened_as frame = (content_as frame.kind).read frame.content.now >>= λ content.
+    Ok (record { destination = frame.destination; source = frame.source; tag = frame.tag; content = content })
 
 -- ---- what is written
 

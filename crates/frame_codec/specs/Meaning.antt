@@ -47,11 +47,6 @@ IsOther (RealTime frame_id body) = ⊥
 IsOther (ArpPacket arp) = ⊤
 IsOther (UdpDatagram source destination body) = ⊤
 
--- no content that is real-time data: another one, or none
-abbrev pub IsOtherOrNone : {F : Type 0} → Result Content F → Type 0
-IsOtherOrNone (Ok content) = IsOther content
-IsOtherOrNone (Err fault) = ⊤
-
 -- no frame of real-time data: one that carries other things, or none
 abbrev pub IsNoRealTime : {F : Type 0} → Result Meaning F → Type 0
 IsNoRealTime (Ok meaning) = IsOther meaning.content

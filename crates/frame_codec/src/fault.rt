@@ -5,7 +5,7 @@ ghost use Rattle.frame_codec.specs.FrameFault.{number_of};
 /// Why octets are no frame. The outermost layer is judged first.
 #[derive(Clone, Copy, Debug, PartialEq, Eq)]
 pub enum FrameFault {
-    /// The link header, its tag or the FrameID is not whole.
+    /// The Ethernet header, its tag or the FrameID is not whole.
     TooShort = 1,
     /// More than 1,514 octets, or 1,518 with a tag.
     TooLong = 2,

@@ -3,7 +3,7 @@ ghost use Rattle.std.specs.Prelude.{◌≡◌, ◌≤◌, ◌<◌, List, ℕ, le
 ghost use Rattle.wire.specs.Codec.{IsSound, IsSoundWhole};
 ghost use Rattle.frame_codec.specs.declared.udp.Endpoint.{Endpoint};
 ghost use Rattle.frame_codec.specs.Meaning.{Meaning, UdpDatagram};
-ghost use Rattle.frame_codec.specs.Frame.{FitsFrame, IsReadBack, datagram, layers, link};
+ghost use Rattle.frame_codec.specs.Frame.{FitsFrame, IsReadBack, datagram, layers, ethernet};
 
 /// What fits the formats and is written is read as it: laws of the definitions, and no code.
 pub fn fitting_frames_are_read()
@@ -17,8 +17,8 @@ pub fn fitting_frames_are_read()
 
 /// What is spelled is read, and what is written is spelled: laws of the definitions, and no code.
 pub fn formats_are_sound()
-    // The format of the link header, whatever stands behind it.
-    ensures link { IsSound link }
+    // The format of the Ethernet header, whatever stands behind it.
+    ensures ethernet { IsSound ethernet }
     // The format of all layers, one in the other.
     ensures layers { IsSoundWhole layers }
 {}

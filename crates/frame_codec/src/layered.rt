@@ -1,4 +1,4 @@
-use crate::{Arp, Udp};
+use crate::{Arp, ContentKind, Udp};
 use pn_values::Mac;
 
 /// A frame by its layers.
@@ -23,6 +23,21 @@ pub enum Payload<'a> {
     Arp(Arp),
     /// EtherType 0x0800: a datagram of UDP in a packet of IPv4.
     Udp(Udp<'a>),
+}
+
+/// A frame of which the Ethernet header is read and the length judged. Its content is still to be read.
+#[derive(Clone, Copy, Debug, PartialEq, Eq)]
+pub struct OpenFrame<'a> {
+    /// To whom it goes.
+    pub destination: Mac,
+    /// From whom it comes.
+    pub source: Mac,
+    /// The tag control information of its VLAN tag (IEEE 802.1Q, 9.6), if it has one.
+    pub tag: Option<u16>,
+    /// What its EtherType says that it carries.
+    pub kind: ContentKind,
+    /// All octets behind the EtherType, padding too.
+    pub content: &'a [u8],
 }
 
 /// A frame of EtherType 0x8892 by its layers.

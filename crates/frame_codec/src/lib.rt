@@ -3,6 +3,7 @@
 #![tactic(auto)]
 
 mod arp;
+mod ethernet;
 mod fault;
 mod fields;
 mod frame;
@@ -11,7 +12,6 @@ mod internet;
 mod law;
 mod layered;
 mod limits;
-mod link;
 mod outbox;
 mod reading;
 mod sum;
@@ -19,6 +19,7 @@ mod udp;
 mod writing;
 
 pub use arp::{Arp, ArpOperation, Holder};
+pub use ethernet::ContentKind;
 pub use fault::FrameFault;
 pub use frame::Frame;
 pub use frame_id::{
@@ -26,10 +27,10 @@ pub use frame_id::{
     is_cyclic,
 };
 pub use law::{fitting_frames_are_read, formats_are_sound};
-pub use layered::{Layered, Payload, Pieces, RealTimeFrame};
+pub use layered::{Layered, OpenFrame, Payload, Pieces, RealTimeFrame};
 pub use limits::Bytes;
 pub use outbox::Outbox;
-pub use reading::{read, read_real_time};
+pub use reading::{datagram_at, frame_id_at, open, packet_at, read, read_real_time};
 pub use sum::ones_sum;
 pub use udp::{Caller, Endpoint, RPC_PORT, Udp};
 pub use writing::write;

@@ -2,54 +2,55 @@
 //!
 //! `inline(always)` stands where instructions were counted (`bench/figures/exchange.py`): what each frame of an exchange takes is one
 //! piece, and what is rare, `inline(never)`, stands outside of it.
-ghost use Rattle.std.specs.Prelude.{◌≡◌, ◌≤◌, ◌++◌, List, ℕ, length, IfNone, IfOk, IfSome, Ok};
+ghost use Rattle.std.specs.Prelude.{◌≡◌, ◌≤◌, ◌++◌, List, ℕ, length, Err, IfErr, IfNone, IfOk, IfSome, Ok};
 ghost use Rattle.wire.specs.Codec.{Gives};
-ghost use Rattle.frame_codec.specs.Meaning.{IsNoRealTime, Meaning, content_of, meaning_as, meaning_of};
-ghost use Rattle.frame_codec.specs.Frame.{IsFrame, arp, content_under, datagram, real_time, frame_of, longest, with_behind};
+ghost use Rattle.frame_codec.specs.Meaning.{ArpPacket, IsNoRealTime, Meaning, RealTime, UdpDatagram, content_of, meaning_as, meaning_of};
+ghost use Rattle.frame_codec.specs.Frame.{IsFrame, arp, content_as, datagram, frame_of, longest, opened_as, real_time, with_behind};
 
-use crate::arp::{ADDRESS_RESOLUTION, arp_at};
-use crate::internet::{INTERNET, internet_header_at};
-use crate::link::{PROFINET, VLAN, link_at, longest_of};
+use crate::arp::arp_at;
+use crate::ethernet::{content_kind, header_at, longest_of};
+use crate::internet::internet_header_at;
 use crate::sum::ones_sum;
 use crate::udp::segment_at;
-use crate::{Endpoint, FrameFault, Layered, Payload, RealTimeFrame, Udp};
+use crate::{
+    Arp, ContentKind, Endpoint, FrameFault, Layered, OpenFrame, Payload, RealTimeFrame, Udp,
+};
 use wire::{front, split, u16_at};
 
 /// The FrameID, and all that is behind it.
 #[tactic(auto, unfolding(crate::specs::Frame::real_time))]
 #[inline(always)]
-fn real_time_at(bytes: &[u8]) -> Result<Payload<'_>, FrameFault>
-    ensures { Gives content_of result (real_time.read bytes.now) }
+pub fn frame_id_at(content: &[u8]) -> Result<(u16, &[u8]), FrameFault>
+    ensures { Gives (λ x. RealTime x.0 x.1.now) result (real_time.read content.now) }
 {
-    let (frame_id, body) = u16_at(bytes, FrameFault::TooShort)?;
-    Ok(Payload::RealTime { frame_id, body })
+    u16_at(content, FrameFault::TooShort)
 }
 
 /// A packet of ARP. What is behind it is not looked at.
 #[tactic(auto, unfolding(crate::specs::Frame::arp))]
 #[inline(never)]
-fn address_resolution_at(bytes: &[u8]) -> Result<Payload<'_>, FrameFault>
-    ensures { Gives content_of result (arp.read bytes.now) }
+pub fn packet_at(content: &[u8]) -> Result<Arp, FrameFault>
+    ensures { Gives ArpPacket result (arp.read content.now) }
 {
-    let (packet, _) = arp_at(bytes)?;
-    Ok(Payload::Arp(packet))
+    let (packet, _) = arp_at(content)?;
+    Ok(packet)
 }
 
 /// A datagram of UDP in a packet of IPv4. What is behind the packet is not looked at. First the header is judged, then
 /// whether all that it counts is there, then its checksum, and then what it carries.
 #[tactic(auto, unfolding(crate::specs::Frame::datagram, crate::specs::Internet::packet))]
 #[inline(never)]
-fn datagram_at(bytes: &[u8]) -> Result<Payload<'_>, FrameFault>
-    ensures { Gives content_of result (datagram.read bytes.now) }
+pub fn datagram_at(content: &[u8]) -> Result<Udp<'_>, FrameFault>
+    ensures { Gives (λ udp. UdpDatagram udp.source udp.destination udp.body.now) result (datagram.read content.now) }
 {
-    let (internet, rest) = internet_header_at(bytes)?;
+    let (internet, rest) = internet_header_at(content)?;
     let (packet, _) = split(rest, internet.size as usize, FrameFault::IpHeader)?;
     // The checksum is judged by the sum of all words, its own among them, so one that was sent as all ones passes where 0 was meant.
-    if ones_sum(front(bytes, rest)) != 0xFFFF {
+    if ones_sum(front(content, rest)) != 0xFFFF {
         return Err(FrameFault::IpChecksum);
     }
     let (header, body) = segment_at(&internet, packet)?;
-    Ok(Payload::Udp(Udp {
+    Ok(Udp {
         source: Endpoint {
             address: internet.source,
             port: header.source,
@@ -59,45 +60,59 @@ fn datagram_at(bytes: &[u8]) -> Result<Payload<'_>, FrameFault>
             port: header.destination,
         },
         body,
-    }))
+    })
 }
 
-/// The content that stands behind this EtherType.
+/// The content of this kind.
 #[inline(always)]
-fn content_at(ether_type: u16, bytes: &[u8]) -> Result<Payload<'_>, FrameFault>
-    ensures { Gives content_of result ((content_under ether_type).read bytes.now) }
+fn payload_at(kind: ContentKind, content: &[u8]) -> Result<Payload<'_>, FrameFault>
+    ensures { Gives content_of result ((content_as kind).read content.now) }
 {
-    // A second tag is told as such, though its frame may be of an EtherType that is read.
-    if ether_type == VLAN {
-        return Err(FrameFault::Tag);
+    match kind {
+        ContentKind::RealTime => {
+            let (frame_id, body) = frame_id_at(content)?;
+            Ok(Payload::RealTime { frame_id, body })
+        }
+        ContentKind::Arp => Ok(Payload::Arp(packet_at(content)?)),
+        ContentKind::Internet => Ok(Payload::Udp(datagram_at(content)?)),
     }
-    if ether_type == PROFINET {
-        return real_time_at(bytes);
+}
+
+/// Reads the Ethernet header of a frame, and judges its length. Whoever takes kinds of content each on a way of its own reads the content
+/// by a call of its own: a `Layered` has room for each kind, and would be moved through memory.
+#[inline(always)]
+#[tactic(auto, unfolding(crate::specs::Frame::frame_of, crate::specs::Frame::layers))]
+pub fn open(bytes: &[u8]) -> Result<OpenFrame<'_>, FrameFault>
+    // It is the frame that these octets are, if its content can be read.
+    ensures found { IfOk result (λ frame. frame_of bytes.now ≡ opened_as frame) }
+    // Which fault it is.
+    ensures fault { IfErr result (λ fault. frame_of bytes.now ≡ Err fault) }
+{
+    let (ethernet, content) = header_at(bytes)?;
+    if bytes.len() > longest_of(ethernet.tag) {
+        return Err(FrameFault::TooLong);
     }
-    if ether_type == ADDRESS_RESOLUTION {
-        return address_resolution_at(bytes);
-    }
-    if ether_type == INTERNET {
-        return datagram_at(bytes);
-    }
-    Err(FrameFault::EtherType)
+    let kind = content_kind(ethernet.ether_type)?;
+    Ok(OpenFrame {
+        destination: ethernet.destination,
+        source: ethernet.source,
+        tag: ethernet.tag,
+        kind,
+        content,
+    })
 }
 
 /// The layers, or the first fault.
-#[tactic(auto, unfolding(crate::specs::Frame::frame_of, crate::specs::Frame::layers))]
 #[inline(always)]
 fn layers_at(bytes: &[u8]) -> Result<Layered<'_>, FrameFault>
     ensures { Gives meaning_of result (frame_of bytes.now) }
 {
-    let (link, rest) = link_at(bytes)?;
-    if bytes.len() > longest_of(link.tag) {
-        return Err(FrameFault::TooLong);
-    }
-    let payload = content_at(link.ether_type, rest)?;
+    let frame = open(bytes)?;
+    let payload = payload_at(frame.kind, frame.content)?;
     Ok(Layered {
-        destination: link.destination,
-        source: link.source,
-        tag: link.tag,
+        destination: frame.destination,
+        source: frame.source,
+        tag: frame.tag,
         payload,
     })
 }
@@ -123,29 +138,26 @@ pub fn read(bytes: &[u8]) -> Result<Layered<'_>, FrameFault>
 /// Reads a frame of EtherType 0x8892: what cyclic data, alarms and DCP come in. None is any other frame, or none: `read` tells which.
 /// It is a call of its own because a `Layered` has room for each kind of content, and would be moved through memory.
 #[inline(always)]
-#[tactic(auto, unfolding(crate::specs::Frame::frame_of, crate::specs::Frame::layers, crate::specs::Frame::real_time))]
+#[tactic(auto, unfolding(crate::specs::Frame::real_time, crate::specs::Frame::arp, crate::specs::Frame::datagram))]
 pub fn read_real_time(bytes: &[u8]) -> Option<RealTimeFrame<'_>>
     // It is the frame that these octets are.
     ensures found { IfSome result (λ frame. frame_of bytes.now ≡ Ok (meaning_as frame)) }
     // One that is there is found.
     ensures none { IfNone result (IsNoRealTime (frame_of bytes.now)) }
 {
-    let Ok((link, rest)) = link_at(bytes) else {
+    let Ok(frame) = open(bytes) else {
         return None;
     };
-    if link.ether_type != PROFINET {
+    let ContentKind::RealTime = frame.kind else {
         return None;
-    }
-    if bytes.len() > longest_of(link.tag) {
-        return None;
-    }
-    let Ok((frame_id, body)) = u16_at(rest, FrameFault::TooShort) else {
+    };
+    let Ok((frame_id, body)) = frame_id_at(frame.content) else {
         return None;
     };
     Some(RealTimeFrame {
-        destination: link.destination,
-        source: link.source,
-        tag: link.tag,
+        destination: frame.destination,
+        source: frame.source,
+        tag: frame.tag,
         frame_id,
         body,
     })

@@ -5,12 +5,12 @@
 ghost use Rattle.std.specs.Prelude.{◌≡◌, ◌+◌, ◌-◌, ◌≢◌, ◌≤◌, List, ℕ, [], ◌++◌, length, replicate, Ok};
 ghost use Rattle.arrayvec.specs.ArrayVec.{array_vec_len};
 ghost use Rattle.frame_codec.specs.Meaning.{UdpDatagram, content_of, meaning_in, meaning_of};
-ghost use Rattle.frame_codec.specs.Frame.{IsFrame, FitsFrame, content_size, content_under, datagram, frame_of, frame_bytes, layers, link};
+ghost use Rattle.frame_codec.specs.Frame.{IsFrame, FitsFrame, content_size, content_under, datagram, frame_of, frame_bytes, layers, ethernet};
 ghost use Rattle.frame_codec.specs.Frame.{longest, padding_of, real_time, tag_and_type, type_of, vlan, with_behind, IsReadBack};
 
 use crate::arp::{ADDRESS_RESOLUTION, put_arp};
+use crate::ethernet::{EthernetHeader, PROFINET, VLAN};
 use crate::internet::{INTERNET, InternetHeader, put_internet_header};
-use crate::link::{LinkHeader, PROFINET, VLAN};
 use crate::udp::{UdpHeader, put_udp_header};
 use crate::{Frame, Layered, Payload, Pieces, Udp};
 use arrayvec::ArrayVec;
@@ -47,15 +47,15 @@ fn put_tag_and_type(frame: &mut Frame, tag: Option<u16>, ether_type: u16)
     }
 }
 
-/// Appends the link header to an empty frame.
-#[tactic(auto, unfolding(crate::specs::Frame::link, crate::specs::Frame::mac))]
+/// Appends the Ethernet header to an empty frame.
+#[tactic(auto, unfolding(crate::specs::Frame::ethernet, crate::specs::Frame::mac))]
 #[inline(always)]
-fn put_link(frame: &mut Frame, header: &LinkHeader)
+fn put_header(frame: &mut Frame, header: &EthernetHeader)
     requires empty { array_vec_len frame.old ≡ 0 }
     requires kind { header.now.ether_type ≢ vlan }
-    ensures items { frame.new.items ≡ link.write header.now [] }
+    ensures items { frame.new.items ≡ ethernet.write header.now [] }
     ensures len { array_vec_len frame.new ≤ 18 }
-    ensures fits { link.Fits header.now }
+    ensures fits { ethernet.Fits header.now }
 {
     frame.append(&header.destination.octets);
     frame.append(&header.source.octets);
@@ -117,15 +117,18 @@ fn put_layers(frame: &mut Frame, layered: &Layered)
     ensures items { frame.new.items ≡ layers.write (meaning_of layered.now) }
     ensures fits { layers.Fits (meaning_of layered.now) }
 {
-    let header = LinkHeader {
+    let header = EthernetHeader {
         destination: layered.destination,
         source: layered.source,
         tag: layered.tag,
         ether_type: ether_type_of(&layered.payload),
     };
-    put_link(frame, &header);
+    put_header(frame, &header);
     put_content(frame, &layered.payload);
 }
+
+/// As many zeros as the least frame has octets.
+static ZEROS: [u8; 60] = [0; 60];
 
 /// Appends zeros up to 60 octets.
 #[inline(always)]
@@ -134,8 +137,7 @@ fn pad(frame: &mut Frame)
 {
     // Ethernet's least frame has 64 octets, 4 of them the check sequence, which the interface appends.
     if frame.len() < 60 {
-        let zeros = [0; 60];
-        frame.append(&zeros[frame.len()..]);
+        frame.append(&ZEROS[frame.len()..]);
     }
 }
 
@@ -173,13 +175,13 @@ pub(crate) fn fill_pieces(frame: &mut Frame, pieces: &Pieces)
     ensures exact { frame.new.items ≡ frame_bytes (meaning_in pieces.now) }
     ensures again { IsReadBack (meaning_in pieces.now) }
 {
-    let header = LinkHeader {
+    let header = EthernetHeader {
         destination: pieces.destination,
         source: pieces.source,
         tag: pieces.tag,
         ether_type: PROFINET,
     };
-    put_link(frame, &header);
+    put_header(frame, &header);
     put_body(frame, pieces);
     pad(frame);
 }

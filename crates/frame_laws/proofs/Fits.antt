@@ -8,10 +8,10 @@ use Rattle.frame_codec.specs.declared.arp.Holder.{Holder}
 use Rattle.frame_codec.specs.declared.udp.Endpoint.{Endpoint}
 use Rattle.frame_codec.specs.Meaning.{Content, RealTime, ArpPacket, UdpDatagram, Meaning}
 use Rattle.frame_codec.specs.Arp.{arp_head, arp_packet, holder, operation}
-use Rattle.frame_codec.specs.Frame.{FitsFrame, arp, content_size, content_under, datagram, layers, link, link_of, mac, real_time, tag_and_type, type_of}
+use Rattle.frame_codec.specs.Frame.{FitsFrame, arp, content_size, content_under, datagram, layers, ethernet, header_of, mac, real_time, tag_and_type, type_of}
 use Rattle.frame_laws.specs.Sendable.{CanBeSent, IsContent, IsHolder, IsMac, IsTag}
 
--- ---- the link header
+-- ---- the Ethernet header
 
 -- an EtherType of a content, in front of which a tag may stand
 tag_fits : (tag : Option ℕ) (content : Content) → IsTag tag → tag_and_type.Fits (tag, type_of content)
@@ -23,9 +23,9 @@ tag_fits (Some tag) (RealTime frame_id body) is = (omega arith, (omega (arith, i
 tag_fits (Some tag) (ArpPacket packet) is = (omega arith, (omega (arith, is), omega arith))
 tag_fits (Some tag) (UdpDatagram from to body) is = (omega arith, (omega (arith, is), omega arith))
 
-pub link_fits : (meaning : Meaning) → IsMac meaning.destination → IsMac meaning.source → IsTag meaning.tag → link.Fits (link_of meaning)
-unfolding link mac
-link_fits meaning destination source tag = (destination, (source, tag_fits meaning.tag meaning.content tag))
+pub header_fits : (meaning : Meaning) → IsMac meaning.destination → IsMac meaning.source → IsTag meaning.tag → ethernet.Fits (header_of meaning)
+unfolding ethernet mac
+header_fits meaning destination source tag = (destination, (source, tag_fits meaning.tag meaning.content tag))
 
 -- ---- ARP
 
@@ -61,7 +61,7 @@ content_fits fit (UdpDatagram from to body) is = fit from to body is.0.0 is.1.0 
 
 pub layers_fit : DatagramsFit → (meaning : Meaning) → CanBeSent meaning → layers.Fits meaning
 unfolding layers
-layers_fit fit meaning is = (link_fits meaning is.destination is.source is.tag, content_fits fit meaning.content is.content)
+layers_fit fit meaning is = (header_fits meaning is.destination is.source is.tag, content_fits fit meaning.content is.content)
 
 pub frame_fits : (meaning : Meaning) → IsContent meaning.content → FitsFrame meaning
 frame_fits meaning is = few meaning.content is

@@ -13,9 +13,9 @@ use Rattle.frame_codec.specs.declared.fault.FrameFault.TheVariants.{TooLong, Too
 use Rattle.frame_codec.specs.declared.udp.Endpoint.{Endpoint}
 use Rattle.frame_codec.specs.Meaning.{Content, RealTime, ArpPacket, UdpDatagram, Meaning}
 use Rattle.frame_codec.specs.Internet.{internet_header, internet_size, internet_way, packet, size_behind, udp, udp_header}
-use Rattle.frame_codec.specs.Frame.{FitsFrame, IsReadBack, content_under, datagram, mac, tag_and_type, frame_bytes, frame_of, layers, link, link_of, longest, padding_of, profinet, real_time, type_of, with_behind}
+use Rattle.frame_codec.specs.Frame.{FitsFrame, IsReadBack, content_under, datagram, mac, tag_and_type, frame_bytes, frame_of, layers, ethernet, header_of, longest, padding_of, profinet, real_time, type_of, with_behind}
 use Rattle.frame_laws.specs.Sendable.{CanBeSent, IsMac, IsRealTime, IsRealTimeOrNone, IsTag, carrying}
-use Rattle.frame_laws.proofs.Fits.{DatagramsFit, frame_fits, layers_fit, link_fits}
+use Rattle.frame_laws.proofs.Fits.{DatagramsFit, frame_fits, layers_fit, header_fits}
 
 -- what fits its formats is read: a clause of the formats
 abbrev pub FittingIsRead : Type 0
@@ -47,42 +47,42 @@ judged : (long : Bool) (r : Result Meaning FrameFault) → IsRealTimeOrNone r �
 judged true r is = tt
 judged false r is = is
 
--- the link header in front decides
+-- the Ethernet header in front decides
 under : (bytes rest : List ℕ) (destination source : Mac) (tag : Option ℕ) (frame_id : ℕ) (body : List ℕ)
-    → link.read bytes ≡ Ok (link_of (carrying destination source tag (RealTime frame_id body)), rest) → IsRealTimeOrNone (frame_of bytes)
+    → ethernet.read bytes ≡ Ok (header_of (carrying destination source tag (RealTime frame_id body)), rest) → IsRealTimeOrNone (frame_of bytes)
 unfolding frame_of layers real_time
 under bytes rest destination source tag frame_id body e =
     rw e (judged (nat_lt (longest tag) (length bytes)) _
-    (made {A = ℕ × List ℕ} {H = ValueOf link} ((ends_by (number TooShort 2) (λ _. everything)).read rest) (λ x. RealTime x.0 x.1)
-    (link_of (carrying destination source tag (RealTime frame_id body))) (λ x. record { destination = x.0.destination; source = x.0.source; tag = x.0.tag; content = x.1 }) (λ x. tt)))
+    (made {A = ℕ × List ℕ} {H = ValueOf ethernet} ((ends_by (number TooShort 2) (λ _. everything)).read rest) (λ x. RealTime x.0 x.1)
+    (header_of (carrying destination source tag (RealTime frame_id body))) (λ x. record { destination = x.0.destination; source = x.0.source; tag = x.0.tag; content = x.1 }) (λ x. tt)))
 
--- what is written begins with its link header
-parts : IsSound link → (meaning : Meaning) → frame_bytes meaning ≡ link.write (link_of meaning) ((content_under (type_of meaning.content)).write meaning.content ++ padding_of meaning)
+-- what is written begins with its Ethernet header
+parts : IsSound ethernet → (meaning : Meaning) → frame_bytes meaning ≡ ethernet.write (header_of meaning) ((content_under (type_of meaning.content)).write meaning.content ++ padding_of meaning)
 unfolding frame_bytes layers
 parts sound meaning =
-    let header = link_of meaning in
+    let header = header_of meaning in
     let body = (content_under (type_of meaning.content)).write meaning.content in
-    ap (λ (xs : List ℕ). xs ++ padding_of meaning) (sound.local header body) ∙ append_assoc (link.write header []) body (padding_of meaning)
+    ap (λ (xs : List ℕ). xs ++ padding_of meaning) (sound.local header body) ∙ append_assoc (ethernet.write header []) body (padding_of meaning)
     ∙ sym (sound.local header (body ++ padding_of meaning))
 
--- the link header in front of a frame is read
-link_read : IsSound link → (meaning : Meaning) → IsMac meaning.destination → IsMac meaning.source → IsTag meaning.tag
-    → link.read (frame_bytes meaning) ≡ Ok (link_of meaning, (content_under (type_of meaning.content)).write meaning.content ++ padding_of meaning)
-link_read sound meaning one other tagged =
+-- the Ethernet header in front of a frame is read
+header_read : IsSound ethernet → (meaning : Meaning) → IsMac meaning.destination → IsMac meaning.source → IsTag meaning.tag
+    → ethernet.read (frame_bytes meaning) ≡ Ok (header_of meaning, (content_under (type_of meaning.content)).write meaning.content ++ padding_of meaning)
+header_read sound meaning one other tagged =
     let rest = (content_under (type_of meaning.content)).write meaning.content ++ padding_of meaning in
-    ap (λ (xs : List ℕ). link.read xs) (parts sound meaning) ∙ sound.again _ (link_of meaning) rest (sound.written (link_of meaning) rest (link_fits meaning one other tagged))
+    ap (λ (xs : List ℕ). ethernet.read xs) (parts sound meaning) ∙ sound.again _ (header_of meaning) rest (sound.written (header_of meaning) rest (header_fits meaning one other tagged))
 
-pub alone : IsSound link → (destination source : Mac) (tag : Option ℕ) (frame_id : ℕ) (body : List ℕ) → IsMac destination → IsMac source → IsTag tag
+pub alone : IsSound ethernet → (destination source : Mac) (tag : Option ℕ) (frame_id : ℕ) (body : List ℕ) → IsMac destination → IsMac source → IsTag tag
     → IsRealTimeOrNone (frame_of (frame_bytes (carrying destination source tag (RealTime frame_id body))))
 alone sound destination source tag frame_id body one other tagged =
     let meaning = carrying destination source tag (RealTime frame_id body) in
-    under (frame_bytes meaning) _ destination source tag frame_id body (link_read sound meaning one other tagged)
+    under (frame_bytes meaning) _ destination source tag frame_id body (header_read sound meaning one other tagged)
 
 -- ---- what does not fit
 
-too_long : IsSound link → (meaning : Meaning) → IsMac meaning.destination → IsMac meaning.source → IsTag meaning.tag → longest meaning.tag < length (frame_bytes meaning) → IsErr (frame_of (frame_bytes meaning))
+too_long : IsSound ethernet → (meaning : Meaning) → IsMac meaning.destination → IsMac meaning.source → IsTag meaning.tag → longest meaning.tag < length (frame_bytes meaning) → IsErr (frame_of (frame_bytes meaning))
 unfolding frame_of
-too_long sound meaning one other tagged many = rw (link_read sound meaning one other tagged, lt-ltb (longest meaning.tag) (length (frame_bytes meaning)) many) refl
+too_long sound meaning one other tagged many = rw (header_read sound meaning one other tagged, lt-ltb (longest meaning.tag) (length (frame_bytes meaning)) many) refl
 
 datagram_size : (from to : Endpoint) (body : List ℕ) → length from.address ≡ 4 → length to.address ≡ 4 → datagram.size (UdpDatagram from to body) ≡ 28 + length body
 unfolding datagram packet internet_header internet_size internet_way size_behind udp udp_header
@@ -95,14 +95,14 @@ tag_size (Some tag) = omega arith
 
 frame_size : (destination source : Mac) (tag : Option ℕ) (from to : Endpoint) (body : List ℕ) → IsMac destination → IsMac source
     → layers.size (carrying destination source tag (UdpDatagram from to body)) ≡ 12 + tag_and_type.size (tag, 0x0800) + datagram.size (UdpDatagram from to body)
-unfolding layers link mac
+unfolding layers ethernet mac
 frame_size destination source tag from to body one other = omega (arith, one, other)
 
 longer : (meaning : Meaning) (most : ℕ) → most < length (layers.write meaning) → most < length (frame_bytes meaning)
 unfolding frame_bytes
 longer meaning most many = omega (arith, length-append (layers.write meaning) (padding_of meaning), many)
 
-pub long : IsSound link → IsSoundWhole layers → (destination source : Mac) (tag : Option ℕ) (from to : Endpoint) (body : List ℕ) → IsMac destination → IsMac source → IsTag tag
+pub long : IsSound ethernet → IsSoundWhole layers → (destination source : Mac) (tag : Option ℕ) (from to : Endpoint) (body : List ℕ) → IsMac destination → IsMac source → IsTag tag
     → length from.address ≡ 4 → length to.address ≡ 4 → 1472 < length body
     → IsErr (frame_of (frame_bytes (carrying destination source tag (UdpDatagram from to body))))
 long sound whole destination source tag from to body one other tagged first second many =

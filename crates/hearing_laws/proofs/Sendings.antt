@@ -8,6 +8,7 @@ use Rattle.connect_blocks.specs.Control.{command, control}
 use Rattle.connect_blocks.specs.ArBlock.{ar_block_req, ar_uuid, initiator_mac}
 use Rattle.connect_blocks.specs.declared.control.ControlBlock.{ControlBlock}
 use Rattle.record_blocks.specs.declared.write_record.IodWriteReq.{IodWriteReq}
+use Rattle.record_blocks.specs.RecordHeader.{record_header}
 use Rattle.record_blocks.specs.WriteRecord.{iod_write_req}
 use Rattle.block_codec.specs.declared.block.Block.{Block}
 use Rattle.block_codec.specs.declared.block.Block.TheVariants as is
@@ -84,8 +85,8 @@ done_size : (block : ControlBlock) → length block.ar_uuid ≡ 16 → block_siz
 unfolding block_size fields_of body version control command
 done_size block sixteen = omega (arith, sixteen)
 
-write_size : (block : IodWriteReq) → length block.ar_uuid ≡ 16 → block_size (is.IodWriteReq block) ≤ 100
-unfolding block_size fields_of body version iod_write_req
+write_size : (block : IodWriteReq) → length block.header.ar_uuid ≡ 16 → block_size (is.IodWriteReq block) ≤ 100
+unfolding block_size fields_of body version iod_write_req record_header
 write_size block sixteen = omega (arith, sixteen)
 
 module _ (long : BlocksAreLong) where

@@ -1,7 +1,6 @@
 -- Both ends of a network, and the worlds that moves make.
 use Rattle.std.specs.Prelude.{◌≡◌, ◌++◌, ◌&&◌, ℕ, Bool, true, false, not, List, [], ◌∷◌, slice_get, Option, Some, None, Result, Ok, Err}
-use Rattle.flash_model.specs.Calls.{Call}
-use Rattle.flash_model.specs.Image.{Image}
+use Rattle.flash_model.specs.declared.flash.Flash.{Ghosts as Flash}
 use Rattle.frame_codec.specs.declared.fault.FrameFault.{FrameFault}
 use Rattle.frame_codec.specs.FrameId.{is_cyclic}
 use Rattle.frame_codec.specs.Meaning.{Meaning, Content, RealTime, ArpPacket, UdpDatagram}
@@ -73,15 +72,15 @@ is_skipped device controller end octets = is_cyclic_frame octets && has_left dev
 -- ---- what a move does
 
 -- A device heard this, whatever its flash did: it made a step, and what it sent stands behind all that was sent.
-pub record IsHeard {F : Type 0} (image : F → Image) (failures : F → ℕ) (asked : F → List Call → F → Type 0) (before : State F) (sent : List (List ℕ)) (heard : Heard) (after : State F) (all : List (List ℕ)) : Type 0 where
+pub record IsHeard {F : Type 0} {S : ℕ} (as_flash : Flash F S) (before : State F) (sent : List (List ℕ)) (heard : Heard) (after : State F) (all : List (List ℕ)) : Type 0 where
   pub frames : List (List ℕ)
   pub note : Note
-  pub steps : Steps image failures asked before heard frames note after
+  pub steps : Steps as_flash before heard frames note after
   pub behind : all ≡ sent ++ frames
 
 -- The device heard this, and nothing else changed.
-pub record AtDevice {F : Type 0} (image : F → Image) (failures : F → ℕ) (asked : F → List Call → F → Type 0) (before : World F) (heard : Heard) (after : World F) : Type 0 where
-  pub hears : IsHeard image failures asked before.device before.sent heard after.device after.sent
+pub record AtDevice {F : Type 0} {S : ℕ} (as_flash : Flash F S) (before : World F) (heard : Heard) (after : World F) : Type 0 where
+  pub hears : IsHeard as_flash before.device before.sent heard after.device after.sent
   pub controller : after.controller ≡ before.controller
 
 -- the controller took an event, and nothing else changed
@@ -93,34 +92,34 @@ at_controller before event = record {
 }
 
 -- octets come to an end from the network, or were skipped
-abbrev pub Comes : {F : Type 0} → (F → Image) → (F → ℕ) → (F → List Call → F → Type 0) → Bool → World F → End → List ℕ → World F → Type 0
-Comes image failures asked true before end octets after = after ≡ before
-Comes image failures asked false before Device octets after =
-    AtDevice image failures asked before (heard_of before.device.station.identity (Frame (record { items = octets }))) after
-Comes image failures asked false before Controller octets after = after ≡ at_controller before (controller.Frame (record { items = octets }))
+abbrev pub Comes : {F : Type 0} {S : ℕ} → Flash F S → Bool → World F → End → List ℕ → World F → Type 0
+Comes as_flash true before end octets after = after ≡ before
+Comes as_flash false before Device octets after =
+    AtDevice as_flash before (heard_of before.device.station.identity (Frame (record { items = octets }))) after
+Comes as_flash false before Controller octets after = after ≡ at_controller before (controller.Frame (record { items = octets }))
 
 -- a frame comes to an end, if there is one
-abbrev pub Delivers : {F : Type 0} → (F → Image) → (F → ℕ) → (F → List Call → F → Type 0) → Option (List ℕ) → World F → End → World F → Type 0
-Delivers image failures asked None before end after = after ≡ before
-Delivers image failures asked (Some octets) before end after =
-    Comes image failures asked (is_skipped before.device before.controller end octets) before end octets after
+abbrev pub Delivers : {F : Type 0} {S : ℕ} → Flash F S → Option (List ℕ) → World F → End → World F → Type 0
+Delivers as_flash None before end after = after ≡ before
+Delivers as_flash (Some octets) before end after =
+    Comes as_flash (is_skipped before.device before.controller end octets) before end octets after
 
 -- a unit of time is over at an end
-abbrev pub Passes : {F : Type 0} → (F → Image) → (F → ℕ) → (F → List Call → F → Type 0) → World F → End → World F → Type 0
-Passes image failures asked before Device after = AtDevice image failures asked before Ticks after
-Passes image failures asked before Controller after = after ≡ at_controller before controller.Tick
+abbrev pub Passes : {F : Type 0} {S : ℕ} → Flash F S → World F → End → World F → Type 0
+Passes as_flash before Device after = AtDevice as_flash before Ticks after
+Passes as_flash before Controller after = after ≡ at_controller before controller.Tick
 
 -- a move is made
-abbrev pub Happens : {F : Type 0} → (F → Image) → (F → ℕ) → (F → List Call → F → Type 0) → World F → Move → World F → Type 0
-Happens image failures asked before (move.Deliver end number) after = Delivers image failures asked (slice_get before.sent number) before end after
-Happens image failures asked before (move.Tick end) after = Passes image failures asked before end after
-Happens image failures asked before (move.Input slot subslot value) after = AtDevice image failures asked before (Given slot subslot value.items) after
-Happens image failures asked before (move.Alarm slot subslot octets) after = AtDevice image failures asked before (Raised slot subslot octets.items) after
-Happens image failures asked before (move.Give slot subslot value) after = after ≡ at_controller before (controller.Give slot subslot value)
-Happens image failures asked before move.Stop after = after ≡ at_controller before controller.Stop
+abbrev pub Happens : {F : Type 0} {S : ℕ} → Flash F S → World F → Move → World F → Type 0
+Happens as_flash before (move.Deliver end number) after = Delivers as_flash (slice_get before.sent number) before end after
+Happens as_flash before (move.Tick end) after = Passes as_flash before end after
+Happens as_flash before (move.Input slot subslot value) after = AtDevice as_flash before (Given slot subslot value.items) after
+Happens as_flash before (move.Alarm slot subslot octets) after = AtDevice as_flash before (Raised slot subslot octets.items) after
+Happens as_flash before (move.Give slot subslot value) after = after ≡ at_controller before (controller.Give slot subslot value)
+Happens as_flash before move.Stop after = after ≡ at_controller before controller.Stop
 
 -- moves are made, one behind the other: a world that they allow
-abbrev pub Played : {F : Type 0} → (F → Image) → (F → ℕ) → (F → List Call → F → Type 0) → World F → List Move → World F → Type 0
-Played image failures asked before [] after = after ≡ before
-Played {F} image failures asked before (one ∷ moves) after =
-    (next : World F) × Happens image failures asked before one next × Played image failures asked next moves after
+abbrev pub Played : {F : Type 0} {S : ℕ} → Flash F S → World F → List Move → World F → Type 0
+Played as_flash before [] after = after ≡ before
+Played {F} as_flash before (one ∷ moves) after =
+    (next : World F) × Happens as_flash before one next × Played as_flash next moves after

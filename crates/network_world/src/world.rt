@@ -85,7 +85,7 @@ fn happen_at_device<F: Flash<S>, const S: usize>(
     event: &DeviceEvent,
 )
     requires room { 4 ≤ sent.old.room }
-    ensures { IsHeard F.image F.failures F.asked device.old sent.old.frames (heard_of device.old.station.identity event.now) device.new
+    ensures { IsHeard F.Flash device.old sent.old.frames (heard_of device.old.station.identity event.now) device.new
         sent.new.frames }
 {
     let mut outbox = Outbox::new();
@@ -113,7 +113,7 @@ fn come<F: Flash<S>, const S: usize>(
     bytes: Bytes,
 )
     requires room { 4 ≤ sent.old.room }
-    ensures { Comes F.image F.failures F.asked (is_skipped device.old controller.old end bytes.items)
+    ensures { Comes F.Flash (is_skipped device.old controller.old end bytes.items)
         (world_of device.old controller.old sent.old) end bytes.items (world_of device.new controller.new sent.new) }
 {
     if is_skipped(device, controller, end, bytes.as_slice()) {
@@ -133,7 +133,7 @@ fn pass<F: Flash<S>, const S: usize>(
     end: End,
 )
     requires room { 4 ≤ sent.old.room }
-    ensures { Passes F.image F.failures F.asked (world_of device.old controller.old sent.old) end
+    ensures { Passes F.Flash (world_of device.old controller.old sent.old) end
         (world_of device.new controller.new sent.new) }
 {
     match end {
@@ -151,7 +151,7 @@ fn deliver<F: Flash<S>, const S: usize>(
     number: usize,
 )
     requires room { 4 ≤ sent.old.room }
-    ensures { Delivers F.image F.failures F.asked (slice_get sent.old.frames number) (world_of device.old controller.old sent.old) end
+    ensures { Delivers F.Flash (slice_get sent.old.frames number) (world_of device.old controller.old sent.old) end
         (world_of device.new controller.new sent.new) }
 {
     let bytes = match sent.at(number) {
@@ -169,7 +169,7 @@ fn happen<F: Flash<S>, const S: usize>(
     one: &Move,
 )
     requires room { 4 ≤ sent.old.room }
-    ensures { Happens F.image F.failures F.asked (world_of device.old controller.old sent.old) one.now
+    ensures { Happens F.Flash (world_of device.old controller.old sent.old) one.now
         (world_of device.new controller.new sent.new) }
 {
     match one {
@@ -230,10 +230,10 @@ impl<F: Flash<S>, const S: usize> World<F, S> {
     /// it stand.
     pub fn play(&mut self, moves: &[Move]) -> Result<(), AllocError>
         // Each move does what it is, one behind the other.
-        ensures played { OnOk result (Played F.image F.failures F.asked self.old moves.now self.new) }
+        ensures played { OnOk result (Played F.Flash self.old moves.now self.new) }
         // So do those of a front, where memory ends.
         ensures front { OnErr result ((count : ℕ) × (count < length moves.now)
-            × Played F.image F.failures F.asked self.old (take count moves.now) self.new) }
+            × Played F.Flash self.old (take count moves.now) self.new) }
     {
         for one in moves {
             self.make(one)?;
@@ -243,7 +243,7 @@ impl<F: Flash<S>, const S: usize> World<F, S> {
 
     // One move, where there is memory for all that it may send.
     fn make(&mut self, one: &Move) -> Result<(), AllocError>
-        ensures made { OnOk result (Happens F.image F.failures F.asked self.old one.now self.new) }
+        ensures made { OnOk result (Happens F.Flash self.old one.now self.new) }
         ensures same { OnErr result (self.new ≡ self.old) }
     {
         self.sent.make_room()?;

@@ -9,6 +9,7 @@ use Rattle.record_blocks.specs.Im1.{im1}
 use Rattle.record_blocks.specs.Im2.{im2}
 use Rattle.record_blocks.specs.Im3.{im3}
 use Rattle.record_blocks.specs.Im4.{im4}
+use Rattle.record_blocks.specs.RecordHeader.{record_header}
 use Rattle.record_blocks.specs.ReadRecord.{iod_read_req, iod_read_res}
 use Rattle.record_blocks.specs.WriteRecord.{iod_write_req, iod_write_res}
 use Rattle.record_blocks.specs.AlarmAck.{alarm_ack}
@@ -44,34 +45,29 @@ pub im4_sound : IsSound im4
 unfolding im4
 im4_sound = seen_sound _ _ _ (λ _. refl) (octets_sound 54)
 
+record_header_sound : IsSound record_header
+unfolding record_header
+record_header_sound = seen_sound _ _ _ (λ _. refl) (then_by_sound _ _ (numeral_sound 2) (λ _. then_by_sound _ _ (octets_sound 16)
+    (λ _. then_by_sound _ _ (numeral_sound 4) (λ _. then_by_sound _ _ (numeral_sound 2) (λ _. then_by_sound _ _ (numeral_sound 2)
+    (λ _. then_by_sound _ _ (blank_sound 2) (λ _. then_by_sound _ _ (numeral_sound 2) (λ _. numeral_sound 4))))))))
+
 pub iod_read_req_sound : IsSound iod_read_req
 unfolding iod_read_req
-iod_read_req_sound = seen_sound _ _ _ (λ _. refl) (then_by_sound _ _ (numeral_sound 2) (λ _. then_by_sound _ _ (octets_sound 16)
-    (λ _. then_by_sound _ _ (numeral_sound 4) (λ _. then_by_sound _ _ (numeral_sound 2) (λ _. then_by_sound _ _ (numeral_sound 2)
-    (λ _. then_by_sound _ _ (blank_sound 2) (λ _. then_by_sound _ _ (numeral_sound 2) (λ _. then_by_sound _ _ (numeral_sound 4)
-    (λ _. then_by_sound _ _ (octets_sound 16) (λ _. blank_sound 8))))))))))
+iod_read_req_sound = seen_sound _ _ _ (λ _. refl) (then_by_sound _ _ record_header_sound (λ _. then_by_sound _ _ (octets_sound 16) (λ _. blank_sound 8)))
 
 pub iod_read_res_sound : IsSound iod_read_res
 unfolding iod_read_res
-iod_read_res_sound = seen_sound _ _ _ (λ _. refl) (then_by_sound _ _ (numeral_sound 2) (λ _. then_by_sound _ _ (octets_sound 16)
-    (λ _. then_by_sound _ _ (numeral_sound 4) (λ _. then_by_sound _ _ (numeral_sound 2) (λ _. then_by_sound _ _ (numeral_sound 2)
-    (λ _. then_by_sound _ _ (blank_sound 2) (λ _. then_by_sound _ _ (numeral_sound 2) (λ _. then_by_sound _ _ (numeral_sound 4)
-    (λ _. then_by_sound _ _ (numeral_sound 2) (λ _. then_by_sound _ _ (numeral_sound 2) (λ _. blank_sound 20)))))))))))
+iod_read_res_sound = seen_sound _ _ _ (λ _. refl) (then_by_sound _ _ record_header_sound
+    (λ _. then_by_sound _ _ (numeral_sound 2) (λ _. then_by_sound _ _ (numeral_sound 2) (λ _. blank_sound 20))))
 
 pub iod_write_req_sound : IsSound iod_write_req
 unfolding iod_write_req
-iod_write_req_sound = seen_sound _ _ _ (λ _. refl) (then_by_sound _ _ (numeral_sound 2) (λ _. then_by_sound _ _ (octets_sound 16)
-    (λ _. then_by_sound _ _ (numeral_sound 4) (λ _. then_by_sound _ _ (numeral_sound 2) (λ _. then_by_sound _ _ (numeral_sound 2)
-    (λ _. then_by_sound _ _ (blank_sound 2) (λ _. then_by_sound _ _ (numeral_sound 2) (λ _. then_by_sound _ _ (numeral_sound 4)
-    (λ _. blank_sound 24)))))))))
+iod_write_req_sound = seen_sound _ _ _ (λ _. refl) (then_by_sound _ _ record_header_sound (λ _. blank_sound 24))
 
 pub iod_write_res_sound : IsSound iod_write_res
 unfolding iod_write_res
-iod_write_res_sound = seen_sound _ _ _ (λ _. refl) (then_by_sound _ _ (numeral_sound 2) (λ _. then_by_sound _ _ (octets_sound 16)
-    (λ _. then_by_sound _ _ (numeral_sound 4) (λ _. then_by_sound _ _ (numeral_sound 2) (λ _. then_by_sound _ _ (numeral_sound 2)
-    (λ _. then_by_sound _ _ (blank_sound 2) (λ _. then_by_sound _ _ (numeral_sound 2) (λ _. then_by_sound _ _ (numeral_sound 4)
-    (λ _. then_by_sound _ _ (numeral_sound 2) (λ _. then_by_sound _ _ (numeral_sound 2) (λ _. then_by_sound _ _ (numeral_sound 4)
-    (λ _. blank_sound 16))))))))))))
+iod_write_res_sound = seen_sound _ _ _ (λ _. refl) (then_by_sound _ _ record_header_sound
+    (λ _. then_by_sound _ _ (numeral_sound 2) (λ _. then_by_sound _ _ (numeral_sound 2) (λ _. then_by_sound _ _ (numeral_sound 4) (λ _. blank_sound 16)))))
 
 pub alarm_ack_sound : IsSound alarm_ack
 unfolding alarm_ack

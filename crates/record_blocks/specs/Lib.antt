@@ -3,6 +3,7 @@ pub mod Im1
 pub mod Im2
 pub mod Im3
 pub mod Im4
+pub mod RecordHeader
 pub mod ReadRecord
 pub mod WriteRecord
 pub mod AlarmAck

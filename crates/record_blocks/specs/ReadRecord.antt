@@ -2,7 +2,8 @@
 use Rattle.wire.specs.Codec.{Codec}
 use Rattle.wire.specs.Formats.{◌⨾◌, seen}
 use Rattle.block_fields.specs.declared.fault.BlockFault.{BlockFault}
-use Rattle.block_fields.specs.Fields.{two, four, octets, blank}
+use Rattle.block_fields.specs.Fields.{two, octets, blank}
+use Rattle.record_blocks.specs.RecordHeader.{record_header}
 use Rattle.record_blocks.specs.declared.read_record.IodReadReq.{IodReadReq}
 use Rattle.record_blocks.specs.declared.read_record.IodReadRes.{IodReadRes}
 
@@ -10,73 +11,19 @@ use Rattle.record_blocks.specs.declared.read_record.IodReadRes.{IodReadRes}
 unfoldable pub iod_read_req : Codec BlockFault IodReadReq
 iod_read_req = seen
     (λ x. record {
-      seq_number = x.0;
-      ar_uuid = x.1.0;
-      api = x.1.1.0;
-      slot_number = x.1.1.1.0;
-      subslot_number = x.1.1.1.1.0;
-      index = x.1.1.1.1.1.1.0;
-      record_data_length = x.1.1.1.1.1.1.1.0;
-      target_ar_uuid = x.1.1.1.1.1.1.1.1.0;
+      header = x.0;
+      target_ar_uuid = x.1.0;
     })
-    (λ block. (
-      block.seq_number,
-      (
-        block.ar_uuid,
-        (
-          block.api,
-          (
-            block.slot_number,
-            (
-              block.subslot_number,
-              (
-                tt,
-                (
-                  block.index,
-                  (block.record_data_length, (block.target_ar_uuid, tt)),
-                ),
-              ),
-            ),
-          ),
-        ),
-      ),
-    ))
-    (two ⨾ octets 16 ⨾ four ⨾ two ⨾ two ⨾ blank 2 ⨾ two ⨾ four ⨾ octets 16 ⨾ blank 8)
+    (λ block. (block.header, (block.target_ar_uuid, tt)))
+    (record_header ⨾ octets 16 ⨾ blank 8)
 
 -- IODReadResHeader's fields
 unfoldable pub iod_read_res : Codec BlockFault IodReadRes
 iod_read_res = seen
     (λ x. record {
-      seq_number = x.0;
-      ar_uuid = x.1.0;
-      api = x.1.1.0;
-      slot_number = x.1.1.1.0;
-      subslot_number = x.1.1.1.1.0;
-      index = x.1.1.1.1.1.1.0;
-      record_data_length = x.1.1.1.1.1.1.1.0;
-      additional_value_1 = x.1.1.1.1.1.1.1.1.0;
-      additional_value_2 = x.1.1.1.1.1.1.1.1.1.0;
+      header = x.0;
+      additional_value_1 = x.1.0;
+      additional_value_2 = x.1.1.0;
     })
-    (λ block. (
-      block.seq_number,
-      (
-        block.ar_uuid,
-        (
-          block.api,
-          (
-            block.slot_number,
-            (
-              block.subslot_number,
-              (
-                tt,
-                (
-                  block.index,
-                  (block.record_data_length, (block.additional_value_1, (block.additional_value_2, tt))),
-                ),
-              ),
-            ),
-          ),
-        ),
-      ),
-    ))
-    (two ⨾ octets 16 ⨾ four ⨾ two ⨾ two ⨾ blank 2 ⨾ two ⨾ four ⨾ two ⨾ two ⨾ blank 20)
+    (λ block. (block.header, (block.additional_value_1, (block.additional_value_2, tt))))
+    (record_header ⨾ two ⨾ two ⨾ blank 20)

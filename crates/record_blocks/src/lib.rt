@@ -12,6 +12,7 @@ mod im2;
 mod im3;
 mod im4;
 mod read_record;
+mod record_header;
 mod write_record;
 
 pub use alarm_ack::{AlarmAck, alarm_ack_at, alarm_ack_len, put_alarm_ack};
@@ -33,6 +34,7 @@ pub use read_record::{
     IodReadReq, IodReadRes, iod_read_req_at, iod_read_req_len, iod_read_res_at, iod_read_res_len,
     put_iod_read_req, put_iod_read_res,
 };
+pub use record_header::RecordHeader;
 pub use write_record::{
     IodWriteReq, IodWriteRes, iod_write_req_at, iod_write_req_len, iod_write_res_at,
     iod_write_res_len, put_iod_write_req, put_iod_write_res,

@@ -5,26 +5,16 @@ ghost use Rattle.wire.specs.Codec.{Gives};
 ghost use Rattle.block_fields.specs.Fields.{body};
 ghost use Rattle.record_blocks.specs.ReadRecord.{iod_read_req, iod_read_res};
 
+use crate::RecordHeader;
+use crate::record_header::{put_record_header, read_headed, record_header_at, record_header_len};
 use arrayvec::ArrayVec;
-use block_fields::{BlockFault, Uuid, len_fields, put_fields, read_body};
+use block_fields::{BlockFault, Uuid, len_fields, put_fields, read_fields, version_at};
 
 /// 0x0009: IODReadReqHeader (IEC 61158-6-10, 5.2.3): a record is asked for.
 #[derive(Clone, Copy)]
 pub struct IodReadReq {
-    /// SeqNumber, which counts the calls.
-    pub seq_number: u16,
-    /// ARUUID.
-    pub ar_uuid: Uuid,
-    /// API.
-    pub api: u32,
-    /// SlotNumber.
-    pub slot_number: u16,
-    /// SubslotNumber.
-    pub subslot_number: u16,
-    /// Index of the record.
-    pub index: u16,
-    /// RecordDataLength, in octets.
-    pub record_data_length: u32,
+    /// Which record, in which call.
+    pub header: RecordHeader,
     /// TargetARUUID.
     pub target_ar_uuid: Uuid,
 }
@@ -32,14 +22,7 @@ pub struct IodReadReq {
 macro_rules! iod_read_req_fields {
     ($with:ident $args:tt) => {
         $with! { $args IodReadReq {
-            seq_number: u16,
-            ar_uuid: uuid,
-            api: u32,
-            slot_number: u16,
-            subslot_number: u16,
-            _: blank 2,
-            index: u16,
-            record_data_length: u32,
+            header: (record_header_at, put_record_header, record_header_len),
             target_ar_uuid: uuid,
             _: blank 8,
         } }
@@ -51,7 +34,7 @@ macro_rules! iod_read_req_fields {
 pub fn iod_read_req_at(bytes: &[u8]) -> Result<IodReadReq, BlockFault>
     ensures { Gives (λ x. x) result ((body iod_read_req).read bytes.now) }
 {
-    iod_read_req_fields!(read_body[bytes])
+    iod_read_req_fields!(read_headed[bytes])
 }
 
 /// Appends the fields of an IODReadReqHeader. There must be room.
@@ -77,20 +60,8 @@ pub fn iod_read_req_len(value: &IodReadReq) -> usize
 /// 0x8009: IODReadResHeader (IEC 61158-6-10, 5.2.3): behind it comes the record.
 #[derive(Clone, Copy)]
 pub struct IodReadRes {
-    /// SeqNumber, which counts the calls.
-    pub seq_number: u16,
-    /// ARUUID.
-    pub ar_uuid: Uuid,
-    /// API.
-    pub api: u32,
-    /// SlotNumber.
-    pub slot_number: u16,
-    /// SubslotNumber.
-    pub subslot_number: u16,
-    /// Index of the record.
-    pub index: u16,
-    /// RecordDataLength, in octets.
-    pub record_data_length: u32,
+    /// Which record, in which call.
+    pub header: RecordHeader,
     /// AdditionalValue1.
     pub additional_value_1: u16,
     /// AdditionalValue2.
@@ -100,14 +71,7 @@ pub struct IodReadRes {
 macro_rules! iod_read_res_fields {
     ($with:ident $args:tt) => {
         $with! { $args IodReadRes {
-            seq_number: u16,
-            ar_uuid: uuid,
-            api: u32,
-            slot_number: u16,
-            subslot_number: u16,
-            _: blank 2,
-            index: u16,
-            record_data_length: u32,
+            header: (record_header_at, put_record_header, record_header_len),
             additional_value_1: u16,
             additional_value_2: u16,
             _: blank 20,
@@ -120,7 +84,7 @@ macro_rules! iod_read_res_fields {
 pub fn iod_read_res_at(bytes: &[u8]) -> Result<IodReadRes, BlockFault>
     ensures { Gives (λ x. x) result ((body iod_read_res).read bytes.now) }
 {
-    iod_read_res_fields!(read_body[bytes])
+    iod_read_res_fields!(read_headed[bytes])
 }
 
 /// Appends the fields of an IODReadResHeader. There must be room.

@@ -5,39 +5,22 @@ ghost use Rattle.wire.specs.Codec.{Gives};
 ghost use Rattle.block_fields.specs.Fields.{body};
 ghost use Rattle.record_blocks.specs.WriteRecord.{iod_write_req, iod_write_res};
 
+use crate::RecordHeader;
+use crate::record_header::{put_record_header, read_headed, record_header_at, record_header_len};
 use arrayvec::ArrayVec;
-use block_fields::{BlockFault, Uuid, len_fields, put_fields, read_body};
+use block_fields::{BlockFault, len_fields, put_fields, read_fields, version_at};
 
 /// 0x0008: IODWriteReqHeader (IEC 61158-6-10, 5.2.3): behind it comes the record.
 #[derive(Clone, Copy)]
 pub struct IodWriteReq {
-    /// SeqNumber, which counts the calls.
-    pub seq_number: u16,
-    /// ARUUID.
-    pub ar_uuid: Uuid,
-    /// API.
-    pub api: u32,
-    /// SlotNumber.
-    pub slot_number: u16,
-    /// SubslotNumber.
-    pub subslot_number: u16,
-    /// Index of the record.
-    pub index: u16,
-    /// RecordDataLength, in octets.
-    pub record_data_length: u32,
+    /// Which record, in which call.
+    pub header: RecordHeader,
 }
 
 macro_rules! iod_write_req_fields {
     ($with:ident $args:tt) => {
         $with! { $args IodWriteReq {
-            seq_number: u16,
-            ar_uuid: uuid,
-            api: u32,
-            slot_number: u16,
-            subslot_number: u16,
-            _: blank 2,
-            index: u16,
-            record_data_length: u32,
+            header: (record_header_at, put_record_header, record_header_len),
             _: blank 24,
         } }
     };
@@ -48,7 +31,7 @@ macro_rules! iod_write_req_fields {
 pub fn iod_write_req_at(bytes: &[u8]) -> Result<IodWriteReq, BlockFault>
     ensures { Gives (λ x. x) result ((body iod_write_req).read bytes.now) }
 {
-    iod_write_req_fields!(read_body[bytes])
+    iod_write_req_fields!(read_headed[bytes])
 }
 
 /// Appends the fields of an IODWriteReqHeader. There must be room.
@@ -74,20 +57,8 @@ pub fn iod_write_req_len(value: &IodWriteReq) -> usize
 /// 0x8008: IODWriteResHeader (IEC 61158-6-10, 5.2.3).
 #[derive(Clone, Copy)]
 pub struct IodWriteRes {
-    /// SeqNumber, which counts the calls.
-    pub seq_number: u16,
-    /// ARUUID.
-    pub ar_uuid: Uuid,
-    /// API.
-    pub api: u32,
-    /// SlotNumber.
-    pub slot_number: u16,
-    /// SubslotNumber.
-    pub subslot_number: u16,
-    /// Index of the record.
-    pub index: u16,
-    /// RecordDataLength, in octets.
-    pub record_data_length: u32,
+    /// Which record, in which call.
+    pub header: RecordHeader,
     /// AdditionalValue1.
     pub additional_value_1: u16,
     /// AdditionalValue2.
@@ -99,14 +70,7 @@ pub struct IodWriteRes {
 macro_rules! iod_write_res_fields {
     ($with:ident $args:tt) => {
         $with! { $args IodWriteRes {
-            seq_number: u16,
-            ar_uuid: uuid,
-            api: u32,
-            slot_number: u16,
-            subslot_number: u16,
-            _: blank 2,
-            index: u16,
-            record_data_length: u32,
+            header: (record_header_at, put_record_header, record_header_len),
             additional_value_1: u16,
             additional_value_2: u16,
             pnio_status: u32,
@@ -120,7 +84,7 @@ macro_rules! iod_write_res_fields {
 pub fn iod_write_res_at(bytes: &[u8]) -> Result<IodWriteRes, BlockFault>
     ensures { Gives (λ x. x) result ((body iod_write_res).read bytes.now) }
 {
-    iod_write_res_fields!(read_body[bytes])
+    iod_write_res_fields!(read_headed[bytes])
 }
 
 /// Appends the fields of an IODWriteResHeader. There must be room.

@@ -8,20 +8,14 @@ use Rattle.record_blocks.specs.declared.read_record.IodReadRes.{IodReadRes}
 -- the IODReadResHeader that answers a request, in front of so many octets
 abbrev pub header_of : IodReadReq → ℕ → IodReadRes
 header_of request size = record {
-  seq_number = request.seq_number;
-  ar_uuid = request.ar_uuid;
-  api = request.api;
-  slot_number = request.slot_number;
-  subslot_number = request.subslot_number;
-  index = request.index;
-  record_data_length = size;
+  header = record request.header { record_data_length = size };
   additional_value_1 = 0;
   additional_value_2 = 0;
 }
 
 -- as much of a record as is asked for
 abbrev pub cut_to : IodReadReq → List ℕ → List ℕ
-cut_to request octets = take request.record_data_length octets
+cut_to request octets = take request.header.record_data_length octets
 
 -- the answer with this record: the header that counts what is sent, and what is sent
 unfoldable pub answer_of : IodReadReq → List ℕ → List ℕ

@@ -11,4 +11,4 @@ use Rattle.record_reads.specs.Judged.{request_of, read_of}
 -- the blocks that answer a call, or why it is refused; ARUUID is not looked at
 unfoldable pub implicit_read : Identity → Real → Settings → List ℕ → Result (List ℕ) CallFault
 implicit_read identity real settings blocks =
-    request_of blocks >>= λ request. read_of real request (record_of request.index request.slot_number request.subslot_number identity real settings)
+    request_of blocks >>= λ request. read_of real request (record_of request.header.index request.header.slot_number request.header.subslot_number identity real settings)

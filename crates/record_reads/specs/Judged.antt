@@ -34,11 +34,11 @@ has_parameter real slot subslot index = is_some (parameter_length real.modules.i
 -- the record: that there is one of this index at its place, and then that it can be read
 abbrev pub found : Real → IodReadReq → Option (List ℕ) → Result (List ℕ) CallFault
 found real request readable = judged
-    ((not (is_some readable || has_parameter real request.slot_number request.subslot_number request.index), fault.Index)
+    ((not (is_some readable || has_parameter real request.header.slot_number request.header.subslot_number request.header.index), fault.Index)
     ∷ [])
     (or_fault fault.Access readable)
 
 -- the answer to a request of what is, or is not, a readable record
 unfoldable pub read_of : Real → IodReadReq → Option (List ℕ) → Result (List ℕ) CallFault
-read_of real request readable = placed real request.api request.slot_number request.subslot_number request.index
+read_of real request readable = placed real request.header.api request.header.slot_number request.header.subslot_number request.header.index
     >>= λ _. found real request readable >>= λ octets. Ok (answer_of request octets)

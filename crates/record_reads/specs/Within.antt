@@ -15,12 +15,12 @@ use Rattle.record_reads.specs.Judged.{request_of, read_of}
 -- reads the others
 abbrev pub record_within : List ℕ → IodReadReq → Identity → Real → Settings → Option (List ℕ)
 record_within differing request identity real settings =
-    if is_module_diff (record_with request.index) then Some differing
-    else record_of request.index request.slot_number request.subslot_number identity real settings
+    if is_module_diff (record_with request.header.index) then Some differing
+    else record_of request.header.index request.header.slot_number request.header.subslot_number identity real settings
 
 -- the IODReadReqHeader that a call consists of while this relation stands: ARUUID is judged right behind the block
 unfoldable pub request_within : Option (List ℕ) → List ℕ → Result IodReadReq CallFault
-request_within standing blocks = request_of blocks >>= λ request. in_relation standing request.ar_uuid >>= λ _. Ok request
+request_within standing blocks = request_of blocks >>= λ request. in_relation standing request.header.ar_uuid >>= λ _. Ok request
 
 -- the blocks that answer a call while this relation stands, or why it is refused
 unfoldable pub relation_read : Option (List ℕ) → List ℕ → Identity → Real → Settings → List ℕ → Result (List ℕ) CallFault
@@ -29,7 +29,7 @@ relation_read standing differing identity real settings blocks =
 
 -- whether the IODReadReqHeader of a call names the relation that stands
 abbrev pub is_named : Option (List ℕ) → Result IodReadReq CallFault → Bool
-is_named standing (Ok request) = is_relation standing request.ar_uuid
+is_named standing (Ok request) = is_relation standing request.header.ar_uuid
 is_named standing (Err _) = false
 
 -- the same of the octets of a Read

@@ -4,7 +4,7 @@ ghost use Rattle.arrayvec.specs.ArrayVec.{array_vec_len};
 ghost use Rattle.record_reads.specs.Answer.{answer_of};
 
 use arrayvec::ArrayVec;
-use block_codec::{Block, IodReadReq, IodReadRes, write_block};
+use block_codec::{Block, IodReadReq, IodReadRes, RecordHeader, write_block};
 use record_blocks::iod_read_res_len;
 use wire::append;
 
@@ -18,7 +18,7 @@ fn cut_to(octets: &[u8], most: u32) -> &[u8]
 
 /// Appends the IODReadResHeader that answers a request, of 64 octets, and behind it the octets of the record, cut to the
 /// RecordDataLength that the request asks for. There must be room for the whole record.
-#[tactic(auto, unfolding(crate::specs::Answer::answer_of, block_codec::specs::Block::block_size, block_codec::specs::Block::fields_of, block_fields::specs::Fields::body, block_fields::specs::Fields::version, record_blocks::specs::ReadRecord::iod_read_res))]
+#[tactic(auto, unfolding(crate::specs::Answer::answer_of, block_codec::specs::Block::block_size, block_codec::specs::Block::fields_of, block_fields::specs::Fields::body, block_fields::specs::Fields::version, record_blocks::specs::RecordHeader::record_header, record_blocks::specs::ReadRecord::iod_read_res))]
 pub fn put_read_answer<const N: usize>(
     answer: &mut ArrayVec<u8, N>,
     request: &IodReadReq,
@@ -28,15 +28,12 @@ pub fn put_read_answer<const N: usize>(
     ensures { answer.new.items ≡ answer.old.items ++ answer_of request.now octets.now }
 {
     // A reader says how much it has room for, and gets so much of the record.
-    let sent = cut_to(octets, request.record_data_length);
+    let sent = cut_to(octets, request.header.record_data_length);
     let header = IodReadRes {
-        seq_number: request.seq_number,
-        ar_uuid: request.ar_uuid,
-        api: request.api,
-        slot_number: request.slot_number,
-        subslot_number: request.subslot_number,
-        index: request.index,
-        record_data_length: sent.len() as u32,
+        header: RecordHeader {
+            record_data_length: sent.len() as u32,
+            ..request.header
+        },
         additional_value_1: 0,
         additional_value_2: 0,
     };

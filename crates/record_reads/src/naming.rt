@@ -14,7 +14,7 @@ pub fn names_relation(standing: Option<&Uuid>, blocks: &[u8]) -> bool
     ensures { result ≡ names_relation (option_map (λ uuid. uuid.now) standing.entry) blocks.now }
 {
     match read_request(blocks) {
-        Ok(request) => is_relation(standing, &request.ar_uuid),
+        Ok(request) => is_relation(standing, &request.header.ar_uuid),
         Err(_fault) => false,
     }
 }

@@ -26,14 +26,18 @@ pub(crate) fn serve(
 ) -> Result<(), CallFault>
     requires empty { answer.old.items ≡ [] }
     ensures done { IfOk result (λ _. read_of real.now request.now
-        (record_of request.now.index request.now.slot_number request.now.subslot_number identity.now real.now settings.now)
+        (record_of request.now.header.index request.now.header.slot_number request.now.header.subslot_number identity.now real.now settings.now)
         ≡ Ok answer.new.items) }
     ensures refused { IfErr result (λ fault. (read_of real.now request.now
-        (record_of request.now.index request.now.slot_number request.now.subslot_number identity.now real.now settings.now) ≡ Err fault)
+        (record_of request.now.header.index request.now.header.slot_number request.now.header.subslot_number identity.now real.now settings.now) ≡ Err fault)
         × (answer.new.items ≡ [])) }
 {
-    let (slot, subslot, index) = (request.slot_number, request.subslot_number, request.index);
-    check_place(real, request.api, slot, subslot, index)?;
+    let (slot, subslot, index) = (
+        request.header.slot_number,
+        request.header.subslot_number,
+        request.header.index,
+    );
+    check_place(real, request.header.api, slot, subslot, index)?;
     match read_record(index, slot, subslot, identity, real, settings) {
         Some(record) => {
             put_read_answer(answer, request, record.as_slice());

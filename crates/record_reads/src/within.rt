@@ -47,7 +47,7 @@ fn request_within(standing: Option<&Uuid>, blocks: &[u8]) -> Result<IodReadReq, 
 {
     let request = read_request(blocks)?;
     // Before the place: a stranger is told that he has no relation, and not what is plugged.
-    check_relation(standing, &request.ar_uuid)?;
+    check_relation(standing, &request.header.ar_uuid)?;
     Ok(request)
 }
 
@@ -69,15 +69,15 @@ fn serve_within(
     ensures refused { IfErr result (λ fault. (read_of real.now request.now
         (record_within differing.now request.now identity.now real.now settings.now) ≡ Err fault) × (answer.new.items ≡ [])) }
 {
-    if !is_module_diff(request.index) {
+    if !is_module_diff(request.header.index) {
         return serve(identity, real, settings, request, answer);
     }
     check_place(
         real,
-        request.api,
-        request.slot_number,
-        request.subslot_number,
-        request.index,
+        request.header.api,
+        request.header.slot_number,
+        request.header.subslot_number,
+        request.header.index,
     )?;
     put_read_answer(answer, request, differing);
     Ok(())

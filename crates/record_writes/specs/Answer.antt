@@ -8,13 +8,7 @@ use Rattle.record_blocks.specs.declared.write_record.IodWriteRes.{IodWriteRes}
 -- the IODWriteResHeader that answers a request which is done
 abbrev pub header_of : IodWriteReq → IodWriteRes
 header_of request = record {
-  seq_number = request.seq_number;
-  ar_uuid = request.ar_uuid;
-  api = request.api;
-  slot_number = request.slot_number;
-  subslot_number = request.subslot_number;
-  index = request.index;
-  record_data_length = request.record_data_length;
+  header = request.header;
   additional_value_1 = 0;
   additional_value_2 = 0;
   pnio_status = 0;

@@ -27,9 +27,9 @@ use Rattle.record_writes.specs.declared.write.Write.{Write}
 
 -- whether there is a record of the index of a request at its slot and subslot, where a submodule is plugged in
 abbrev pub is_known : Real → IodWriteReq → Bool
-is_known real request = is_read_only (record_with request.index)
-    || is_writable request.index request.slot_number request.subslot_number
-    || has_parameter real request.slot_number request.subslot_number request.index
+is_known real request = is_read_only (record_with request.header.index)
+    || is_writable request.header.index request.header.slot_number request.header.subslot_number
+    || has_parameter real request.header.slot_number request.header.subslot_number request.header.index
 
 -- the I&M text that a record is, if it is whole
 abbrev pub text_in : Result Command RecordFault → Option Effect
@@ -47,11 +47,11 @@ is_length None count = false
 -- the parameter record that is kept, if it is as long as the submodule takes it
 abbrev pub kept : Real → IodWriteReq → List ℕ → Option Effect
 kept real request octets =
-    if is_length (parameter_length real.modules.items request.slot_number request.subslot_number request.index) (length octets)
+    if is_length (parameter_length real.modules.items request.header.slot_number request.header.subslot_number request.header.index) (length octets)
     then Some (Keeps (record {
-      slot = request.slot_number;
-      subslot = request.subslot_number;
-      index = request.index;
+      slot = request.header.slot_number;
+      subslot = request.header.subslot_number;
+      index = request.header.index;
       value = record { items = octets };
     }))
     else None
@@ -59,7 +59,7 @@ kept real request octets =
 -- what a request asks for whose record is these octets, if they are a whole one
 abbrev pub effect_of : Real → IodWriteReq → List ℕ → Option Effect
 effect_of real request octets =
-    if is_writable request.index request.slot_number request.subslot_number then stored request.index octets else kept real request octets
+    if is_writable request.header.index request.header.slot_number request.header.subslot_number then stored request.header.index octets else kept real request octets
 
 -- ---- in which order it is judged
 
@@ -68,15 +68,15 @@ effect_of real request octets =
 unfoldable pub written : Real → IodWriteReq → List ℕ → Result Effect CallFault
 written real request behind = judged
     ((not (is_known real request), fault.Index)
-    ∷ (is_read_only (record_with request.index), fault.Access)
-    ∷ (nat_lt (length behind) request.record_data_length, fault.WriteLength)
+    ∷ (is_read_only (record_with request.header.index), fault.Access)
+    ∷ (nat_lt (length behind) request.header.record_data_length, fault.WriteLength)
     ∷ [])
-    (or_fault fault.WriteLength (effect_of real request (take request.record_data_length behind)))
+    (or_fault fault.WriteLength (effect_of real request (take request.header.record_data_length behind)))
 
 -- what a request is for: the relation, and then the place
 unfoldable pub targeted : Option (List ℕ) → Real → IodWriteReq → Result (Unit {0}) CallFault
-targeted standing real request = in_relation standing request.ar_uuid
-    >>= λ _. placed real request.api request.slot_number request.subslot_number request.index
+targeted standing real request = in_relation standing request.header.ar_uuid
+    >>= λ _. placed real request.header.api request.header.slot_number request.header.subslot_number request.header.index
 
 -- a request, with these octets behind its header
 unfoldable pub judged_request : Option (List ℕ) → Real → IodWriteReq → List ℕ → Result Write CallFault

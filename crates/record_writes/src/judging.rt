@@ -56,13 +56,13 @@ fn check_target(
 ) -> Result<(), CallFault>
     ensures { result ≡ targeted (option_map (λ uuid. uuid.now) standing.entry) real.now request.now }
 {
-    check_relation(standing, &request.ar_uuid)?;
+    check_relation(standing, &request.header.ar_uuid)?;
     check_place(
         real,
-        request.api,
-        request.slot_number,
-        request.subslot_number,
-        request.index,
+        request.header.api,
+        request.header.slot_number,
+        request.header.subslot_number,
+        request.header.index,
     )
 }
 
@@ -71,11 +71,11 @@ fn check_target(
 fn check_record(real: &Real, request: &IodWriteReq, behind: &[u8]) -> Result<Effect, CallFault>
     ensures { result ≡ written real.now request.now behind.now }
 {
-    let size = request.record_data_length as usize;
+    let size = request.header.record_data_length as usize;
     if !is_known(real, request) {
         return Err(CallFault::Index);
     }
-    if is_read_only(request.index) {
+    if is_read_only(request.header.index) {
         return Err(CallFault::Access);
     }
     // Judged behind index and access, so that a wrong record is told as such even where its octets are missing.
@@ -92,7 +92,11 @@ fn check_record(real: &Real, request: &IodWriteReq, behind: &[u8]) -> Result<Eff
 fn is_known(real: &Real, request: &IodWriteReq) -> bool
     ensures { result ≡ is_known real.now request.now }
 {
-    let (slot, subslot, index) = (request.slot_number, request.subslot_number, request.index);
+    let (slot, subslot, index) = (
+        request.header.slot_number,
+        request.header.subslot_number,
+        request.header.index,
+    );
     is_read_only(index)
         || is_writable(index, slot, subslot)
         || parameter_length(real, slot, subslot, index).is_some()
@@ -102,8 +106,9 @@ fn is_known(real: &Real, request: &IodWriteReq) -> bool
 fn effect_of(real: &Real, request: &IodWriteReq, octets: &[u8]) -> Option<Effect>
     ensures { result ≡ effect_of real.now request.now octets.now }
 {
-    if is_writable(request.index, request.slot_number, request.subslot_number) {
-        stored(request.index, octets)
+    let header = &request.header;
+    if is_writable(header.index, header.slot_number, header.subslot_number) {
+        stored(request.header.index, octets)
     } else {
         kept(real, request, octets)
     }
@@ -123,7 +128,11 @@ fn stored(index: u16, octets: &[u8]) -> Option<Effect>
 fn kept(real: &Real, request: &IodWriteReq, octets: &[u8]) -> Option<Effect>
     ensures { result ≡ kept real.now request.now octets.now }
 {
-    let (slot, subslot, index) = (request.slot_number, request.subslot_number, request.index);
+    let (slot, subslot, index) = (
+        request.header.slot_number,
+        request.header.subslot_number,
+        request.header.index,
+    );
     let length = parameter_length(real, slot, subslot, index)?;
     if octets.len() != length as usize {
         return None;

@@ -5,17 +5,17 @@ use Rattle.device_core.specs.State.{State, store_of}
 use Rattle.device_frames.specs.Heard.{heard_of}
 use Rattle.device_frames.specs.declared.event.Event.{Event}
 use Rattle.settings_store.specs.Carries.{OneByOne, Holds}
-use Rattle.recorded_flash.specs.Record.{image_of, record_of, IsAsked}
-use Rattle.recorded_flash.specs.Laws.{failures_of, IsImage-of}
+use Rattle.recorded_flash.specs.Record.{image_of, record_of}
+use Rattle.recorded_flash.specs.Laws.{IsImage-of}
 use Rattle.recorded_flash.specs.declared.flash.RecordedFlash.{RecordedFlash}
 use Rattle.recorded_device.specs.Recorded.{Records}
 use Rattle.recorded_device.proofs.Asked.{few_items}
 use Rattle.recorded_device.proofs.Few.{few_of_commands, few_of_items}
 use Rattle.recorded_device.proofs.Legal.{are_legal}
-use Rattle.recorded_device.proofs.Placed.{items_calls, last_calls}
+use Rattle.recorded_device.proofs.Placed.{as_recorded, items_calls, last_calls}
 
 pub step_records : {S : ℕ} (old new : State (RecordedFlash S)) (event : Event) → Holds (image_of old.flash) old.live.values → old.live.values.has_failed ≡ false
-    → OneByOne image_of failures_of IsAsked [] (store_of old) (items_of old.station old.live (heard_of old.station.identity event)) (store_of new) → Records old (step_of [] old.station old.live event).accepted new
+    → OneByOne as_recorded [] (store_of old) (items_of old.station old.live (heard_of old.station.identity event)) (store_of new) → Records old (step_of [] old.station old.live event).accepted new
 unfolding heard_step judged_step
 step_records old new event holds going placed =
     let all = items_calls (store_of old) (store_of new) (items_of old.station old.live (heard_of old.station.identity event)) placed going holds in

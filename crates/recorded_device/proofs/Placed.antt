@@ -8,16 +8,20 @@ use Rattle.pn_values.specs.declared.command.Command.{Command}
 use Rattle.pn_values.specs.declared.set_item.SetItem.{SetItem}
 use Rattle.pn_values.specs.declared.set_item.SetItem.TheVariants.{Ask, Signal, Answer}
 use Rattle.flash_model.specs.Calls.{Call}
-use Rattle.flash_model.specs.Image.{Image}
+use Rattle.flash_model.specs.declared.flash.Flash.{Ghosts as Flash}
 use Rattle.settings_journal.specs.Cut.{AreWrites, all_carried_out, carried_out}
 use Rattle.settings_journal.specs.Image.{LeftByDevice}
 use Rattle.settings_store.specs.State.{State, Values}
 use Rattle.settings_store.specs.Machine.{Outcome, Pass, Accepted, Carried, answered, accepted, carried_one, carried}
 use Rattle.settings_store.specs.Carries.{OneByOne, CarriesOne, Holds}
 use Rattle.recorded_flash.specs.Record.{Record, image_of, record_of, pushed, after_one, after_all, IsAsked}
-use Rattle.recorded_flash.specs.Laws.{failures_of, after_all-append}
+use Rattle.recorded_flash.specs.Laws.{failures_of, has_power, IsAlways, after_all-append}
 use Rattle.recorded_flash.specs.declared.flash.RecordedFlash.{RecordedFlash}
 use Rattle.recorded_device.specs.Calls.{CallsOf}
+
+-- a recorded flash as a flash
+abbrev pub as_recorded : {S : ℕ} → Flash (RecordedFlash S) S
+as_recorded = record { image = image_of; failures = failures_of; is_lost = has_power; is_reliable = IsAlways; asked = IsAsked }
 
 -- ---- one item, with no call failing
 
@@ -90,7 +94,7 @@ module _ {S : ℕ} where
       subst (λ l. ItemsCalls old (l ++ (carried [] (carried_one Pass old.values item).values items).accepted) new) (sym none) by_values
 
   -- it accepted a command
-  behind_command : (old between new : State (RecordedFlash S)) (command : Command) (items : List SetItem) (outcome : Outcome) (item : SetItem) → CarriesOne image_of failures_of IsAsked outcome old item between
+  behind_command : (old between new : State (RecordedFlash S)) (command : Command) (items : List SetItem) (outcome : Outcome) (item : SetItem) → CarriesOne as_recorded outcome old item between
       → (carried_one outcome old.values item).accepted ≡ record { command = command; is_done = true } ∷ [] → between.values ≡ (accepted Pass old.values command).values
       → ItemsCalls between (carried [] between.values items).accepted new → ItemsCalls old (record { command = command; is_done = true } ∷ (carried [] between.values items).accepted) new
   behind_command old between new command items outcome item one is values rest =
@@ -113,7 +117,7 @@ module _ {S : ℕ} where
         asked = λ are. rest.asked rest.writes ∙ ap (λ r. after_all r rest.calls) after ∙ sym (after_all-append (record_of old.flash) commit rest.calls);
       }
 
-  pub items_calls : (old new : State (RecordedFlash S)) (items : List SetItem) → OneByOne image_of failures_of IsAsked [] old items new → old.values.has_failed ≡ false → Holds (image_of old.flash) old.values
+  pub items_calls : (old new : State (RecordedFlash S)) (items : List SetItem) → OneByOne as_recorded [] old items new → old.values.has_failed ≡ false → Holds (image_of old.flash) old.values
       → ItemsCalls old (carried [] old.values items).accepted new
   items_calls old new [] placed going holds =
       record { calls = []; of_commands = (refl, holds going); writes = tt; asked = λ are. ap (λ s. record_of s.flash) placed }

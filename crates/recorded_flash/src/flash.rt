@@ -1,7 +1,8 @@
 // A flash in memory, whose calls are recorded.
-ghost use Rattle.std.specs.Prelude.{◌≡◌, ◌+◌, ◌-◌, ◌^◌, ◌<◌, ◌≤◌, ◌↔◌, Option, None, Some, true, false, [], ◌∷◌, ℕ, length, map, slice_range, IsOk};
+ghost use Rattle.std.specs.Prelude.{◌≡◌, ◌≢◌, ◌+◌, ◌-◌, ◌^◌, ◌<◌, ◌≤◌, ◌↔◌, Option, None, Some, true, false, [], ◌∷◌, ℕ, length, map, slice_range, IsOk};
 ghost use Rattle.std.specs.Prelude.{OnOk, OnErr};
 ghost use Rattle.std.proofs.Props.{props};
+ghost use Rattle.flash_model.specs.Calls.{Programs, Arms};
 ghost use Rattle.flash_model.specs.Image.{IsSectorSize, sector_of, with_sector, programmed, erased};
 ghost use Rattle.flash_model.specs.Memory.{IsReliable};
 ghost use Rattle.flash_model.specs.Torn.{Torn, HasCause, StaysLost};
@@ -45,9 +46,10 @@ impl<const S: usize> RecordedFlash<S> {
         self.memory.sector(sector)
     }
 
-    /// Puts bytes into a sector, as many as it has, and records nothing.
+    /// Puts bytes into a sector, as many as it has, and records nothing. Where they are more or fewer nothing changes.
     pub fn put_sector(&mut self, sector: Sector, bytes: &[u8])
-        ensures { length bytes.now ≡ S → record_of self.new ≡ filled S (record_of self.old) sector bytes.now }
+        ensures put { length bytes.now ≡ S → record_of self.new ≡ filled S (record_of self.old) sector bytes.now }
+        ensures kept { length bytes.now ≢ S → record_of self.new ≡ record_of self.old }
     {
         if bytes.len() == S {
             let _ = self.memory.erase(sector);
@@ -84,7 +86,7 @@ impl<const S: usize> RecordedFlash<S> {
 }
 
 impl<const S: usize> Flash<S> for RecordedFlash<S> {
-    ghost use Rattle.recorded_flash.specs.Record.{image_of, IsAsked};
+    ghost use Rattle.recorded_flash.specs.Record.{image_of, record_of, IsAsked};
     ghost use Rattle.recorded_flash.specs.Laws.{failures_of, has_power, IsAlways, IsImage-of, IsSectorSize-of, has_power-of};
     ghost use Rattle.recorded_flash.specs.Laws.{asked_nothing-of, asked_more-of};
 
@@ -103,8 +105,23 @@ impl<const S: usize> Flash<S> for RecordedFlash<S> {
         self.memory.read(sector, place, buffer)
     }
 
-    /// Turns to 0 each bit that is 0 in `bytes`, from `place` on, and records the call.
-    fn program(&mut self, sector: Sector, place: usize, bytes: &[u8]) -> Result<(), FlashFault> {
+    /// Turns to 0 each bit that is 0 in `bytes`, from `place` on, and records the call, unless it has more than 437 bytes.
+    fn program(&mut self, sector: Sector, place: usize, bytes: &[u8]) -> Result<(), FlashFault>
+        requires { place + length bytes.now ≤ S }
+
+        // What the trait asks.
+        ensures done { OnOk result (image_of self.new
+            ≡ with_sector (image_of self.old) sector (programmed (sector_of (image_of self.old) sector) place bytes.now)) }
+        ensures torn { OnErr result (Torn sector place (place + length bytes.now)
+            (programmed (sector_of (image_of self.old) sector) place bytes.now) (image_of self.old) (image_of self.new)) }
+        ensures calls { IsAsked self.old (Programs sector place bytes.now ∷ []) self.new }
+        ensures cause { HasCause (failures_of self.old) (failures_of self.new) result }
+        ensures lost { StaysLost (has_power self.old) (has_power self.new) result }
+        ensures reliable { IsAlways self.old → IsOk result × IsAlways self.new }
+
+        // A call that has no room is not recorded, and no other one is lost by it.
+        ensures unrecorded { 437 < length bytes.now → record_of self.new ≡ record (record_of self.old) { image = image_of self.new } }
+    {
         self.memory.program(sector, place, bytes)?;
         if let Some(call) = entry_of(sector, place as u32, bytes) {
             self.push(call);
@@ -127,8 +144,17 @@ impl<const S: usize> Flash<S> for RecordedFlash<S> {
         false
     }
 
-    /// Nothing is armed.
-    fn arm(&mut self, order: Order) {
+    /// Nothing is armed, and nothing recorded.
+    fn arm(&mut self, order: Order)
+        // What the trait asks.
+        ensures image { image_of self.new ≡ image_of self.old }
+        ensures failures { failures_of self.new ≡ failures_of self.old }
+        ensures lost { has_power self.new ≡ has_power self.old }
+        ensures calls { IsAsked self.old (Arms order ∷ []) self.new }
+
+        // An order is no call that a host carries out.
+        ensures unrecorded { record_of self.new ≡ record_of self.old }
+    {
         let _ = order;
     }
 

@@ -95,6 +95,10 @@ due_behind elapsed link = record {
 abbrev pub brings_nothing : Elapsed → Bool
 brings_nothing elapsed = is_none elapsed.tick.ending && (not elapsed.tick.is_alarm && (not elapsed.is_ready && not elapsed.tick.is_cyclic))
 
+-- whether inputs are to be sent, and nothing else
+abbrev pub brings_inputs : Elapsed → Bool
+brings_inputs elapsed = is_none elapsed.tick.ending && (not elapsed.tick.is_alarm && (not elapsed.is_ready && elapsed.tick.is_cyclic))
+
 -- the relation once it has ended for this reason, if it is to end
 abbrev pub left_behind : Option Abort → Option Link → Option Link
 left_behind (Some reason) link = None

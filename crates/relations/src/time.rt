@@ -6,7 +6,7 @@ ghost use Rattle.pn_alarms.specs.declared.abort.Abort.TheVariants.{Activity, Dat
 ghost use Rattle.relations.specs.declared.phase.Phase.TheVariants.{Exchanging};
 ghost use Rattle.relations.specs.Farewells.{farewell_of};
 ghost use Rattle.relations.specs.Link.{Link, is_awaiting, phase_of, taken_of};
-ghost use Rattle.relations.specs.Timers.{EndsIn, brings_nothing, due_behind, due_of, farewell_for, is_timed, is_unheard, left_behind};
+ghost use Rattle.relations.specs.Timers.{EndsIn, brings_inputs, brings_nothing, due_behind, due_of, farewell_for, is_timed, is_unheard, left_behind};
 ghost use Rattle.relations.specs.Timers.{nothing};
 ghost use Rattle.relations.specs.Phases.{moved, passing};
 ghost use Rattle.relations.specs.Ready.{ready_of};
@@ -21,8 +21,8 @@ const TENTH_OF_A_SECOND: u32 = 3_200;
 /// One second, in units of 31.25 microseconds: after so long ApplicationReady is sent again.
 const SECOND: u32 = 32_000;
 
-/// What a unit of time brings, before it is sent: few bits, so that most units, which bring nothing, cost little.
-#[derive(Clone, Copy, Debug, PartialEq, Eq)]
+/// What a unit of time brings, before it is sent.
+#[derive(Drop)]
 pub struct Elapsed {
     /// What it brings to the exchange: the alarm that stands is sent again, a frame of inputs is sent. Or the relation is to end, for the
     /// activity timer's sake too, and nothing else is sent.
@@ -39,21 +39,27 @@ impl Elapsed {
         ensures nothing { (link : Option Link) → result ≡ true → due_behind self.now link ≡ nothing }
         ensures left { (link : Option Link) → result ≡ true → left_behind self.now.tick.ending link ≡ link }
     {
-        let tick = &self.tick;
-        tick.ending.is_none() && !tick.is_alarm && !self.is_ready && !tick.is_cyclic
+        // In an exchange ApplicationReady is never due, which is known first.
+        !self.is_ready && self.tick.is_nothing()
     }
 
-    /// There is no relation, or a timeout is over.
+    /// Whether inputs are to be sent, and nothing else.
     #[inline(always)]
-    fn ending(ending: Option<Abort>) -> Elapsed
-        ensures { result ≡ record { tick = record { ending = ending; is_alarm = false; is_cyclic = false }; is_ready = false } }
+    pub fn is_inputs(&self) -> bool
+        ensures value { result ≡ brings_inputs self.now }
+        ensures due { (link : Option Link) → result ≡ true → due_behind self.now link ≡ record nothing { is_cyclic = true } }
+        ensures left { (link : Option Link) → result ≡ true → left_behind self.now.tick.ending link ≡ link }
+    {
+        !self.is_ready && self.tick.is_cyclic_alone()
+    }
+
+    /// What the exchange brings, and nothing else.
+    #[inline(always)]
+    fn of(tick: Tick) -> Elapsed
+        ensures { result ≡ record { tick = tick; is_ready = false } }
     {
         Elapsed {
-            tick: Tick {
-                ending,
-                is_alarm: false,
-                is_cyclic: false,
-            },
+            tick,
             is_ready: false,
         }
     }
@@ -100,25 +106,19 @@ impl Relation {
         ensures same { (old new : Link) → self.old ≡ Some old → self.new ≡ Some new → ready_of new ≡ ready_of old }
     {
         let Some(phase) = self.phase else {
-            return Elapsed::ending(None);
+            return Elapsed::of(Tick::nothing());
         };
         // In each phase: inputs are sent from the answer to the Connect on.
         let tick = self.exchange.tick();
-        let ending = if is_timed(phase) {
-            let limit = u32::from(self.request.ar().timeout_factor) * TENTH_OF_A_SECOND;
-            unit_quiet(&mut self.quiet, limit)
-        } else {
-            tick.ending
-        };
-        if ending.is_some() {
-            return Elapsed::ending(ending);
+        if !is_timed(phase) {
+            return Elapsed::of(tick);
+        }
+        let limit = u32::from(self.request.ar().timeout_factor) * TENTH_OF_A_SECOND;
+        if let Some(reason) = unit_quiet(&mut self.quiet, limit) {
+            return Elapsed::of(Tick::ends(reason));
         }
         Elapsed {
-            tick: Tick {
-                ending: None,
-                is_alarm: tick.is_alarm,
-                is_cyclic: tick.is_cyclic,
-            },
+            tick: tick.without_end(),
             is_ready: is_awaiting(phase) && unit_waited(&mut self.waited),
         }
     }

@@ -1,10 +1,17 @@
 -- Hex digits, read and written in place.
-use Rattle.std.proofs.Common.{◌≡◌, ℕ, zero, suc, ◌+◌, ◌-◌, ◌*◌, ◌<◌, ◌≤◌, ◌==◌, ◌&&◌, nat_lt, Bool, true, List, length, take, drop, slice_index, slice_set, max, if◌then◌else◌, Some, None, Ok, Err, IsErr, inl, inr, refl, arith, ap, sym, ◌∙◌}
+use Rattle.std.proofs.Common.{◌≡◌, ℕ, zero, suc, ◌+◌, ◌-◌, ◌*◌, ◌/◌, ◌%◌, ◌<◌, ◌==◌, ◌&&◌, nat_lt, Bool, true, false, List, length, take, drop, slice_index, slice_index_or, if◌then◌else◌, Option, Some, None, is_some, Result, Ok, Err, IsErr, inl, inr, refl, arith, ap, sym, ◌∙◌}
 use Rattle.std.proofs.lemmas.Bool.{and_parts, cases_lt, eqb-true}
 use Rattle.std.proofs.lemmas.Bool.Decides.{nat_tests}
-use Rattle.hex.specs.Hex.{decode_of, decode_pairs, digit_or_error, hex_digit_value, lower_digits, pair_value, value_at}
-use Rattle.hex.specs.declared.error.FromHexError.TheVariants.{InvalidHexCharacter}
-use Rattle.hex.proofs.Pairs.{prepend, decode_step, decode_err}
+use Rattle.std.proofs.lemmas.List.{drop-drop}
+use Rattle.std.proofs.lemmas.List.Elements.{All-get_or, All-more}
+use Rattle.std.specs.List.{AllPass}
+use Rattle.std.specs.Char.{is_ascii_hexdigit}
+use Rattle.std.specs.Int.{w16, from_le_bytes}
+use Rattle.std.specs.Simd.{first_chunks}
+use Rattle.hex.specs.Hex.{decode_of, digit_or_error, hex_digit_value, is_hex_digit, lower_digits, pair_value, value_at}
+use Rattle.hex.specs.declared.error.FromHexError.{FromHexError}
+use Rattle.hex.proofs.HexLemmas.{decode_of-ok}
+use Rattle.hex.proofs.Pairs.{drop-pair}
 use Rattle.script_lines.specs.Line.{bytes_of, if_decoded}
 
 -- digits that were decoded
@@ -14,60 +21,103 @@ bytes_decoded digits bytes some e =
     grind (arith, nat_tests)
 
 -- two digits that read
-pair_read : (first second i high low : ℕ) → hex_digit_value first ≡ Some high → hex_digit_value second ≡ Some low → pair_value first second i ≡ Ok (high * 16 + low)
+pub pair_read : (first second i high low : ℕ) → hex_digit_value first ≡ Some high → hex_digit_value second ≡ Some low → pair_value first second i ≡ Ok (high * 16 + low)
 pair_read first second i high low is_high is_low =
     let a : value_at first i ≡ Ok high = ap (digit_or_error first i) is_high in
     let b : value_at second (i + 1) ≡ Ok low = ap (digit_or_error second (i + 1)) is_low in
     rw (a, b) refl
 
--- the first of two is none
-first_bad : (first second i : ℕ) → hex_digit_value first ≡ None → pair_value first second i ≡ Err (InvalidHexCharacter first i)
-first_bad first second i none =
-    let a : value_at first i ≡ Err (InvalidHexCharacter first i) = ap (digit_or_error first i) none in
-    rw a refl
+-- Up to a place: whether the digits before it are hex digits.
+pub record AreTested (digits : List ℕ) (are : Bool) (place : ℕ) : Type 0 where
+  pub good : are ≡ true → AllPass is_hex_digit (take place digits)
+  pub bad : AllPass is_hex_digit digits → are ≡ true
 
--- the second of two is none
-second_bad : (first second i high : ℕ) → hex_digit_value first ≡ Some high → hex_digit_value second ≡ None → pair_value first second i ≡ Err (InvalidHexCharacter second (i + 1))
-second_bad first second i high is_high none =
-    let a : value_at first i ≡ Ok high = ap (digit_or_error first i) is_high in
-    let b : value_at second (i + 1) ≡ Err (InvalidHexCharacter second (i + 1)) = ap (digit_or_error second (i + 1)) none in
-    rw (a, b) refl
+-- the fact of `AllPass is_hex_digit`
+abbrev digit_holds : ℕ → Type 0
+digit_holds c = is_hex_digit c ≡ true
 
--- Up to a place: the bytes before it are those of the digits before it, where each was one, that is, where none has a value
--- of 16 and more; else the digits are refused.
-pub record IsRead (digits bytes : List ℕ) (place greatest : ℕ) : Type 0 where
-  pub good : greatest < 16 → decode_pairs 0 digits ≡ prepend (take place bytes) (decode_pairs (2 * place) (drop (2 * place) digits))
-  pub bad : 16 ≤ greatest → IsErr (decode_pairs 0 digits)
+-- both tests of a digit are one
+same_test : (digit : ℕ) → is_ascii_hexdigit digit ≡ is_hex_digit digit
+same_test digit = grind (arith, nat_tests)
 
-is_err : (digits : List ℕ) (i : ℕ) (first : ℕ) → decode_pairs 0 digits ≡ Err (InvalidHexCharacter first i) → IsErr (decode_pairs 0 digits)
-is_err digits i first e = rw e refl
+-- a digit more
+pub tested_on : (digits : List ℕ) (are is : Bool) (place : ℕ) → place < length digits → is ≡ is_ascii_hexdigit (slice_index digits place) → AreTested digits are place
+    → AreTested digits (are && is) (place + 1)
+tested_on digits are is place fits tested was =
+    let same : is ≡ is_hex_digit (slice_index digits place) = tested ∙ same_test (slice_index digits place) in
+    record {
+      good = λ e.
+          let parts = and_parts are is e in
+          All-more digit_holds digits place 0 fits (was.good parts.0) (sym same ∙ parts.1);
+      bad = λ all.
+          let before = was.bad all in
+          let here : is ≡ true = same ∙ All-get_or digit_holds digits place 0 fits all in
+          rw (before, here) refl;
+    }
 
--- a pair more
-pub read_on : (digits bytes : List ℕ) (place greatest high low byte next : ℕ) → 2 * place + 1 < length digits → place < length bytes
-    → (high < 16 → hex_digit_value (slice_index digits (2 * place)) ≡ Some high) → (16 ≤ high → hex_digit_value (slice_index digits (2 * place)) ≡ None)
-    → (low < 16 → hex_digit_value (slice_index digits (2 * place + 1)) ≡ Some low) → (16 ≤ low → hex_digit_value (slice_index digits (2 * place + 1)) ≡ None)
-    → (high < 16 → low < 16 → byte ≡ high * 16 + low) → next ≡ max (max greatest high) low → IsRead digits bytes place greatest
-    → IsRead digits (slice_set bytes place byte) (place + 1) next
-read_on digits bytes place greatest high low byte next fits room is_high no_high is_low no_low whole greatest_is was =
+-- what is refused has a byte that is none
+refused_of : (digits : List ℕ) (result : Result (List ℕ) FromHexError) → decode_of digits ≡ result → (AllPass is_hex_digit digits → false ≡ true) → IsErr (decode_of digits)
+refused_of digits (Ok bytes) is not = let no = not (decode_of-ok digits bytes is).1 in cc no
+refused_of digits (Err fault) is not = rw is refl
+
+pub refused : (digits : List ℕ) → (AllPass is_hex_digit digits → false ≡ true) → IsErr (decode_of digits)
+refused digits not = refused_of digits (decode_of digits) refl not
+
+-- ---- two digits by one load
+
+-- a pair of digits among the pairs
+chunk_at : (k place : ℕ) (digits : List ℕ) (d : List ℕ) → place < k → slice_index_or (first_chunks 2 k digits) place d ≡ take 2 (drop (2 * place) digits)
+chunk_at zero place digits d below = absurd (omega arith)
+chunk_at (suc k) zero digits d below = refl
+chunk_at (suc k) (suc place) digits d below =
+    let further : 2 * suc place ≡ 2 + 2 * place = omega arith in
+    chunk_at k place (drop 2 digits) d (omega arith) ∙ ap (take 2) (rw further (drop-drop (2 * place) 2 digits))
+
+-- the number that is loaded for it
+pub loaded : (k place : ℕ) (digits : List ℕ) (d : List ℕ) → place < k → 2 * place + 1 < length digits
+    → from_le_bytes w16 (slice_index_or (first_chunks 2 k digits) place d) ≡ slice_index digits (2 * place) + 256 * slice_index digits (2 * place + 1)
+loaded k place digits d below fits =
+    let e = chunk_at k place digits d below ∙ ap (take 2) (drop-pair digits place fits) in
+    rw e (omega arith)
+
+-- the same of the pairs that the digits are
+pub pair_of : (digits : List ℕ) (pairs : List (List ℕ)) (k place pair : ℕ) (d : List ℕ) → pairs ≡ first_chunks 2 k digits → place < k → 2 * place + 1 < length digits
+    → pair ≡ from_le_bytes w16 (slice_index_or pairs place d) → pair ≡ slice_index digits (2 * place) + 256 * slice_index digits (2 * place + 1)
+pair_of digits pairs k place pair d same below fits is = is ∙ ap (λ p. from_le_bytes w16 (slice_index_or p place d)) same ∙ loaded k place digits d below fits
+
+some_of : (o : Option ℕ) → is_some o ≡ true → (v : ℕ) × (o ≡ Some v)
+some_of (Some v) is = (v, refl)
+some_of None is = cc is
+
+small_value : (digit value : ℕ) → hex_digit_value digit ≡ Some value → value < 16
+small_value digit value is = grind (arith, nat_tests)
+
+small_digit : (digit value : ℕ) → hex_digit_value digit ≡ Some value → digit < 256
+small_digit digit value is = grind (arith, nat_tests)
+
+-- what stands for a pair that was loaded
+pub record IsJoined (digits : List ℕ) (place byte : ℕ) : Type 0 where
+  pub value : pair_value (slice_index digits (2 * place)) (slice_index digits (2 * place + 1)) (2 * place) ≡ Ok byte
+  pub small : byte < 256
+
+pub joined : (digits : List ℕ) (place pair high low : ℕ) → 2 * place + 1 < length digits → AllPass is_hex_digit digits
+    → pair ≡ slice_index digits (2 * place) + 256 * slice_index digits (2 * place + 1)
+    → ((value : ℕ) → hex_digit_value (pair % 256) ≡ Some value → high ≡ value) → ((value : ℕ) → hex_digit_value (pair / 256) ≡ Some value → low ≡ value)
+    → IsJoined digits place (high * 16 + low)
+joined digits place pair high low fits all is is_high is_low =
     let first = slice_index digits (2 * place) in
     let second = slice_index digits (2 * place + 1) in
+    let a = some_of (hex_digit_value first) (All-get_or digit_holds digits (2 * place) 0 (omega arith) all) in
+    let b = some_of (hex_digit_value second) (All-get_or digit_holds digits (2 * place + 1) 0 fits all) in
+    let below_a = small_digit first a.0 a.1 in
+    let below_b = small_digit second b.0 b.1 in
+    let is_first : pair % 256 ≡ first = omega (arith, is, below_a, below_b) in
+    let is_second : pair / 256 ≡ second = omega (arith, is, below_a, below_b) in
+    let high_is : high ≡ a.0 = is_high a.0 (ap hex_digit_value is_first ∙ a.1) in
+    let low_is : low ≡ b.0 = is_low b.0 (ap hex_digit_value is_second ∙ b.1) in
     record {
-      good = λ below.
-          let a : high < 16 = omega arith in
-          let b : low < 16 = omega arith in
-          let before : greatest < 16 = omega arith in
-          decode_step digits bytes place byte fits room (pair_read first second (2 * place) high low (is_high a) (is_low b) ∙ ap Ok (sym (whole a b))) (was.good before);
-      bad = λ above. elim (cases_lt greatest 16) [
-        | inr was_bad ↦ was.bad (omega arith)
-        | inl before ↦ elim (cases_lt high 16) [
-          | inr bad ↦
-              is_err digits (2 * place) first
-              (decode_err digits bytes place (InvalidHexCharacter first (2 * place)) fits (first_bad first second (2 * place) (no_high (omega arith))) (was.good before))
-          | inl good ↦
-              is_err digits (2 * place + 1) second
-              (decode_err digits bytes place (InvalidHexCharacter second (2 * place + 1)) fits (second_bad first second (2 * place) high (is_high good) (no_low (omega arith))) (was.good before))
-        ]
-      ];
+      value = rw (high_is, low_is) (pair_read first second (2 * place) a.0 b.0 a.1 b.1);
+      small = omega (arith, high_is, low_is, small_value first a.0 a.1, small_value second b.0 b.1);
     }
 
 -- ---- written

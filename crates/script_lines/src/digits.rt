@@ -1,25 +1,46 @@
 // Hex digits, read and written. A script is hex for the most part, so the loops have no branch: the compiler then does many
 // bytes in one step.
-ghost use Rattle.std.specs.Prelude.{◌≡◌, ◌<◌, ◌≤◌, ◌*◌, ◌/◌, true, false, length, slice_index, IsErr};
-ghost use Rattle.hex.specs.Hex.{decode_of, encode_lower, hex_digit_value, lower_digits};
+ghost use Rattle.std.specs.Prelude.{◌≡◌, ◌<◌, ◌*◌, ◌/◌, ℕ, IsErr, Ok, Some, true, false, length, slice_index};
+ghost use Rattle.std.specs.List.{AllPass};
+ghost use Rattle.hex.specs.Hex.{decode_of, encode_lower, hex_digit_value, is_hex_digit, lower_digits};
 
-/// What stands for the value of a byte that is no hex digit.
-const NONE: u8 = 255;
-
-/// The value of a hex digit, of either case.
-fn value(digit: u8) -> u8
-    ensures digit { result < 16 → hex_digit_value digit ≡ Some result }
-    ensures none { 16 ≤ result → hex_digit_value digit ≡ None }
+/// Whether each is a hex digit, of either case.
+fn are_digits(digits: &[u8]) -> bool
+    ensures yes { result ≡ true → AllPass is_hex_digit digits.now }
+    ensures no { AllPass is_hex_digit digits.now → result ≡ true }
 {
-    match digit {
-        b'A'..=b'F' => digit - b'A' + 10,
-        b'a'..=b'f' => digit - b'a' + 10,
-        b'0'..=b'9' => digit - b'0',
-        _ => NONE,
+    let mut are = true;
+    for place in 0..digits.len() {
+        are &= digits[place].is_ascii_hexdigit();
+    }
+    are
+}
+
+/// The value of a hex digit, of either case: a letter's low four bits count from 1, and it has bit 6.
+fn value(digit: u16) -> u16
+    requires { digit < 256 }
+    ensures value { (value : ℕ) → hex_digit_value digit ≡ Some value → result ≡ value }
+    ensures few { result < 43 }
+{
+    digit % 16 + 9 * (digit / 64)
+}
+
+/// Makes a byte of each two hex digits.
+fn join(digits: &[u8], bytes: &mut [u8])
+    requires even { length digits.now ≡ 2 * length bytes.old }
+    requires digits { AllPass is_hex_digit digits.now }
+    ensures { decode_of digits.now ≡ Ok bytes.new }
+{
+    let (pairs, _) = digits.as_chunks::<2>();
+    for place in 0..bytes.len() {
+        // Both digits by one load: two loads of which each takes every other byte would be made one by one.
+        let pair = u16::from_le_bytes(pairs[place]);
+        bytes[place] = (value(pair % 256) * 16 + value(pair / 256)) as u8;
     }
 }
 
 /// Reads hex digits, two for each of the bytes. Says whether they are hex digits, and as many.
+#[tactic(auto, using(crate::proofs::Hex::refused))]
 pub(crate) fn read(digits: &[u8], bytes: &mut [u8]) -> bool
     requires { length bytes.old ≡ length digits.now / 2 }
     ensures decoded { result ≡ true → decode_of digits.now ≡ Ok bytes.new }
@@ -28,14 +49,11 @@ pub(crate) fn read(digits: &[u8], bytes: &mut [u8]) -> bool
     if digits.len() % 2 != 0 {
         return false;
     }
-    let mut greatest = 0;
-    for place in 0..bytes.len() {
-        let high = value(digits[2 * place]);
-        let low = value(digits[2 * place + 1]);
-        greatest = greatest.max(high).max(low);
-        bytes[place] = high.wrapping_mul(16).wrapping_add(low);
+    if !are_digits(digits) {
+        return false;
     }
-    greatest < 16
+    join(digits, bytes);
+    true
 }
 
 /// The hex digit of a value, in lower case.

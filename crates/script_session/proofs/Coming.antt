@@ -1,5 +1,5 @@
 -- What comes of a line that a script may have at some times alone, and of units of time and frames that wait.
-use Rattle.std.proofs.Common.{◌≡◌, ◌⊎◌, inl, inr, ℕ, List, ◌++◌, codes, Bool, true, false, Option, Some, None, Result, Ok, Err, OnOk, IsErr, MatchResult, length, is_some, replicate, append_assoc, refl, sym, ap, subst, ◌∙◌}
+use Rattle.std.proofs.Common.{◌≡◌, ◌⊎◌, inl, inr, ℕ, List, ◌++◌, codes, Bool, true, false, Option, Some, None, Result, Ok, OnOk, IsErr, MatchResult, length, is_some, replicate, append_assoc, refl, sym, ap, subst, ◌∙◌}
 use Rattle.std.proofs.lemmas.Bool.{false≢true}
 use Rattle.std.proofs.lemmas.Result.{on_ok_weaker}
 use Rattle.flash_model.specs.declared.memory.MemoryFlash.{MemoryFlash}
@@ -16,7 +16,7 @@ use Rattle.script_lines.specs.Show.{controller_shown}
 use Rattle.script_lines.specs.Text.{moved_line, note_line, printed}
 use Rattle.script_session.specs.declared.power.Power.{Power}
 use Rattle.script_session.specs.declared.power.Power.TheVariants.{On}
-use Rattle.script_session.specs.Ends.{DeviceRun, Hears, IsRightFor, Network, Other, Starts, arrived_at, device_run, frames_for_device, printed_for, ticked_by, with_ends, with_plan, with_sent}
+use Rattle.script_session.specs.Ends.{Hears, IsRightFor, Network, Other, Starts, arrived_at, device_run, frames_for_device, printed_for, ticked_by, with_ends, with_plan, with_sent}
 use Rattle.script_session.specs.Power.{Held, IsRunning}
 use Rattle.script_session.specs.Said.{config_outcome, deliver_answer, deliver_outcome, handed_over, heard_outcome, start_outcome, tick_answer}
 use Rattle.script_session.specs.Session.{Comes, IsDone, IsHandedOver, IsObeyed, IsRunOf, IsWithoutPlan, Obeys}

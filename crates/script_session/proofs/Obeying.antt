@@ -1,5 +1,5 @@
 -- What a line does to both ends.
-use Rattle.std.proofs.Common.{◌≡◌, ◌⊎◌, inl, ℕ, List, ◌++◌, Bool, true, false, Option, Some, None, Result, Ok, Err, OnOk, IfOk, IsErr, MatchResult, is_ok, if◌then◌else◌, refl, sym, subst, append-nil}
+use Rattle.std.proofs.Common.{◌≡◌, inl, ℕ, List, ◌++◌, Bool, true, false, Option, None, Result, Ok, Err, OnOk, IfOk, IsErr, MatchResult, is_ok, if◌then◌else◌, refl, sym, subst, append-nil}
 use Rattle.flash_model.specs.declared.memory.MemoryFlash.{MemoryFlash}
 use Rattle.plans.specs.declared.parts.Parts.{Parts}
 use Rattle.configurator.specs.declared.fault.PlanFault.{PlanFault}
@@ -53,3 +53,15 @@ pub if_there_obeys : {E : Type 0} (outcome : Outcome) (held : Held) (before now 
     → MatchResult result (λ there. is ≡ Ok there) (λ fault. (fault ≡ OutOfMemory) × IsErr is) → Obeys outcome held before now result
 if_there_obeys outcome held before now is (Ok there) comes given = subst (λ i. IfOk i (Comes outcome held before now)) given comes
 if_there_obeys outcome held before now is (Err fault) comes given = inl given.0
+
+-- what a script may have at any time tells a loss of power as what it did
+pub always_tells : {E : Type 0} (A : Type 0) (done : Result (Unit {0}) E) (result : Result Bool PlanFault) → OnOk done A
+    → MatchResult result (λ is. (is ≡ true) × (done ≡ Ok tt)) (λ fault. (fault ≡ OutOfMemory) × IsErr done) → OnOk result A
+always_tells A done (Ok is) told given = subst (λ d. OnOk d A) given.1 told
+always_tells A done (Err fault) told given = tt
+
+-- and so what it may have where something is there
+pub if_there_tells : {E : Type 0} (A : Type 0) (is : Result Bool E) (result : Result Bool PlanFault) → OnOk is A
+    → MatchResult result (λ there. is ≡ Ok there) (λ fault. (fault ≡ OutOfMemory) × IsErr is) → OnOk result A
+if_there_tells A is (Ok there) told given = subst (λ i. OnOk i A) given told
+if_there_tells A is (Err fault) told given = tt

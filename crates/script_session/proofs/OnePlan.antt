@@ -1,10 +1,9 @@
 -- A catalogue has one plan at most, and one that has a plan is refused for want of memory alone.
-use Rattle.std.proofs.Common.{◌≡◌, ◌≢◌, ◌⊎◌, inl, inr, ℕ, Bool, true, false, List, Option, Some, None, Result, Ok, Err, ap, refl, sym, subst, ◌∙◌}
+use Rattle.std.proofs.Common.{◌≡◌, inl, inr, ℕ, Bool, true, false, List, Option, Some, Result, Ok, Err, ap, refl, sym, subst, ◌∙◌}
 use Rattle.std.specs.declared.net.ipv4_addr.Ipv4Addr.{Ipv4Addr}
 use Rattle.std.specs.Net.Addr.{ipv4_octets}
 use Rattle.std.specs.Net.Grammar.{IsDotted}
 use Rattle.std.proofs.NetLemmas.Theorems.{IsIpv4Text_unique}
-use Rattle.serde_json.specs.Data.{Data}
 use Rattle.serde_json.specs.Read.{read}
 use Rattle.plans.specs.declared.parts.Parts.{Parts}
 use Rattle.plans.specs.declared.plan.TooLong.{TooLong}
@@ -12,7 +11,6 @@ use Rattle.plans.specs.declared.plan.TooLong.TheVariants as long
 use Rattle.plans.specs.Plan.{plan_of}
 use Rattle.catalogue.specs.declared.fault.CatalogueFault.{CatalogueFault}
 use Rattle.catalogue.specs.declared.fault.CatalogueFault.TheVariants as reading
-use Rattle.catalogue.specs.declared.fault.TreeFault.{TreeFault}
 use Rattle.catalogue.specs.Catalogues.{Catalogue, Found, Refuses, catalogue}
 use Rattle.catalogue.specs.Projects.{Project}
 use Rattle.configurator.specs.declared.fault.PlanFault.{PlanFault}
@@ -22,7 +20,7 @@ use Rattle.configurator.specs.Allowed.{are_allowed}
 use Rattle.configurator.specs.Few.{are_few}
 use Rattle.configurator.specs.Fault.{of_catalogue}
 use Rattle.configurator.specs.Planned.{ArePartsOf, IsPlanOf, IsRefused, Judged, parts_of}
-use Rattle.script_session.specs.Ends.{IsRightFor, KnowsThePlan, KnowsTheRefusal}
+use Rattle.script_session.specs.Ends.{KnowsThePlan, KnowsTheRefusal}
 
 some_same : {A : Type 0} (a b : A) (found : Option A) → found ≡ Some a → found ≡ Some b → a ≡ b
 some_same a b found one other = cc

@@ -1,11 +1,12 @@
--- What a line does while there is no power.
-use Rattle.std.specs.Prelude.{◌≡◌, ℕ, Bool, true, false, List, [], ◌++◌, Option, Some, None, Result, Ok, Err}
+-- What a line does while there is no power, and what it prints where power is lost in it.
+use Rattle.std.specs.Prelude.{◌≡◌, ℕ, Bool, true, false, List, [], ◌++◌, Option, Some, None, Result, Ok, Err, OnOk}
 use Rattle.configurator.specs.declared.fault.PlanFault.{PlanFault}
 use Rattle.configurator.specs.declared.fault.PlanFault.TheVariants.{OutOfMemory}
-use Rattle.script_lines.specs.Line.{Restart, Line, Unfit, Skipped, Asks, Unknown}
-use Rattle.script_lines.specs.Text.{boot_line, off_line}
+use Rattle.script_lines.specs.Line.{Command, Frame, Restart, Tick, Show, Arm, Input, Alarm, Config, Start, Give, Stop, Deliver, Line, Unfit, Skipped, Asks, Unknown}
+use Rattle.script_lines.specs.Text.{boot_line, lost_line, off_line}
 use Rattle.script_session.specs.Ends.{cleared}
-use Rattle.script_session.specs.Power.{Held, IsBack, refusal_of}
+use Rattle.script_session.specs.declared.power.Power.{Power}
+use Rattle.script_session.specs.Power.{Held, IsBack, is_off, refusal_of}
 
 -- What a line prints while there is no power, where it is no restart. None where it is refused: only for its length, or for a
 -- byte that is not ASCII.
@@ -38,3 +39,29 @@ is_heard_off Unfit = true
 is_heard_off Skipped = true
 is_heard_off (Asks Restart) = true
 is_heard_off line = false
+
+-- a command that hands something to the device, in which a call of its flash may fail: a frame, an input, an alarm, or what waits
+abbrev pub hands : Command → Bool
+hands (Frame bytes) = true
+hands Restart = false
+hands (Tick units) = false
+hands Show = false
+hands (Arm order) = false
+hands (Input slot subslot bytes) = true
+hands (Alarm slot subslot bytes) = true
+hands (Config catalogue) = false
+hands (Start ar activity) = false
+hands (Give slot subslot bytes) = false
+hands Stop = false
+hands Deliver = true
+
+-- a line that does
+abbrev pub is_handed : Line → Bool
+is_handed Unfit = false
+is_handed Skipped = false
+is_handed (Asks command) = hands command
+is_handed Unknown = false
+
+-- where power was there before, and is lost now, this was printed and nothing else, if there was memory
+abbrev pub TellsLoss : {T E : Type 0} → Power → Power → List ℕ → List ℕ → Result T E → Type 0
+TellsLoss old new before now result = is_off old ≡ false → is_off new ≡ true → OnOk result (now ≡ before ++ lost_line)

@@ -1,6 +1,5 @@
 -- What comes of a line: a command to the demo device, whose flash never fails, or to the other end.
-use Rattle.std.specs.Prelude.{◌+◌, ℕ, Bool, true, false, List, [], ◌∷◌, ◌++◌, codes, length, replicate, take, if◌then◌else◌, Option, Some, None}
-use Rattle.std.specs.List.{list_any}
+use Rattle.std.specs.Prelude.{◌+◌, ℕ, Bool, true, false, List, [], ◌++◌, codes, length, replicate, take, Option, Some, None}
 use Rattle.std.specs.Str.Lines.{lines}
 use Rattle.arrayvec.specs.ArrayVec.{ArrayVec}
 use Rattle.pn_values.specs.Settings.{factory_settings}
@@ -19,8 +18,8 @@ use Rattle.controller_core.specs.Machine.{step_of as controller_step}
 use Rattle.controller_core.specs.State.{Controlling}
 use Rattle.script_session.specs.Demo.{demo_device}
 use Rattle.script_session.specs.Ends.{Station, turned_to, Other, Network, DeviceRun, with_ends, arrived_at, cleared, device_run, frames_for_device, nobody, printed_for, ticked_by, with_fresh, with_plan, with_run, with_sent}
-use Rattle.script_lines.specs.Line.{Command, Frame, Restart, Tick, Show, Arm, Input, Alarm, Config, Start, Give, Stop, Deliver, Line, Unfit, Skipped, Asks, Unknown, meaning_of}
-use Rattle.script_lines.specs.Show.{shown, outputs_shown, controller_shown, state_line}
+use Rattle.script_lines.specs.Line.{Command, Frame, Restart, Tick, Show, Arm, Input, Alarm, Config, Start, Give, Stop, Deliver, Line, Unfit, Skipped, Asks, Unknown}
+use Rattle.script_lines.specs.Show.{shown, outputs_shown, controller_shown}
 use Rattle.script_lines.specs.Text.{boot_line, moved_line, note_line, printed}
 
 -- the demo device, started from these settings

@@ -5,8 +5,10 @@ ghost use Rattle.device_frames.specs.declared.event.Event.TheVariants as event;
 ghost use Rattle.configurator.specs.declared.fault.PlanFault.TheVariants as plan_fault;
 ghost use Rattle.script_lines.specs.Read.{line_read};
 ghost use Rattle.script_session.specs.Ends.{Network};
-ghost use Rattle.script_session.specs.Said.{handed};
-ghost use Rattle.script_session.specs.Off.{is_heard_off};
+ghost use Rattle.script_session.specs.Said.{event_answer, handed};
+ghost use Rattle.script_session.specs.Power.{IsDemo, IsRunning};
+ghost use Rattle.script_session.specs.Off.{TellsLoss, is_heard_off};
+ghost use Rattle.script_session.specs.Session.{IsObeyed};
 
 use crate::both::{exchange, respond, ticks};
 use crate::bytes::{copied, front};
@@ -18,7 +20,7 @@ use configurator::PlanFault;
 use controller_core::Event as ControllerEvent;
 use device_core::{Event, Note};
 use flash_model::{Flash, Lent, MemoryFlash, Order};
-use frame_codec::Outbox;
+use frame_codec::{Bytes, Outbox};
 use script_lines::{Command, Line, meaning, render, show};
 use std::alloc::{AllocError, Global};
 use std::marker::Model;
@@ -52,12 +54,12 @@ impl<'a> Session<'a> {
     ghost use Rattle.script_lines.specs.Read.{command_read};
     ghost use Rattle.script_lines.specs.Text.{boot_line};
     ghost use Rattle.script_session.specs.Ends.{IsRightFor, cleared, nobody};
-    ghost use Rattle.script_session.specs.Said.{arms, config_outcome, deliver_answer, deliver_outcome, event_answer, factory_device};
+    ghost use Rattle.script_session.specs.Said.{arms, config_outcome, deliver_answer, deliver_outcome, factory_device};
     ghost use Rattle.script_session.specs.Said.{heard_outcome, is_order, outcome_of, restart_answer, said, show_answer, start_outcome};
     ghost use Rattle.script_session.specs.Said.{tick_answer};
-    ghost use Rattle.script_session.specs.Power.{IsArmed, IsBack, IsDemo, IsRunning, is_off, refusal_of};
-    ghost use Rattle.script_session.specs.Session.{Are, AreRightFor, Comes, IsObeyed, Obeys};
-    ghost use Rattle.script_session.specs.Off.{GivesBack, TakesOff};
+    ghost use Rattle.script_session.specs.Power.{IsArmed, IsBack, is_off, refusal_of};
+    ghost use Rattle.script_session.specs.Session.{Are, AreRightFor, Comes, Obeys};
+    ghost use Rattle.script_session.specs.Off.{GivesBack, TakesOff, hands, is_handed};
 
     /// The demo device over this flash, as it starts, and nobody at the other end.
     pub fn new(alloc: Global, flash: &'a mut MemoryFlash<4096>) -> Session<'a>
@@ -87,11 +89,16 @@ impl<'a> Session<'a> {
             Obeys (outcome_of plans network (meaning_of line.now)) self.new text.old.items text.new.items result }
         // While there is no power a line does nothing but a restart.
         ensures off { is_off self.old.power ≡ true → TakesOff (meaning_of line.now) self.old self.new text.old.items text.new.items result }
+        // Where power is lost as something is handed to the device, that alone is printed.
+        ensures lost { is_handed (meaning_of line.now) ≡ true → TellsLoss self.old.power self.new.power text.old.items text.new.items result }
         ensures demo { IsDemo self.old.power → IsDemo self.new.power }
     {
         let Ok(meaning) = meaning(line, buffer) else {
             return Err(PlanFault::OutOfMemory);
         };
+        if let Line::Skipped = meaning {
+            return Ok(true);
+        }
         if self.power.is_off() && !is_heard_without_power(&meaning) {
             return always(text.extend_from_slice(b"off\n"));
         }
@@ -102,14 +109,18 @@ impl<'a> Session<'a> {
         }
     }
 
-    /// Does what a command asks for, and renders what it prints. Says whether it is one that a script may have here.
-    #[tactic(auto, using(crate::proofs::Obeying::always_obeys, crate::proofs::Obeying::if_there_obeys), unfolding(crate::specs::Said::said))]
+    /// Does what a command asks for, and renders what it prints. Says whether it is one that a script may have here. It stands in `take`
+    /// where that is called: what the commands keep on the stack, a plan among it, is more than a page, which each call would touch.
+    #[inline(always)]
+    #[tactic(auto, using(crate::proofs::Obeying::always_obeys, crate::proofs::Obeying::if_there_obeys, crate::proofs::Obeying::always_tells, crate::proofs::Obeying::if_there_tells), unfolding(crate::specs::Said::said))]
     fn answer(&mut self, command: Command<'_>, text: &mut Vec<u8>) -> Result<bool, PlanFault>
         ensures obeys { (plans : List ℕ → Option Parts) (network : Network) → AreRightFor plans (Asks (command_read command.entry)) →
             Are network self.old → arms (command_read command.entry) ≡ false →
             Obeys (said plans network (command_read command.entry)) self.new text.old.items text.new.items result }
         ensures back { command_read command.entry ≡ Restart → GivesBack self.old self.new text.old.items text.new.items result }
         ensures armed { (order : Order) → command_read command.entry ≡ Arm order → IsArmed order self.old.power self.new.power }
+        ensures lost { hands (command_read command.entry) ≡ true →
+            TellsLoss self.old.power self.new.power text.old.items text.new.items result }
         ensures demo { IsDemo self.old.power → IsDemo self.new.power }
     {
         match command {
@@ -139,23 +150,19 @@ impl<'a> Session<'a> {
         ensures obeys { (network : Network) → Are network self.old →
             OnOk result (IsObeyed (event_answer network (event.Frame (handed bytes.now))) self.new text.old.items text.new.items) }
         ensures demo { IsDemo self.old.power → IsDemo self.new.power }
+        ensures lost { TellsLoss self.old.power self.new.power text.old.items text.new.items result }
     {
-        match &mut self.power {
-            Power::On(device) => {
-                receive(&mut self.received, bytes);
-                respond(
-                    device,
-                    &self.received,
-                    &mut self.outbox,
-                    &mut self.other,
-                    text,
-                )
-            }
-            Power::Off(_, _) | Power::Away => text.extend_from_slice(b"off\n"),
-        }
+        receive(&mut self.received, bytes);
+        answered(
+            &mut self.power,
+            &self.received,
+            &mut self.outbox,
+            &mut self.other,
+            text,
+        )
     }
 
-    /// Gives a submodule its input, of at most 1,519 bytes: no input is so long.
+    /// Gives a submodule its input.
     fn give(
         &mut self,
         slot: u16,
@@ -167,17 +174,19 @@ impl<'a> Session<'a> {
             OnOk result (IsObeyed (event_answer network (event.Input slot subslot (handed bytes.now))) self.new text.old.items
             text.new.items) }
         ensures demo { IsDemo self.old.power → IsDemo self.new.power }
+        ensures lost { TellsLoss self.old.power self.new.power text.old.items text.new.items result }
     {
-        match &mut self.power {
-            Power::On(device) => {
-                let event = Event::Input(slot, subslot, copied(front(bytes, 1519)));
-                respond(device, &event, &mut self.outbox, &mut self.other, text)
-            }
-            Power::Off(_, _) | Power::Away => text.extend_from_slice(b"off\n"),
-        }
+        let event = Event::Input(slot, subslot, handed(bytes));
+        answered(
+            &mut self.power,
+            &event,
+            &mut self.outbox,
+            &mut self.other,
+            text,
+        )
     }
 
-    /// Raises an alarm at the device, of at most 1,519 bytes: none is so long.
+    /// Raises an alarm at the device.
     fn alarm(
         &mut self,
         slot: u16,
@@ -189,14 +198,16 @@ impl<'a> Session<'a> {
             OnOk result (IsObeyed (event_answer network (event.Alarm slot subslot (handed bytes.now))) self.new text.old.items
             text.new.items) }
         ensures demo { IsDemo self.old.power → IsDemo self.new.power }
+        ensures lost { TellsLoss self.old.power self.new.power text.old.items text.new.items result }
     {
-        match &mut self.power {
-            Power::On(device) => {
-                let event = Event::Alarm(slot, subslot, copied(front(bytes, 1519)));
-                respond(device, &event, &mut self.outbox, &mut self.other, text)
-            }
-            Power::Off(_, _) | Power::Away => text.extend_from_slice(b"off\n"),
-        }
+        let event = Event::Alarm(slot, subslot, handed(bytes));
+        answered(
+            &mut self.power,
+            &event,
+            &mut self.outbox,
+            &mut self.other,
+            text,
+        )
     }
 
     /// Takes the device's power away, and gives it back. Frames that wait are lost with it.
@@ -299,6 +310,7 @@ impl<'a> Session<'a> {
         ensures obeys { (network : Network) → Are network self.old →
             IfOk result (Comes (deliver_outcome network network.other.controller) self.new text.old.items text.new.items) }
         ensures demo { IsDemo self.old.power → IsDemo self.new.power }
+        ensures lost { TellsLoss self.old.power self.new.power text.old.items text.new.items result }
     {
         if !self.other.is_started() {
             return Ok(false);
@@ -312,11 +324,32 @@ impl<'a> Session<'a> {
         ensures obeys { (network : Network) → Are network self.old →
             OnOk result (IsObeyed (deliver_answer network) self.new text.old.items text.new.items) }
         ensures demo { IsDemo self.old.power → IsDemo self.new.power }
+        ensures lost { TellsLoss self.old.power self.new.power text.old.items text.new.items result }
     {
         match &mut self.power {
             Power::On(device) => exchange(device, &mut self.outbox, &mut self.other, text),
             Power::Off(_, _) | Power::Away => text.extend_from_slice(b"off\n"),
         }
+    }
+}
+
+/// Has the device, where there is one, answer an event.
+fn answered(
+    power: &mut Power<'_>,
+    event: &Event,
+    outbox: &mut Outbox,
+    other: &mut OtherEnd,
+    text: &mut Vec<u8>,
+) -> Result<(), AllocError>
+    ensures obeys { (network : Network) → IsRunning network.station power.old → other.old ≡ network.other →
+        OnOk result (IsObeyed (event_answer network event.now) (record { power = power.new; other = other.new }) text.old.items
+        text.new.items) }
+    ensures demo { IsDemo power.old → IsDemo power.new }
+    ensures lost { TellsLoss power.old power.new text.old.items text.new.items result }
+{
+    match power {
+        Power::On(device) => respond(device, event, outbox, other, text),
+        Power::Off(_, _) | Power::Away => text.extend_from_slice(b"off\n"),
     }
 }
 
@@ -340,11 +373,18 @@ fn if_there(is: Result<bool, AllocError>) -> Result<bool, PlanFault>
     }
 }
 
-/// The event of an output that is given, of at most 1,519 bytes: none is so long.
+/// The event of an output that is given.
 fn output(slot: u16, subslot: u16, bytes: &[u8]) -> ControllerEvent
     ensures { result ≡ heard.Give slot subslot (handed bytes.now) }
 {
-    ControllerEvent::Give(slot, subslot, copied(front(bytes, 1519)))
+    ControllerEvent::Give(slot, subslot, handed(bytes))
+}
+
+/// What is handed over of some bytes, at most 1,519 of them: no frame, input, output or alarm is so long.
+fn handed(bytes: &[u8]) -> Bytes
+    ensures { result ≡ handed bytes.now }
+{
+    copied(front(bytes, 1519))
 }
 
 /// Whether a line is more than `off` while there is no power: it is skipped, is none that a script may have, or gives

@@ -30,7 +30,7 @@ use Rattle.pn_alarms.specs.Message.{ToController}
 use Rattle.pn_alarms.specs.Numbers.{ack_number, is_last, next_number, send_number}
 use Rattle.pn_alarms.specs.Receiver.{last_behind, taken_as}
 use Rattle.pn_alarms.specs.Sending.{Sending, acked}
-use Rattle.cyclic_exchange.specs.declared.units.Tick.{Tick}
+use Rattle.cyclic_exchange.specs.Units.{Brought}
 use Rattle.cyclic_exchange.specs.Cyclic.{Cyclic}
 use Rattle.cyclic_exchange.specs.Opening.{begun_of}
 use Rattle.cyclic_exchange.specs.Process.{provided_at}
@@ -317,7 +317,7 @@ module _ (mac : Mac) where
   flow_aimed : (live : Live) → IsAimed live → IsAimed (flow_later live)
   flow_aimed live is = record { device = is.device; asked = is.asked; way = record { partner = is.way.partner; sent_tag = is.way.sent_tag; alarm_tag = is.way.alarm_tag } }
 
-  flowed_sent : (live : Live) (is_request : Bool) (tick : Tick) (ending : Option Abort) → IsAimed live → IsSent mac (flowed live is_request tick ending)
+  flowed_sent : (live : Live) (is_request : Bool) (tick : Brought) (ending : Option Abort) → IsAimed live → IsSent mac (flowed live is_request tick ending)
   flowed_sent live is_request tick (Some reason) is = record { live = over_aimed _ live is; sent = (is.way, tt) }
   flowed_sent live is_request tick None is = record {
     live = is;

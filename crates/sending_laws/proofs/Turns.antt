@@ -29,7 +29,7 @@ use Rattle.pn_alarms.specs.Message.{ToController}
 use Rattle.pn_alarms.specs.Numbers.{ack_number, is_last, next_number, send_number}
 use Rattle.pn_alarms.specs.Receiver.{last_behind, taken_as}
 use Rattle.pn_alarms.specs.Sending.{Sending, acked}
-use Rattle.cyclic_exchange.specs.declared.units.Tick.{Tick}
+use Rattle.cyclic_exchange.specs.Units.{Brought}
 use Rattle.cyclic_exchange.specs.Cyclic.{Cyclic}
 use Rattle.cyclic_exchange.specs.Process.{provided_at}
 use Rattle.cyclic_exchange.specs.Received.{behind_frame, behind_read, is_new, is_of_partner}
@@ -403,7 +403,7 @@ acks_all : (setup : Setup) (live : Live) (ack : Option AlarmAck) → IsLive live
 acks_all setup live (Some ack) is good = ((is.way, refl, header_is live pdu.Data is, good), tt)
 acks_all setup live None is good = tt
 
-flowed_right : (setup : Setup) (live : Live) (is_request : Bool) (tick : Tick) (ending : Option Abort) → IsLive live → IsRight setup (flowed live is_request tick ending)
+flowed_right : (setup : Setup) (live : Live) (is_request : Bool) (tick : Brought) (ending : Option Abort) → IsLive live → IsRight setup (flowed live is_request tick ending)
 flowed_right setup live is_request tick (Some reason) is = record { live = over_live _ live is; sent = ((is.way, header_is live pdu.Error is), tt) }
 flowed_right setup live is_request tick None is = record {
   live = is;

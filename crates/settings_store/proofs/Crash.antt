@@ -4,8 +4,8 @@ use Rattle.std.proofs.lemmas.List.{append-nil}
 use Rattle.pn_values.specs.declared.settings.Settings.{Settings}
 use Rattle.pn_values.specs.declared.set_item.SetItem.{SetItem}
 use Rattle.pn_values.specs.declared.set_item.BlockError.{BlockError}
-use Rattle.flash_model.specs.Calls.{Call}
 use Rattle.flash_model.specs.Image.{Image}
+use Rattle.flash_model.specs.declared.flash.Flash.{Ghosts as Flash}
 use Rattle.flash_model.specs.Torn.{HasRisen}
 use Rattle.settings_journal.specs.Image.{LeftByDevice}
 use Rattle.settings_store.specs.State.{State, Values}
@@ -64,13 +64,13 @@ room_then : (before between now : ℕ) (front back : List Accepted) → between 
 room_then before between now front back one two = let e = length-append front back in omega (arith, one, two, e)
 
 -- two stretches, one after the other, are one
-stretch_then : {F : Type 0} (image : F → Image) (failures : F → ℕ) (first mid new : State F) (front back : List Accepted)
-    → Stretch image failures first front mid → Stretch image failures mid back new → Stretch image failures first (front ++ back) new
-stretch_then image failures first mid new front back one two =
+stretch_then : {F : Type 0} {S : ℕ} (as_flash : Flash F S) (first mid new : State F) (front back : List Accepted)
+    → Stretch as_flash first front mid → Stretch as_flash mid back new → Stretch as_flash first (front ++ back) new
+stretch_then as_flash first mid new front back one two =
     let still : new.values.has_failed ≡ false → mid.values.has_failed ≡ false = λ fine. still_fine _ _ (λ failed. (two.stays_failed failed).0) fine in
     record {
       caused = caused_then _ _ _ first.values mid.values new.values one.caused two.caused;
-      safe = safe_then first.values.has_failed mid.values.has_failed first.values.stored mid.values.stored front back (image first.flash) (image mid.flash) (image new.flash)
+      safe = safe_then first.values.has_failed mid.values.has_failed first.values.stored mid.values.stored front back (as_flash.image first.flash) (as_flash.image mid.flash) (as_flash.image new.flash)
           (λ failed. (one.stays_failed failed).0) (λ failed. (two.stays_failed failed).1) one.made one.safe two.safe;
       holds = two.holds;
       untouched = λ none. let neither = both_empty front back none in two.untouched neither.1 ∙ one.untouched neither.0;
@@ -84,9 +84,9 @@ stretch_then image failures first mid new front back one two =
     }
 
 -- so a stretch continues any
-pub stretch_continues : {F : Type 0} (image : F → Image) (failures : F → ℕ) (old new : State F) (accepted : List Accepted)
-    → Stretch image failures old accepted new → Continues image failures old accepted new
-stretch_continues image failures old new accepted stretch first front so_far = stretch_then image failures first old new front accepted so_far stretch
+pub stretch_continues : {F : Type 0} {S : ℕ} (as_flash : Flash F S) (old new : State F) (accepted : List Accepted)
+    → Stretch as_flash old accepted new → Continues as_flash old accepted new
+stretch_continues as_flash old new accepted stretch first front so_far = stretch_then as_flash first old new front accepted so_far stretch
 
 -- one commit failed in neither of two parts where none failed in both
 none_in_both : (a b c : Bool) → (a ≡ true → b ≡ true) → (b ≡ true → c ≡ true) → c ≡ a → (b ≡ a) × (c ≡ b)
@@ -95,9 +95,9 @@ none_in_both false true c one two same = let failed : c ≡ true = two refl in c
 none_in_both false false c one two same = (refl, same)
 
 -- what carries some items out, and then what carries more out, carries all of them out
-pub carries_then : {F : Type 0} (image : F → Image) (failures : F → ℕ) (asked : F → List Call → F → Type 0) (old mid new : State F) (items more : List SetItem) (front back : List BlockError)
-    → Carries image failures asked old items front mid → Carries image failures asked mid more back new → Carries image failures asked old (items ++ more) (front ++ back) new
-carries_then image failures asked old mid new items more front back one two =
+pub carries_then : {F : Type 0} {S : ℕ} (as_flash : Flash F S) (old mid new : State F) (items more : List SetItem) (front back : List BlockError)
+    → Carries as_flash old items front mid → Carries as_flash mid more back new → Carries as_flash old (items ++ more) (front ++ back) new
+carries_then as_flash old mid new items more front back one two =
     let all_outcomes = joined one.outcomes two.outcomes items in
     let all : carried all_outcomes old.values (items ++ more)
     ≡ followed_by (carried one.outcomes old.values items) (carried two.outcomes mid.values more) =
@@ -107,8 +107,8 @@ carries_then image failures asked old mid new items more front back one two =
     let values : new.values ≡ (carried all_outcomes old.values (items ++ more)).values = two.values ∙ sym (ap (λ r. r.values) all) in
     let answers_are : front ++ back ≡ (carried all_outcomes old.values (items ++ more)).answers =
     ap (λ f. f ++ back) one.answers_are ∙ ap (λ b. (carried one.outcomes old.values items).answers ++ b) two.answers_are ∙ sym answers in
-    let stretch : Stretch image failures old (carried all_outcomes old.values (items ++ more)).accepted new =
-    subst (λ l. Stretch image failures old l new) (sym (ap (λ r. r.accepted) all)) (stretch_then image failures old mid new _ _ one.stretch two.stretch) in
+    let stretch : Stretch as_flash old (carried all_outcomes old.values (items ++ more)).accepted new =
+    subst (λ l. Stretch as_flash old l new) (sym (ap (λ r. r.accepted) all)) (stretch_then as_flash old mid new _ _ one.stretch two.stretch) in
     record {
       outcomes = all_outcomes;
       values = values;
@@ -116,8 +116,8 @@ carries_then image failures asked old mid new items more front back one two =
       quiet = λ same.
           let neither = none_in_both _ _ _ (λ failed. (one.stretch.stays_failed failed).0) (λ failed. (two.stretch.stays_failed failed).0) same in
           joined_quiet one.outcomes two.outcomes items (one.quiet neither.0) (two.quiet neither.1);
-      placed = placed_then image failures asked one.outcomes two.outcomes old mid new items more one.placed two.placed;
+      placed = placed_then as_flash one.outcomes two.outcomes old mid new items more one.placed two.placed;
       stretch = stretch;
-      continues = stretch_continues image failures old new _ stretch;
+      continues = stretch_continues as_flash old new _ stretch;
       goes_on = goes_as all_outcomes old.values new.values (items ++ more) (front ++ back) values answers_are;
     }

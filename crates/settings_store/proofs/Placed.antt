@@ -1,33 +1,32 @@
 -- Items one by one, and then more of them.
 use Rattle.std.proofs.Common.{◌≡◌, ℕ, List, [], ◌∷◌, ◌++◌, refl, subst}
 use Rattle.pn_values.specs.declared.set_item.SetItem.{SetItem}
-use Rattle.flash_model.specs.Calls.{Call}
-use Rattle.flash_model.specs.Image.{Image}
+use Rattle.flash_model.specs.declared.flash.Flash.{Ghosts as Flash}
 use Rattle.settings_store.specs.State.{State}
 use Rattle.settings_store.specs.Machine.{Outcome, rest_of}
 use Rattle.settings_store.specs.Carries.{OneByOne}
 use Rattle.settings_store.proofs.Machine.{padded, joined}
 
 -- with no outcome said of either
-placed_quietly : {F : Type 0} (image : F → Image) (failures : F → ℕ) (asked : F → List Call → F → Type 0) (old mid new : State F) (items more : List SetItem)
-    → OneByOne image failures asked [] old items mid → OneByOne image failures asked [] mid more new → OneByOne image failures asked [] old (items ++ more) new
-placed_quietly image failures asked old mid new [] more one two = subst (λ s. OneByOne image failures asked [] s more new) one two
-placed_quietly image failures asked old mid new (item ∷ items) more one two = (one.0, one.1, placed_quietly image failures asked one.0 mid new items more one.2 two)
+placed_quietly : {F : Type 0} {S : ℕ} (as_flash : Flash F S) (old mid new : State F) (items more : List SetItem)
+    → OneByOne as_flash [] old items mid → OneByOne as_flash [] mid more new → OneByOne as_flash [] old (items ++ more) new
+placed_quietly as_flash old mid new [] more one two = subst (λ s. OneByOne as_flash [] s more new) one two
+placed_quietly as_flash old mid new (item ∷ items) more one two = (one.0, one.1, placed_quietly as_flash one.0 mid new items more one.2 two)
 
 -- with an outcome for each of the first
-placed_padded : {F : Type 0} (image : F → Image) (failures : F → ℕ) (asked : F → List Call → F → Type 0) (front back : List Outcome) (old mid new : State F) (items more : List SetItem)
-    → OneByOne image failures asked front old items mid → OneByOne image failures asked back mid more new → OneByOne image failures asked (padded front items ++ back) old (items ++ more) new
+placed_padded : {F : Type 0} {S : ℕ} (as_flash : Flash F S) (front back : List Outcome) (old mid new : State F) (items more : List SetItem)
+    → OneByOne as_flash front old items mid → OneByOne as_flash back mid more new → OneByOne as_flash (padded front items ++ back) old (items ++ more) new
 unfolding padded
-placed_padded image failures asked front back old mid new [] more one two = subst (λ s. OneByOne image failures asked back s more new) one two
-placed_padded image failures asked front back old mid new (item ∷ items) more one two =
-    (one.0, one.1, placed_padded image failures asked (rest_of front) back one.0 mid new items more one.2 two)
+placed_padded as_flash front back old mid new [] more one two = subst (λ s. OneByOne as_flash back s more new) one two
+placed_padded as_flash front back old mid new (item ∷ items) more one two =
+    (one.0, one.1, placed_padded as_flash (rest_of front) back one.0 mid new items more one.2 two)
 
-pub placed_then : {F : Type 0} (image : F → Image) (failures : F → ℕ) (asked : F → List Call → F → Type 0) (front back : List Outcome) (old mid new : State F) (items more : List SetItem)
-    → OneByOne image failures asked front old items mid → OneByOne image failures asked back mid more new → OneByOne image failures asked (joined front back items) old (items ++ more) new
+pub placed_then : {F : Type 0} {S : ℕ} (as_flash : Flash F S) (front back : List Outcome) (old mid new : State F) (items more : List SetItem)
+    → OneByOne as_flash front old items mid → OneByOne as_flash back mid more new → OneByOne as_flash (joined front back items) old (items ++ more) new
 unfolding joined
-placed_then image failures asked [] [] old mid new items more one two = placed_quietly image failures asked old mid new items more one two
-placed_then image failures asked [] (outcome ∷ outcomes) old mid new items more one two = placed_padded image failures asked [] (outcome ∷ outcomes) old mid new items more one two
-placed_then image failures asked (outcome ∷ outcomes) back old mid new items more one two = placed_padded image failures asked (outcome ∷ outcomes) back old mid new items more one two
+placed_then as_flash [] [] old mid new items more one two = placed_quietly as_flash old mid new items more one two
+placed_then as_flash [] (outcome ∷ outcomes) old mid new items more one two = placed_padded as_flash [] (outcome ∷ outcomes) old mid new items more one two
+placed_then as_flash (outcome ∷ outcomes) back old mid new items more one two = placed_padded as_flash (outcome ∷ outcomes) back old mid new items more one two
 
 -- two lists without an element
 pub both_empty : {A : Type 0} (front back : List A) → front ++ back ≡ [] → (front ≡ []) × (back ≡ [])

@@ -4,6 +4,7 @@ use Rattle.pn_values.specs.declared.set_item.SetItem.{SetItem}
 use Rattle.pn_values.specs.declared.set_item.BlockError.{BlockError}
 use Rattle.flash_model.specs.Calls.{Call}
 use Rattle.flash_model.specs.Image.{Image}
+use Rattle.flash_model.specs.declared.flash.Flash.{Ghosts as Flash}
 use Rattle.flash_model.specs.Torn.{HasRisen}
 use Rattle.settings_journal.specs.Calls.{CommitCalls, IsFront}
 use Rattle.settings_journal.specs.Image.{StartsWith}
@@ -26,10 +27,10 @@ Holds image values = values.has_failed ≡ false → StartsWith image values.sto
 -- was left alone. Once a commit failed, one has failed, and nothing is accepted; while none failed, what is stored is what
 -- the accepted commands make of what was stored, and each of them took one of the room for commits. Power that is lost stays
 -- lost.
-pub record Stretch {F : Type 0} (image : F → Image) (failures : F → ℕ) (first : State F) (accepted : List Accepted) (now : State F) : Type 0 where
-  pub caused : IsCaused (failures first.flash) (failures now.flash) first.values now.values
-  pub safe : CrashSafe first.values.has_failed first.values.stored accepted (image first.flash) (image now.flash)
-  pub holds : Holds (image now.flash) now.values
+pub record Stretch {F : Type 0} {S : ℕ} (as_flash : Flash F S) (first : State F) (accepted : List Accepted) (now : State F) : Type 0 where
+  pub caused : IsCaused (as_flash.failures first.flash) (as_flash.failures now.flash) first.values now.values
+  pub safe : CrashSafe first.values.has_failed first.values.stored accepted (as_flash.image first.flash) (as_flash.image now.flash)
+  pub holds : Holds (as_flash.image now.flash) now.values
   pub untouched : accepted ≡ [] → now.flash ≡ first.flash
   pub stays_failed : first.values.has_failed ≡ true → (now.values.has_failed ≡ true) × (accepted ≡ [])
   pub made : now.values.has_failed ≡ false → now.values.stored ≡ made_of accepted first.values.stored
@@ -37,9 +38,9 @@ pub record Stretch {F : Type 0} (image : F → Image) (failures : F → ℕ) (fi
   pub stays_lost : first.values.is_lost ≡ true → now.values.is_lost ≡ true
 
 -- Whatever stretch came before, these commands behind it make a longer one.
-abbrev pub Continues : {F : Type 0} → (F → Image) → (F → ℕ) → State F → List Accepted → State F → Type 0
-Continues {F} image failures old accepted new =
-    (first : State F) (front : List Accepted) → Stretch image failures first front old → Stretch image failures first (front ++ accepted) new
+abbrev pub Continues : {F : Type 0} {S : ℕ} → Flash F S → State F → List Accepted → State F → Type 0
+Continues {F} as_flash old accepted new =
+    (first : State F) (front : List Accepted) → Stretch as_flash first front old → Stretch as_flash first (front ++ accepted) new
 
 -- The same cause of one item, by its outcome: where it passes no call of the flash failed, and no commit did; a fault is that of
 -- its commit, the first since the start, in which a call failed.
@@ -53,46 +54,46 @@ IsAskedBy true old commit calls new = calls ≡ commit
 IsAskedBy false old commit calls new = IsFront old calls commit new
 
 -- What an accepted command asked of the flash: the calls of its commit, in order, and no others.
-pub record Asks {F : Type 0} (image : F → Image) (asked : F → List Call → F → Type 0) (one : Accepted) (old new : State F) : Type 0 where
+pub record Asks {F : Type 0} {S : ℕ} (as_flash : Flash F S) (one : Accepted) (old new : State F) : Type 0 where
   pub commit : List Call
   pub calls : List Call
-  pub of_commit : CommitCalls (image old.flash) old.values.stored old.values.room one.command commit
-  pub part : IsAskedBy one.is_done (image old.flash) commit calls (image new.flash)
-  pub were : asked old.flash calls new.flash
+  pub of_commit : CommitCalls (as_flash.image old.flash) old.values.stored old.values.room one.command commit
+  pub part : IsAskedBy one.is_done (as_flash.image old.flash) commit calls (as_flash.image new.flash)
+  pub were : as_flash.asked old.flash calls new.flash
 
 -- One item, for an outcome of its call: the values are those that it makes, the outcome has its cause in this item, the
 -- image is safe and holds what is stored, where a command is accepted the calls of its commit were asked for, and where
 -- none is the flash is left alone.
-pub record CarriesOne {F : Type 0} (image : F → Image) (failures : F → ℕ) (asked : F → List Call → F → Type 0) (outcome : Outcome) (old : State F) (item : SetItem) (new : State F) : Type 0 where
+pub record CarriesOne {F : Type 0} {S : ℕ} (as_flash : Flash F S) (outcome : Outcome) (old : State F) (item : SetItem) (new : State F) : Type 0 where
   pub values : new.values ≡ (carried_one outcome old.values item).values
-  pub caused : IsCausedAlone outcome (failures old.flash) (failures new.flash) old.values new.values
-  pub safe : CrashSafe old.values.has_failed old.values.stored (carried_one outcome old.values item).accepted (image old.flash) (image new.flash)
-  pub holds : Holds (image new.flash) new.values
-  pub asks : (one : Accepted) → (carried_one outcome old.values item).accepted ≡ one ∷ [] → Asks image asked one old new
+  pub caused : IsCausedAlone outcome (as_flash.failures old.flash) (as_flash.failures new.flash) old.values new.values
+  pub safe : CrashSafe old.values.has_failed old.values.stored (carried_one outcome old.values item).accepted (as_flash.image old.flash) (as_flash.image new.flash)
+  pub holds : Holds (as_flash.image new.flash) new.values
+  pub asks : (one : Accepted) → (carried_one outcome old.values item).accepted ≡ one ∷ [] → Asks as_flash one old new
   pub untouched : (carried_one outcome old.values item).accepted ≡ [] → new.flash ≡ old.flash
 
 -- One item and its answer, for some outcome of its call, which the flash chose. Power that is lost stays lost.
-pub record CarriesItem {F : Type 0} (image : F → Image) (failures : F → ℕ) (asked : F → List Call → F → Type 0) (old : State F) (item : SetItem) (answer : BlockError) (new : State F) : Type 0 where
+pub record CarriesItem {F : Type 0} {S : ℕ} (as_flash : Flash F S) (old : State F) (item : SetItem) (answer : BlockError) (new : State F) : Type 0 where
   pub outcome : Outcome
-  pub carries : CarriesOne image failures asked outcome old item new
+  pub carries : CarriesOne as_flash outcome old item new
   pub answer_is : (carried_one outcome old.values item).answers ≡ answer ∷ []
   pub stays_lost : old.values.is_lost ≡ true → new.values.is_lost ≡ true
 
 -- The items one by one: each begins with the flash and the values that the one before it left.
-abbrev pub OneByOne : {F : Type 0} → (F → Image) → (F → ℕ) → (F → List Call → F → Type 0) → List Outcome → State F → List SetItem → State F → Type 0
-OneByOne image failures asked outcomes old [] new = new ≡ old
-OneByOne {F} image failures asked outcomes old (item ∷ items) new =
-    (between : State F) × CarriesOne image failures asked (first_of outcomes) old item between × OneByOne image failures asked (rest_of outcomes) between items new
+abbrev pub OneByOne : {F : Type 0} {S : ℕ} → Flash F S → List Outcome → State F → List SetItem → State F → Type 0
+OneByOne as_flash outcomes old [] new = new ≡ old
+OneByOne {F} as_flash outcomes old (item ∷ items) new =
+    (between : State F) × CarriesOne as_flash (first_of outcomes) old item between × OneByOne as_flash (rest_of outcomes) between items new
 
 -- For some outcomes of the calls, which the flash chose: the values and the answers are those of the items in order, there
 -- are none where no commit failed, each has its cause in its own item, what happened is a stretch of a cycle and continues
 -- any, and whatever the flash does the settings go on.
-pub record Carries {F : Type 0} (image : F → Image) (failures : F → ℕ) (asked : F → List Call → F → Type 0) (old : State F) (items : List SetItem) (answers : List BlockError) (new : State F) : Type 0 where
+pub record Carries {F : Type 0} {S : ℕ} (as_flash : Flash F S) (old : State F) (items : List SetItem) (answers : List BlockError) (new : State F) : Type 0 where
   pub outcomes : List Outcome
   pub values : new.values ≡ (carried outcomes old.values items).values
   pub answers_are : answers ≡ (carried outcomes old.values items).answers
   pub quiet : new.values.has_failed ≡ old.values.has_failed → outcomes ≡ []
-  pub placed : OneByOne image failures asked outcomes old items new
-  pub stretch : Stretch image failures old (carried outcomes old.values items).accepted new
-  pub continues : Continues image failures old (carried outcomes old.values items).accepted new
+  pub placed : OneByOne as_flash outcomes old items new
+  pub stretch : Stretch as_flash old (carried outcomes old.values items).accepted new
+  pub continues : Continues as_flash old (carried outcomes old.values items).accepted new
   pub goes_on : GoesOn old.values items answers new.values

@@ -185,7 +185,7 @@ impl<F: Flash<S>, const S: usize> Store<F, S> {
     /// Carries items of a Set out in order, each by itself, and says how each is answered.
     pub fn carry_out<const N: usize>(&mut self, items: &[SetItem]) -> ArrayVec<BlockError, N>
         requires { length items.now ≤ N }
-        ensures carries { Carries F.image F.failures F.asked self.old items.now result.items self.new }
+        ensures carries { Carries F.Flash self.old items.now result.items self.new }
         ensures reliable { F.is_reliable self.old.flash → F.is_reliable self.new.flash
             × (self.new.values.has_failed ≡ self.old.values.has_failed) }
     {
@@ -201,9 +201,9 @@ impl<F: Flash<S>, const S: usize> Store<F, S> {
 
     /// Carries one item of a Set out by itself, and says how it is answered.
     pub fn carry(&mut self, item: &SetItem) -> BlockError
-        ensures carries { CarriesItem F.image F.failures F.asked self.old item.now result self.new }
+        ensures carries { CarriesItem F.Flash self.old item.now result self.new }
         // As a list of one.
-        ensures listed { Carries F.image F.failures F.asked self.old (item.now ∷ []) (result ∷ []) self.new }
+        ensures listed { Carries F.Flash self.old (item.now ∷ []) (result ∷ []) self.new }
         ensures reliable { F.is_reliable self.old.flash → F.is_reliable self.new.flash
             × (self.new.values.has_failed ≡ self.old.values.has_failed) }
     {
@@ -218,7 +218,7 @@ impl<F: Flash<S>, const S: usize> Store<F, S> {
 
     /// Stores what the command asks for, and shows it once it is stored.
     fn commit(&mut self, command: &Command) -> BlockError
-        ensures carries { CarriesItem F.image F.failures F.asked self.old (SetItem.Ask command.now) result self.new }
+        ensures carries { CarriesItem F.Flash self.old (SetItem.Ask command.now) result self.new }
         ensures reliable { F.is_reliable self.old.flash → F.is_reliable self.new.flash
             × (self.new.values.has_failed ≡ self.old.values.has_failed) }
     {

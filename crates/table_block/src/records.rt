@@ -2,34 +2,40 @@
 use crate::table::{Table, numbers};
 use block_codec::{
     AlarmAck, AlarmNotification, Im0, Im1, IodReadReq, IodReadRes, IodWriteReq, IodWriteRes,
+    RecordHeader,
 };
 use std::alloc::AllocError;
 
+/// What the four headers of a record begin with, but for ARUUID.
+fn record(header: &RecordHeader, table: &mut Table) -> Result<(), AllocError> {
+    numbers!(table header seq_number api slot_number subslot_number index record_data_length)
+}
+
 /// 0x0009
 pub(crate) fn iod_read_req(block: &IodReadReq, table: &mut Table) -> Result<(), AllocError> {
-    table.field("ar_uuid", block.ar_uuid.as_bytes())?;
+    table.field("ar_uuid", block.header.ar_uuid.as_bytes())?;
     table.field("target_ar_uuid", block.target_ar_uuid.as_bytes())?;
-    numbers!(table block seq_number api slot_number subslot_number index record_data_length)
+    record(&block.header, table)
 }
 
 /// 0x8009
 pub(crate) fn iod_read_res(block: &IodReadRes, table: &mut Table) -> Result<(), AllocError> {
-    table.field("ar_uuid", block.ar_uuid.as_bytes())?;
-    numbers!(table block seq_number api slot_number subslot_number index record_data_length
-        additional_value_1 additional_value_2)
+    table.field("ar_uuid", block.header.ar_uuid.as_bytes())?;
+    record(&block.header, table)?;
+    numbers!(table block additional_value_1 additional_value_2)
 }
 
 /// 0x0008
 pub(crate) fn iod_write_req(block: &IodWriteReq, table: &mut Table) -> Result<(), AllocError> {
-    table.field("ar_uuid", block.ar_uuid.as_bytes())?;
-    numbers!(table block seq_number api slot_number subslot_number index record_data_length)
+    table.field("ar_uuid", block.header.ar_uuid.as_bytes())?;
+    record(&block.header, table)
 }
 
 /// 0x8008
 pub(crate) fn iod_write_res(block: &IodWriteRes, table: &mut Table) -> Result<(), AllocError> {
-    table.field("ar_uuid", block.ar_uuid.as_bytes())?;
-    numbers!(table block seq_number api slot_number subslot_number index record_data_length
-        additional_value_1 additional_value_2 pnio_status)
+    table.field("ar_uuid", block.header.ar_uuid.as_bytes())?;
+    record(&block.header, table)?;
+    numbers!(table block additional_value_1 additional_value_2 pnio_status)
 }
 
 /// 0x0020

@@ -72,7 +72,7 @@ fn put_ticks(device: &mut Device, units: u32, text: &mut String) -> Result<(), A
     let mut gap = "";
     for _ in 0..units {
         let elapsed = device.relation.elapse();
-        let farewell = match elapsed.tick.ending {
+        let farewell = match elapsed.tick.ending() {
             Some(reason) => device.relation.end(reason),
             None => None,
         };

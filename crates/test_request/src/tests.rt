@@ -1,10 +1,11 @@
-// Calls; what is read of the octets of a Connect, and the first fault of others; and the PDUs of alarms.
+// Calls; what is read of the octets of a Connect, and the first fault of others; cyclic data; and the PDUs of alarms.
 use std::fmt::Debug;
 use std::process::Abort;
 
 mod alarms;
 mod blocks;
 mod calls;
+mod cyclic;
 mod faults;
 mod opening;
 mod read;

@@ -15,7 +15,7 @@ use Rattle.frame_codec.specs.declared.arp.Holder.{Holder}
 use Rattle.frame_codec.specs.declared.udp.Caller.{Caller}
 use Rattle.frame_codec.specs.declared.udp.Endpoint.{Endpoint}
 use Rattle.frame_codec.specs.FrameId.{is_alarm, is_cyclic}
-use Rattle.frame_codec.specs.Frame.{frame_bytes, frame_of, layers, link, longest, mac}
+use Rattle.frame_codec.specs.Frame.{frame_bytes, frame_of, ethernet, layers, longest, mac}
 use Rattle.frame_codec.specs.Meaning.{ArpPacket, Content, Meaning, RealTime, UdpDatagram}
 use Rattle.dcp_core.specs.declared.request.DcpFault.{DcpFault}
 use Rattle.dcp_core.specs.Answer.{answer_of}
@@ -94,7 +94,7 @@ other_mac one other apart = by_test (pointwise nat_eq one.octets other.octets) r
 layers_read : (bytes : List ℕ) (meaning : Meaning) → frame_of bytes ≡ Ok meaning → layers.read bytes ≡ Ok meaning
 unfolding frame_of
 layers_read bytes meaning e =
-    let there = bind_ok (link.read bytes) (λ header. cond (nat_lt (longest header.0.tag) (length bytes)) (Err TooLong) (layers.read bytes)) meaning e in
+    let there = bind_ok (ethernet.read bytes) (λ header. cond (nat_lt (longest header.0.tag) (length bytes)) (Err TooLong) (layers.read bytes)) meaning e in
     by_length (nat_lt (longest there.0.0.tag) (length bytes)) there.2
   where
     by_length : (b : Bool) → cond b (Err TooLong) (layers.read bytes) ≡ Ok meaning → layers.read bytes ≡ Ok meaning
@@ -106,7 +106,7 @@ along : {A B : Type 0} (x y : A) → x ≡ y → (make : A → B) → make x ≡
 along x y e make = ap make e
 
 source_six : IsSoundWhole layers → (bytes : List ℕ) (meaning : Meaning) → frame_of bytes ≡ Ok meaning → IsMac meaning.source
-unfolding layers link mac
+unfolding layers ethernet mac
 source_six sound bytes meaning e =
     let spelled = sound.takes bytes meaning (layers_read bytes meaning e) in
     let header = spelled.2.1 in

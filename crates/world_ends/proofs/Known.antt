@@ -3,8 +3,7 @@
 use Rattle.std.proofs.Common.{◌≡◌, ◌⊎◌, inl, inr, ℕ, zero, suc, Bool, true, false, List, [], ◌∷◌, ◌++◌, map, length, Option, Some, None, option_map, Ok, refl, sym, ap, subst, ◌∙◌, append-nil, append_assoc}
 use Rattle.std.specs.Prelude.{slice_get}
 use Rattle.std.specs.List.{AllByRecursion}
-use Rattle.flash_model.specs.Calls.{Call}
-use Rattle.flash_model.specs.Image.{Image}
+use Rattle.flash_model.specs.declared.flash.Flash.{Ghosts as Flash}
 use Rattle.settings_store.specs.Machine.{Outcome}
 use Rattle.pn_values.specs.declared.identity.Identity.{Identity}
 use Rattle.rpc_core.specs.Cache.{Kept as Answer, kept_of}
@@ -155,8 +154,8 @@ module _ (so : HeardSo) (goes : GoesSo) where
       unfolding heard_step judged_step
       step_frames outcomes met = messages_known (heard_step outcomes station before.device.live heard).sent (all_owed outcomes) met
 
-      pub holds_behind_device : (image : F → Image) (failures : F → ℕ) (asked : F → List Call → F → Type 0) (after : World F) → AtDevice image failures asked before heard after → HoldsAt after
-      holds_behind_device image failures asked after made =
+      pub holds_behind_device : {S : ℕ} (as_flash : Flash F S) (after : World F) → AtDevice as_flash before heard after → HoldsAt after
+      holds_behind_device as_flash after made =
           let hears = made.hears in
           let live = before.device.live in
           let step = heard_step hears.steps.outcomes station live heard in
@@ -225,35 +224,35 @@ module _ (so : HeardSo) (goes : GoesSo) where
       all_meant (move.Give slot subslot value) = meant_at_controller (controller.Give slot subslot value) tt
       all_meant move.Stop = meant_at_controller controller.Stop tt
 
-      module _ (image : F → Image) (failures : F → ℕ) (asked : F → List Call → F → Type 0) (after : World F) where
+      module _ {S : ℕ} (as_flash : Flash F S) (after : World F) where
         same_holds : after ≡ before → HoldsAt after
         same_holds same = subst (λ (w : World F). HoldsAt w) (sym same) holds
 
-        comes_to_device : (octets : List ℕ) (skipped : Bool) → IsKnown setup station.identity octets → Comes image failures asked skipped before Device octets after → HoldsAt after
+        comes_to_device : (octets : List ℕ) (skipped : Bool) → IsKnown setup station.identity octets → Comes as_flash skipped before Device octets after → HoldsAt after
         comes_to_device octets true known comes = same_holds comes
-        comes_to_device octets false known comes = holds_behind_device plans (heard_of station.identity (Frame (record { items = octets }))) known.at_device image failures asked after comes
+        comes_to_device octets false known comes = holds_behind_device plans (heard_of station.identity (Frame (record { items = octets }))) known.at_device as_flash after comes
 
-        comes_to_controller : (octets : List ℕ) (skipped : Bool) → IsKnown setup station.identity octets → Comes image failures asked skipped before Controller octets after → HoldsAt after
+        comes_to_controller : (octets : List ℕ) (skipped : Bool) → IsKnown setup station.identity octets → Comes as_flash skipped before Controller octets after → HoldsAt after
         comes_to_controller octets true known comes = same_holds comes
         comes_to_controller octets false known comes = holds_behind_controller (controller.Frame (record { items = octets })) known.at_controller after comes
 
         delivered_to_device : (octets : Option (List ℕ)) → ((frame : List ℕ) → octets ≡ Some frame → IsKnown setup station.identity frame)
-            → Delivers image failures asked octets before Device after → HoldsAt after
+            → Delivers as_flash octets before Device after → HoldsAt after
         delivered_to_device None known comes = same_holds comes
         delivered_to_device (Some octets) known comes = comes_to_device octets (is_skipped before.device before.controller Device octets) (known octets refl) comes
 
         delivered_to_controller : (octets : Option (List ℕ)) → ((frame : List ℕ) → octets ≡ Some frame → IsKnown setup station.identity frame)
-            → Delivers image failures asked octets before Controller after → HoldsAt after
+            → Delivers as_flash octets before Controller after → HoldsAt after
         delivered_to_controller None known comes = same_holds comes
         delivered_to_controller (Some octets) known comes = comes_to_controller octets (is_skipped before.device before.controller Controller octets) (known octets refl) comes
 
-        pub holds_behind : (one : Move) → Happens image failures asked before one after → HoldsAt after
+        pub holds_behind : (one : Move) → Happens as_flash before one after → HoldsAt after
         holds_behind (move.Deliver Device number) happens = delivered_to_device (slice_get before.sent number) (λ frame there. known_at number frame there) happens
         holds_behind (move.Deliver Controller number) happens = delivered_to_controller (slice_get before.sent number) (λ frame there. known_at number frame there) happens
-        holds_behind (move.Tick Device) happens = holds_behind_device plans Ticks tt image failures asked after happens
+        holds_behind (move.Tick Device) happens = holds_behind_device plans Ticks tt as_flash after happens
         holds_behind (move.Tick Controller) happens = holds_behind_controller controller.Tick tt after happens
-        holds_behind (move.Input slot subslot value) happens = holds_behind_device plans (Given slot subslot value.items) tt image failures asked after happens
-        holds_behind (move.Alarm slot subslot octets) happens = holds_behind_device plans (Raised slot subslot octets.items) tt image failures asked after happens
+        holds_behind (move.Input slot subslot value) happens = holds_behind_device plans (Given slot subslot value.items) tt as_flash after happens
+        holds_behind (move.Alarm slot subslot octets) happens = holds_behind_device plans (Raised slot subslot octets.items) tt as_flash after happens
         holds_behind (move.Give slot subslot value) happens = holds_behind_controller (controller.Give slot subslot value) tt after happens
         holds_behind move.Stop happens = holds_behind_controller controller.Stop tt after happens
 
@@ -264,7 +263,7 @@ module _ (so : HeardSo) (goes : GoesSo) where
   steps_more own from [] one to steps last = (last, tt)
   steps_more own from (first ∷ run) one to steps last = (steps.0, steps_more own first.1 run one to steps.1 last)
 
-  module _ {F : Type 0} (image : F → Image) (failures : F → ℕ) (asked : F → List Call → F → Type 0) (first : World F) (rules : Rules TakenRecord Request) (begins : BeginsSmall rules (view_of first)) where
+  module _ {F : Type 0} {S : ℕ} (as_flash : Flash F S) (first : World F) (rules : Rules TakenRecord Request) (begins : BeginsSmall rules (view_of first)) where
     viewed_more : (run others : List (Move × World F)) → viewed (run ++ others) ≡ viewed run ++ viewed others
     viewed_more [] others = refl
     viewed_more (one ∷ run) others = ap (λ (xs : List (small.Move × small.World TakenRecord Request)). (move_of one.0, view_of one.1) ∷ xs) (viewed_more run others)
@@ -283,12 +282,12 @@ module _ (so : HeardSo) (goes : GoesSo) where
 
     pub on : (run : List (Move × World F)) (now : World F) → last_world first run ≡ now → rules_at now ≡ rules → IsRun rules (view_of first) (viewed run)
         → CanStart now.controller.setup now.device.station → HoldsAt now → InStep now
-        → (others : List (Move × World F)) → AreMade image failures asked now others → IsRun rules (view_of first) (viewed (run ++ others)) × AreMeant now others
+        → (others : List (Move × World F)) → AreMade as_flash now others → IsRun rules (view_of first) (viewed (run ++ others)) × AreMeant now others
     on run now last same steps can holds in_step [] made = (subst (λ (xs : List (Move × World F)). IsRun rules (view_of first) (viewed xs)) (sym (append-nil run)) steps, tt)
     on run now last same steps can holds in_step (one ∷ others) made =
         let plans = plans_at run now last same steps in
         let meant = all_meant now can holds in_step plans one.0 in
-        let step = happens_steps image failures asked goes.device_on goes.controller_on now one.1 in_step one.0 meant made.0 in
+        let step = happens_steps as_flash goes.device_on goes.controller_on now one.1 in_step one.0 meant made.0 in
         let still : rules_at one.1 ≡ rules_at now =
         ap (λ (s : Setup). rules_of s one.1.device.station) step.setup ∙ ap (λ (s : Station). rules_of now.controller.setup s) step.station in
         let from : Steps rules (last_of (view_of first) (viewed run)) (move_of one.0) (view_of one.1) =
@@ -300,7 +299,7 @@ module _ (so : HeardSo) (goes : GoesSo) where
         let starts : CanStart one.1.controller.setup one.1.device.station =
         subst (λ (s : Setup). CanStart s one.1.device.station) (sym step.setup) (subst (λ (s : Station). CanStart now.controller.setup s) (sym step.station) can) in
         let rest = on (run ++ one ∷ []) one.1 (last_more first run one) (still ∙ same) more starts
-        (holds_behind now can holds in_step plans image failures asked one.1 one.0 made.0) step.in_step others made.1 in
+        (holds_behind now can holds in_step plans as_flash one.1 one.0 made.0) step.in_step others made.1 in
         (subst (λ (xs : List (Move × World F)). IsRun rules (view_of first) (viewed xs)) (append_assoc run (one ∷ []) others) rest.0, (meant, rest.1))
 
   -- ---- the beginning
@@ -340,10 +339,10 @@ module _ (so : HeardSo) (goes : GoesSo) where
     pub first_in_step : InStep first
     first_in_step = subst (λ (l : ControllerLive). IsInStep first.controller.setup.plan l.phase l.asked) (sym begins.made) (goes.begins first.controller.setup.plan).0
 
-    pub runs_so : (image : F → Image) (failures : F → ℕ) (asked : F → List Call → F → Type 0) (run : List (Move × World F)) → AreMade image failures asked first run
+    pub runs_so : {S : ℕ} (as_flash : Flash F S) (run : List (Move × World F)) → AreMade as_flash first run
         → IsRun (rules_at first) (view_of first) (viewed run) × AreMeant first run
-    runs_so image failures asked run made =
-        on image failures asked first (rules_at first) begins_small [] first refl refl tt can holds_first first_in_step run made
+    runs_so as_flash run made =
+        on as_flash first (rules_at first) begins_small [] first refl refl tt can holds_first first_in_step run made
 
   -- from the beginning of a set-up and a device that can meet
   module _ {F : Type 0} (setup : Setup) (identity : Identity) (good : IsSetup setup) (real : IsDevice identity) (can : CanMeet setup identity)
@@ -369,9 +368,9 @@ module _ (so : HeardSo) (goes : GoesSo) where
     pub starts_small : BeginsSmall (rules_at first) (view_of first)
     starts_small = begins_small first identity own_begins can_start
 
-    pub run_is : (image : F → Image) (failures : F → ℕ) (asked : F → List Call → F → Type 0) (run : List (Move × World F)) → AreMade image failures asked first run
+    pub run_is : {S : ℕ} (as_flash : Flash F S) (run : List (Move × World F)) → AreMade as_flash first run
         → IsRun (rules_at first) (view_of first) (viewed run)
-    run_is image failures asked run made = (runs_so first identity own_begins can_start image failures asked run made).0
+    run_is as_flash run made = (runs_so first identity own_begins can_start as_flash run made).0
 
-    pub meant_is : (image : F → Image) (failures : F → ℕ) (asked : F → List Call → F → Type 0) (run : List (Move × World F)) → AreMade image failures asked first run → AreMeant first run
-    meant_is image failures asked run made = (runs_so first identity own_begins can_start image failures asked run made).1
+    pub meant_is : {S : ℕ} (as_flash : Flash F S) (run : List (Move × World F)) → AreMade as_flash first run → AreMeant first run
+    meant_is as_flash run made = (runs_so first identity own_begins can_start as_flash run made).1

@@ -202,13 +202,15 @@ module _ (read : (block : Block) (rest : List ℕ) → CanBeWritten block → bl
         there = slice_get-map taken_for setup.plan.records.items number ∙ ap (λ (o : Option PlanRecord). option_map taken_for o) there.1;
         keeps = λ standing write e. write_is setup station.real number entry below
             (λ rest. read (variant.IodWriteReq (write_asked setup number entry)) rest (record {
-              seq_number = omega (arith, listed, good.few);
-              ar_uuid = good.named;
-              api = omega arith;
-              slot_number = fits.0;
-              subslot_number = fits.1;
-              index = omega (arith, below);
-              record_data_length = omega (arith, short);
+              header = record {
+                seq_number = omega (arith, listed, good.few);
+                ar_uuid = good.named;
+                api = omega arith;
+                slot_number = fits.0;
+                subslot_number = fits.1;
+                index = omega (arith, below);
+                record_data_length = omega (arith, short);
+              };
             }))
             standing write
             (subst (λ (o : Option PlanRecord). write_of standing station.real (write_blocks setup number o) ≡ Ok write) there.1 e);

@@ -3,8 +3,7 @@ use Rattle.std.proofs.Common.{◌≡◌, ◌⊎◌, inl, inr, ◌+◌, ℕ, Bool
 use Rattle.std.specs.Prelude.{slice_get}
 use Rattle.std.specs.List.{AllByRecursion}
 use Rattle.std.proofs.lemmas.List.{length-map}
-use Rattle.flash_model.specs.Calls.{Call}
-use Rattle.flash_model.specs.Image.{Image}
+use Rattle.flash_model.specs.declared.flash.Flash.{Ghosts as Flash}
 use Rattle.settings_store.specs.Machine.{Outcome}
 use Rattle.connect_requests.specs.Request.{Request}
 use Rattle.rpc_core.specs.Cache.{Kept as Answer, kept_of}
@@ -53,8 +52,8 @@ ControllerGoesOn = (setup : Setup) (live : ControllerLive) (event : Event) → I
 
 -- ---- runs
 
-module _ {F : Type 0} (image : F → Image) (failures : F → ℕ) (asked : F → List Call → F → Type 0) where
-  pub is_run : (before : World F) (moves : List Move) (after : World F) → Played image failures asked before moves after → IsRunOf image failures asked before moves after
+module _ {F : Type 0} {S : ℕ} (as_flash : Flash F S) where
+  pub is_run : (before : World F) (moves : List Move) (after : World F) → Played as_flash before moves after → IsRunOf as_flash before moves after
   is_run before [] after played = record { run = []; are = refl; made = tt; last = sym played }
   is_run before (one ∷ moves) after played =
       let more = is_run played.0 moves after played.2 in
@@ -148,8 +147,8 @@ module _ {F : Type 0} where
 
   -- ---- a step of the device
 
-  module _ (image : F → Image) (failures : F → ℕ) (asked : F → List Call → F → Type 0) (goes : DeviceGoesOn) where
-    at_device_steps : (before after : World F) (heard : Heard) → InStep before → IsMeantAtDevice before heard → AtDevice image failures asked before heard after
+  module _ {S : ℕ} (as_flash : Flash F S) (goes : DeviceGoesOn) where
+    at_device_steps : (before after : World F) (heard : Heard) → InStep before → IsMeantAtDevice before heard → AtDevice as_flash before heard after
         → Refines before after (StepsAtDevice (rules_at before) (heard_as heard) (view_of before) (view_of after))
     at_device_steps before after heard in_step meant made =
         let hears = made.hears in
@@ -188,7 +187,7 @@ module _ {F : Type 0} where
     module _ (on : ControllerGoesOn) (before after : World F) (in_step : InStep before) where
       comes_to_device : (number : ℕ) (octets : List ℕ) (skipped : Bool) → slice_get before.sent number ≡ Some octets
           → IsMeantAtDevice before (heard_of before.device.station.identity (Frame (record { items = octets })))
-          → Comes image failures asked skipped before Device octets after
+          → Comes as_flash skipped before Device octets after
           → Refines before after (Steps (rules_at before) (view_of before) (small.ComesToDevice number) (view_of after))
       comes_to_device number octets true there meant comes = rests before after _ in_step comes
       comes_to_device number octets false there meant comes =
@@ -196,7 +195,7 @@ module _ {F : Type 0} where
 
       comes_to_controller : (number : ℕ) (octets : List ℕ) (skipped : Bool) → slice_get before.sent number ≡ Some octets
           → IsMeantAtController before (controller.Frame (record { items = octets }))
-          → Comes image failures asked skipped before Controller octets after
+          → Comes as_flash skipped before Controller octets after
           → Refines before after (Steps (rules_at before) (view_of before) (small.ComesToController number) (view_of after))
       comes_to_controller number octets true there meant comes = rests before after _ in_step comes
       comes_to_controller number octets false there meant comes =
@@ -205,7 +204,7 @@ module _ {F : Type 0} where
 
       delivered_to_device : (number : ℕ) (octets : Option (List ℕ)) → slice_get before.sent number ≡ octets
           → ((frame : List ℕ) → octets ≡ Some frame → IsMeantAtDevice before (heard_of before.device.station.identity (Frame (record { items = frame }))))
-          → Delivers image failures asked octets before Device after
+          → Delivers as_flash octets before Device after
           → Refines before after (Steps (rules_at before) (view_of before) (small.ComesToDevice number) (view_of after))
       delivered_to_device number None there meant comes = rests before after _ in_step comes
       delivered_to_device number (Some octets) there meant comes =
@@ -213,13 +212,13 @@ module _ {F : Type 0} where
 
       delivered_to_controller : (number : ℕ) (octets : Option (List ℕ)) → slice_get before.sent number ≡ octets
           → ((frame : List ℕ) → octets ≡ Some frame → IsMeantAtController before (controller.Frame (record { items = frame })))
-          → Delivers image failures asked octets before Controller after
+          → Delivers as_flash octets before Controller after
           → Refines before after (Steps (rules_at before) (view_of before) (small.ComesToController number) (view_of after))
       delivered_to_controller number None there meant comes = rests before after _ in_step comes
       delivered_to_controller number (Some octets) there meant comes =
           comes_to_controller number octets (is_skipped before.device before.controller Controller octets) there (meant octets refl) comes
 
-      pub happens_steps : (one : Move) → IsMeant before one → Happens image failures asked before one after
+      pub happens_steps : (one : Move) → IsMeant before one → Happens as_flash before one after
           → Refines before after (Steps (rules_at before) (view_of before) (move_of one) (view_of after))
       happens_steps (move.Deliver Device number) meant happens = delivered_to_device number (slice_get before.sent number) refl meant happens
       happens_steps (move.Deliver Controller number) meant happens = delivered_to_controller number (slice_get before.sent number) refl meant happens

@@ -2,8 +2,7 @@
 use Rattle.std.specs.Prelude.{◌≡◌, ◌<◌, ℕ, true, List, [], ◌∷◌, map, Option, None}
 use Rattle.std.specs.List.{AllByRecursion}
 use Rattle.pn_values.specs.declared.identity.Identity.{Identity}
-use Rattle.flash_model.specs.Calls.{Call}
-use Rattle.flash_model.specs.Image.{Image}
+use Rattle.flash_model.specs.declared.flash.Flash.{Ghosts as Flash}
 use Rattle.controller_core.specs.Machine.{first as first_live, opening_of}
 use Rattle.connect_blocks.specs.ArBlock.{is_some_uuid}
 use Rattle.plans.specs.declared.parts.PlanRecord.{PlanRecord}
@@ -58,9 +57,9 @@ pub record CanMeet (setup : Setup) (identity : Identity) : Type 0 where
   pub records : AllByRecursion IsParameter setup.plan.records.items
 
 -- each move happens
-abbrev pub AreMade : {F : Type 0} → (F → Image) → (F → ℕ) → (F → List Call → F → Type 0) → World F → List (Move × World F) → Type 0
-AreMade image failures asked before [] = Unit {0}
-AreMade image failures asked before (one ∷ run) = Happens image failures asked before one.0 one.1 × AreMade image failures asked one.1 run
+abbrev pub AreMade : {F : Type 0} {S : ℕ} → Flash F S → World F → List (Move × World F) → Type 0
+AreMade as_flash before [] = Unit {0}
+AreMade as_flash before (one ∷ run) = Happens as_flash before one.0 one.1 × AreMade as_flash one.1 run
 
 -- the world behind a run
 abbrev pub last_world : {F : Type 0} → World F → List (Move × World F) → World F
@@ -68,8 +67,8 @@ last_world before [] = before
 last_world before (one ∷ run) = last_world one.1 run
 
 -- Moves that were played, as a run of theirs.
-pub record IsRunOf {F : Type 0} (image : F → Image) (failures : F → ℕ) (asked : F → List Call → F → Type 0) (before : World F) (moves : List Move) (after : World F) : Type 0 where
+pub record IsRunOf {F : Type 0} {S : ℕ} (as_flash : Flash F S) (before : World F) (moves : List Move) (after : World F) : Type 0 where
   pub run : List (Move × World F)
   pub are : moves_of run ≡ moves
-  pub made : AreMade image failures asked before run
+  pub made : AreMade as_flash before run
   pub last : last_world before run ≡ after

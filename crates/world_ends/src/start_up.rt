@@ -55,29 +55,29 @@ fn plan_is_placed(plan: &Plan)
 /// A start-up of this set-up with this device, over the worlds of any moves, whatever the flash of the device does.
 pub fn worlds_start_up<F: Flash<S>, const S: usize>(setup: &Setup, identity: &Identity)
     // Moves that were played are a run: each one happens in the world behind the one before it.
-    ensures run { (before after : World F) (moves : List Move) → Played F.image F.failures F.asked before moves after
-        → IsRunOf F.image F.failures F.asked before moves after }
+    ensures run { (before after : World F) (moves : List Move) → Played F.Flash before moves after
+        → IsRunOf F.Flash before moves after }
     // Whatever comes and is sent with each move is heard as it is meant: the device hears no calls but those of the plan, in octets that
     // say so, and either end hears what the other says, or nothing.
     ensures meant { CanMeet setup.now identity.now →
         (first : World F) (run : List (Move × World F)) → Begins setup.now identity.now first
-        → AreMade F.image F.failures F.asked first run → AreMeant first run }
+        → AreMade F.Flash first run → AreMeant first run }
     // A controller that exchanges data was handed an ApplicationReady, which the device had sent at an earlier point: at that point it had
     // accepted the plan's Connect, and had taken the plan's records, in their order, each once.
     ensures controller { CanMeet setup.now identity.now →
         (first : World F) (run : List (Move × World F)) → Begins setup.now identity.now first
-        → AreMade F.image F.failures F.asked first run → (last_world first run).controller.live.phase ≡ Exchanging
+        → AreMade F.Flash first run → (last_world first run).controller.live.phase ≡ Exchanging
         → WasHanded (rules_of first.controller.setup first.device.station) (view_of first) (viewed run) }
     // Where a device exchanges data, its controller did so at an earlier point.
     ensures device { CanMeet setup.now identity.now →
         (first : World F) (run : List (Move × World F)) → Begins setup.now identity.now first
-        → AreMade F.image F.failures F.asked first run
+        → AreMade F.Flash first run
         → (link : Link) → (last_world first run).device.live.rest.link ≡ Some link → link.phase ≡ in_exchange
         → WasExchanging (viewed run) }
     // A relation that a device has is the plan's.
     ensures relation { CanMeet setup.now identity.now →
         (first : World F) (run : List (Move × World F)) → Begins setup.now identity.now first
-        → AreMade F.image F.failures F.asked first run
+        → AreMade F.Flash first run
         → (link : Link) → (last_world first run).device.live.rest.link ≡ Some link
         → link.request ≡ request_for setup.now.plan setup.now.ar }
 {

@@ -5,7 +5,7 @@ use super::stations::Trial;
 use std::process::Abort;
 use std::test::Fail;
 
-/// Where a number stands behind the link header, and of how many octets it is.
+/// Where a number stands behind the Ethernet header, and of how many octets it is.
 type Field = (usize, usize);
 
 /// Hardware, protocol, lengths, operation, target address.
@@ -59,7 +59,7 @@ const OF_BLOCK: [Field; 9] = [
     (164, 4),
 ];
 
-/// A frame with this number at a place behind its link header.
+/// A frame with this number at a place behind its Ethernet header.
 fn bent(
     (good, head): (&Vec<u8>, usize),
     order: Order,

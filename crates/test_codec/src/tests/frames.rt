@@ -52,7 +52,7 @@ fn identify(tag: Option<u16>, body: &[u8]) -> Layered<'_>
 fn reads_with_and_without_tag(rt: HostRuntime) {
     reads(&rt, &IDENTIFY, Ok(identify(None, &BODY)));
     reads(&rt, &TAGGED, Ok(identify(Some(0), &BODY)));
-    // Only the link layer is judged here.
+    // Only the Ethernet header is judged here.
     reads(&rt, &IDENTIFY[..20], Ok(identify(None, &BODY[..4])));
     reads(&rt, &IDENTIFY[..16], Ok(identify(None, &[])));
 }

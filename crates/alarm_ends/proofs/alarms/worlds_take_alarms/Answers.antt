@@ -38,25 +38,25 @@ hears_so g c = record {
 pub returns-clause-front : goal.returns-clause-front
 returns-clause-front g c = λ can first run begins made real few.
     let follows = follows_so (device_so g c) (hears_so g c) c.args.setup.now c.args.identity.now c.stations_are_real.ensures.setup can
-    g.F.Flash.image g.F.Flash.failures g.F.Flash.asked first run begins real made (c.worlds_start_up.ensures.meant can first run begins made) in
+    g.F.Flash first run begins real made (c.worlds_start_up.ensures.meant can first run begins made) in
     in_order (last_world first run) (raised_over first run) (taken_over first run) follows c.alarms_are_taken_in_order.ensures.prefix few
 
 pub returns-clause-last : goal.returns-clause-last
 returns-clause-last g c = λ can first run begins made real few.
     let follows = follows_so (device_so g c) (hears_so g c) c.args.setup.now c.args.identity.now c.stations_are_real.ensures.setup can
-    g.F.Flash.image g.F.Flash.failures g.F.Flash.asked first run begins real made (c.worlds_start_up.ensures.meant can first run begins made) in
+    g.F.Flash first run begins real made (c.worlds_start_up.ensures.meant can first run begins made) in
     lacks_one (last_world first run) (raised_over first run) (taken_over first run) follows c.alarms_are_taken_in_order.ensures.last few
 
 pub returns-clause-shown : goal.returns-clause-shown
 returns-clause-shown g c = λ can first run begins made real.
     let follows = follows_so (device_so g c) (hears_so g c) c.args.setup.now c.args.identity.now c.stations_are_real.ensures.setup can
-    g.F.Flash.image g.F.Flash.failures g.F.Flash.asked first run begins real made (c.worlds_start_up.ensures.meant can first run begins made) in
+    g.F.Flash first run begins real made (c.worlds_start_up.ensures.meant can first run begins made) in
     shows (last_world first run) (raised_over first run) (taken_over first run) follows c.alarms_are_taken_in_order.ensures.shown
 
 pub returns-clause-alarm : goal.returns-clause-alarm
 returns-clause-alarm g c = λ can first run begins made real few.
     let follows = follows_so (device_so g c) (hears_so g c) c.args.setup.now c.args.identity.now c.stations_are_real.ensures.setup can
-    g.F.Flash.image g.F.Flash.failures g.F.Flash.asked first run begins real made (c.worlds_start_up.ensures.meant can first run begins made) in
+    g.F.Flash first run begins real made (c.worlds_start_up.ensures.meant can first run begins made) in
     last_shown (raised_over first run) (taken_over first run) (last_world first run).controller.live.alarm
     (in_order (last_world first run) (raised_over first run) (taken_over first run) follows c.alarms_are_taken_in_order.ensures.prefix few)
     (lacks_one (last_world first run) (raised_over first run) (taken_over first run) follows c.alarms_are_taken_in_order.ensures.last few)

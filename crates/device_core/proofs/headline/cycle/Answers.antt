@@ -13,7 +13,7 @@ returns-clause-headline g c = λ left first room starts.
     let identity : c.into_parts-identity.result.0 ≡ c.run.new.self.station.identity = ap (λ t. t.0) parts in
     let real : c.into_parts-identity.result.1 ≡ c.run.new.self.station.real = ap (λ t. t.1) parts in
     let powered = rw (ap (λ t. t.2) parts) at c.power_up.ensures in
-    restarts_if g.F.Flash.image g.F.Flash.failures g.F.Flash.asked _ (record { identity = c.args.identity; real = c.args.real }) c.args.flash first room c.args.events.now _ _ c.in_ok-device.device c.run.new.self c.power_up.result c.boot-2.result
+    restarts_if g.F.Flash _ (record { identity = c.args.identity; real = c.args.real }) c.args.flash first room c.args.events.now _ _ c.in_ok-device.device c.run.new.self c.power_up.result c.boot-2.result
     (c.in_ok-device.ensures.known first room starts) c.in_ok-device.ensures.station c.in_ok-device.ensures.same c.in_ok-device.ensures.cause c.in_ok-device.ensures.calls
     left c.run.ensures.runs powered (c.requires.keeps c.run.new.self.flash c.power_up.result powered)
     c.boot-2.ensures.known c.boot-2.ensures.fresh c.boot-2.ensures.starts (rw (identity, real) at c.boot-2.ensures.station) c.boot-2.ensures.same c.boot-2.ensures.cause c.boot-2.ensures.calls
@@ -23,7 +23,7 @@ returns-clause-fresh g c =
     let parts = c.into_parts-identity.ensures in
     let identity : c.into_parts-identity.result.0 ≡ c.run.new.self.station.identity = ap (λ t. t.0) parts in
     let real : c.into_parts-identity.result.1 ≡ c.run.new.self.station.real = ap (λ t. t.1) parts in
-    is_started_if g.F.Flash.image (record { identity = c.args.identity; real = c.args.real }) c.run.new.self c.power_up.result c.boot-2.result
+    is_started_if g.F.Flash (record { identity = c.args.identity; real = c.args.real }) c.run.new.self c.power_up.result c.boot-2.result
     (c.run.ensures.runs.same ∙ c.in_ok-device.ensures.station)
     (rw (identity, real) at c.boot-2.ensures.station) c.boot-2.ensures.fresh c.boot-2.ensures.starts c.boot-2.ensures.same
 
@@ -38,7 +38,7 @@ returns-in_err-device-clause-refused g c =
     let p = err_from_is_err_and c.from_residual.result c.from_residual.ensures.1 in
     rw (p.1, p.2) (inl (
       refl,
-      refuses_from g.F.Flash.image g.F.Flash.failures g.F.Flash.asked c.args.flash _ _ c.in_err-device.ensures.cause c.in_err-device.ensures.same c.in_err-device.ensures.calls c.in_err-device.ensures.foreign,
+      refuses_from g.F.Flash c.args.flash _ _ c.in_err-device.ensures.cause c.in_err-device.ensures.same c.in_err-device.ensures.calls c.in_err-device.ensures.foreign,
     ))
 
 pub returns-in_err-device-clause-left : goal.returns-in_err-device-clause-left
@@ -56,7 +56,7 @@ pub returns-clause-refused : goal.returns-clause-refused
 returns-clause-refused g c =
     let parts = c.into_parts-identity.ensures in
     let powered = rw (ap (λ t. t.2) parts) at c.power_up.ensures in
-    refused_if g.F.Flash.image g.F.Flash.failures g.F.Flash.asked _ (record { identity = c.args.identity; real = c.args.real }) c.args.flash c.args.events.now _ _ c.in_ok-device.device c.run.new.self c.power_up.result c.boot-2.result
+    refused_if g.F.Flash _ (record { identity = c.args.identity; real = c.args.real }) c.args.flash c.args.events.now _ _ c.in_ok-device.device c.run.new.self c.power_up.result c.boot-2.result
     c.in_ok-device.ensures.fresh c.in_ok-device.ensures.station c.in_ok-device.ensures.starts c.in_ok-device.ensures.same c.in_ok-device.ensures.cause c.in_ok-device.ensures.calls
     c.run.ensures.runs powered (c.requires.keeps c.run.new.self.flash c.power_up.result powered) c.boot-2.ensures.foreign c.boot-2.ensures.same c.boot-2.ensures.cause c.boot-2.ensures.calls
 

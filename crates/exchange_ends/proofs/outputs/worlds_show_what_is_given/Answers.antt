@@ -12,24 +12,24 @@ pub returns-clause-zeros : goal.returns-clause-zeros
 returns-clause-zeros g c = λ can first run begins made link is none.
     let setup = c.args.setup.now in
     let identity = c.args.identity.now in
-    let sound = c.formats_are_sound.ensures.link in
+    let sound = c.formats_are_sound.ensures.ethernet in
     let whole = c.formats_are_sound.ensures.layers in
     let differ = other_mac identity.mac setup.plan.controller.mac can.apart in
     let six = c.stations_are_real.ensures.setup.mac in
     let meant = c.worlds_start_up.ensures.meant can first run begins made in
-    shows_zeros sound whole setup identity differ six (there g c) first begins g.F.Flash.image g.F.Flash.failures g.F.Flash.asked run made meant
-    (as_given sound whole setup identity differ six (there g c) first begins g.F.Flash.image g.F.Flash.failures g.F.Flash.asked run made meant c.outputs_are_given.ensures)
+    shows_zeros sound whole setup identity differ six (there g c) first begins g.F.Flash run made meant
+    (as_given sound whole setup identity differ six (there g c) first begins g.F.Flash run made meant c.outputs_are_given.ensures)
     link is none
 
 pub returns-clause-values : goal.returns-clause-values
 returns-clause-values g c = λ can first run begins made link is some.
     let setup = c.args.setup.now in
     let identity = c.args.identity.now in
-    let sound = c.formats_are_sound.ensures.link in
+    let sound = c.formats_are_sound.ensures.ethernet in
     let whole = c.formats_are_sound.ensures.layers in
     let differ = other_mac identity.mac setup.plan.controller.mac can.apart in
     let six = c.stations_are_real.ensures.setup.mac in
     let meant = c.worlds_start_up.ensures.meant can first run begins made in
-    shows_one_frame sound whole setup identity differ six (there g c) first begins g.F.Flash.image g.F.Flash.failures g.F.Flash.asked run made meant
-    (as_given sound whole setup identity differ six (there g c) first begins g.F.Flash.image g.F.Flash.failures g.F.Flash.asked run made meant c.outputs_are_given.ensures)
+    shows_one_frame sound whole setup identity differ six (there g c) first begins g.F.Flash run made meant
+    (as_given sound whole setup identity differ six (there g c) first begins g.F.Flash run made meant c.outputs_are_given.ensures)
     link is some

@@ -17,7 +17,7 @@ pub returns-clause-udp : goal.returns-clause-udp
 returns-clause-udp c = λ destination source tag from to body is. alone_back c.fitting_frames_are_read.ensures.back c.fitting_frames_are_read.ensures.datagram (carrying destination source tag (UdpDatagram from to body)) is
 
 pub returns-clause-alone : goal.returns-clause-alone
-returns-clause-alone c = alone c.formats_are_sound.ensures.link
+returns-clause-alone c = alone c.formats_are_sound.ensures.ethernet
 
 pub returns-clause-long : goal.returns-clause-long
-returns-clause-long c = long c.formats_are_sound.ensures.link c.formats_are_sound.ensures.layers
+returns-clause-long c = long c.formats_are_sound.ensures.ethernet c.formats_are_sound.ensures.layers

@@ -6,7 +6,7 @@ use Rattle.network_world.proofs.world.happen.Goals as goal
 pub returns-in-Input : goal.returns-in-Input
 unfolding heard_of
 returns-in-Input g c = rw c.in-Input.is (record {
-  hears = subst (λ (octets : List ℕ). IsHeard g.F.Flash.image g.F.Flash.failures g.F.Flash.asked c.args.device.now c.args.sent.now.frames (Given c.in-Input.slot c.in-Input.subslot octets) c.happen_at_device.new.device c.happen_at_device.new.sent.frames)
+  hears = subst (λ (octets : List ℕ). IsHeard g.F.Flash c.args.device.now c.args.sent.now.frames (Given c.in-Input.slot c.in-Input.subslot octets) c.happen_at_device.new.device c.happen_at_device.new.sent.frames)
       (c.bytes_of.ensures ∙ c.as_slice.ensures.value) c.happen_at_device.ensures;
   controller = refl;
 })
@@ -14,7 +14,7 @@ returns-in-Input g c = rw c.in-Input.is (record {
 pub returns-in-Alarm : goal.returns-in-Alarm
 unfolding heard_of
 returns-in-Alarm g c = rw c.in-Alarm.is (record {
-  hears = subst (λ (octets : List ℕ). IsHeard g.F.Flash.image g.F.Flash.failures g.F.Flash.asked c.args.device.now c.args.sent.now.frames (Raised c.in-Alarm.slot c.in-Alarm.subslot octets) c.happen_at_device-in-Alarm.new.device c.happen_at_device-in-Alarm.new.sent.frames)
+  hears = subst (λ (octets : List ℕ). IsHeard g.F.Flash c.args.device.now c.args.sent.now.frames (Raised c.in-Alarm.slot c.in-Alarm.subslot octets) c.happen_at_device-in-Alarm.new.device c.happen_at_device-in-Alarm.new.sent.frames)
       (c.bytes_of-in-Alarm.ensures ∙ c.as_slice-in-Alarm.ensures.value) c.happen_at_device-in-Alarm.ensures;
   controller = refl;
 })

@@ -1,5 +1,5 @@
 -- The two parts, with the data behind them, are what is written.
-use Rattle.std.proofs.Common.{◌≡◌, refl}
+use Rattle.std.proofs.Common.{refl}
 use Rattle.block_fields.specs.Fields.{number_bytes}
 use Rattle.record_blocks.specs.AlarmNotification.{alarm_notification, alarm_place, alarm_subject}
 use Rattle.record_blocks.proofs.alarm_notification.alarm_front.Goals as goal

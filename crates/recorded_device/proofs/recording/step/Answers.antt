@@ -4,9 +4,8 @@ use Rattle.device_core.specs.Machine.{items_of}
 use Rattle.device_core.specs.State.{store_of}
 use Rattle.device_frames.specs.Heard.{heard_of}
 use Rattle.settings_store.specs.Carries.{OneByOne}
-use Rattle.recorded_flash.specs.Record.{image_of, IsAsked}
-use Rattle.recorded_flash.specs.Laws.{failures_of}
 use Rattle.recorded_device.proofs.OneStep.{step_records}
+use Rattle.recorded_device.proofs.Placed.{as_recorded}
 use Rattle.recorded_device.proofs.recording.step.Goals as goal
 
 pub returns-clause-records : goal.returns-clause-records
@@ -15,5 +14,5 @@ returns-clause-records g c =
     let old = c.args.device.now in
     let going = (c.step.ensures.reliable tt c.requires).1 in
     let quiet = s.quiet (going ∙ sym c.requires) in
-    let placed = subst (λ o. OneByOne image_of failures_of IsAsked o (store_of old) (items_of old.station old.live (heard_of old.station.identity c.args.event.now)) (store_of c.step.new.self)) quiet s.placed in
+    let placed = subst (λ o. OneByOne as_recorded o (store_of old) (items_of old.station old.live (heard_of old.station.identity c.args.event.now)) (store_of c.step.new.self)) quiet s.placed in
     step_records old c.step.new.self c.args.event.now c.stored.ensures.holds c.requires placed

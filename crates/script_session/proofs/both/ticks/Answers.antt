@@ -1,4 +1,4 @@
-use Rattle.std.proofs.Common.{◌≡◌, [], replicate, refl, arith, ap, subst}
+use Rattle.std.proofs.Common.{◌≡◌, replicate, refl, arith, ap, subst}
 use Rattle.device_frames.specs.declared.event.Event.{Event}
 use Rattle.device_frames.specs.declared.event.Event.TheVariants as event
 use Rattle.script_session.specs.Ends.{device_run}

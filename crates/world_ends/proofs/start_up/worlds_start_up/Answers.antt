@@ -45,12 +45,12 @@ goes_so g c = record {
 }
 
 pub returns-clause-run : goal.returns-clause-run
-returns-clause-run g c = λ before after moves played. is_run g.F.Flash.image g.F.Flash.failures g.F.Flash.asked before moves after played
+returns-clause-run g c = λ before after moves played. is_run g.F.Flash before moves after played
 
 pub returns-clause-meant : goal.returns-clause-meant
 returns-clause-meant g c = λ can first run begins made.
     meant_is (heard_so g c) (goes_so g c) c.args.setup.now c.args.identity.now c.stations_are_real.ensures.setup c.stations_are_real.ensures.device can
-    c.plan_is_placed.ensures (c.connect_is_taken.ensures.read can.named) first begins g.F.Flash.image g.F.Flash.failures g.F.Flash.asked run made
+    c.plan_is_placed.ensures (c.connect_is_taken.ensures.read can.named) first begins g.F.Flash run made
 
 pub returns-clause-controller : goal.returns-clause-controller
 returns-clause-controller g c = λ can first run begins made exchanges.
@@ -64,7 +64,7 @@ returns-clause-controller g c = λ can first run begins made exchanges.
     let connect = c.connect_is_taken.ensures.read can.named in
     c.start_up_is_kept.ensures.controller (rules_of first.controller.setup first.device.station) (view_of first) (viewed run)
     (starts_small so goes setup identity good real can placed connect first begins)
-    (run_is so goes setup identity good real can placed connect first begins g.F.Flash.image g.F.Flash.failures g.F.Flash.asked run made)
+    (run_is so goes setup identity good real can placed connect first begins g.F.Flash run made)
     (exchanges_small first run exchanges)
 
 pub returns-clause-device : goal.returns-clause-device
@@ -79,7 +79,7 @@ returns-clause-device g c = λ can first run begins made link is exchanges.
     let connect = c.connect_is_taken.ensures.read can.named in
     c.start_up_is_kept.ensures.device (rules_of first.controller.setup first.device.station) (view_of first) (viewed run)
     (starts_small so goes setup identity good real can placed connect first begins)
-    (run_is so goes setup identity good real can placed connect first begins g.F.Flash.image g.F.Flash.failures g.F.Flash.asked run made)
+    (run_is so goes setup identity good real can placed connect first begins g.F.Flash run made)
     (link_of link) (related_small first run link is) (ap (λ (p : Phase). phase_in p) exchanges)
 
 pub returns-clause-relation : goal.returns-clause-relation
@@ -94,6 +94,6 @@ returns-clause-relation g c = λ can first run begins made link is.
     let connect = c.connect_is_taken.ensures.read can.named in
     c.start_up_is_kept.ensures.relation (rules_of first.controller.setup first.device.station) (view_of first) (viewed run)
     (starts_small so goes setup identity good real can placed connect first begins)
-    (run_is so goes setup identity good real can placed connect first begins g.F.Flash.image g.F.Flash.failures g.F.Flash.asked run made)
+    (run_is so goes setup identity good real can placed connect first begins g.F.Flash run made)
     (link_of link) (related_small first run link is)
     ∙ ap (λ (s : Setup). request_for s.plan s.ar) begins.of_setup

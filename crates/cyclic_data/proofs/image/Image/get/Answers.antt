@@ -1,9 +1,9 @@
 -- The data of the cell.
-use Rattle.std.proofs.Common.{◌∙◌}
+use Rattle.std.proofs.Common.{◌∙◌, refl}
 use Rattle.cyclic_data.specs.declared.place.PlaceKind.TheVariants.{Data}
 use Rattle.cyclic_data.proofs.Taken.{value_seen}
 use Rattle.cyclic_data.proofs.image.Image.get.Goals as goal
 
 pub returns : goal.returns
 returns c =
-    c.value_at.ensures ∙ value_seen c.self.inside.octets Data c.args.slot c.args.subslot c.self.inside.places.items _ c.as_slice.ensures.value c.self.inside.data_length c.args.self.now c.self.view_is
+    c.value.ensures ∙ value_seen c.self.inside.laid_out.octets Data c.args.slot c.args.subslot c.self.inside.laid_out.places.items _ refl c.self.inside.laid_out.data_length c.args.self.now c.self.view_is

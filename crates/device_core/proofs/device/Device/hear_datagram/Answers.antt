@@ -16,7 +16,7 @@ returns-then-not-is_running-clause-steps g c =
     let here = c.args.self.now in
     let elsewhere : is_running here.live.values.running c.args.address ≡ false =
     rw (← c.self.view_is) (rw c.running.ensures at (sym c.is_running.ensures ∙ c.if-not-is_running.true)) in
-    refuses_steps g.F.Flash.image g.F.Flash.failures g.F.Flash.asked here (Told c.args.caller.now c.args.address (said_by c.args.body.now)) NotMine _ _ c.requires.stored
+    refuses_steps g.F.Flash here (Told c.args.caller.now c.args.address (said_by c.args.body.now)) NotMine _ _ c.requires.stored
     (cond-false _ _ _ elsewhere) (ap (map (λ frame. frame.items)) c.requires.empty) refl
 
 pub returns-in-Ok-clause-steps : goal.returns-in-Ok-clause-steps
@@ -37,7 +37,7 @@ returns-in-Ok-read_response-clause-steps g c =
     rw (← c.self.view_is) (rw c.running.ensures at (sym c.is_running.ensures ∙ c.if-not-is_running.false)) in
     let said : said_by c.args.body.now ≡ Responds (answered c.in-Ok-read_response.response) = rw (c.in-Err.ensures.exact, c.in-Ok-read_response.ensures.exact) refl in
     let answer = answer_of (answered c.in-Ok-read_response.response) here.live.rest.link in
-    quiet_steps g.F.Flash.image g.F.Flash.failures g.F.Flash.asked here _ (Told c.args.caller.now c.args.address (said_by c.args.body.now)) (judged_answer here.live answer) _ _ c.requires.stored
+    quiet_steps g.F.Flash here _ (Told c.args.caller.now c.args.address (said_by c.args.body.now)) (judged_answer here.live answer) _ _ c.requires.stored
     (cond-true _ _ _ runs ∙ ap (judged_said here.station here.live c.args.caller.now) said)
     (answer_asks_nothing here.live answer) c.hear_response.ensures.state c.hear_response.ensures.frames c.hear_response.ensures.note c.hear_response.ensures.sendable
 
@@ -48,6 +48,6 @@ returns-in-Err-read_response-clause-steps g c =
     let runs : is_running here.live.values.running c.args.address ≡ true =
     rw (← c.self.view_is) (rw c.running.ensures at (sym c.is_running.ensures ∙ c.if-not-is_running.false)) in
     let said : said_by c.args.body.now ≡ Garbled = rw (c.in-Err.ensures.exact, c.in-Err-read_response.ensures.exact) refl in
-    refuses_steps g.F.Flash.image g.F.Flash.failures g.F.Flash.asked here (Told c.args.caller.now c.args.address (said_by c.args.body.now)) Fault _ _ c.requires.stored
+    refuses_steps g.F.Flash here (Told c.args.caller.now c.args.address (said_by c.args.body.now)) Fault _ _ c.requires.stored
     (cond-true _ _ _ runs ∙ ap (judged_said here.station here.live c.args.caller.now) said)
     (ap (map (λ frame. frame.items)) c.requires.empty) refl

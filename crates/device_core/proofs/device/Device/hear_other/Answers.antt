@@ -1,29 +1,31 @@
--- A frame says what its layers say, or cannot be read.
-use Rattle.std.proofs.Common.{ap, map, option_map, refl, rules, subst, sym, ◌∙◌}
-use Rattle.frame_codec.specs.Meaning.{meaning_of}
-use Rattle.settings_store.specs.Carries.{Holds}
+-- A frame is heard by its kind, or cannot be read.
+use Rattle.std.proofs.Common.{ap, map, refl, ◌∙◌}
+use Rattle.frame_codec.specs.declared.ethernet.ContentKind.TheVariants as kind
 use Rattle.device_frames.specs.declared.note.Note.TheVariants.{Fault}
-use Rattle.device_frames.specs.Heard.{Unreadable}
 use Rattle.device_frames.specs.Hearing.{heard_in}
-use Rattle.device_core.specs.Steps.{Steps}
+use Rattle.device_core.specs.Judged.{judged}
+use Rattle.device_core.proofs.OfKind.{opened_steps}
 use Rattle.device_core.proofs.Steps.{refuses_steps}
 use Rattle.device_core.proofs.device.Device.hear_other.Goals as goal
 
-pub hear_layers-requires : goal.hear_layers-requires
-hear_layers-requires g c =
-    let holds : Holds (g.F.Flash.image c.args.self.now.flash) c.args.self.now.live.values = subst (λ s. Holds (g.F.Flash.image s.flash) s.live.values) c.self.view_is c.self.invariant in
-    search rules
+pub returns-in_default-clause-steps : goal.returns-in_default-clause-steps
+returns-in_default-clause-steps g c =
+    let old = c.args.self.now in
+    let said = c.open_frame.ensures.said old.station.identity ∙ ap (heard_in old.station.identity) c.in_default.is in
+    refuses_steps g.F.Flash old _ Fault _ _ c.requires.stored (ap (judged old.station old.live) said) (ap (map (λ frame. frame.items)) c.requires.empty) refl
 
-pub returns-in-Some-clause-steps : goal.returns-in-Some-clause-steps
-returns-in-Some-clause-steps g c =
-    let identity = c.args.self.now.station.identity in
-    let said = c.read_layers.ensures identity ∙ ap (λ layered. heard_in identity (option_map meaning_of layered)) c.in-Some.is in
-    subst (λ heard. Steps g.F.Flash.image g.F.Flash.failures g.F.Flash.asked c.args.self.now heard (map (λ frame. frame.items) c.hear_layers.new.outbox.items) c.hear_layers.result c.hear_layers.new.self) (sym said) c.hear_layers.ensures.steps
+pub returns-in-RealTime-clause-steps : goal.returns-in-RealTime-clause-steps
+returns-in-RealTime-clause-steps g c =
+    let old = c.args.self.now in
+    let said = c.in-Some.ensures.short c.requires.other c.in-RealTime.is old.station.identity in
+    refuses_steps g.F.Flash old _ Fault _ _ c.requires.stored (ap (judged old.station old.live) said) (ap (map (λ frame. frame.items)) c.requires.empty) refl
 
-pub returns-in-None-clause-steps : goal.returns-in-None-clause-steps
-returns-in-None-clause-steps g c =
-    let identity = c.args.self.now.station.identity in
-    let said = c.read_layers.ensures identity ∙ ap (λ layered. heard_in identity (option_map meaning_of layered)) c.in-None.is in
-    let holds : Holds (g.F.Flash.image c.args.self.now.flash) c.args.self.now.live.values = subst (λ s. Holds (g.F.Flash.image s.flash) s.live.values) c.self.view_is c.self.invariant in
-    subst (λ heard. Steps g.F.Flash.image g.F.Flash.failures g.F.Flash.asked c.args.self.now heard (map (λ frame. frame.items) c.args.outbox.now.items) Fault c.args.self.now) (sym said)
-    (refuses_steps g.F.Flash.image g.F.Flash.failures g.F.Flash.asked c.args.self.now Unreadable Fault _ _ holds refl (ap (map (λ frame. frame.items)) c.requires.empty) refl)
+pub returns-in-Arp-clause-steps : goal.returns-in-Arp-clause-steps
+returns-in-Arp-clause-steps g c =
+    let old = c.args.self.now in
+    opened_steps g.F.Flash old _ _ c.in-Some.frame kind.Arp _ _ (c.open_frame.ensures.said old.station.identity ∙ ap (heard_in old.station.identity) c.in-Some.is) c.in-Arp.is c.hear_packet.ensures.steps
+
+pub returns-in-Internet-clause-steps : goal.returns-in-Internet-clause-steps
+returns-in-Internet-clause-steps g c =
+    let old = c.args.self.now in
+    opened_steps g.F.Flash old _ _ c.in-Some.frame kind.Internet _ _ (c.open_frame.ensures.said old.station.identity ∙ ap (heard_in old.station.identity) c.in-Some.is) c.in-Internet.is c.hear_udp.ensures.steps

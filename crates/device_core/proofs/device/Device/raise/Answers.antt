@@ -1,5 +1,5 @@
 -- An alarm is refused, or sent.
-use Rattle.std.proofs.Common.{◌≡◌, true, false, map, is_some, refl, sym, ap, ◌∙◌, subst}
+use Rattle.std.proofs.Common.{◌≡◌, true, false, map, is_some, refl, sym, ap, ◌∙◌}
 use Rattle.relations.specs.Exchanged.{becoming, raised_to}
 use Rattle.relations.specs.Link.{flow_of}
 use Rattle.relations.specs.Phases.{moved}
@@ -8,7 +8,6 @@ use Rattle.device_frames.specs.Sent.{bytes_of}
 use Rattle.device_frames.specs.Relation.{alarms_of}
 use Rattle.device_core.proofs.Exchanged.{notice_refused, notice_raised}
 use Rattle.device_core.proofs.Sendable.{none_sendable}
-use Rattle.settings_store.specs.Carries.{Holds}
 use Rattle.device_core.proofs.device.Device.raise.Goals as goal
 
 pub returns-then-not-raise-clause-frames : goal.returns-then-not-raise-clause-frames
@@ -38,12 +37,6 @@ returns-clause-note g c =
     let flow = raised_to old.station.real.modules.items c.args.slot c.args.subslot c.args.octets.now old.live.rest.link in
     let some : is_some flow ≡ true = rw (← c.self.view_is) (sym c.raise.ensures.done ∙ c.if-not-raise.false) in
     sym (ap (λ e. e.note) (notice_raised old.station old.live flow some))
-
-pub returns-then-not-raise-clause-stored : goal.returns-then-not-raise-clause-stored
-returns-then-not-raise-clause-stored g c = subst (λ s. Holds (g.F.Flash.image s.flash) s.live.values) c.self.view_is c.self.invariant
-
-pub returns-clause-stored : goal.returns-clause-stored
-returns-clause-stored g c = subst (λ s. Holds (g.F.Flash.image s.flash) s.live.values) c.self.view_is c.self.invariant
 
 pub returns-then-not-raise-clause-sendable : goal.returns-then-not-raise-clause-sendable
 returns-then-not-raise-clause-sendable g c =

@@ -16,12 +16,12 @@ returns-in-Ok-clause-steps g c =
     let header = c.in-Ok.header in
     let message = c.in-Ok.message in
     let said = ap (heard_alarm source) (sym c.read_message.ensures ∙ c.in-Ok.is) in
-    subst (λ heard. Steps g.F.Flash.image g.F.Flash.failures g.F.Flash.asked c.args.self.now heard (map (λ frame. frame.items) c.hear_alarm.new.outbox.items) c.hear_alarm.result c.hear_alarm.new.self) (sym said)
-    (quiet_steps g.F.Flash.image g.F.Flash.failures g.F.Flash.asked old _ (Alarms source header message) (judged_alarm old.live source header message) _ _ c.requires.stored refl
+    subst (λ heard. Steps g.F.Flash c.args.self.now heard (map (λ frame. frame.items) c.hear_alarm.new.outbox.items) c.hear_alarm.result c.hear_alarm.new.self) (sym said)
+    (quiet_steps g.F.Flash old _ (Alarms source header message) (judged_alarm old.live source header message) _ _ c.requires.stored refl
     (alarm_asks_nothing old.live source header message) c.hear_alarm.ensures.state c.hear_alarm.ensures.frames c.hear_alarm.ensures.note c.hear_alarm.ensures.sendable)
 
 pub returns-in-Err-clause-steps : goal.returns-in-Err-clause-steps
 returns-in-Err-clause-steps g c =
     let said = ap (heard_alarm c.args.source) (sym c.read_message.ensures ∙ c.in-Err.is) in
-    subst (λ heard. Steps g.F.Flash.image g.F.Flash.failures g.F.Flash.asked c.args.self.now heard (map (λ frame. frame.items) c.args.outbox.now.items) Fault c.args.self.now) (sym said)
-    (refuses_steps g.F.Flash.image g.F.Flash.failures g.F.Flash.asked c.args.self.now Unreadable Fault _ _ c.requires.stored refl (ap (map (λ frame. frame.items)) c.requires.empty) refl)
+    subst (λ heard. Steps g.F.Flash c.args.self.now heard (map (λ frame. frame.items) c.args.outbox.now.items) Fault c.args.self.now) (sym said)
+    (refuses_steps g.F.Flash c.args.self.now Unreadable Fault _ _ c.requires.stored refl (ap (map (λ frame. frame.items)) c.requires.empty) refl)

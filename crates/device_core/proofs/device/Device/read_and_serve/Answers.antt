@@ -7,4 +7,4 @@ use Rattle.device_core.proofs.device.Device.read_and_serve.Goals as goal
 
 pub returns-in-Err-clause-steps : goal.returns-in-Err-clause-steps
 returns-in-Err-clause-steps g c = rw (rw c.in-Err.is at c.read_request.ensures.exact)
-    (refuses_steps g.F.Flash.image g.F.Flash.failures g.F.Flash.asked c.args.self.now Unreadable Fault _ _ c.requires.stored refl (ap (map (λ frame. frame.items)) c.requires.empty) refl)
+    (refuses_steps g.F.Flash c.args.self.now Unreadable Fault _ _ c.requires.stored refl (ap (map (λ frame. frame.items)) c.requires.empty) refl)

@@ -1,6 +1,7 @@
 -- A unit of time is a move, and so is what the application gives and raises.
-use Rattle.std.proofs.Common.{ap, map, refl, sym, ◌∙◌}
+use Rattle.std.proofs.Common.{ap, map, refl, rules, subst, sym, ◌∙◌}
 use Rattle.device_frames.specs.Sent.{bytes_of}
+use Rattle.settings_store.specs.Carries.{Holds}
 use Rattle.relations.specs.Exchanged.{given_to, raised_to}
 use Rattle.device_frames.specs.Heard.{Ticks, Given, Raised, heard_of}
 use Rattle.device_core.specs.Judged.{judged_given, judged_raised}
@@ -9,10 +10,15 @@ use Rattle.device_core.proofs.Sendable.{none_sendable}
 use Rattle.device_core.proofs.Steps.{quiet_steps, moves_steps}
 use Rattle.device_core.proofs.device.Device.respond.Goals as goal
 
+pub hear-requires : goal.hear-requires
+hear-requires g c =
+    let holds : Holds (g.F.Flash.image c.args.self.now.flash) c.args.self.now.live.values = subst (λ s. Holds (g.F.Flash.image s.flash) s.live.values) c.self.view_is c.self.invariant in
+    search rules
+
 pub returns-in-Tick-clause-steps : goal.returns-in-Tick-clause-steps
 unfolding heard_of
 returns-in-Tick-clause-steps g c = rw c.in-Tick.is
-    (moves_steps g.F.Flash.image g.F.Flash.failures g.F.Flash.asked c.args.self.now _ Ticks _ _ _ _ c.tick.ensures.stored refl c.tick.ensures.state c.tick.ensures.frames c.tick.ensures.note c.tick.ensures.sendable)
+    (moves_steps g.F.Flash c.args.self.now _ Ticks _ _ _ _ (subst (λ s. Holds (g.F.Flash.image s.flash) s.live.values) c.self.view_is c.self.invariant) refl c.tick.ensures.state c.tick.ensures.frames c.tick.ensures.note c.tick.ensures.sendable)
 
 pub returns-in-Input-clause-steps : goal.returns-in-Input-clause-steps
 unfolding heard_of
@@ -23,7 +29,7 @@ returns-in-Input-clause-steps g c =
     let value = c.as_slice.result.now in
     let flow = given_to slot subslot value old.live.rest.link in
     rw (c.in-Input.is, ← c.as_slice.ensures.value)
-    (quiet_steps g.F.Flash.image g.F.Flash.failures g.F.Flash.asked old _ (Given slot subslot value) (judged_given old.live slot subslot value) _ _ c.give.ensures.stored refl
+    (quiet_steps g.F.Flash old _ (Given slot subslot value) (judged_given old.live slot subslot value) _ _ (subst (λ s. Holds (g.F.Flash.image s.flash) s.live.values) c.self.view_is c.self.invariant) refl
     (input_asks_nothing old.live flow) c.give.ensures.state
     (ap (map (λ frame. frame.items)) c.requires.empty ∙ sym (ap (map (bytes_of old.station.identity)) (input_sends_nothing old.station old.live flow)))
     c.give.ensures.note (none_sendable old.station.identity _ (input_sends_nothing old.station old.live flow)))
@@ -36,5 +42,5 @@ returns-in-Alarm-clause-steps g c =
     let subslot = c.in-Alarm.subslot in
     let octets = c.as_slice-in-Alarm.result.now in
     rw (c.in-Alarm.is, ← c.as_slice-in-Alarm.ensures.value)
-    (quiet_steps g.F.Flash.image g.F.Flash.failures g.F.Flash.asked old _ (Raised slot subslot octets) (judged_raised old.station old.live slot subslot octets) _ _ c.raise.ensures.stored refl
+    (quiet_steps g.F.Flash old _ (Raised slot subslot octets) (judged_raised old.station old.live slot subslot octets) _ _ (subst (λ s. Holds (g.F.Flash.image s.flash) s.live.values) c.self.view_is c.self.invariant) refl
     (notice_asks_nothing old.live (raised_to old.station.real.modules.items slot subslot octets old.live.rest.link)) c.raise.ensures.state c.raise.ensures.frames c.raise.ensures.note c.raise.ensures.sendable)

@@ -11,7 +11,7 @@ use Rattle.device_core.proofs.device.Device.run.Goals as goal
 
 pub loop-event-init : goal.loop-event-init
 loop-event-init g c = record {
-  runs = no_run g.F.Flash.image g.F.Flash.failures g.F.Flash.asked c.args.self.now _ (rw (← c.self.view_is) c.self.invariant);
+  runs = no_run g.F.Flash c.args.self.now _ (rw (← c.self.view_is) c.self.invariant);
   goes_on = λ _. no_event c.args.self.now _;
   reliable = λ reliable fine. (reliable, fine);
 }
@@ -23,17 +23,17 @@ loop-event-preserved g c =
     let more : take (so_far + 1) events ≡ take so_far events ++ c.event-item.result ∷ [] =
     take_more events so_far c.event-item.result c.loop-event-test.true ∙ ap (λ e. take so_far events ++ e ∷ []) (sym c.event-item.is) in
     record {
-      runs = subst (λ es. Runs g.F.Flash.image g.F.Flash.failures g.F.Flash.asked c.args.self.now es (g.K.Sink.taken c.args.sink.now) (g.K.Sink.taken c.take.new.sink) c.take.new.self) (sym more)
-          (run_more g.F.Flash.image g.F.Flash.failures g.F.Flash.asked c.args.self.now c.loop-event.self c.take.new.self (take so_far events) c.event-item.result _ _ _ c.loop-event.invariant.runs c.take.ensures.steps);
+      runs = subst (λ es. Runs g.F.Flash c.args.self.now es (g.K.Sink.taken c.args.sink.now) (g.K.Sink.taken c.take.new.sink) c.take.new.self) (sym more)
+          (run_more g.F.Flash c.args.self.now c.loop-event.self c.take.new.self (take so_far events) c.event-item.result _ _ _ c.loop-event.invariant.runs c.take.ensures.steps);
       goes_on = λ there. subst (λ es. RunGoesOn c.args.self.now es (g.K.Sink.taken c.args.sink.now) (g.K.Sink.taken c.take.new.sink) c.take.new.self) (sym more)
-          (event_more g.F.Flash.image g.F.Flash.failures g.F.Flash.asked c.args.self.now c.loop-event.self c.take.new.self (take so_far events) c.event-item.result _ _ _
+          (event_more g.F.Flash c.args.self.now c.loop-event.self c.take.new.self (take so_far events) c.event-item.result _ _ _
           c.loop-event.invariant.runs.same c.loop-event.invariant.goes_on c.take.ensures.steps there);
       reliable = λ reliable fine. let was = c.loop-event.invariant.reliable reliable fine in c.take.ensures.reliable was.0 was.1;
     }
 
 pub returns-clause-runs : goal.returns-clause-runs
 returns-clause-runs g c =
-    subst (λ es. Runs g.F.Flash.image g.F.Flash.failures g.F.Flash.asked c.args.self.now es (g.K.Sink.taken c.args.sink.now) (g.K.Sink.taken c.loop-event.sink) c.loop-event.self)
+    subst (λ es. Runs g.F.Flash c.args.self.now es (g.K.Sink.taken c.args.sink.now) (g.K.Sink.taken c.loop-event.sink) c.loop-event.self)
     (take_all c.loop-event.event-index c.args.events.now c.loop-event-test.false) c.loop-event.invariant.runs
 
 pub returns-clause-goes_on : goal.returns-clause-goes_on
@@ -42,7 +42,7 @@ returns-clause-goes_on g c = λ there.
     (take_all c.loop-event.event-index c.args.events.now c.loop-event-test.false) (c.loop-event.invariant.goes_on there)
 
 pub returns-clause-exact : goal.returns-clause-exact
-returns-clause-exact g c = run_quietly g.F.Flash.image g.F.Flash.failures g.F.Flash.asked c.args.self.now c.loop-event.self c.args.events.now _ _ (returns-clause-runs g c)
+returns-clause-exact g c = run_quietly g.F.Flash c.args.self.now c.loop-event.self c.args.events.now _ _ (returns-clause-runs g c)
 
 pub returns-clause-calls : goal.returns-clause-calls
 returns-clause-calls g c =
@@ -53,8 +53,8 @@ returns-clause-calls g c =
 pub returns-clause-reliable : goal.returns-clause-reliable
 returns-clause-reliable g c = λ reliable fine.
     let now = c.loop-event.invariant.reliable reliable fine in
-    (now.0, now.1, run_finely g.F.Flash.image g.F.Flash.failures g.F.Flash.asked c.args.self.now c.loop-event.self c.args.events.now _ _ (returns-clause-runs g c) now.1)
+    (now.0, now.1, run_finely g.F.Flash c.args.self.now c.loop-event.self c.args.events.now _ _ (returns-clause-runs g c) now.1)
 
 pub returns-clause-room : goal.returns-clause-room
 returns-clause-room g c = λ fine.
-    run_takes_room g.F.Flash.image g.F.Flash.failures g.F.Flash.asked c.args.self.now c.loop-event.self c.args.events.now _ _ (returns-clause-runs g c) fine
+    run_takes_room g.F.Flash c.args.self.now c.loop-event.self c.args.events.now _ _ (returns-clause-runs g c) fine

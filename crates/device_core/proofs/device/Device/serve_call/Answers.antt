@@ -14,7 +14,7 @@ pub returns-in_default-clause-steps : goal.returns-in_default-clause-steps
 returns-in_default-clause-steps g c = λ heard is.
     let here = c.args.self.now in
     let none : operation_of c.args.call.now.header.operation ≡ None = sym c.of.ensures ∙ c.in_default.is in
-    refuses_steps g.F.Flash.image g.F.Flash.failures g.F.Flash.asked here heard Fault _ _ c.requires.stored
+    refuses_steps g.F.Flash here heard Fault _ _ c.requires.stored
     (is ∙ ap (judged_call here.station here.live c.args.caller.now (asked c.args.call.now)) none) (ap (map (λ frame. frame.items)) c.requires.empty) refl
 
 pub returns-in_default-blocks-clause-steps : goal.returns-in_default-blocks-clause-steps
@@ -25,7 +25,7 @@ returns-in_default-blocks-clause-steps g c = λ heard is.
     let operation = c.in-Some.operation in
     let some : operation_of c.args.call.now.header.operation ≡ Some operation = sym c.of.ensures ∙ c.in-Some.is in
     let none : call.blocks ≡ None = rw c.in_default-blocks.is refl in
-    moves_steps g.F.Flash.image g.F.Flash.failures g.F.Flash.asked here _ heard here.live.rest (answer_from here.live.values.running.suite.address caller call operation (Err Arguments) ∷ []) _ _ c.requires.stored
+    moves_steps g.F.Flash here _ heard here.live.rest (answer_from here.live.values.running.suite.address caller call operation (Err Arguments) ∷ []) _ _ c.requires.stored
     (is ∙ ap (judged_call here.station here.live caller call) some ∙ ap (judged_blocks here.station here.live caller call operation) none)
     refl c.refuse_arguments.ensures.frames c.refuse_arguments.ensures.note (c.refuse_arguments.ensures.sendable, tt)
 
@@ -40,7 +40,7 @@ returns-in-Again-clause-steps g c = λ heard is.
     let counted : call.blocks ≡ Some c.in-Some-blocks.blocks.now = rw c.in-Some-blocks.is refl in
     let told : looked call.header.activity call.header.sequence here.live.rest.calls ≡ again frame =
     rw (← c.self.view_is) (rw c.in-Again.is at c.look.ensures.told) in
-    moves_steps g.F.Flash.image g.F.Flash.failures g.F.Flash.asked here _ heard here.live.rest (Again frame ∷ []) _ _ c.requires.stored
+    moves_steps g.F.Flash here _ heard here.live.rest (Again frame ∷ []) _ _ c.requires.stored
     (is ∙ ap (judged_call here.station here.live caller call) some ∙ ap (judged_blocks here.station here.live caller call operation) counted
     ∙ ap (judged_looked here.station here.live caller call c.in-Some-blocks.blocks.now operation) told)
     refl (rw (c.put_copy.ensures.items, c.requires.empty) refl) refl (tt, tt)
@@ -55,7 +55,7 @@ returns-in-Old-clause-steps g c = λ heard is.
     let counted : call.blocks ≡ Some c.in-Some-blocks.blocks.now = rw c.in-Some-blocks.is refl in
     let told : looked call.header.activity call.header.sequence here.live.rest.calls ≡ old =
     rw (← c.self.view_is) (rw c.in-Old.is at c.look.ensures.told) in
-    refuses_steps g.F.Flash.image g.F.Flash.failures g.F.Flash.asked here heard OldCall _ _ c.requires.stored
+    refuses_steps g.F.Flash here heard OldCall _ _ c.requires.stored
     (is ∙ ap (judged_call here.station here.live caller call) some ∙ ap (judged_blocks here.station here.live caller call operation) counted
     ∙ ap (judged_looked here.station here.live caller call c.in-Some-blocks.blocks.now operation) told)
     (ap (map (λ frame. frame.items)) c.requires.empty) refl

@@ -7,23 +7,23 @@ use Rattle.device_core.proofs.Served.{new_steps}
 use Rattle.device_core.proofs.device.Device.serve_new.Goals as goal
 
 pub returns-in-Connect-clause-steps : goal.returns-in-Connect-clause-steps
-returns-in-Connect-clause-steps g c = new_steps g.F.Flash.image g.F.Flash.failures g.F.Flash.asked c.args.self.now _ c.args.serving.now.caller.now (asked c.args.serving.now.call.now)
+returns-in-Connect-clause-steps g c = new_steps g.F.Flash c.args.self.now _ c.args.serving.now.caller.now (asked c.args.serving.now.call.now)
     c.args.serving.now.blocks.now _ operation.Connect _ _ c.requires.stored c.in-Connect.is refl c.connect.ensures.state c.connect.ensures.frames c.connect.ensures.note c.connect.ensures.sendable
 
 pub returns-in-Release-clause-steps : goal.returns-in-Release-clause-steps
-returns-in-Release-clause-steps g c = new_steps g.F.Flash.image g.F.Flash.failures g.F.Flash.asked c.args.self.now _ c.args.serving.now.caller.now (asked c.args.serving.now.call.now)
+returns-in-Release-clause-steps g c = new_steps g.F.Flash c.args.self.now _ c.args.serving.now.caller.now (asked c.args.serving.now.call.now)
     c.args.serving.now.blocks.now _ operation.Release _ _ c.requires.stored c.in-Release.is refl c.release.ensures.state c.release.ensures.frames c.release.ensures.note c.release.ensures.sendable
 
 pub returns-in-Read-clause-steps : goal.returns-in-Read-clause-steps
-returns-in-Read-clause-steps g c = new_steps g.F.Flash.image g.F.Flash.failures g.F.Flash.asked c.args.self.now _ c.args.serving.now.caller.now (asked c.args.serving.now.call.now)
+returns-in-Read-clause-steps g c = new_steps g.F.Flash c.args.self.now _ c.args.serving.now.caller.now (asked c.args.serving.now.call.now)
     c.args.serving.now.blocks.now _ operation.Read _ _ c.requires.stored c.in-Read.is refl c.read.ensures.state c.read.ensures.frames c.read.ensures.note c.read.ensures.sendable
 
 pub returns-in-Control-clause-steps : goal.returns-in-Control-clause-steps
-returns-in-Control-clause-steps g c = new_steps g.F.Flash.image g.F.Flash.failures g.F.Flash.asked c.args.self.now _ c.args.serving.now.caller.now (asked c.args.serving.now.call.now)
+returns-in-Control-clause-steps g c = new_steps g.F.Flash c.args.self.now _ c.args.serving.now.caller.now (asked c.args.serving.now.call.now)
     c.args.serving.now.blocks.now _ operation.Control _ _ c.requires.stored c.in-Control.is refl c.control.ensures.state c.control.ensures.frames c.control.ensures.note c.control.ensures.sendable
 
 pub returns-in-ReadImplicit-clause-steps : goal.returns-in-ReadImplicit-clause-steps
-returns-in-ReadImplicit-clause-steps g c = new_steps g.F.Flash.image g.F.Flash.failures g.F.Flash.asked c.args.self.now _ c.args.serving.now.caller.now (asked c.args.serving.now.call.now)
+returns-in-ReadImplicit-clause-steps g c = new_steps g.F.Flash c.args.self.now _ c.args.serving.now.caller.now (asked c.args.serving.now.call.now)
     c.args.serving.now.blocks.now _ operation.ReadImplicit _ _ c.requires.stored c.in-ReadImplicit.is refl c.read_implicit.ensures.state c.read_implicit.ensures.frames c.read_implicit.ensures.note c.read_implicit.ensures.sendable
 
 pub returns-in-Write-clause-steps : goal.returns-in-Write-clause-steps

@@ -16,7 +16,7 @@ returns-clause-steps g c =
     c.is_ended-is_ended.ensures ∙ ap (λ i. resets i c.as_slice-4.result.now) (c.as_slice-3.ensures.value ∙ plan) ∙ ap (resets (plan_of (is_some link) request)) c.as_slice-4.ensures.value in
     let lamp = c.lamp_after-self-inside.ensures ∙ ap (lamp_after c.self.inside.lamp) (c.as_slice-2.ensures.value ∙ plan) in
     let left = c.end_if.ensures.link ∙ ap (λ e. link_after e link) ended in
-    rw (← c.self.view_is) (asked_set_steps g.F.Flash.image g.F.Flash.failures g.F.Flash.asked _ _ c.args.asker request answers _ _
+    rw (← c.self.view_is) (asked_set_steps g.F.Flash _ _ c.args.asker request answers _ _
     c.requires.service (rw (c.as_slice.ensures.value ∙ plan) at c.carry_out-answers.ensures.carries) refl
     (ap (λ l. record { lamp = l; calls = c.self.inside.answers.kept; link = c.end_if.new.relation; units = c.self.inside.units }) lamp
     ∙ ap (λ r. record { lamp = lamp_after c.self.inside.lamp (plan_of (is_some link) request); calls = c.self.inside.answers.kept; link = r; units = c.self.inside.units }) left)

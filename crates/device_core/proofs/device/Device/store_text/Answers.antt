@@ -20,7 +20,7 @@ returns-clause-steps g c =
     let sendable = rw (c.address-address.ensures.value, c.running.ensures, c.requires.operation, c.put_written.ensures, out) at c.give.ensures.sendable in
     let link = rw named at c.hear_controller.ensures in
     rw (← c.self.view_is) (λ heard is.
-    settled_steps g.F.Flash.image g.F.Flash.failures g.F.Flash.asked _ _ heard
+    settled_steps g.F.Flash _ _ heard
     (Writes c.args.serving.now.caller.now c.self.inside.store.values.running.suite.address (asked c.args.serving.now.call.now) header c.args.value) (c.carry.result ∷ []) _ _ is c.carry.ensures.listed refl
     (rw (calls, link) refl) frames refl (sendable, tt))
 

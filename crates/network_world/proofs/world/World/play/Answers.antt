@@ -11,5 +11,5 @@ loop-one-preserved g c =
     let so_far = c.loop-one.one-index in
     let more : take (so_far + 1) moves ≡ take so_far moves ++ c.one-item.result ∷ [] =
     take_more moves so_far c.one-item.result c.loop-one-test.true ∙ ap (λ m. take so_far moves ++ m ∷ []) (sym c.one-item.is) in
-    subst (λ ms. Played g.F.Flash.image g.F.Flash.failures g.F.Flash.asked c.args.self.now ms c.make.new.self) (sym more)
-    (play_on g.F.Flash.image g.F.Flash.failures g.F.Flash.asked c.args.self.now (take so_far moves) c.loop-one.self c.one-item.result c.make.new.self c.loop-one.invariant c.in_ok-make.ensures.made)
+    subst (λ ms. Played g.F.Flash c.args.self.now ms c.make.new.self) (sym more)
+    (play_on g.F.Flash c.args.self.now (take so_far moves) c.loop-one.self c.one-item.result c.make.new.self c.loop-one.invariant c.in_ok-make.ensures.made)

@@ -1,4 +1,4 @@
-use Rattle.std.proofs.Common.{subst, sym, ◌∙◌, ap}
+use Rattle.std.proofs.Common.{subst, sym, ap}
 use Rattle.settings_journal.specs.Image.{LeftByDevice, IsForeign, StartsWith}
 use Rattle.script_session.proofs.power.Power.start.Goals as goal
 

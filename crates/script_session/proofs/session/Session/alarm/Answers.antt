@@ -1,13 +1,8 @@
 use Rattle.std.proofs.Common.{subst, sym}
-use Rattle.std.proofs.lemmas.Result.{on_ok_weaker}
-use Rattle.script_session.specs.Power.{IsRunning, Runs}
 use Rattle.script_session.specs.Session.{Are}
-use Rattle.script_session.proofs.Obeying.{done_obeyed}
 use Rattle.script_session.proofs.session.Session.alarm.Goals as goal
 
-pub returns-in-On-clause-obeys : goal.returns-in-On-clause-obeys
-returns-in-On-clause-obeys c network are =
+pub returns-clause-obeys : goal.returns-clause-obeys
+returns-clause-obeys c network are =
     let ends = subst (Are network) (sym c.self.view_is) are in
-    let runs : Runs network.station c.in-On.device = subst (IsRunning network.station) c.in-On.is ends.0 in
-    on_ok_weaker c.respond.result (done_obeyed _ c.respond.new.device _ c.args.text.now.items c.respond.new.text.items)
-    (rw (← c.front.ensures.value) (rw (← c.copied.ensures) (c.respond.ensures.done network runs ends.1)))
+    rw c.handed.ensures at (c.answered.ensures.obeys network ends.0 ends.1)

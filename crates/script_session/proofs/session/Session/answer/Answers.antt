@@ -1,9 +1,5 @@
-use Rattle.std.proofs.Common.{◌≡◌, subst, sym, ap}
-use Rattle.script_lines.specs.Line.{Asks}
-use Rattle.script_lines.specs.Read.{command_read}
 use Rattle.script_session.specs.Said.{said}
-use Rattle.script_session.specs.Session.{AreRightFor}
-use Rattle.script_session.proofs.Obeying.{always_obeys, if_there_obeys}
+use Rattle.script_session.proofs.Obeying.{always_obeys, always_tells, if_there_obeys, if_there_tells}
 use Rattle.script_session.proofs.session.Session.answer.Goals as goal
 
 pub returns-in-Frame-clause-obeys : goal.returns-in-Frame-clause-obeys
@@ -37,3 +33,15 @@ returns-in-Config-clause-obeys c plans network right are plain = rw c.in-Config.
 pub returns-in-Give-clause-obeys : goal.returns-in-Give-clause-obeys
 unfolding said
 returns-in-Give-clause-obeys c plans network right are plain = rw c.in-Give.is (if_there_obeys _ _ _ _ _ _ (rw c.output.ensures at (c.hear.ensures.obeys network are)) c.if_there-in-Give.ensures)
+
+pub returns-in-Frame-clause-lost : goal.returns-in-Frame-clause-lost
+returns-in-Frame-clause-lost c handed there gone = always_tells _ _ _ (c.hand_in.ensures.lost there gone) c.always.ensures
+
+pub returns-in-Input-clause-lost : goal.returns-in-Input-clause-lost
+returns-in-Input-clause-lost c handed there gone = always_tells _ _ _ (c.give.ensures.lost there gone) c.always-in-Input.ensures
+
+pub returns-in-Alarm-clause-lost : goal.returns-in-Alarm-clause-lost
+returns-in-Alarm-clause-lost c handed there gone = always_tells _ _ _ (c.alarm.ensures.lost there gone) c.always-in-Alarm.ensures
+
+pub returns-in-Deliver-clause-lost : goal.returns-in-Deliver-clause-lost
+returns-in-Deliver-clause-lost c handed there gone = if_there_tells _ _ _ (c.deliver.ensures.lost there gone) c.if_there-in-Deliver.ensures

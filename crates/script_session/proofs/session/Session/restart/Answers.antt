@@ -1,4 +1,4 @@
-use Rattle.std.proofs.Common.{◌≡◌, ◌++◌, lit<, lit≤, refl, subst, sym, ap, ◌∙◌, None}
+use Rattle.std.proofs.Common.{◌≡◌, ◌++◌, subst, sym, ap, ◌∙◌, None}
 use Rattle.std.proofs.lemmas.Result.{on_ok_weaker}
 use Rattle.script_lines.specs.Text.{boot_line}
 use Rattle.script_session.specs.Ends.{cleared}

@@ -11,7 +11,7 @@ loop-item-init g c =
     let holds : Holds (g.F.Flash.image c.args.self.now.flash) c.args.self.now.values =
     subst (λ s. Holds (g.F.Flash.image s.flash) s.values) c.self.view_is c.self.invariant in
     record {
-      carries = rw c.new-answers.ensures (nothing g.F.Flash.image g.F.Flash.failures g.F.Flash.asked c.args.self.now holds);
+      carries = rw c.new-answers.ensures (nothing g.F.Flash c.args.self.now holds);
       each = ap length c.new-answers.ensures;
       reliable = λ sound. (sound, refl);
     }
@@ -19,7 +19,7 @@ loop-item-init g c =
 pub loop-item-preserved : goal.loop-item-preserved
 loop-item-preserved g c = record {
   carries = rw (take_more c.args.items.now c.loop-item.item-index c.item-item.result c.loop-item-test.true ∙ ap (λ i. take c.loop-item.item-index c.args.items.now ++ i ∷ []) (sym c.item-item.is), c.push.ensures.items)
-      (carries_then g.F.Flash.image g.F.Flash.failures g.F.Flash.asked c.args.self.now c.loop-item.self c.carry-answer.new.self _ _ _ _
+      (carries_then g.F.Flash c.args.self.now c.loop-item.self c.carry-answer.new.self _ _ _ _
       c.loop-item.invariant.carries c.carry-answer.ensures.listed);
   each = omega (arith, c.loop-item.invariant.each, c.push.ensures.len);
   reliable = λ sound.
@@ -30,7 +30,7 @@ loop-item-preserved g c = record {
 
 pub returns-clause-carries : goal.returns-clause-carries
 returns-clause-carries g c =
-    subst (λ items. Carries g.F.Flash.image g.F.Flash.failures g.F.Flash.asked c.args.self.now items c.loop-item.answers.items c.loop-item.self)
+    subst (λ items. Carries g.F.Flash c.args.self.now items c.loop-item.answers.items c.loop-item.self)
     (take_all c.loop-item.item-index c.args.items.now c.loop-item-test.false) c.loop-item.invariant.carries
 
 pub returns-clause-reliable : goal.returns-clause-reliable

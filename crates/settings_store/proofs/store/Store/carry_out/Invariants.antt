@@ -5,7 +5,7 @@ use Rattle.settings_store.proofs.store.Store.carry_out.Given as goal
 
 abbrev pub invariant-loop-item : goal.invariant-loop-item
 invariant-loop-item g l = record {
-  carries : Carries g.F.Flash.image g.F.Flash.failures g.F.Flash.asked l.initial.self (take l.item-index l.items) l.answers.items l.self;
+  carries : Carries g.F.Flash l.initial.self (take l.item-index l.items) l.answers.items l.self;
   each : length l.answers.items ≡ l.item-index;
   reliable : g.F.Flash.is_reliable l.initial.self.flash → g.F.Flash.is_reliable l.self.flash × (l.self.values.has_failed ≡ l.initial.self.values.has_failed);
 }

@@ -12,9 +12,9 @@ returns-in-Ok-clause-carries g c =
     let fine : c.self.inside.journal.has_failed ≡ false = is_fine _ (λ h. let e = c.in-Ok.ensures.failed.1 h in cc) in
     let still : c.commit.new.self.has_failed ≡ false = c.in-Ok.ensures.has_failed.1 (fine, λ e. cc) in
     let shown : c.show-self-inside.result ≡ show c.args.command.now c.self.inside.running = cc in
-    subst (λ s. CarriesItem g.F.Flash.image g.F.Flash.failures g.F.Flash.asked s (Ask c.args.command.now) Done (seen g.F.Flash.is_lost c.commit.new.self c.show-self-inside.result))
+    subst (λ s. CarriesItem g.F.Flash s (Ask c.args.command.now) Done (seen g.F.Flash.is_lost c.commit.new.self c.show-self-inside.result))
     c.self.view_is
-    (passed g.F.Flash.image g.F.Flash.failures g.F.Flash.asked g.F.Flash.is_lost c.self.inside.journal c.commit.new.self c.self.inside.running c.show-self-inside.result c.args.command.now
+    (passed g.F.Flash c.self.inside.journal c.commit.new.self c.self.inside.running c.show-self-inside.result c.args.command.now
     fine still c.in-Ok.ensures.settings c.in-Ok.ensures.room shown c.in-Ok.ensures.lost c.in-Ok.ensures.cause c.in-Ok.ensures.left c.in-Ok.ensures.stored
     c.in-Ok.ensures.calls.0 c.in-Ok.ensures.calls.1 c.in-Ok.ensures.calls.2 c.in-Ok.ensures.stays_lost)
 
@@ -30,9 +30,9 @@ returns-in-Err-Exhausted-clause-carries g c =
     let is = ap (λ f. Err f) c.in-Err-Exhausted.field-0-is in
     let none = c.in-Err-Exhausted.ensures.exhausted.0 is in
     let same : c.commit.new.self ≡ c.self.inside.journal = c.in-Err-Exhausted.ensures.untouched (inr is) in
-    subst (λ s. CarriesItem g.F.Flash.image g.F.Flash.failures g.F.Flash.asked s (Ask c.args.command.now) Exhausted (seen g.F.Flash.is_lost c.commit.new.self c.self.inside.running))
+    subst (λ s. CarriesItem g.F.Flash s (Ask c.args.command.now) Exhausted (seen g.F.Flash.is_lost c.commit.new.self c.self.inside.running))
     c.self.view_is
-    (full g.F.Flash.image g.F.Flash.failures g.F.Flash.asked g.F.Flash.is_lost c.self.inside.journal c.commit.new.self c.self.inside.running c.args.command.now same none.0 none.1 c.self.invariant)
+    (full g.F.Flash c.self.inside.journal c.commit.new.self c.self.inside.running c.args.command.now same none.0 none.1 c.self.invariant)
 
 pub returns-in-Err-FlashFault-clause-carries : goal.returns-in-Err-FlashFault-clause-carries
 returns-in-Err-FlashFault-clause-carries g c =
@@ -40,9 +40,9 @@ returns-in-Err-FlashFault-clause-carries g c =
     let fine : c.self.inside.journal.has_failed ≡ false = is_fine _ (λ h. let e = c.in-Err-FlashFault.ensures.failed.1 h in cc) in
     let failed : c.commit.new.self.has_failed ≡ true =
     is_failed _ (λ h. (c.in-Err-FlashFault.ensures.has_failed.0 h).1 (ap (λ f. Err f) c.in-Err-FlashFault.field-0-is)) in
-    subst (λ s. CarriesItem g.F.Flash.image g.F.Flash.failures g.F.Flash.asked s (Ask c.args.command.now) Local (seen g.F.Flash.is_lost c.commit.new.self c.self.inside.running))
+    subst (λ s. CarriesItem g.F.Flash s (Ask c.args.command.now) Local (seen g.F.Flash.is_lost c.commit.new.self c.self.inside.running))
     c.self.view_is
-    (faulted g.F.Flash.image g.F.Flash.failures g.F.Flash.asked g.F.Flash.is_lost c.self.inside.journal c.commit.new.self c.self.inside.running c.args.command.now
+    (faulted g.F.Flash c.self.inside.journal c.commit.new.self c.self.inside.running c.args.command.now
     fine failed (λ none. let e = c.in-Err-FlashFault.ensures.exhausted.1 (fine, none) in cc)
     c.in-Err-FlashFault.ensures.refused.0 c.in-Err-FlashFault.ensures.refused.1
     (rw c.in-Err-FlashFault.field-0-is at c.in-Err-FlashFault.ensures.cause) c.in-Err-FlashFault.ensures.left (c.in-Err-FlashFault.ensures.kept fine)
@@ -52,7 +52,7 @@ pub returns-in-Err-Failed-clause-carries : goal.returns-in-Err-Failed-clause-car
 returns-in-Err-Failed-clause-carries g c =
     let is = ap (λ f. Err f) c.in-Err-Failed.field-0-is in
     let same : c.commit.new.self ≡ c.self.inside.journal = c.in-Err-Failed.ensures.untouched (inl is) in
-    subst (λ s. CarriesItem g.F.Flash.image g.F.Flash.failures g.F.Flash.asked s (Ask c.args.command.now) Local (seen g.F.Flash.is_lost c.commit.new.self c.self.inside.running))
+    subst (λ s. CarriesItem g.F.Flash s (Ask c.args.command.now) Local (seen g.F.Flash.is_lost c.commit.new.self c.self.inside.running))
     c.self.view_is
-    (refused g.F.Flash.image g.F.Flash.failures g.F.Flash.asked g.F.Flash.is_lost c.self.inside.journal c.commit.new.self c.self.inside.running c.args.command.now same
+    (refused g.F.Flash c.self.inside.journal c.commit.new.self c.self.inside.running c.args.command.now same
     (c.in-Err-Failed.ensures.failed.0 is))

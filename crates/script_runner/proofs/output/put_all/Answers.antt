@@ -1,7 +1,7 @@
 use Rattle.std.proofs.Common.{◌≡◌, ℕ, ◌-◌, List, ◌++◌, length, take, drop, sym}
 use Rattle.std.proofs.lemmas.List.{take-append-drop, take_rest}
 use Rattle.script_runner.proofs.Known.{so_far_on}
-use Rattle.script_runner.proofs.output.put.Goals as goal
+use Rattle.script_runner.proofs.output.put_all.Goals as goal
 
 -- what was taken, and the rest
 two_parts : (text : List ℕ) (taken : ℕ) → text ≡ take taken text ++ take (length text - taken) (drop taken text)

@@ -1,9 +1,11 @@
 //! What stands in front of the content.
 ghost use Rattle.std.specs.Prelude.{◌≡◌};
 ghost use Rattle.wire.specs.Codec.{Gives};
-ghost use Rattle.frame_codec.specs.Frame.{mac, tag_and_type, link, longest};
+ghost use Rattle.frame_codec.specs.Frame.{kind_of, mac, tag_and_type, ethernet, longest};
 
 use crate::FrameFault;
+use crate::arp::ADDRESS_RESOLUTION;
+use crate::internet::INTERNET;
 use pn_values::Mac;
 use wire::{octets_at, u16_at};
 
@@ -15,11 +17,37 @@ pub(crate) const PROFINET: u16 = 0x8892;
 
 /// The addresses, the word of the tag if there is one, and the EtherType.
 #[derive(Clone, Copy)]
-pub(crate) struct LinkHeader {
+pub(crate) struct EthernetHeader {
     pub(crate) destination: Mac,
     pub(crate) source: Mac,
     pub(crate) tag: Option<u16>,
     pub(crate) ether_type: u16,
+}
+
+/// What follows the Ethernet header, by its EtherType.
+#[derive(Clone, Copy, Debug, PartialEq, Eq)]
+pub enum ContentKind {
+    /// 0x8892: a FrameID, and what it says of the octets behind it.
+    RealTime,
+    /// 0x0806: a packet of ARP.
+    Arp,
+    /// 0x0800: a packet of IPv4.
+    Internet,
+}
+
+/// What follows the Ethernet header behind this EtherType.
+#[inline(always)]
+pub(crate) fn content_kind(ether_type: u16) -> Result<ContentKind, FrameFault>
+    ensures { result ≡ kind_of ether_type }
+{
+    match ether_type {
+        PROFINET => Ok(ContentKind::RealTime),
+        ADDRESS_RESOLUTION => Ok(ContentKind::Arp),
+        INTERNET => Ok(ContentKind::Internet),
+        // A second tag is told as such, though its frame may be of an EtherType that is read.
+        VLAN => Err(FrameFault::Tag),
+        _ => Err(FrameFault::EtherType),
+    }
 }
 
 /// How many octets a frame may have.
@@ -57,17 +85,17 @@ fn tag_and_type_at(bytes: &[u8]) -> Result<(Option<u16>, u16, &[u8]), FrameFault
     Ok((Some(tag), ether_type, rest))
 }
 
-/// The link header, and the octets behind it.
-#[tactic(auto, unfolding(crate::specs::Frame::link))]
+/// The Ethernet header, and the octets behind it.
+#[tactic(auto, unfolding(crate::specs::Frame::ethernet))]
 #[inline(always)]
-pub(crate) fn link_at(bytes: &[u8]) -> Result<(LinkHeader, &[u8]), FrameFault>
-    ensures { Gives (λ x. (x.0, x.1.now)) result (link.read bytes.now) }
+pub(crate) fn header_at(bytes: &[u8]) -> Result<(EthernetHeader, &[u8]), FrameFault>
+    ensures { Gives (λ x. (x.0, x.1.now)) result (ethernet.read bytes.now) }
 {
     let (destination, rest) = mac_at(bytes)?;
     let (source, rest) = mac_at(rest)?;
     let (tag, ether_type, rest) = tag_and_type_at(rest)?;
     Ok((
-        LinkHeader {
+        EthernetHeader {
             destination,
             source,
             tag,

@@ -1,10 +1,10 @@
-// Worked layouts, each fault, and the order of faults.
-use crate::{
+// Cyclic data: worked layouts, each fault, and the order of faults; images, and which frames are due and taken.
+use arrayvec::ArrayVec;
+use connect_blocks::{IoObject, IoObjects, IocrType};
+use cyclic_data::{
     Consumer, CyclicTail, DataStatus, ExpectedData, Image, Layout, LayoutFault, Place, PlaceKind,
     Provider, ReceivedImage, ShortFrame, put_cyclic, read_cyclic,
 };
-use arrayvec::ArrayVec;
-use connect_blocks::{IoObject, IoObjects, IocrType};
 use module_blocks::SubmoduleData;
 
 /// The access point with its two ports, an input of two octets in slot 1 and an output of two octets in slot 2.
