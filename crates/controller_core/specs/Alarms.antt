@@ -1,5 +1,5 @@
 -- The alarms of a relation at a controller (IEC 61158-6-10, 4.8 and 5.2.5).
-use Rattle.std.specs.Prelude.{ℕ, Bool, ◌==◌, ◌&&◌, nat_eq, take}
+use Rattle.std.specs.Prelude.{Bool, ◌==◌, ◌&&◌, nat_eq, take}
 use Rattle.std.specs.Cmp.Lexicographic.{pointwise}
 use Rattle.pn_values.specs.declared.mac.Mac.{Mac}
 use Rattle.record_blocks.specs.declared.alarm_ack.AlarmAck.{AlarmAck}

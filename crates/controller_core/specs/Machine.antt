@@ -26,7 +26,6 @@ use Rattle.pn_alarms.specs.declared.pdu.PduType.TheVariants as pdu
 use Rattle.pn_alarms.specs.declared.receiver.Taken.{Taken}
 use Rattle.pn_alarms.specs.declared.receiver.Taken.TheVariants.{New, Again, Refused}
 use Rattle.pn_alarms.specs.Controller.{confirmed, controller_later, unheard, with_ack, with_data}
-use Rattle.pn_alarms.specs.Ends.{ControllerEnd}
 use Rattle.pn_alarms.specs.Message.{ToController}
 use Rattle.pn_alarms.specs.Receiver.{taken_as}
 use Rattle.pn_alarms.specs.Sending.{due}
@@ -286,8 +285,11 @@ abbrev pub outputs_of : Live → List Sent
 outputs_of live = Cycles live.cyclic.route live.cyclic.shown live.units ∷ []
 
 -- the same, and what the relation exchanges too
+abbrev pub exchange_later : Live → Live
+exchange_later live = record live { cyclic = cyclic_later live.cyclic; alarms = controller_later live.alarms }
+
 abbrev pub flow_later : Live → Live
-flow_later live = record (later live) { cyclic = cyclic_later live.cyclic; alarms = controller_later live.alarms }
+flow_later live = exchange_later (later live)
 
 -- why the controller ends with the relation
 abbrev pub cause_of : Abort → Cause
@@ -315,10 +317,14 @@ flowed live is_request tick None = record { live = live; sent = due_frames live 
 abbrev pub brought : Live → Brought
 brought live = tick_of live.cyclic (due live.alarms.sending)
 
+-- once the request's own time has gone on, and says whether it is due
+abbrev pub gone_on : Live → Bool → Turn
+gone_on live is_request =
+    if live.stands then flowed (exchange_later live) is_request (brought live) (brought live).ending
+    else record { live = live; sent = where_due is_request (requests_of live.device live.asked) }
+
 abbrev pub ticked : Live → Turn
-ticked live =
-    if live.stands then flowed (flow_later live) (is_again live) (brought live) (brought live).ending
-    else record { live = later live; sent = where_due (is_again live) (requests_of live.device live.asked) }
+ticked live = gone_on (later live) (is_again live)
 
 -- ---- events
 

@@ -1,17 +1,18 @@
 //! One step.
-ghost use Rattle.std.specs.Prelude.{◌≡◌, ◌<◌, ◌≤◌, ◌+◌, ◌++◌, Some, [], map};
+ghost use Rattle.std.specs.Prelude.{◌≡◌, ◌<◌, ◌≤◌, ◌+◌, ◌++◌, Some, [], false, map, true};
 ghost use Rattle.arrayvec.specs.ArrayVec.{array_vec_len};
 ghost use Rattle.dcp_core.specs.Answered.{answered as answered_as};
 ghost use Rattle.rpc_core.specs.Call.{asked};
 ghost use Rattle.rpc_core.specs.Response.{answered as responded_as};
-ghost use Rattle.controller_frames.specs.Heard.{heard_of};
+ghost use Rattle.controller_frames.specs.Heard.{heard_of, heard_real_time as heard_as};
 ghost use Rattle.controller_frames.specs.Sent.{bytes_of};
 ghost use Rattle.controller_frames.specs.Told.{told};
 ghost use Rattle.controller_core.specs.Answers.{is_answer, is_ready};
 ghost use Rattle.controller_core.specs.Connect.{nothing, found_in as all_found};
 ghost use Rattle.controller_core.specs.State.{with_live};
 ghost use Rattle.controller_core.specs.Machine.{acks_of, addressed, alarmed, answered, asking, called, come, connected, connected_by};
-ghost use Rattle.controller_core.specs.Machine.{decided, done, due_frames, ended_by, found, given, is_again, judged, later, outputs_of};
+ghost use Rattle.controller_core.specs.Machine.{brought, decided, done, due_frames, ended_by, exchange_later, flowed, found, given, gone_on, is_again, judged};
+ghost use Rattle.controller_core.specs.Machine.{later, outputs_of};
 ghost use Rattle.controller_core.specs.Machine.{readied, ready_in as block_of_ready, related_by, released, requests_of, responded, step_of};
 ghost use Rattle.controller_core.specs.Machine.{stopped, ticked, turned, where_due, writing};
 ghost use Rattle.frame_codec.specs.Outbox.{boxed};
@@ -26,11 +27,12 @@ use crate::controller::route_of;
 use crate::{Cause, Controller, Event, State};
 use block_codec::{AlarmNotification, ControlBlock};
 use controller_frames::{
-    Hearing, Request, cyclic_in, heard, send_alarm_ack, send_alarm_end, send_outputs,
-    send_ready_answer, send_request,
+    Hearing, Request, heard, heard_real_time, real_time_in, send_alarm_ack, send_alarm_end,
+    send_outputs, send_ready_answer, send_request,
 };
 use cyclic_data::Provider;
-use frame_codec::{Bytes, Caller, Outbox};
+use cyclic_exchange::Tick;
+use frame_codec::{Bytes, Caller, Outbox, is_cyclic};
 use pn_alarms::{Abort, Header, Notice, PduType};
 use pn_values::Mac;
 use rpc_core::{Call, Response};
@@ -84,6 +86,7 @@ impl Controller {
     }
 
     // The application stops the controller.
+    #[inline(never)]
     fn stop(&mut self, outbox: &mut Outbox)
         requires empty { outbox.old.items ≡ [] }
         ensures state { self.new ≡ with_live self.old (stopped self.old.setup self.old.live self.old.live.phase).live }
@@ -103,6 +106,7 @@ impl Controller {
     }
 
     // The application gives an output.
+    #[inline(never)]
     fn give(&mut self, slot: u16, subslot: u16, value: &[u8])
         ensures { self.new ≡ with_live self.old (given self.old.live slot subslot value.now) }
     {
@@ -110,6 +114,8 @@ impl Controller {
     }
 
     // A frame comes.
+    #[inline(never)]
+    #[tactic(auto, unfolding(controller_frames::specs::Heard::heard_real_time))]
     fn hear(&mut self, bytes: &Bytes, outbox: &mut Outbox)
         requires empty { outbox.old.items ≡ [] }
         ensures state { self.new ≡ with_live self.old (turned self.old.setup self.old.live
@@ -118,13 +124,33 @@ impl Controller {
             ≡ map (bytes_of self.old.setup) (turned self.old.setup self.old.live
             (heard_of self.old.setup.plan.controller bytes.now.items)).sent }
     {
-        match cyclic_in(self.setup.plan.controller(), bytes) {
-            Some(frame) => self.hear_cyclic(frame.source, frame.frame_id, frame.body),
+        match real_time_in(self.setup.plan.controller(), bytes) {
+            Some(frame) => {
+                if is_cyclic(frame.frame_id) {
+                    self.hear_cyclic(frame.source, frame.frame_id, frame.body);
+                } else {
+                    self.hear_real_time(frame.source, frame.frame_id, frame.body, outbox);
+                }
+            }
             None => self.hear_other(bytes, outbox),
         }
     }
 
-    // A frame that is no cyclic one, or none.
+    // A frame of EtherType 0x8892 to this controller that is no cyclic one.
+    #[inline(never)]
+    fn hear_real_time(&mut self, source: Mac, frame_id: u16, body: &[u8], outbox: &mut Outbox)
+        requires empty { outbox.old.items ≡ [] }
+        ensures state { self.new ≡ with_live self.old (turned self.old.setup self.old.live
+            (heard_as source frame_id body.now)).live }
+        ensures frames { boxed outbox.new
+            ≡ map (bytes_of self.old.setup) (turned self.old.setup self.old.live
+            (heard_as source frame_id body.now)).sent }
+    {
+        let hearing = heard_real_time(source, frame_id, body);
+        self.turn(&hearing, outbox);
+    }
+
+    // A frame that is no frame of EtherType 0x8892 to this controller, or none.
     #[inline(never)]
     fn hear_other(&mut self, bytes: &Bytes, outbox: &mut Outbox)
         requires empty { outbox.old.items ≡ [] }
@@ -454,22 +480,65 @@ impl Controller {
         }
     }
 
+    // The timers of what is exchanged advance.
+    #[inline(always)]
+    fn elapse(&mut self) -> Tick
+        ensures brought { result ≡ brought self.old.live }
+        ensures state { self.new ≡ with_live self.old (exchange_later self.old.live) }
+    {
+        let due = self.alarms.tick();
+        self.exchange.tick(due)
+    }
+
     // A unit of time is over.
+    #[inline(always)]
     fn tick(&mut self, outbox: &mut Outbox)
         requires empty { outbox.old.items ≡ [] }
         ensures state { self.new ≡ with_live self.old (ticked self.old.live).live }
         ensures frames { boxed outbox.new ≡ map (bytes_of self.old.setup) (ticked self.old.live).sent }
     {
-        let is_again = self.pass();
+        if self.pass() {
+            return self.ask_again(outbox);
+        }
         if !self.stands {
-            self.send_request_again(is_again, outbox);
             return;
         }
-        let due = self.alarms.tick();
-        let tick = self.exchange.tick(due);
+        let tick = self.elapse();
+        // Most units bring nothing, and nothing is made for them. Of the others most bring outputs alone, which have a way of their own.
+        if tick.is_nothing() {
+            return;
+        }
+        if tick.is_cyclic_alone() {
+            return self.send_outputs(outbox);
+        }
+        self.bring(&tick, false, outbox);
+    }
+
+    // A unit with which the request is due again.
+    #[inline(never)]
+    fn ask_again(&mut self, outbox: &mut Outbox)
+        requires empty { outbox.old.items ≡ [] }
+        ensures state { self.new ≡ with_live self.old (gone_on self.old.live true).live }
+        ensures frames { boxed outbox.new ≡ map (bytes_of self.old.setup) (gone_on self.old.live true).sent }
+    {
+        if !self.stands {
+            return self.send_request_again(true, outbox);
+        }
+        let tick = self.elapse();
+        self.bring(&tick, true, outbox);
+    }
+
+    // What a unit of time brings: a timeout ends the relation, and else what is due is sent.
+    #[inline(never)]
+    fn bring(&mut self, tick: &Tick, is_request: bool, outbox: &mut Outbox)
+        requires empty { outbox.old.items ≡ [] }
+        ensures state { self.new ≡ with_live self.old (flowed self.old.live is_request tick.now tick.now.ending).live }
+        ensures frames { boxed outbox.new
+            ≡ map (bytes_of self.old.setup) (flowed self.old.live is_request tick.now tick.now.ending).sent }
+    {
         match tick.ending() {
             Some(reason) => self.end_by(reason, outbox),
-            None => self.send_due(tick.is_alarm(), is_again, tick.is_cyclic(), outbox),
+            None => self.send_due(tick.is_alarm(), is_request, tick.is_cyclic(), outbox),
         }
     }
 
@@ -493,7 +562,7 @@ impl Controller {
         // In this order, so that what a step sends is one list for every reader of it.
         self.send_ack_again(is_ack, outbox);
         self.send_request_again(is_request, outbox);
-        self.send_outputs(is_cyclic, outbox);
+        self.send_outputs_due(is_cyclic, outbox);
     }
 
     // The AlarmAck again, if it is due and there is one.
@@ -530,15 +599,25 @@ impl Controller {
         send_request(&self.setup, self.device, request, outbox);
     }
 
+    // The outputs.
+    #[inline(never)]
+    fn send_outputs(&self, outbox: &mut Outbox)
+        requires room { array_vec_len outbox.old < 4 }
+        ensures frames { boxed outbox.new ≡ boxed outbox.old ++ map (bytes_of self.now.setup) (outputs_of self.now.live) }
+        ensures few { array_vec_len outbox.new ≤ array_vec_len outbox.old + 1 }
+    {
+        send_outputs(&self.setup, self.units, &self.exchange, outbox);
+    }
+
     // The outputs, if they are due.
-    fn send_outputs(&self, is_due: bool, outbox: &mut Outbox)
+    fn send_outputs_due(&self, is_due: bool, outbox: &mut Outbox)
         requires room { array_vec_len outbox.old < 4 }
         ensures frames { boxed outbox.new
             ≡ boxed outbox.old ++ map (bytes_of self.now.setup) (where_due is_due (outputs_of self.now.live)) }
         ensures few { array_vec_len outbox.new ≤ array_vec_len outbox.old + 1 }
     {
         if is_due {
-            send_outputs(&self.setup, self.units, &self.exchange, outbox);
+            self.send_outputs(outbox);
         }
     }
 }

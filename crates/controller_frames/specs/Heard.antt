@@ -1,12 +1,12 @@
 -- What a frame says to a controller.
-use Rattle.std.specs.Prelude.{◌==◌, ◌&&◌, ℕ, Bool, nat_eq, List, if◌then◌else◌, Option, Some, None, Result, Ok, Err}
+use Rattle.std.specs.Prelude.{◌≡◌, ◌==◌, ◌&&◌, ℕ, Bool, true, nat_eq, List, if◌then◌else◌, Option, Some, None, Result, Ok, Err, ⊤}
 use Rattle.std.specs.Cmp.Lexicographic.{pointwise}
 use Rattle.pn_values.specs.declared.mac.Mac.{Mac}
 use Rattle.frame_codec.specs.declared.fault.FrameFault.{FrameFault}
 use Rattle.frame_codec.specs.declared.udp.Caller.{Caller}
 use Rattle.frame_codec.specs.declared.udp.Endpoint.{Endpoint}
 use Rattle.frame_codec.specs.FrameId.{is_alarm, is_cyclic}
-use Rattle.frame_codec.specs.Meaning.{Meaning, Content, RealTime, ArpPacket, UdpDatagram}
+use Rattle.frame_codec.specs.Meaning.{Meaning, Content, IsOther, RealTime, ArpPacket, UdpDatagram}
 use Rattle.frame_codec.specs.Frame.{frame_of}
 use Rattle.dcp_core.specs.declared.request.DcpFault.{DcpFault}
 use Rattle.dcp_core.specs.Response.{Answered}
@@ -85,6 +85,11 @@ heard_by address source (Err fault) = Nothing
 abbrev pub heard_frame : Controller → Meaning → Heard
 heard_frame controller meaning =
     if pointwise nat_eq meaning.destination.octets controller.mac.octets then heard_content controller.address meaning.source meaning.content else Nothing
+
+-- no frame of real-time data to this controller
+abbrev pub IsNoRealTimeTo : Controller → Result Meaning FrameFault → Type 0
+IsNoRealTimeTo controller (Ok meaning) = pointwise nat_eq meaning.destination.octets controller.mac.octets ≡ true → IsOther meaning.content
+IsNoRealTimeTo controller (Err fault) = ⊤
 
 abbrev pub heard_read : Controller → Result Meaning FrameFault → Heard
 heard_read controller (Ok meaning) = heard_frame controller meaning

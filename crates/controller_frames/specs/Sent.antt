@@ -1,9 +1,9 @@
 -- What a controller sends: messages by their meaning, and the one way from them to octets.
-use Rattle.std.specs.Prelude.{ℕ, List, [], ◌∷◌, Some}
+use Rattle.std.specs.Prelude.{ℕ, List, [], ◌∷◌}
 use Rattle.pn_values.specs.declared.mac.Mac.{Mac}
 use Rattle.frame_codec.specs.declared.udp.Caller.{Caller}
 use Rattle.frame_codec.specs.declared.udp.Endpoint.{Endpoint}
-use Rattle.frame_codec.specs.Meaning.{Content, RealTime, UdpDatagram}
+use Rattle.frame_codec.specs.Meaning.{RealTime, UdpDatagram}
 use Rattle.dcp_core.specs.Writing.{request_bytes}
 use Rattle.rpc_core.specs.declared.interface.Interface.TheVariants.{Device}
 use Rattle.rpc_core.specs.Call.{Asked as Call, call_bytes}
@@ -21,7 +21,6 @@ use Rattle.pn_alarms.specs.Abort.{abort_of}
 use Rattle.pn_alarms.specs.Format.{Said, frame_id_of, pdu_bytes}
 use Rattle.cyclic_exchange.specs.declared.route.Route.{Route}
 use Rattle.cyclic_exchange.specs.Frames.{cyclic_frame, plain_frame, tagged_frame}
-use Rattle.plans.specs.declared.parts.Parts.{Parts}
 use Rattle.plans.specs.Connect.{alarm_block}
 use Rattle.controller_frames.specs.declared.setup.Setup.{Setup}
 use Rattle.controller_frames.specs.declared.request.Request.{Request}

@@ -1,11 +1,11 @@
 //! What a frame says to a controller.
-ghost use Rattle.std.specs.Prelude.{◌≡◌, ◌==◌, ◌&&◌, IfSome, nat_eq};
+ghost use Rattle.std.specs.Prelude.{◌≡◌, ◌==◌, ◌&&◌, IfNone, IfSome, nat_eq};
 ghost use Rattle.std.specs.Cmp.Lexicographic.{pointwise};
-ghost use Rattle.controller_frames.specs.Heard.{Cyclic, heard_alarm, heard_answer, heard_body, heard_by, heard_of, heard_real_time};
+ghost use Rattle.controller_frames.specs.Heard.{IsNoRealTimeTo, heard_alarm, heard_answer, heard_body, heard_by, heard_of, heard_real_time};
 ghost use Rattle.controller_frames.specs.Heard.{is_to as is_to_by};
 ghost use Rattle.controller_frames.specs.Told.{told};
 ghost use Rattle.dcp_core.specs.Answer.{answer_of};
-ghost use Rattle.frame_codec.specs.Frame.{datagram};
+ghost use Rattle.frame_codec.specs.Frame.{datagram, frame_of};
 ghost use Rattle.pn_alarms.specs.Message.{alarm_of};
 
 use block_codec::AlarmNotification;
@@ -76,7 +76,7 @@ fn heard_body<'a>(caller: Caller, body: &'a [u8]) -> Hearing<'a>
 /// What a frame of EtherType 0x8892 to this controller says.
 #[inline(always)]
 #[tactic(auto, unfolding(crate::specs::Heard::heard_real_time))]
-fn heard_real_time<'a>(source: Mac, frame_id: u16, body: &'a [u8]) -> Hearing<'a>
+pub fn heard_real_time<'a>(source: Mac, frame_id: u16, body: &'a [u8]) -> Hearing<'a>
     ensures { told result ≡ heard_real_time source frame_id body.now }
 {
     if is_cyclic(frame_id) {
@@ -116,15 +116,18 @@ fn heard_datagram<'a>(controller: &Controller, source: Mac, content: &'a [u8]) -
     heard_body(caller, udp.body)
 }
 
-/// The cyclic frame to this controller, if it is one. It comes each interval, and has a call of its own because a `Hearing` has room for
-/// each kind of frame, and would be moved through memory.
+/// The frame of EtherType 0x8892 to this controller, if it is one. A cyclic one comes each interval, and is taken from here: a `Hearing`
+/// has room for each kind of frame, and would be moved through memory.
 #[inline(always)]
-#[tactic(auto, unfolding(crate::specs::Heard::heard_of, crate::specs::Heard::heard_real_time))]
-pub fn cyclic_in<'a>(controller: &Controller, bytes: &'a Bytes) -> Option<RealTimeFrame<'a>>
-    ensures { IfSome result (λ frame. heard_of controller.now bytes.now.items ≡ Cyclic frame.source frame.frame_id frame.body.now) }
+#[tactic(auto, using(crate::proofs::Elsewhere::other_is_none, crate::proofs::Elsewhere::elsewhere_is_none), unfolding(crate::specs::Heard::heard_of))]
+pub fn real_time_in<'a>(controller: &Controller, bytes: &'a Bytes) -> Option<RealTimeFrame<'a>>
+    ensures found { IfSome result (λ frame.
+        heard_of controller.now bytes.now.items ≡ heard_real_time frame.source frame.frame_id frame.body.now) }
+    // One that is there is found.
+    ensures none { IfNone result (IsNoRealTimeTo controller.now (frame_of bytes.now.items)) }
 {
     let frame = read_real_time(bytes.as_slice())?;
-    if frame.destination.is(&controller.mac) && is_cyclic(frame.frame_id) {
+    if frame.destination.is(&controller.mac) {
         return Some(frame);
     }
     None

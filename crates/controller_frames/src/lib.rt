@@ -15,7 +15,7 @@ mod setup;
 pub use answers::send_ready_answer;
 pub use calls::header_of;
 pub use exchange::{send_alarm_ack, send_alarm_end, send_alarm_reply, send_outputs};
-pub use hearing::{Hearing, cyclic_in, heard};
+pub use hearing::{Hearing, heard, heard_real_time, real_time_in};
 pub use request::Request;
 pub use requests::send_request;
 pub use setup::Setup;

@@ -30,8 +30,8 @@ pub struct CyclicExchange {
     /// Data is exchanged.
     pub(crate) begun: bool,
     pub(crate) provider: Provider,
-    pub(crate) sent: Image,
     pub(crate) consumer: Consumer,
+    pub(crate) sent: Image,
     pub(crate) taken: ReceivedImage,
 }
 

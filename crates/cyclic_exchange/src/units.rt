@@ -1,5 +1,5 @@
 //! The units of time.
-ghost use Rattle.std.specs.Prelude.{◌≡◌, ◌&&◌, None, Some, false, is_none, not};
+ghost use Rattle.std.specs.Prelude.{◌≡◌, ◌&&◌, None, Some, false, is_none, not, true};
 ghost use Rattle.cyclic_exchange.specs.Units.{cyclic_later, tick_of};
 
 use crate::CyclicExchange;
@@ -88,7 +88,8 @@ impl Tick {
     /// Whether it is nothing.
     #[inline(always)]
     pub fn is_nothing(&self) -> bool
-        ensures { result ≡ (is_none self.now.ending && (not self.now.is_alarm && not self.now.is_cyclic)) }
+        ensures value { result ≡ (is_none self.now.ending && (not self.now.is_alarm && not self.now.is_cyclic)) }
+        ensures nothing { result ≡ true → self.now ≡ record { ending = None; is_alarm = false; is_cyclic = false } }
     {
         matches!(self.brings, Brings::Nothing)
     }
@@ -96,7 +97,8 @@ impl Tick {
     /// Whether a cyclic frame is sent, and nothing else.
     #[inline(always)]
     pub fn is_cyclic_alone(&self) -> bool
-        ensures { result ≡ (is_none self.now.ending && (not self.now.is_alarm && self.now.is_cyclic)) }
+        ensures value { result ≡ (is_none self.now.ending && (not self.now.is_alarm && self.now.is_cyclic)) }
+        ensures alone { result ≡ true → self.now ≡ record { ending = None; is_alarm = false; is_cyclic = true } }
     {
         matches!(self.brings, Brings::Cyclic)
     }

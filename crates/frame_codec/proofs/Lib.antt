@@ -1,4 +1,5 @@
 pub mod Sums
+pub mod Short
 pub mod Layers
 pub mod Datagrams
 pub mod Frames

@@ -15,6 +15,9 @@ pub(crate) const VLAN: u16 = 0x8100;
 /// The EtherType of PROFINET.
 pub(crate) const PROFINET: u16 = 0x8892;
 
+/// How many octets an Ethernet header without a tag has.
+const LEAST: usize = 14;
+
 /// The addresses, the word of the tag if there is one, and the EtherType.
 #[derive(Clone, Copy)]
 pub(crate) struct EthernetHeader {
@@ -86,11 +89,15 @@ fn tag_and_type_at(bytes: &[u8]) -> Result<(Option<u16>, u16, &[u8]), FrameFault
 }
 
 /// The Ethernet header, and the octets behind it.
-#[tactic(auto, unfolding(crate::specs::Frame::ethernet))]
+#[tactic(auto, using(crate::proofs::Short::short_header), unfolding(crate::specs::Frame::ethernet))]
 #[inline(always)]
 pub(crate) fn header_at(bytes: &[u8]) -> Result<(EthernetHeader, &[u8]), FrameFault>
     ensures { Gives (λ x. (x.0, x.1.now)) result (ethernet.read bytes.now) }
 {
+    // Judged once: neither address and no EtherType is too short behind this.
+    if bytes.len() < LEAST {
+        return Err(FrameFault::TooShort);
+    }
     let (destination, rest) = mac_at(bytes)?;
     let (source, rest) = mac_at(rest)?;
     let (tag, ether_type, rest) = tag_and_type_at(rest)?;

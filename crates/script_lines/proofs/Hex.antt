@@ -13,6 +13,7 @@ use Rattle.hex.specs.declared.error.FromHexError.{FromHexError}
 use Rattle.hex.proofs.HexLemmas.{decode_of-ok}
 use Rattle.hex.proofs.Pairs.{drop-pair}
 use Rattle.script_lines.specs.Line.{bytes_of, if_decoded}
+use Rattle.script_lines.specs.Numbers.{value_of}
 
 -- digits that were decoded
 pub bytes_decoded : (digits bytes : List ℕ) → 0 < length digits → decode_of digits ≡ Ok bytes → Some bytes ≡ bytes_of digits
@@ -100,11 +101,19 @@ pub record IsJoined (digits : List ℕ) (place byte : ℕ) : Type 0 where
   pub value : pair_value (slice_index digits (2 * place)) (slice_index digits (2 * place + 1)) (2 * place) ≡ Ok byte
   pub small : byte < 256
 
-pub joined : (digits : List ℕ) (place pair high low : ℕ) → 2 * place + 1 < length digits → AllPass is_hex_digit digits
+-- the value of a digit
+value_is : (digit value : ℕ) → hex_digit_value digit ≡ Some value → value_of digit ≡ value
+value_is digit value is = grind (arith, nat_tests)
+
+-- sixteen times the first of two values, and the second
+upper : (both product first second : ℕ) → first < 16 → second < 16 → both ≡ first + 256 * second → product ≡ (both * 4097) % 65536 → product / 256 ≡ first * 16 + second
+upper both product first second below_first below_second is by = omega (arith, below_first, below_second, is, by)
+
+pub joined : (digits : List ℕ) (place pair both product : ℕ) → 2 * place + 1 < length digits → AllPass is_hex_digit digits
     → pair ≡ slice_index digits (2 * place) + 256 * slice_index digits (2 * place + 1)
-    → ((value : ℕ) → hex_digit_value (pair % 256) ≡ Some value → high ≡ value) → ((value : ℕ) → hex_digit_value (pair / 256) ≡ Some value → low ≡ value)
-    → IsJoined digits place (high * 16 + low)
-joined digits place pair high low fits all is is_high is_low =
+    → both ≡ value_of (pair % 256) + 256 * value_of (pair / 256) → product ≡ (both * 4097) % 65536
+    → IsJoined digits place (product / 256)
+joined digits place pair both product fits all is are by =
     let first = slice_index digits (2 * place) in
     let second = slice_index digits (2 * place + 1) in
     let a = some_of (hex_digit_value first) (All-get_or digit_holds digits (2 * place) 0 (omega arith) all) in
@@ -113,11 +122,13 @@ joined digits place pair high low fits all is is_high is_low =
     let below_b = small_digit second b.0 b.1 in
     let is_first : pair % 256 ≡ first = omega (arith, is, below_a, below_b) in
     let is_second : pair / 256 ≡ second = omega (arith, is, below_a, below_b) in
-    let high_is : high ≡ a.0 = is_high a.0 (ap hex_digit_value is_first ∙ a.1) in
-    let low_is : low ≡ b.0 = is_low b.0 (ap hex_digit_value is_second ∙ b.1) in
+    let high : value_of (pair % 256) ≡ a.0 = ap value_of is_first ∙ value_is first a.0 a.1 in
+    let low : value_of (pair / 256) ≡ b.0 = ap value_of is_second ∙ value_is second b.0 b.1 in
+    let values : both ≡ a.0 + 256 * b.0 = are ∙ ap (λ n. n + 256 * value_of (pair / 256)) high ∙ ap (λ n. a.0 + 256 * n) low in
+    let byte = upper both product a.0 b.0 (small_value first a.0 a.1) (small_value second b.0 b.1) values by in
     record {
-      value = rw (high_is, low_is) (pair_read first second (2 * place) a.0 b.0 a.1 b.1);
-      small = omega (arith, high_is, low_is, small_value first a.0 a.1, small_value second b.0 b.1);
+      value = rw byte (pair_read first second (2 * place) a.0 b.0 a.1 b.1);
+      small = omega (arith, byte, small_value first a.0 a.1, small_value second b.0 b.1);
     }
 
 -- ---- written

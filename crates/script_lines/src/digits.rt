@@ -1,8 +1,9 @@
 // Hex digits, read and written. A script is hex for the most part, so the loops have no branch: the compiler then does many
 // bytes in one step.
-ghost use Rattle.std.specs.Prelude.{◌≡◌, ◌<◌, ◌*◌, ◌/◌, ℕ, IsErr, Ok, Some, true, false, length, slice_index};
+ghost use Rattle.std.specs.Prelude.{◌≡◌, ◌<◌, ◌+◌, ◌*◌, ◌/◌, ◌%◌, IsErr, Ok, true, false, length, slice_index};
 ghost use Rattle.std.specs.List.{AllPass};
-ghost use Rattle.hex.specs.Hex.{decode_of, encode_lower, hex_digit_value, is_hex_digit, lower_digits};
+ghost use Rattle.hex.specs.Hex.{decode_of, encode_lower, is_hex_digit, lower_digits};
+ghost use Rattle.script_lines.specs.Numbers.{value_of};
 
 /// Whether each is a hex digit, of either case.
 fn are_digits(digits: &[u8]) -> bool
@@ -16,13 +17,14 @@ fn are_digits(digits: &[u8]) -> bool
     are
 }
 
-/// The value of a hex digit, of either case: a letter's low four bits count from 1, and it has bit 6.
-fn value(digit: u16) -> u16
-    requires { digit < 256 }
-    ensures value { (value : ℕ) → hex_digit_value digit ≡ Some value → result ≡ value }
-    ensures few { result < 43 }
+/// The values of a pair of hex digits, of either case, each in an octet of its own as the digits are: a letter's low four bits count from
+/// 1, and it has bit 6.
+fn values(pair: u16) -> u16
+    ensures { result ≡ value_of (pair % 256) + 256 * value_of (pair / 256) }
 {
-    digit % 16 + 9 * (digit / 64)
+    let nibbles = pair % 16 + pair / 256 % 16 * 256;
+    let letters = pair / 64 % 4 + pair / 16384 * 256;
+    nibbles + 9 * letters
 }
 
 /// Makes a byte of each two hex digits.
@@ -33,9 +35,10 @@ fn join(digits: &[u8], bytes: &mut [u8])
 {
     let (pairs, _) = digits.as_chunks::<2>();
     for place in 0..bytes.len() {
-        // Both digits by one load: two loads of which each takes every other byte would be made one by one.
-        let pair = u16::from_le_bytes(pairs[place]);
-        bytes[place] = (value(pair % 256) * 16 + value(pair / 256)) as u8;
+        // Both digits by one load: two loads of which each takes every other byte would be made one by one. The product has sixteen times
+        // the first value and the second in its upper octet.
+        let both = values(u16::from_le_bytes(pairs[place]));
+        bytes[place] = (both.wrapping_mul(4097) / 256) as u8;
     }
 }
 
