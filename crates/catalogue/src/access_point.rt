@@ -23,7 +23,11 @@ pub struct ModuleReference {
 impl Model for ModuleReference {
     ghost Value = { Reference };
 
-    ghost view = { λ item. record { target = string_bytes item.target; allowed_in = item.allowed_in.items; fixed_in = item.fixed_in.items } };
+    ghost view = { λ item. record {
+      target = string_bytes item.target;
+      allowed_in = item.allowed_in.items;
+      fixed_in = item.fixed_in.items;
+    } };
 }
 
 /// The access point: what stands in slot 0, and what the device is.

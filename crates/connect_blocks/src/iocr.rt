@@ -263,7 +263,9 @@ fn iocr_places_at(bytes: &[u8]) -> Result<(IocrPlaces<'_>, &[u8]), BlockFault>
     iocr_places_fields!(read_fields[bytes])
 }
 
-/// What BlockLength counts of an IOCRBlockReq, to the last octet.
+/// What BlockLength counts of an IOCRBlockReq, to the last octet. It stands outside of who reads every kind of block, which would clear its
+/// locals for each of them.
+#[inline(never)]
 #[tactic(auto, unfolding(block_fields::specs::Fields::body, crate::specs::Iocr::iocr_block_req))]
 pub fn iocr_block_req_at(bytes: &[u8]) -> Result<IocrBlockReq<'_>, BlockFault>
     ensures { Gives (λ x. x) result ((body iocr_block_req).read bytes.now) }

@@ -80,7 +80,8 @@ fn append_modules(
 ) -> Result<(), CallFault>
     requires few_modules { length modules.now ≤ 256 }
     requires few_submodules { length submodules.now ≤ 256 }
-    ensures { Gives (λ _. expected.new) result (expected_with expected.old (record { modules = modules.now; submodules = submodules.now })) }
+    ensures { Gives (λ _. expected.new) result
+        (expected_with expected.old (record { modules = modules.now; submodules = submodules.now })) }
 {
     // Each block says all of its slots: a slot in two blocks would have two modules.
     if repeats_slot(expected.modules.as_slice(), modules) {

@@ -284,10 +284,11 @@ acks_of live = acks_in live live.alarms.confirming
 abbrev pub outputs_of : Live → List Sent
 outputs_of live = Cycles live.cyclic.route live.cyclic.shown live.units ∷ []
 
--- the same, and what the relation exchanges too
+-- a unit later of what the relation exchanges
 abbrev pub exchange_later : Live → Live
 exchange_later live = record live { cyclic = cyclic_later live.cyclic; alarms = controller_later live.alarms }
 
+-- a unit later of both
 abbrev pub flow_later : Live → Live
 flow_later live = exchange_later (later live)
 
@@ -313,7 +314,7 @@ abbrev pub flowed : Live → Bool → Brought → Option Abort → Turn
 flowed live is_request tick (Some reason) = ended_by live reason
 flowed live is_request tick None = record { live = live; sent = due_frames live tick.is_alarm is_request tick.is_cyclic }
 
--- a unit passes: what is due of the relation, where it stands, and the request again
+-- what a unit brings of the relation
 abbrev pub brought : Live → Brought
 brought live = tick_of live.cyclic (due live.alarms.sending)
 
@@ -323,6 +324,7 @@ gone_on live is_request =
     if live.stands then flowed (exchange_later live) is_request (brought live) (brought live).ending
     else record { live = live; sent = where_due is_request (requests_of live.device live.asked) }
 
+-- a unit passes: what is due of the relation, where it stands, and the request again
 abbrev pub ticked : Live → Turn
 ticked live = gone_on (later live) (is_again live)
 

@@ -11,8 +11,8 @@ ghost use Rattle.controller_core.specs.Answers.{is_answer, is_ready};
 ghost use Rattle.controller_core.specs.Connect.{nothing, found_in as all_found};
 ghost use Rattle.controller_core.specs.State.{with_live};
 ghost use Rattle.controller_core.specs.Machine.{acks_of, addressed, alarmed, answered, asking, called, come, connected, connected_by};
-ghost use Rattle.controller_core.specs.Machine.{brought, decided, done, due_frames, ended_by, exchange_later, flowed, found, given, gone_on, is_again, judged};
-ghost use Rattle.controller_core.specs.Machine.{later, outputs_of};
+ghost use Rattle.controller_core.specs.Machine.{brought, decided, done, due_frames, ended_by, exchange_later, flowed, found, given};
+ghost use Rattle.controller_core.specs.Machine.{gone_on, is_again, judged, later, outputs_of};
 ghost use Rattle.controller_core.specs.Machine.{readied, ready_in as block_of_ready, related_by, released, requests_of, responded, step_of};
 ghost use Rattle.controller_core.specs.Machine.{stopped, ticked, turned, where_due, writing};
 ghost use Rattle.frame_codec.specs.Outbox.{boxed};
@@ -188,7 +188,8 @@ impl Controller {
         ensures state { self.new ≡ with_live self.old (answered self.old.setup self.old.live source (answered_as answer.now)
             self.old.live.phase).live }
         ensures frames { boxed outbox.new
-            ≡ map (bytes_of self.old.setup) (answered self.old.setup self.old.live source (answered_as answer.now) self.old.live.phase).sent }
+            ≡ map (bytes_of self.old.setup) (answered self.old.setup self.old.live source (answered_as answer.now)
+            self.old.live.phase).sent }
     {
         match self.phase {
             State::Looking => {
@@ -416,7 +417,8 @@ impl Controller {
         outbox: &mut Outbox,
     )
         requires empty { outbox.old.items ≡ [] }
-        ensures state { self.new ≡ with_live self.old (readied self.old.live caller.now (asked call.now) block.now self.old.live.phase).live }
+        ensures state { self.new
+            ≡ with_live self.old (readied self.old.live caller.now (asked call.now) block.now self.old.live.phase).live }
         ensures frames { boxed outbox.new
             ≡ map (bytes_of self.old.setup) (readied self.old.live caller.now (asked call.now) block.now self.old.live.phase).sent }
     {

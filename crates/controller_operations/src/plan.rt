@@ -9,9 +9,10 @@ ghost use Rattle.plans.specs.Plan.{plan_of};
 ghost use Rattle.controller_core.specs.Machine.{fresh};
 ghost use Rattle.port_operations.specs.Stations.{IsSmallModule, module_of};
 ghost use Rattle.controller_operations.specs.State.{opened};
-ghost use Rattle.controller_operations.specs.Plans.{IsShort, IsWritten, are_addresses as is_addressed, are_ordered as is_in_order, are_plugged as is_plugged};
-ghost use Rattle.controller_operations.specs.Plans.{are_records as is_recorded, are_times as is_timed, is_name as is_named, is_ordered as is_module_ordered};
-ghost use Rattle.controller_operations.specs.Plans.{is_plan as is_planned, is_record, is_rising, is_written as is_all_written, modules_in, name_in};
+ghost use Rattle.controller_operations.specs.Plans.{IsShort, IsWritten, are_addresses as is_addressed, are_ordered as is_in_order};
+ghost use Rattle.controller_operations.specs.Plans.{are_plugged as is_plugged, are_records as is_recorded, are_times as is_timed};
+ghost use Rattle.controller_operations.specs.Plans.{is_name as is_named, is_ordered as is_module_ordered, is_plan as is_planned};
+ghost use Rattle.controller_operations.specs.Plans.{is_record, is_rising, is_written as is_all_written, modules_in, name_in};
 ghost use Rattle.controller_operations.specs.Plans.{controller_name_in, parts_of, record_of, records_in, suite_in, why_not_made};
 
 use crate::port::Port;

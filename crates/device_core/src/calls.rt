@@ -308,7 +308,8 @@ impl<F: Flash<S>, const S: usize> Device<F, S> {
         requires operation { serving.now.operation ≡ operation.Write }
         requires empty { outbox.old.items ≡ [] }
         ensures state { self.new
-            ≡ behind self.old (judged_write self.old.station self.old.live serving.now.caller.now (asked serving.now.call.now) (Err fault)) }
+            ≡ behind self.old (judged_write self.old.station self.old.live serving.now.caller.now (asked serving.now.call.now)
+            (Err fault)) }
         ensures frames { boxed outbox.new
             ≡ frames_of self.old (judged_write self.old.station self.old.live serving.now.caller.now (asked serving.now.call.now)
             (Err fault)) }

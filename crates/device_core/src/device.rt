@@ -48,7 +48,10 @@ impl<F: Flash<S>, const S: usize> Model for Device<F, S> {
     ghost view = { λ device. record {
       flash = device.store.flash;
       station = record { identity = device.identity; real = device.real };
-      live = record { values = device.store.values; rest = record { lamp = device.lamp; calls = device.answers.kept; link = device.relation; units = device.units } };
+      live = record {
+        values = device.store.values;
+        rest = record { lamp = device.lamp; calls = device.answers.kept; link = device.relation; units = device.units };
+      };
     } };
 
     ghost invariant = { λ device. Holds (F.image device.store.flash) device.store.values };

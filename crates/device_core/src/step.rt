@@ -1,5 +1,5 @@
 // One step: what an event is, and what comes of it.
-ghost use Rattle.std.specs.Prelude.{◌≡◌, ◌≢◌, ◌<◌, ◌-◌, ◌^◌, [], true, false, List, ℕ, Option, map, option_map};
+ghost use Rattle.std.specs.Prelude.{◌≡◌, ◌≢◌, ◌<◌, ◌-◌, ◌^◌, [], true, false, List, ℕ, Option, Some, map, option_map};
 ghost use Rattle.settings_store.specs.Carries.{Holds};
 ghost use Rattle.dcp_core.specs.Request.{Asked};
 ghost use Rattle.device_frames.specs.Heard.{Asks, heard_alarm, heard_by, heard_content, heard_of};
@@ -28,8 +28,10 @@ use crate::{Device, Event, Note};
 use dcp_core::Service;
 use device_frames::{
     Caller, RealTimeKind, is_asked, is_called, kind_of, open_frame, real_time_in, send_alarm,
-    send_alarm_again, send_alarm_reply, send_farewell, send_inputs, send_ready_again,
+    send_alarm_again, send_alarm_reply, send_farewell, send_inputs, send_inputs_of,
+    send_ready_again,
 };
+use exchanges::DataExchange;
 use flash_model::Flash;
 use frame_codec::{Bytes, ContentKind, OpenFrame, Outbox, RealTimeFrame, datagram_at, packet_at};
 use pn_alarms::{Abort, Header, Message, PduFate, read_message};
@@ -63,7 +65,7 @@ impl<F: Flash<S>, const S: usize> Device<F, S> {
             looked call.header.activity call.header.sequence self.old.live.rest.calls ≡ again frame →
             IsAgain self.old frame (boxed outbox.new) result self.new }
     {
-        outbox.clear();
+        outbox.clear(); // of what the event before sent
         self.respond(event, outbox)
     }
 
@@ -252,7 +254,7 @@ impl<F: Flash<S>, const S: usize> Device<F, S> {
     }
 
     // Inputs are due, and nothing else.
-    #[inline(never)]
+    #[inline(always)]
     fn send_inputs(&self, outbox: &mut Outbox) -> Note
         requires { outbox.old.items ≡ [] }
         ensures note { result ≡ Note.Done }
@@ -260,7 +262,22 @@ impl<F: Flash<S>, const S: usize> Device<F, S> {
             ≡ map (bytes_of self.now.station.identity) (inputs_of self.now.live.rest.units (flow_of self.now.live.rest.link)) }
         ensures sendable { AreSendable self.now.station.identity (inputs_of self.now.live.rest.units (flow_of self.now.live.rest.link)) }
     {
-        send_inputs(&self.identity, self.units, true, &self.relation, outbox);
+        match self.relation.exchange() {
+            Some(exchange) => self.send_inputs_of(exchange, outbox),
+            None => Note::Done,
+        }
+    }
+
+    // The inputs of what the relation exchanges, and nothing else. The box is emptied once more: so the frame's place in it is known here.
+    #[inline(never)]
+    fn send_inputs_of(&self, exchange: &DataExchange, outbox: &mut Outbox) -> Note
+        ensures note { result ≡ Note.Done }
+        ensures frames { boxed outbox.new
+            ≡ map (bytes_of self.now.station.identity) (inputs_of self.now.live.rest.units (Some exchange.now)) }
+        ensures sendable { AreSendable self.now.station.identity (inputs_of self.now.live.rest.units (Some exchange.now)) }
+    {
+        outbox.clear();
+        send_inputs_of(&self.identity, self.units, exchange, outbox);
         Note::Done
     }
 

@@ -1,5 +1,5 @@
 // What a device sends of what its relation exchanges (IEC 61158-6-10, 4.7 and 4.8), and what is due with a unit of time.
-ghost use Rattle.std.specs.Prelude.{◌≡◌, ◌<◌, ◌≤◌, ◌+◌, ◌++◌, ◌∷◌, [], map};
+ghost use Rattle.std.specs.Prelude.{◌≡◌, ◌<◌, ◌≤◌, ◌+◌, ◌++◌, ◌∷◌, [], map, Some};
 ghost use Rattle.arrayvec.specs.ArrayVec.{array_vec_len};
 ghost use Rattle.device_frames.specs.Sendable.{AreSendable};
 ghost use Rattle.device_frames.specs.Sent.{bytes_of};
@@ -11,10 +11,29 @@ use crate::relation::send_ready;
 use crate::sizes::{can_be_sent_in, cyclic_can_be_sent};
 use arrayvec::ArrayVec;
 use cyclic_exchange::send_cyclic;
+use exchanges::DataExchange;
 use frame_codec::{Outbox, Pieces};
 use pn_alarms::{PduType, Taken};
 use pn_values::Identity;
 use relations::Relation;
+
+/// Puts the inputs of what a relation exchanges at this CycleCounter into the box, behind what is in it.
+#[inline(always)]
+pub fn send_inputs_of(
+    identity: &Identity,
+    counter: u16,
+    exchange: &DataExchange,
+    outbox: &mut Outbox,
+)
+    requires room { array_vec_len outbox.old < 4 }
+    ensures frames { boxed outbox.new ≡ boxed outbox.old ++ map (bytes_of identity.now) (inputs_of counter (Some exchange.now)) }
+    ensures sendable { AreSendable identity.now (inputs_of counter (Some exchange.now)) }
+    ensures few { array_vec_len outbox.new ≤ array_vec_len outbox.old + 1 }
+{
+    let cyclic = exchange.cyclic();
+    cyclic_can_be_sent(&identity.mac, cyclic.route());
+    send_cyclic(identity.mac, counter, cyclic, outbox);
+}
 
 /// Puts the inputs of the relation at this CycleCounter into the box, behind what is in it: if they are due, and there is one.
 pub fn send_inputs(
@@ -36,9 +55,7 @@ pub fn send_inputs(
     let Some(exchange) = relation.exchange() else {
         return;
     };
-    let cyclic = exchange.cyclic();
-    cyclic_can_be_sent(&identity.mac, cyclic.route());
-    send_cyclic(identity.mac, counter, cyclic, outbox);
+    send_inputs_of(identity, counter, exchange, outbox);
 }
 
 /// Puts the alarm that stands in the relation into the box, behind what is in it, if there is one.

@@ -1,3 +1,4 @@
+pub mod Addresses
 pub mod Sums
 pub mod Short
 pub mod Layers

@@ -5,8 +5,8 @@
 ghost use Rattle.std.specs.Prelude.{◌≡◌, ◌+◌, ◌-◌, ◌≢◌, ◌≤◌, List, ℕ, [], ◌++◌, length, replicate, Ok};
 ghost use Rattle.arrayvec.specs.ArrayVec.{array_vec_len};
 ghost use Rattle.frame_codec.specs.Meaning.{UdpDatagram, content_of, meaning_in, meaning_of};
-ghost use Rattle.frame_codec.specs.Frame.{IsFrame, FitsFrame, content_size, content_under, datagram, frame_of, frame_bytes, layers, ethernet};
-ghost use Rattle.frame_codec.specs.Frame.{longest, padding_of, real_time, tag_and_type, type_of, vlan, with_behind, IsReadBack};
+ghost use Rattle.frame_codec.specs.Frame.{IsFrame, IsReadBack, FitsFrame, content_size, content_under, datagram, ethernet, frame_of};
+ghost use Rattle.frame_codec.specs.Frame.{frame_bytes, layers, longest, padding_of, real_time, tag_and_type, type_of, vlan, with_behind};
 
 use crate::arp::{ADDRESS_RESOLUTION, put_arp};
 use crate::ethernet::{EthernetHeader, PROFINET, VLAN};
@@ -14,6 +14,7 @@ use crate::internet::{INTERNET, InternetHeader, put_internet_header};
 use crate::udp::{UdpHeader, put_udp_header};
 use crate::{Frame, Layered, Payload, Pieces, Udp};
 use arrayvec::ArrayVec;
+use pn_values::Mac;
 
 /// The EtherType under which a payload is sent.
 fn ether_type_of(payload: &Payload) -> u16
@@ -47,6 +48,18 @@ fn put_tag_and_type(frame: &mut Frame, tag: Option<u16>, ether_type: u16)
     }
 }
 
+/// Appends an address, as two numbers, which stay out of memory: the octets of each are what they were made of.
+#[inline(always)]
+fn put_mac(frame: &mut Frame, mac: Mac)
+    requires room { array_vec_len frame.old + 6 ≤ 1518 }
+    ensures items { frame.new.items ≡ frame.old.items ++ mac.octets }
+    ensures len { array_vec_len frame.new ≡ array_vec_len frame.old + 6 }
+{
+    let [a, b, c, d, e, f] = mac.octets;
+    frame.append(&u16::from_le_bytes([a, b]).to_le_bytes());
+    frame.append(&u32::from_le_bytes([c, d, e, f]).to_le_bytes());
+}
+
 /// Appends the Ethernet header to an empty frame.
 #[tactic(auto, unfolding(crate::specs::Frame::ethernet, crate::specs::Frame::mac))]
 #[inline(always)]
@@ -57,8 +70,8 @@ fn put_header(frame: &mut Frame, header: &EthernetHeader)
     ensures len { array_vec_len frame.new ≤ 18 }
     ensures fits { ethernet.Fits header.now }
 {
-    frame.append(&header.destination.octets);
-    frame.append(&header.source.octets);
+    put_mac(frame, header.destination);
+    put_mac(frame, header.source);
     put_tag_and_type(frame, header.tag, header.ether_type);
 }
 

@@ -115,7 +115,8 @@ pub fn ready_answers_are_heard()
     ensures device { (identity : Identity) (setup : Setup) (caller : Caller) (answer : Answered) → IsSetup setup → IsCaller caller →
         CanBeAnswered answer
         → device_hears identity (comes (answer_frame setup caller answer))
-        ≡ own_told identity setup.plan.controller.mac caller.mac (calls_at setup.plan.controller.address) caller.endpoint (Responds answer) }
+        ≡ own_told identity setup.plan.controller.mac caller.mac (calls_at setup.plan.controller.address) caller.endpoint
+        (Responds answer) }
     // A controller that it goes to hears that response.
     ensures controller { (mine : Controller) (setup : Setup) (caller : Caller) (answer : Answered) → IsSetup setup → IsCaller caller →
         CanBeAnswered answer

@@ -77,10 +77,10 @@ pdu_behind bytes more meaning s = loose_behind pdu bytes meaning more pdu_onward
 -- ---- writing
 
 -- one behind the other
-pub joined : (old a b new header lengths inside : List ℕ) → a ≡ old ++ header → b ≡ a ++ lengths → new ≡ b ++ inside → new ≡ old ++ (header ++ (lengths ++ inside))
-joined old a b new header lengths inside x y z =
-    z ∙ ap (λ (xs : List ℕ). xs ++ inside) (y ∙ ap (λ (xs : List ℕ). xs ++ lengths) x)
-    ∙ append_assoc (old ++ header) lengths inside ∙ append_assoc old header (lengths ++ inside)
+pub joined : (old a new header lengths inside : List ℕ) → a ≡ old ++ (header ++ lengths) → new ≡ a ++ inside → new ≡ old ++ (header ++ (lengths ++ inside))
+joined old a new header lengths inside x y =
+    y ∙ ap (λ (xs : List ℕ). xs ++ inside) x
+    ∙ append_assoc old (header ++ lengths) inside ∙ ap (λ (xs : List ℕ). old ++ xs) (append_assoc header lengths inside)
 
 -- the header, VarPartLen, and the octets
 pub pdu_parts : (meaning : Said) → pdu_bytes meaning ≡ header.write meaning.header [] ++ (big_bytes 2 (length meaning.body) ++ meaning.body)

@@ -36,7 +36,12 @@ impl Model for Repeats {
     ghost use Rattle.std.specs.Prelude.{◌<◌, ◌≤◌};
     ghost use Rattle.std.specs.Option.{ForSome};
 
-    ghost view = { λ repeats. record { interval = repeats.interval; limit = repeats.limit; last = repeats.last; waiting = repeats.waiting } };
+    ghost view = { λ repeats. record {
+      interval = repeats.interval;
+      limit = repeats.limit;
+      last = repeats.last;
+      waiting = repeats.waiting;
+    } };
 
     ghost invariant = { λ repeats. (0 < repeats.interval) × (0 < repeats.limit)
         × ForSome repeats.waiting (λ units. units < repeats.limit) };

@@ -1,6 +1,7 @@
 //! From PDUs to octets.
 ghost use Rattle.std.specs.Prelude.{◌≡◌, ◌+◌, ◌≤◌, ◌<◌, ◌++◌, [], List, ℕ, length, true, Ok};
 ghost use Rattle.arrayvec.specs.ArrayVec.{array_vec_len};
+ghost use Rattle.wire.specs.Formats.{big_bytes};
 ghost use Rattle.block_codec.specs.declared.block.Block.TheVariants.{AlarmNotification as notification};
 ghost use Rattle.block_codec.specs.Block.{block_bytes};
 ghost use Rattle.pn_alarms.specs.declared.pdu.PduType.TheVariants.{Data};
@@ -10,13 +11,13 @@ ghost use Rattle.pn_alarms.specs.Format.{said, is_long, header, IsPdu, pdu_of, p
 use crate::{Header, Pdu};
 use arrayvec::ArrayVec;
 use block_codec::{AlarmNotification, notification_front};
-use wire::{append, append_u16, join};
+use wire::{append, join};
 
-/// The octets from AlarmDstEndpoint to AckSeqNum.
+/// The octets from AlarmDstEndpoint to VarPartLen, which counts so many: in one array, as two that are joined would be copied.
 #[tactic(auto, unfolding(crate::specs::Format::header, crate::specs::Format::kind))]
 #[inline(always)]
-fn header_octets(value: &Header) -> [u8; 10]
-    ensures items { result ≡ header.write value.now [] }
+fn header_octets(value: &Header, size: u16) -> [u8; 12]
+    ensures items { result ≡ header.write value.now [] ++ big_bytes 2 size }
     ensures fits { header.Fits value.now }
 {
     let destination = value.destination.to_be_bytes();
@@ -25,6 +26,7 @@ fn header_octets(value: &Header) -> [u8; 10]
     let flags = value.kind.flags();
     let send_number = value.send_number.to_be_bytes();
     let ack_number = value.ack_number.to_be_bytes();
+    let size = size.to_be_bytes();
     [
         destination[0],
         destination[1],
@@ -36,6 +38,8 @@ fn header_octets(value: &Header) -> [u8; 10]
         send_number[1],
         ack_number[0],
         ack_number[1],
+        size[0],
+        size[1],
     ]
 }
 
@@ -55,8 +59,7 @@ pub fn write_pdu<const N: usize>(out: &mut ArrayVec<u8, N>, pdu: &Pdu)
     // With anything behind it, it is read as that.
     ensures behind { (more : List ℕ) → pdu_of (pdu_bytes (said pdu.now) ++ more) ≡ Ok (said pdu.now) }
 {
-    append(out, &header_octets(&pdu.header));
-    append_u16(out, pdu.body.len() as u16);
+    append(out, &header_octets(&pdu.header, pdu.body.len() as u16));
     append(out, pdu.body);
 }
 
@@ -72,9 +75,8 @@ pub fn alarm_front(header: &Header, alarm: &AlarmNotification) -> [u8; 40]
     ensures behind { (more : List ℕ) → pdu_of (pdu_bytes (alarm_pdu header.now alarm.now) ++ more) ≡ Ok (alarm_pdu header.now alarm.now) }
     ensures carried { notification_of (alarm_pdu header.now alarm.now).body ≡ Ok alarm.now }
 {
-    let size = (28 + alarm.alarm_data.octets().len() as u16).to_be_bytes();
-    let front: [u8; 12] = join(&header_octets(header), &size);
-    join(&front, &notification_front(alarm))
+    let size = 28 + alarm.alarm_data.octets().len() as u16;
+    join(&header_octets(header, size), &notification_front(alarm))
 }
 
 /// Appends data that carries an alarm, which follows the FrameID of a frame: at most 72 octets. There must be room.

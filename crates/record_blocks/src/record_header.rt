@@ -63,6 +63,7 @@ pub(crate) fn record_header_at(bytes: &[u8]) -> Result<(RecordHeader, &[u8]), Bl
 }
 
 /// Appends the fields from SeqNumber to RecordDataLength. There must be room.
+#[inline(always)]
 #[tactic(auto, unfolding(crate::specs::RecordHeader::record_header))]
 pub(crate) fn put_record_header<const N: usize>(out: &mut ArrayVec<u8, N>, value: &RecordHeader)
     requires { array_vec_len out.old + record_header.size value.now ≤ N }

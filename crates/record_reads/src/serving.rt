@@ -26,10 +26,13 @@ pub(crate) fn serve(
 ) -> Result<(), CallFault>
     requires empty { answer.old.items ≡ [] }
     ensures done { IfOk result (λ _. read_of real.now request.now
-        (record_of request.now.header.index request.now.header.slot_number request.now.header.subslot_number identity.now real.now settings.now)
+        (record_of request.now.header.index request.now.header.slot_number request.now.header.subslot_number identity.now real.now
+        settings.now)
         ≡ Ok answer.new.items) }
     ensures refused { IfErr result (λ fault. (read_of real.now request.now
-        (record_of request.now.header.index request.now.header.slot_number request.now.header.subslot_number identity.now real.now settings.now) ≡ Err fault)
+        (record_of request.now.header.index request.now.header.slot_number request.now.header.subslot_number identity.now real.now
+        settings.now)
+        ≡ Err fault)
         × (answer.new.items ≡ [])) }
 {
     let (slot, subslot, index) = (

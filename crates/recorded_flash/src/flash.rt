@@ -1,6 +1,6 @@
 // A flash in memory, whose calls are recorded.
-ghost use Rattle.std.specs.Prelude.{◌≡◌, ◌≢◌, ◌+◌, ◌-◌, ◌^◌, ◌<◌, ◌≤◌, ◌↔◌, Option, None, Some, true, false, [], ◌∷◌, ℕ, length, map, slice_range, IsOk};
-ghost use Rattle.std.specs.Prelude.{OnOk, OnErr};
+ghost use Rattle.std.specs.Prelude.{◌≡◌, ◌≢◌, ◌+◌, ◌-◌, ◌^◌, ◌<◌, ◌≤◌, ◌↔◌, Option, None, Some, true, false, [], ◌∷◌, ℕ, length, map};
+ghost use Rattle.std.specs.Prelude.{slice_range, IsOk, OnOk, OnErr};
 ghost use Rattle.std.proofs.Props.{props};
 ghost use Rattle.flash_model.specs.Calls.{Programs, Arms};
 ghost use Rattle.flash_model.specs.Image.{IsSectorSize, sector_of, with_sector, programmed, erased};

@@ -6,8 +6,8 @@ ghost use Rattle.pn_alarms.specs.declared.abort.Abort.TheVariants.{Activity, Dat
 ghost use Rattle.relations.specs.declared.phase.Phase.TheVariants.{Exchanging};
 ghost use Rattle.relations.specs.Farewells.{farewell_of};
 ghost use Rattle.relations.specs.Link.{Link, is_awaiting, phase_of, taken_of};
-ghost use Rattle.relations.specs.Timers.{EndsIn, brings_inputs, brings_nothing, due_behind, due_of, farewell_for, is_timed, is_unheard, left_behind};
-ghost use Rattle.relations.specs.Timers.{nothing};
+ghost use Rattle.relations.specs.Timers.{EndsIn, brings_inputs, brings_nothing, due_behind, due_of, farewell_for, is_timed, is_unheard};
+ghost use Rattle.relations.specs.Timers.{left_behind, nothing};
 ghost use Rattle.relations.specs.Phases.{moved, passing};
 ghost use Rattle.relations.specs.Ready.{ready_of};
 

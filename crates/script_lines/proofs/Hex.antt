@@ -13,7 +13,6 @@ use Rattle.hex.specs.declared.error.FromHexError.{FromHexError}
 use Rattle.hex.proofs.HexLemmas.{decode_of-ok}
 use Rattle.hex.proofs.Pairs.{drop-pair}
 use Rattle.script_lines.specs.Line.{bytes_of, if_decoded}
-use Rattle.script_lines.specs.Numbers.{value_of}
 
 -- digits that were decoded
 pub bytes_decoded : (digits bytes : List ℕ) → 0 < length digits → decode_of digits ≡ Ok bytes → Some bytes ≡ bytes_of digits
@@ -102,8 +101,14 @@ pub record IsJoined (digits : List ℕ) (place byte : ℕ) : Type 0 where
   pub small : byte < 256
 
 -- the value of a digit
-value_is : (digit value : ℕ) → hex_digit_value digit ≡ Some value → value_of digit ≡ value
+value_is : (digit value : ℕ) → hex_digit_value digit ≡ Some value → digit % 16 + 9 * (digit / 64) ≡ value
 value_is digit value is = grind (arith, nat_tests)
+
+-- the values of two digits, each in an octet of its own
+pub values_are : (pair first second : ℕ) → pair < 65536 → hex_digit_value (pair % 256) ≡ Some first → hex_digit_value (pair / 256) ≡ Some second
+    → pair % 16 + pair / 256 % 16 * 256 + 9 * (pair / 64 % 4 + pair / 16384 * 256) ≡ first + 256 * second
+values_are pair first second few is_first is_second =
+    omega (arith, few, value_is (pair % 256) first is_first, value_is (pair / 256) second is_second)
 
 -- sixteen times the first of two values, and the second
 upper : (both product first second : ℕ) → first < 16 → second < 16 → both ≡ first + 256 * second → product ≡ (both * 4097) % 65536 → product / 256 ≡ first * 16 + second
@@ -111,7 +116,8 @@ upper both product first second below_first below_second is by = omega (arith, b
 
 pub joined : (digits : List ℕ) (place pair both product : ℕ) → 2 * place + 1 < length digits → AllPass is_hex_digit digits
     → pair ≡ slice_index digits (2 * place) + 256 * slice_index digits (2 * place + 1)
-    → both ≡ value_of (pair % 256) + 256 * value_of (pair / 256) → product ≡ (both * 4097) % 65536
+    → ((high low : ℕ) → hex_digit_value (pair % 256) ≡ Some high → hex_digit_value (pair / 256) ≡ Some low → both ≡ high + 256 * low)
+    → product ≡ (both * 4097) % 65536
     → IsJoined digits place (product / 256)
 joined digits place pair both product fits all is are by =
     let first = slice_index digits (2 * place) in
@@ -122,9 +128,7 @@ joined digits place pair both product fits all is are by =
     let below_b = small_digit second b.0 b.1 in
     let is_first : pair % 256 ≡ first = omega (arith, is, below_a, below_b) in
     let is_second : pair / 256 ≡ second = omega (arith, is, below_a, below_b) in
-    let high : value_of (pair % 256) ≡ a.0 = ap value_of is_first ∙ value_is first a.0 a.1 in
-    let low : value_of (pair / 256) ≡ b.0 = ap value_of is_second ∙ value_is second b.0 b.1 in
-    let values : both ≡ a.0 + 256 * b.0 = are ∙ ap (λ n. n + 256 * value_of (pair / 256)) high ∙ ap (λ n. a.0 + 256 * n) low in
+    let values = are a.0 b.0 (ap hex_digit_value is_first ∙ a.1) (ap hex_digit_value is_second ∙ b.1) in
     let byte = upper both product a.0 b.0 (small_value first a.0 a.1) (small_value second b.0 b.1) values by in
     record {
       value = rw byte (pair_read first second (2 * place) a.0 b.0 a.1 b.1);

@@ -1,5 +1,5 @@
 -- Numbers as a script writes them.
-use Rattle.std.specs.Prelude.{ℕ, ◌+◌, ◌-◌, ◌*◌, ◌/◌, ◌%◌, ◌==◌, ◌||◌, ◌&&◌, Bool, nat_le, List, [], ◌∷◌, length, slice_index, if◌then◌else◌, Option, Some, None}
+use Rattle.std.specs.Prelude.{ℕ, ◌+◌, ◌-◌, ◌*◌, ◌%◌, ◌==◌, ◌||◌, ◌&&◌, Bool, nat_le, List, [], ◌∷◌, length, slice_index, if◌then◌else◌, Option, Some, None}
 
 -- the ASCII codes of 0 to 9
 abbrev pub is_digit : ℕ → Bool
@@ -29,7 +29,3 @@ repeated bytes =
     if length bytes == 1 || length bytes == 2 || length bytes == 4 || length bytes == 8
     then Some (turned bytes 0 ∷ turned bytes 1 ∷ turned bytes 2 ∷ turned bytes 3 ∷ turned bytes 4 ∷ turned bytes 5 ∷ turned bytes 6 ∷ turned bytes 7 ∷ [])
     else None
-
--- the value of a hex digit, of either case, and some number of any other octet
-abbrev pub value_of : ℕ → ℕ
-value_of digit = digit % 16 + 9 * (digit / 64)

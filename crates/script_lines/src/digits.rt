@@ -1,9 +1,8 @@
 // Hex digits, read and written. A script is hex for the most part, so the loops have no branch: the compiler then does many
 // bytes in one step.
-ghost use Rattle.std.specs.Prelude.{◌≡◌, ◌<◌, ◌+◌, ◌*◌, ◌/◌, ◌%◌, IsErr, Ok, true, false, length, slice_index};
+ghost use Rattle.std.specs.Prelude.{◌≡◌, ◌<◌, ◌+◌, ◌*◌, ◌/◌, ◌%◌, ℕ, IsErr, Ok, Some, true, false, length, slice_index};
 ghost use Rattle.std.specs.List.{AllPass};
-ghost use Rattle.hex.specs.Hex.{decode_of, encode_lower, is_hex_digit, lower_digits};
-ghost use Rattle.script_lines.specs.Numbers.{value_of};
+ghost use Rattle.hex.specs.Hex.{decode_of, encode_lower, hex_digit_value, is_hex_digit, lower_digits};
 
 /// Whether each is a hex digit, of either case.
 fn are_digits(digits: &[u8]) -> bool
@@ -20,7 +19,8 @@ fn are_digits(digits: &[u8]) -> bool
 /// The values of a pair of hex digits, of either case, each in an octet of its own as the digits are: a letter's low four bits count from
 /// 1, and it has bit 6.
 fn values(pair: u16) -> u16
-    ensures { result ≡ value_of (pair % 256) + 256 * value_of (pair / 256) }
+    ensures { (first second : ℕ) → hex_digit_value (pair % 256) ≡ Some first → hex_digit_value (pair / 256) ≡ Some second →
+        result ≡ first + 256 * second }
 {
     let nibbles = pair % 16 + pair / 256 % 16 * 256;
     let letters = pair / 64 % 4 + pair / 16384 * 256;

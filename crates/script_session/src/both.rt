@@ -72,7 +72,8 @@ pub(crate) fn ticks(
     text: &mut Vec<u8>,
 ) -> Result<(), AllocError>
     ensures ticked { (station : Station) → Runs station device.old →
-        OnOk result (IsRunOf (device_run station (replicate units event.Tick)) device.new other.old other.new text.old.items text.new.items) }
+        OnOk result (IsRunOf (device_run station (replicate units event.Tick)) device.new other.old other.new text.old.items
+        text.new.items) }
     ensures same { device.new.station ≡ device.old.station }
 {
     let mut left = units;

@@ -90,7 +90,8 @@ impl<'a> Session<'a> {
         // While there is no power a line does nothing but a restart.
         ensures off { is_off self.old.power ≡ true → TakesOff (meaning_of line.now) self.old self.new text.old.items text.new.items result }
         // Where power is lost as something is handed to the device, that alone is printed.
-        ensures lost { is_handed (meaning_of line.now) ≡ true → TellsLoss self.old.power self.new.power text.old.items text.new.items result }
+        ensures lost { is_handed (meaning_of line.now) ≡ true →
+            TellsLoss self.old.power self.new.power text.old.items text.new.items result }
         ensures demo { IsDemo self.old.power → IsDemo self.new.power }
     {
         let Ok(meaning) = meaning(line, buffer) else {

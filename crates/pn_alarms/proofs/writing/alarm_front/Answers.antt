@@ -26,7 +26,7 @@ returns-clause-exact c =
     let front = c.notification_front.result in
     let size = counted front alarm.alarm_data block c.notification_front.ensures.exact c.notification_front.ensures.len in
     let lengths : 28 + length c.octets.result.now ≡ length block = omega (arith, ap (λ (xs : List ℕ). length xs) c.octets.ensures.value, size) in
-    rw (c.join.ensures, c.join-front.ensures, c.header_octets.ensures.items, c.to_be_bytes-size.ensures) (
+    rw (c.join.ensures, c.header_octets.ensures.items) (
     apart first (big_bytes 2 (28 + length c.octets.result.now)) front alarm.alarm_data
     ∙ ap (λ (n : ℕ). first ++ (big_bytes 2 n ++ (front ++ alarm.alarm_data))) lengths
     ∙ ap (λ (xs : List ℕ). first ++ (big_bytes 2 (length block) ++ xs)) c.notification_front.ensures.exact
