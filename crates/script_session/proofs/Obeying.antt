@@ -1,11 +1,11 @@
 -- What a line does to both ends.
-use Rattle.std.proofs.Common.{◌≡◌, inl, ℕ, List, ◌++◌, Bool, true, false, Option, None, Result, Ok, Err, OnOk, IfOk, IsErr, MatchResult, is_ok, if◌then◌else◌, refl, sym, subst, append-nil}
+use Rattle.std.proofs.Common.{◌≡◌, inl, ℕ, List, [], ◌∷◌, ◌++◌, length, arith, Bool, true, false, Option, None, Result, Ok, Err, OnOk, IfOk, IsErr, MatchResult, is_ok, if◌then◌else◌, refl, sym, subst, append-nil}
 use Rattle.flash_model.specs.declared.memory.MemoryFlash.{MemoryFlash}
 use Rattle.plans.specs.declared.parts.Parts.{Parts}
 use Rattle.configurator.specs.declared.fault.PlanFault.{PlanFault}
 use Rattle.configurator.specs.declared.fault.PlanFault.TheVariants.{OutOfMemory}
 use Rattle.device_core.specs.State.{State}
-use Rattle.script_lines.specs.Line.{Line}
+use Rattle.script_lines.specs.Line.{Line, Skipped, meaning_of}
 use Rattle.script_session.specs.declared.power.Power.{Power}
 use Rattle.script_session.specs.declared.power.Power.TheVariants.{On, Off, Away}
 use Rattle.script_session.specs.Ends.{Network, Station, Other}
@@ -32,6 +32,12 @@ done_obeyed answer device other before now done = record { runs = done.runs; wai
 -- a line that is read so is this one
 pub line_obeys : (plans : List ℕ → Option Parts) (network : Network) (line read : Line) (held : Held) (before now : List ℕ) (result : Result Bool PlanFault) → read ≡ line → Obeys (outcome_of plans network read) held before now result → Obeys (outcome_of plans network line) held before now result
 line_obeys plans network line read held before now result same = subst (λ l. Obeys (outcome_of plans network l) held before now result) same
+
+-- an empty line is skipped
+pub empty_is_skipped : (line : List ℕ) → length line ≡ 0 → meaning_of line ≡ Skipped
+unfolding meaning_of
+empty_is_skipped [] none = refl
+empty_is_skipped (octet ∷ octets) none = absurd (omega (arith, none))
 
 -- one that is skipped changes nothing
 pub skipped_obeys : (network : Network) (held : Held) (before : List ℕ) → Are network held → Obeys (Answers (unchanged network)) held before before (Ok true)

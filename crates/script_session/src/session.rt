@@ -94,6 +94,10 @@ impl<'a> Session<'a> {
             TellsLoss self.old.power self.new.power text.old.items text.new.items result }
         ensures demo { IsDemo self.old.power → IsDemo self.new.power }
     {
+        // An empty line asks for nothing, and nothing is made for it.
+        if line.is_empty() {
+            return Ok(true);
+        }
         let Ok(meaning) = meaning(line, buffer) else {
             return Err(PlanFault::OutOfMemory);
         };

@@ -1,10 +1,21 @@
-use Rattle.std.proofs.Common.{◌≡◌, sym, ap, subst, false, true, ◌∙◌}
+use Rattle.std.proofs.Common.{◌≡◌, [], length, refl, sym, ap, subst, false, true, ◌∙◌, append-nil, arith}
+use Rattle.std.proofs.lemmas.Bool.Decides.{nat_tests}
 use Rattle.script_lines.specs.Read.{line_read}
 use Rattle.script_session.specs.Said.{is_order}
 use Rattle.script_session.specs.Off.{is_handed}
 use Rattle.script_session.specs.Session.{AreRightFor}
-use Rattle.script_session.proofs.Obeying.{skipped_obeys}
+use Rattle.script_session.proofs.Obeying.{empty_is_skipped, skipped_obeys}
 use Rattle.script_session.proofs.session.Session.take.Goals as goal
+
+pub returns-then-is_empty-clause-takes : goal.returns-then-is_empty-clause-takes
+returns-then-is_empty-clause-takes c plans network right are plain =
+    let none : length c.args.line.now ≡ 0 = grind (arith, nat_tests) in
+    rw (empty_is_skipped c.args.line.now none) (skipped_obeys network c.args.self.now c.args.text.now.items are)
+
+pub returns-then-is_empty-clause-off : goal.returns-then-is_empty-clause-off
+returns-then-is_empty-clause-off c off =
+    let none : length c.args.line.now ≡ 0 = grind (arith, nat_tests) in
+    rw (empty_is_skipped c.args.line.now none) (refl, ([], refl, sym (append-nil c.args.text.now.items)))
 
 pub returns-in-Skipped-clause-takes : goal.returns-in-Skipped-clause-takes
 returns-in-Skipped-clause-takes c plans network right are plain =
