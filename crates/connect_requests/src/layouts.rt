@@ -19,11 +19,16 @@ fn fault_of(fault: LayoutFault) -> CallFault
     }
 }
 
-/// The layout that an IOCRBlockReq asks for, by what the submodules that are expected have in cyclic frames.
-fn layout_of(block: &IocrBlockReq, parts: &[ExpectedData]) -> Result<Layout, CallFault>
+/// Puts the layout that an IOCRBlockReq asks for into its place, by what the submodules that are expected have in cyclic frames.
+#[inline(never)]
+fn fill_layout(
+    block: &IocrBlockReq,
+    parts: &[ExpectedData],
+    layout: &mut Layout,
+) -> Result<(), CallFault>
     requires short { block.now.data_length ≤ 1440 }
     requires few { length parts.now ≤ 64 }
-    ensures { Gives (λ x. x) result (layout_of parts.now block.now) }
+    ensures { Gives (λ _. layout.new) result (layout_of parts.now block.now) }
 {
     let checked = Layout::check(
         block.iocr_type,
@@ -33,7 +38,10 @@ fn layout_of(block: &IocrBlockReq, parts: &[ExpectedData]) -> Result<Layout, Cal
         parts,
     );
     match checked {
-        Ok(layout) => Ok(layout),
+        Ok(asked) => {
+            *layout = asked;
+            Ok(())
+        }
         Err(fault) => Err(fault_of(fault)),
     }
 }
@@ -54,11 +62,11 @@ pub(crate) fn fill_layouts(
 {
     // The first fault counts in the order of the blocks, and so does the fault of the layout that was asked for first.
     if input_first {
-        *inputs = layout_of(input, parts)?;
-        *outputs = layout_of(output, parts)?;
+        fill_layout(input, parts, inputs)?;
+        fill_layout(output, parts, outputs)?;
     } else {
-        *outputs = layout_of(output, parts)?;
-        *inputs = layout_of(input, parts)?;
+        fill_layout(output, parts, outputs)?;
+        fill_layout(input, parts, inputs)?;
     }
     Ok(())
 }

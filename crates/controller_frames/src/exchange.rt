@@ -13,8 +13,8 @@ use crate::Setup;
 use arrayvec::ArrayVec;
 use block_codec::{AlarmAck, Block, write_block};
 use cyclic_exchange::{CyclicExchange, Route, send_cyclic};
-use frame_codec::{Layered, Outbox, Payload};
-use pn_alarms::{Abort, Header, Pdu, PduType, write_pdu};
+use frame_codec::{Outbox, Pieces};
+use pn_alarms::{Abort, Header, Pdu, PduType, pdu_front};
 use pn_values::Mac;
 use record_blocks::alarm_ack_len;
 
@@ -42,16 +42,13 @@ fn send_pdu(source: Mac, destination: Mac, tag: u16, pdu: &Pdu<'_>, outbox: &mut
         ++ tagged_frame source destination tag (RealTime (frame_id_of pdu.now.header.kind) (pdu_bytes (said pdu.now))) ∷ [] }
     ensures len { array_vec_len outbox.new ≡ array_vec_len outbox.old + 1 }
 {
-    let mut body: ArrayVec<u8, 40> = ArrayVec::new();
-    write_pdu(&mut body, pdu);
-    outbox.put(&Layered {
+    outbox.put_pieces(&Pieces {
         destination,
         source,
         tag: Some(tag),
-        payload: Payload::RealTime {
-            frame_id: pdu.header.kind.frame_id(),
-            body: body.as_slice(),
-        },
+        frame_id: pdu.header.kind.frame_id(),
+        front: &pdu_front(pdu),
+        behind: pdu.body,
     });
 }
 

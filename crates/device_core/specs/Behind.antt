@@ -1,7 +1,15 @@
 -- What is behind an event that asks nothing of the settings.
-use Rattle.std.specs.Prelude.{ℕ, Bool, List, None, map}
-use Rattle.rpc_core.specs.Call.{asked}
+use Rattle.std.specs.Prelude.{ℕ, Bool, List, None, map, Result}
+use Rattle.rpc_core.specs.declared.response.Response.{Response}
+use Rattle.rpc_core.specs.Call.{Asked as Call, asked}
+use Rattle.rpc_core.specs.Response.{answered}
+use Rattle.pnio_status.specs.declared.call_fault.CallFault.{CallFault}
 use Rattle.pnio_status.specs.declared.operation.Operation.{Operation}
+use Rattle.record_blocks.specs.declared.write_record.IodWriteReq.{IodWriteReq}
+use Rattle.record_writes.specs.declared.taken.TakenRecord.{TakenRecord}
+use Rattle.record_writes.specs.declared.write.Effect.TheVariants.{Keeps}
+use Rattle.record_writes.specs.declared.write.Write.{Write as Asking}
+use Rattle.relations.specs.Ready.{answer_of}
 use Rattle.relations.specs.declared.time.Elapsed.{Elapsed}
 use Rattle.relations.specs.Timers.{due_behind, left_behind}
 use Rattle.device_frames.specs.Relation.{due_frames}
@@ -9,7 +17,7 @@ use Rattle.device_frames.specs.Sendable.{AreSendable}
 use Rattle.device_frames.specs.Sent.{Sent, bytes_of}
 use Rattle.device_core.specs.declared.calls.Serving.{Serving}
 use Rattle.device_core.specs.State.{State, with_rest}
-use Rattle.device_core.specs.Judged.{Judged, judged_new}
+use Rattle.device_core.specs.Judged.{Judged, answer_from, judged_answer, judged_effect, judged_new, judged_write}
 use Rattle.device_core.specs.Machine.{end_of}
 
 -- the device then
@@ -39,3 +47,23 @@ brought old elapsed =
 -- what a call that is served comes to, if it asks for this
 abbrev pub called : {F : Type 0} → State F → Serving → Operation → Judged
 called old serving operation = judged_new old.station old.live serving.caller.now (asked serving.call.now) serving.blocks.now operation
+
+-- the call that is served, as it was asked
+abbrev pub call_of : Serving → Call
+call_of serving = asked serving.call.now
+
+-- what a Write that is served comes to, if its blocks are judged so
+abbrev pub wrote : {F : Type 0} → State F → Serving → Result Asking CallFault → Judged
+wrote old serving judged = judged_write old.station old.live serving.caller.now (call_of serving) judged
+
+-- what a parameter record comes to that a Write with this header brings
+abbrev pub brings : {F : Type 0} → State F → Serving → IodWriteReq → TakenRecord → Judged
+brings old serving header parameter = judged_effect old.station old.live serving.caller.now (call_of serving) header (Keeps parameter)
+
+-- what a response comes to
+abbrev pub responded : {F : Type 0} → State F → Response → Judged
+responded old response = judged_answer old.live (answer_of (answered response) old.live.rest.link)
+
+-- the answer to a call that is served
+abbrev pub answer_to : List ℕ → Serving → Result (List ℕ) CallFault → Sent
+answer_to address serving came = answer_from address serving.caller.now (call_of serving) serving.operation came

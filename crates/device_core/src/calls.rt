@@ -4,20 +4,16 @@ ghost use Rattle.arrayvec.specs.ArrayVec.{array_vec_len};
 ghost use Rattle.settings_store.specs.Carries.{Holds};
 ghost use Rattle.rpc_core.specs.Call.{asked};
 ghost use Rattle.rpc_core.specs.Cache.{kept_more};
-ghost use Rattle.rpc_core.specs.Response.{answered};
 ghost use Rattle.pnio_status.specs.declared.call_fault.CallFault.TheVariants.{Arguments};
 ghost use Rattle.pnio_status.specs.declared.operation.Operation.TheVariants as operation;
-ghost use Rattle.relations.specs.Ready.{answer_of as ready_answer};
 ghost use Rattle.record_blocks.specs.declared.write_record.IodWriteReq.{IodWriteReq as Header};
 ghost use Rattle.record_writes.specs.Answer.{answer_of};
-ghost use Rattle.record_writes.specs.declared.write.Effect.TheVariants.{Keeps};
 ghost use Rattle.pnio_status.specs.Operation.{operation_of};
 ghost use Rattle.device_frames.specs.Heard.{Heard as Hears, Told, said_by};
 ghost use Rattle.device_frames.specs.Sendable.{IsSendable};
 ghost use Rattle.device_frames.specs.Sent.{bytes_of};
-ghost use Rattle.device_core.specs.Judged.{Writes, answer_from, came_with, kept_for, judged, judged_answer, judged_call, judged_effect};
-ghost use Rattle.device_core.specs.Judged.{judged_write, outcome_of};
-ghost use Rattle.device_core.specs.Behind.{CanSend, behind, called, frames_of};
+ghost use Rattle.device_core.specs.Judged.{Writes, answer_from, came_with, kept_for, judged, judged_call, outcome_of};
+ghost use Rattle.device_core.specs.Behind.{CanSend, answer_to, behind, brings, called, frames_of, responded, wrote};
 ghost use Rattle.device_core.specs.Machine.{end_of, written_as as comes_out};
 ghost use Rattle.device_core.specs.Steps.{StaysReliable, Steps};
 ghost use Rattle.frame_codec.specs.Outbox.{boxed};
@@ -67,13 +63,10 @@ impl<F: Flash<S>, const S: usize> Device<F, S> {
     // A response of the controller: one to ApplicationReady may be waited for.
     fn hear_response(&mut self, response: &Response<'_>, outbox: &mut Outbox) -> Note
         requires empty { outbox.old.items ≡ [] }
-        ensures state { self.new
-            ≡ behind self.old (judged_answer self.old.live (ready_answer (answered response.now) self.old.live.rest.link)) }
-        ensures frames { boxed outbox.new
-            ≡ frames_of self.old (judged_answer self.old.live (ready_answer (answered response.now) self.old.live.rest.link)) }
-        ensures sendable { CanSend self.old (judged_answer self.old.live (ready_answer (answered response.now) self.old.live.rest.link)) }
-        ensures note { result ≡ (end_of self.old.station self.old.live
-            (judged_answer self.old.live (ready_answer (answered response.now) self.old.live.rest.link))).note }
+        ensures state { self.new ≡ behind self.old (responded self.old response.now) }
+        ensures frames { boxed outbox.new ≡ frames_of self.old (responded self.old response.now) }
+        ensures sendable { CanSend self.old (responded self.old response.now) }
+        ensures note { result ≡ (end_of self.old.station self.old.live (responded self.old response.now)).note }
     {
         match self.relation.hear_ready(response) {
             ReadyAnswer::NotWanted => Note::NoRelation,
@@ -295,9 +288,7 @@ impl<F: Flash<S>, const S: usize> Device<F, S> {
         match judge_write(serving.blocks, self.relation.uuid(), &self.real) {
             Ok(Write { request, effect }) => match effect {
                 Effect::Stores(value) => self.store_text(serving, &request, value, outbox),
-                Effect::Keeps(parameter) => {
-                    self.keep_parameter(serving, &request, parameter, outbox)
-                }
+                Effect::Keeps(taken) => self.keep_parameter(serving, &request, taken, outbox),
             },
             Err(fault) => self.refuse_write(serving, fault, outbox),
         }
@@ -307,14 +298,9 @@ impl<F: Flash<S>, const S: usize> Device<F, S> {
     fn refuse_write(&mut self, serving: &Serving<'_>, fault: CallFault, outbox: &mut Outbox) -> Note
         requires operation { serving.now.operation ≡ operation.Write }
         requires empty { outbox.old.items ≡ [] }
-        ensures state { self.new
-            ≡ behind self.old (judged_write self.old.station self.old.live serving.now.caller.now (asked serving.now.call.now)
-            (Err fault)) }
-        ensures frames { boxed outbox.new
-            ≡ frames_of self.old (judged_write self.old.station self.old.live serving.now.caller.now (asked serving.now.call.now)
-            (Err fault)) }
-        ensures sendable { CanSend self.old (judged_write self.old.station self.old.live serving.now.caller.now (asked serving.now.call.now)
-            (Err fault)) }
+        ensures state { self.new ≡ behind self.old (wrote self.old serving.now (Err fault)) }
+        ensures frames { boxed outbox.new ≡ frames_of self.old (wrote self.old serving.now (Err fault)) }
+        ensures sendable { CanSend self.old (wrote self.old serving.now (Err fault)) }
         ensures note { result ≡ Note.Done }
     {
         let address = self.store.running().suite.address();
@@ -357,14 +343,9 @@ impl<F: Flash<S>, const S: usize> Device<F, S> {
     ) -> Note
         requires operation { serving.now.operation ≡ operation.Write }
         requires empty { outbox.old.items ≡ [] }
-        ensures state { self.new
-            ≡ behind self.old (judged_effect self.old.station self.old.live serving.now.caller.now (asked serving.now.call.now) header.now
-            (Keeps parameter)) }
-        ensures frames { boxed outbox.new
-            ≡ frames_of self.old (judged_effect self.old.station self.old.live serving.now.caller.now (asked serving.now.call.now)
-            header.now (Keeps parameter)) }
-        ensures sendable { CanSend self.old (judged_effect self.old.station self.old.live serving.now.caller.now
-            (asked serving.now.call.now) header.now (Keeps parameter)) }
+        ensures state { self.new ≡ behind self.old (brings self.old serving.now header.now parameter) }
+        ensures frames { boxed outbox.new ≡ frames_of self.old (brings self.old serving.now header.now parameter) }
+        ensures sendable { CanSend self.old (brings self.old serving.now header.now parameter) }
         ensures note { result ≡ Note.Done }
     {
         let came = self.relation.keep(parameter);
@@ -405,14 +386,11 @@ impl Answering {
     )
         requires empty { outbox.old.items ≡ [] }
         ensures frames { boxed outbox.new
-            ≡ bytes_of identity.now (answer_from address serving.now.caller.now (asked serving.now.call.now) serving.now.operation
-            (came_with came self.old.blocks.items)) ∷ [] }
-        ensures sendable { IsSendable identity.now (answer_from address serving.now.caller.now (asked serving.now.call.now)
-            serving.now.operation (came_with came self.old.blocks.items)) }
+            ≡ bytes_of identity.now (answer_to address serving.now (came_with came self.old.blocks.items)) ∷ [] }
+        ensures sendable { IsSendable identity.now (answer_to address serving.now (came_with came self.old.blocks.items)) }
         ensures one { array_vec_len outbox.new ≡ 1 }
         ensures kept { self.new.kept ≡ kept_more 4 (kept_for identity.now (asked serving.now.call.now)
-            (answer_from address serving.now.caller.now (asked serving.now.call.now) serving.now.operation
-            (came_with came self.old.blocks.items))) self.old.kept }
+            (answer_to address serving.now (came_with came self.old.blocks.items))) self.old.kept }
     {
         let call = serving.call;
         let status = settle(serving.operation, came, &mut self.blocks);

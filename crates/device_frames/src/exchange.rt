@@ -9,7 +9,6 @@ ghost use Rattle.frame_codec.specs.Outbox.{boxed};
 
 use crate::relation::send_ready;
 use crate::sizes::{can_be_sent_in, cyclic_can_be_sent};
-use arrayvec::ArrayVec;
 use cyclic_exchange::send_cyclic;
 use exchanges::DataExchange;
 use frame_codec::{Outbox, Pieces};
@@ -112,14 +111,13 @@ pub fn send_alarm_reply(identity: &Identity, taken: Taken, relation: &Relation, 
         return;
     };
     let route = exchange.route();
-    let mut body: ArrayVec<u8, 12> = ArrayVec::new();
-    exchange.put_reply(taken, &mut body);
+    let front = exchange.reply(taken);
     let pieces = Pieces {
         destination: route.partner,
         source: identity.mac,
         tag: Some(route.alarm_tag),
         frame_id: taken.answer().frame_id(),
-        front: body.as_slice(),
+        front: &front,
         behind: &[],
     };
     can_be_sent_in(&pieces);

@@ -66,20 +66,23 @@ pub fn kind_of(identity: &Identity, destination: Mac, frame_id: u16) -> RealTime
     ensures { (source : Mac) (body : List ℕ) → heard_content identity.now destination source (RealTime frame_id body)
         ≡ heard_as result source frame_id body }
 {
-    if is_taken(identity, destination, frame_id) {
-        return RealTimeKind::Request;
-    }
-    // Cyclic data and alarms go to one station: multicast of them is not part of this device.
     if !is_own(identity, destination) {
+        // An Identify alone may ask all stations: a Set would give each the same name, and cyclic data and alarms go to one.
+        if frame_id == DCP_IDENTIFY_REQUEST && destination.is(&IDENTIFY_MULTICAST) {
+            return RealTimeKind::Request;
+        }
         return RealTimeKind::Elsewhere;
-    }
-    if is_alarm(frame_id) {
-        return RealTimeKind::Alarm;
     }
     if is_cyclic(frame_id) {
         return RealTimeKind::Cyclic;
     }
-    RealTimeKind::Elsewhere
+    if is_alarm(frame_id) {
+        return RealTimeKind::Alarm;
+    }
+    match frame_id {
+        DCP_GET_SET | DCP_IDENTIFY_REQUEST => RealTimeKind::Request,
+        _ => RealTimeKind::Elsewhere,
+    }
 }
 
 /// Whether a packet of ARP with this destination is for the device: to it, or to all stations.
@@ -101,17 +104,4 @@ fn is_own(identity: &Identity, destination: Mac) -> bool
     ensures { result ≡ is_own_by identity.now destination }
 {
     destination.is(&identity.mac)
-}
-
-// Whether a frame with this destination and FrameID is for the device.
-fn is_taken(identity: &Identity, destination: Mac, frame_id: u16) -> bool
-    ensures { result ≡ is_taken_by identity.now destination frame_id }
-{
-    let is_own = is_own(identity, destination);
-    match frame_id {
-        // A Get or Set of all stations at once would give each the same name or address.
-        DCP_GET_SET => is_own,
-        DCP_IDENTIFY_REQUEST => is_own || destination.is(&IDENTIFY_MULTICAST),
-        _ => false,
-    }
 }

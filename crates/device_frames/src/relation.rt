@@ -6,10 +6,10 @@ ghost use Rattle.device_frames.specs.Sent.{Ends, bytes_of, farewell_frame};
 ghost use Rattle.device_frames.specs.Relation.{ready_calls};
 ghost use Rattle.frame_codec.specs.Outbox.{boxed};
 
-use crate::sizes::can_be_sent;
+use crate::sizes::{can_be_sent, can_be_sent_in};
 use arrayvec::ArrayVec;
-use frame_codec::{Endpoint, Layered, Outbox, Payload, RPC_PORT, Udp};
-use pn_alarms::write_pdu;
+use frame_codec::{Endpoint, Layered, Outbox, Payload, Pieces, RPC_PORT, Udp};
+use pn_alarms::pdu_front;
 use pn_values::Identity;
 use relations::{Farewell, Relation};
 use rpc_core::{Call, Datagram, write_request};
@@ -25,19 +25,16 @@ pub fn send_farewell(identity: &Identity, farewell: &Farewell, outbox: &mut Outb
     ensures len { array_vec_len outbox.new ≡ array_vec_len outbox.old + 1 }
 {
     let pdu = farewell.pdu();
-    let mut body: ArrayVec<u8, 16> = ArrayVec::new();
-    write_pdu(&mut body, &pdu);
-    let layered = Layered {
+    let pieces = Pieces {
         destination: farewell.initiator,
         source: identity.mac,
         tag: Some(farewell.tag),
-        payload: Payload::RealTime {
-            frame_id: pdu.header.kind.frame_id(),
-            body: body.as_slice(),
-        },
+        frame_id: pdu.header.kind.frame_id(),
+        front: &pdu_front(&pdu),
+        behind: pdu.body,
     };
-    can_be_sent(&layered);
-    outbox.put(&layered);
+    can_be_sent_in(&pieces);
+    outbox.put_pieces(&pieces);
 }
 
 /// Puts ApplicationReady of the relation, if there is one, into the box, behind what is in it.

@@ -1,14 +1,12 @@
 //! Alarms.
 ghost use Rattle.std.specs.Prelude.{◌≡◌, ◌+◌, ◌≤◌, ◌++◌, IfSome, is_some, length, unwrap_or};
-ghost use Rattle.arrayvec.specs.ArrayVec.{array_vec_len};
 ghost use Rattle.pn_alarms.specs.Device.{heard_as};
 ghost use Rattle.exchanges.specs.Frames.{alarm_frame, body_in, body_of, reply_frame};
 ghost use Rattle.exchanges.specs.Notices.{behind_message, header_of, raised_at};
 
 use crate::DataExchange;
-use arrayvec::ArrayVec;
-use module_diff::{module_ident, submodule_ident};
-use pn_alarms::{Alarm, Header, Message, Pdu, PduFate, PduType, Taken, alarm_front, write_pdu};
+use module_diff::{module_in, part_ident};
+use pn_alarms::{Alarm, Header, Message, Pdu, PduFate, PduType, Taken, alarm_front, pdu_front};
 use pn_values::Real;
 
 /// The endpoint of the device: the LocalAlarmReference that it answers in AlarmCRBlockRes.
@@ -21,10 +19,10 @@ impl DataExchange {
         ensures done { result ≡ is_some (raised_at self.old real.now.modules.items slot subslot octets.now) }
         ensures state { self.new ≡ unwrap_or (raised_at self.old real.now.modules.items slot subslot octets.now) self.old }
     {
-        let Some(module_ident_number) = module_ident(real, slot) else {
+        let Some(module) = module_in(real, slot) else {
             return false;
         };
-        let Some(submodule_ident_number) = submodule_ident(real, slot, subslot) else {
+        let Some(submodule_ident_number) = part_ident(module, subslot) else {
             return false;
         };
         if !self.cyclic.has_begun() || octets.len() > 32 {
@@ -33,7 +31,7 @@ impl DataExchange {
         let alarm = Alarm {
             slot_number: slot,
             subslot_number: subslot,
-            module_ident_number,
+            module_ident_number: module.ident,
             submodule_ident_number,
             alarm_data: octets,
         };
@@ -74,15 +72,16 @@ impl DataExchange {
         Some((front, alarm.alarm_data.octets()))
     }
 
-    /// Appends what follows the FrameID of the answer to data that was taken so, 12 octets. There must be room.
-    pub fn put_reply<const N: usize>(&self, taken: Taken, out: &mut ArrayVec<u8, N>)
-        requires { array_vec_len out.old + 12 ≤ N }
-        ensures { out.new.items ≡ out.old.items ++ body_of (reply_frame self.now taken) }
+    /// What follows the FrameID of the answer to data that was taken so.
+    #[inline(always)]
+    pub fn reply(&self, taken: Taken) -> [u8; 12]
+        ensures exact { result ≡ body_of (reply_frame self.now taken) }
+        ensures len { length result ≡ 12 }
     {
         let pdu = Pdu {
             header: self.header(taken.answer()),
             body: &[],
         };
-        write_pdu(out, &pdu);
+        pdu_front(&pdu)
     }
 }

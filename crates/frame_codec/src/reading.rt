@@ -1,7 +1,4 @@
 //! From octets to layers.
-//!
-//! `inline(always)` stands where instructions were counted (`bench/figures/exchange.py`): what each frame of an exchange takes is one
-//! piece, and what is rare, `inline(never)`, stands outside of it.
 ghost use Rattle.std.specs.Prelude.{◌≡◌, ◌≤◌, ◌++◌, List, ℕ, length, Err, IfErr, IfNone, IfOk, IfSome, Ok};
 ghost use Rattle.wire.specs.Codec.{Gives};
 ghost use Rattle.frame_codec.specs.Meaning.{ArpPacket, IsNoRealTime, Meaning, RealTime, UdpDatagram, content_of, meaning_as, meaning_of};

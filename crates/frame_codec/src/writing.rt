@@ -1,7 +1,4 @@
 //! From layers to octets.
-//!
-//! `inline(always)` stands where instructions were counted (`bench/figures/exchange.py`): what each frame of an exchange takes is one
-//! piece, and what is rare, `inline(never)`, stands outside of it.
 ghost use Rattle.std.specs.Prelude.{◌≡◌, ◌+◌, ◌-◌, ◌≢◌, ◌≤◌, List, ℕ, [], ◌++◌, length, replicate, Ok};
 ghost use Rattle.arrayvec.specs.ArrayVec.{array_vec_len};
 ghost use Rattle.frame_codec.specs.Meaning.{UdpDatagram, content_of, meaning_in, meaning_of};

@@ -9,5 +9,5 @@ mod rows;
 
 pub use differing::diff;
 pub use expected::Expected;
-pub use plugged::{module_ident, submodule_ident};
+pub use plugged::{module_in, part_ident};
 pub use rows::DiffRows;

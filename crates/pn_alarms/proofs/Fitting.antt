@@ -1,5 +1,5 @@
 -- What fits the format of PDUs is read as it was written.
-use Rattle.std.proofs.Common.{◌≡◌, ◌<◌, ◌^◌, ◌+◌, ℕ, true, List, [], ◌++◌, length, Ok, refl, ap, ◌∙◌, arith}
+use Rattle.std.proofs.Common.{◌≡◌, ◌<◌, ◌+◌, ℕ, true, List, [], ◌++◌, length, Ok, refl, ap, ◌∙◌, arith}
 use Rattle.std.proofs.lemmas.List.{length-append}
 use Rattle.wire.specs.Formats.{big_bytes}
 use Rattle.pn_alarms.specs.declared.pdu.Header.{Header}

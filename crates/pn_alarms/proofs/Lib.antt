@@ -1,3 +1,4 @@
 pub mod Sound
 pub mod Carried
 pub mod Fitting
+pub mod Short

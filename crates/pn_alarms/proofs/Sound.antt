@@ -1,5 +1,5 @@
 -- The format of PDUs is sound.
-use Rattle.std.proofs.Common.{◌≡◌, ℕ, ◌<◌, ◌^◌, true, List, [], ◌++◌, length, Some, Ok, append_assoc, refl, ap, ◌∙◌}
+use Rattle.std.proofs.Common.{◌≡◌, ℕ, ◌<◌, ◌^◌, true, List, [], ◌++◌, length, Some, Ok, refl, ap, ◌∙◌}
 use Rattle.std.proofs.lemmas.List.{append-nil}
 use Rattle.wire.specs.Codec.{Codec, IsSound, IsOnward}
 use Rattle.wire.specs.Formats.{big_bytes, number, ◌⨾◌}
@@ -75,12 +75,6 @@ unfolding IsPdu
 pdu_behind bytes more meaning s = loose_behind pdu bytes meaning more pdu_onward s
 
 -- ---- writing
-
--- one behind the other
-pub joined : (old a new header lengths inside : List ℕ) → a ≡ old ++ (header ++ lengths) → new ≡ a ++ inside → new ≡ old ++ (header ++ (lengths ++ inside))
-joined old a new header lengths inside x y =
-    y ∙ ap (λ (xs : List ℕ). xs ++ inside) x
-    ∙ append_assoc old (header ++ lengths) inside ∙ ap (λ (xs : List ℕ). old ++ xs) (append_assoc header lengths inside)
 
 -- the header, VarPartLen, and the octets
 pub pdu_parts : (meaning : Said) → pdu_bytes meaning ≡ header.write meaning.header [] ++ (big_bytes 2 (length meaning.body) ++ meaning.body)

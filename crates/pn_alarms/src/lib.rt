@@ -27,4 +27,4 @@ pub use reading::{read_ack, read_notification, read_pdu};
 pub use receiver::{Receiver, Taken};
 pub use repeats::{Due, Repeats};
 pub use sender::{Alarm, RaiseFault, Reply, Sender};
-pub use writing::{alarm_front, write_alarm, write_pdu};
+pub use writing::{alarm_front, pdu_front};

@@ -1,5 +1,5 @@
 //! From octets to PDUs and to the blocks that they carry.
-ghost use Rattle.std.specs.Prelude.{◌≡◌, ◌++◌, List, ℕ, IfOk, Ok};
+ghost use Rattle.std.specs.Prelude.{◌≡◌, ◌<◌, ◌++◌, List, ℕ, IfOk, Ok, Err, length};
 ghost use Rattle.wire.specs.Codec.{Gives};
 ghost use Rattle.block_codec.specs.Block.{in_alarm_ack, in_alarm_notification};
 ghost use Rattle.record_blocks.specs.declared.alarm_ack.AlarmAck.{AlarmAck as Ack};
@@ -10,6 +10,9 @@ ghost use Rattle.pn_alarms.specs.Carried.{IsAck, ack_of, IsNotification, notific
 use crate::{AlarmFault, Header, Pdu, PduType};
 use block_codec::{AlarmAck, AlarmNotification, Block, BlockFault, read_alarm_ack, read_block};
 use wire::{split, u8_at, u16_at};
+
+/// How many octets stand in front of what a PDU carries.
+const FRONT: usize = 12;
 
 /// PDUType, and what is behind it.
 #[tactic(auto, unfolding(crate::specs::Format::kind))]
@@ -25,6 +28,7 @@ fn kind_at(bytes: &[u8]) -> Result<(PduType, &[u8]), AlarmFault>
 
 /// From AlarmDstEndpoint to AckSeqNum, and what is behind them. AddFlags is not looked at.
 #[tactic(auto, unfolding(crate::specs::Format::header))]
+#[inline(always)]
 fn header_at(bytes: &[u8]) -> Result<(Header, &[u8]), AlarmFault>
     ensures { Gives (λ x. (x.0, x.1.now)) result (header.read bytes.now) }
 {
@@ -47,10 +51,26 @@ fn header_at(bytes: &[u8]) -> Result<(Header, &[u8]), AlarmFault>
     ))
 }
 
+/// The fault of octets that are too few for a PDU: that of its header, or that VarPartLen is not whole.
+#[inline(never)]
+fn short_fault(bytes: &[u8]) -> AlarmFault
+    requires { length bytes.now < 12 }
+    ensures { pdu_of bytes.now ≡ Err result }
+{
+    match header_at(bytes) {
+        Ok(_) => AlarmFault::Short,
+        Err(fault) => fault,
+    }
+}
+
 #[tactic(auto, unfolding(crate::specs::Format::pdu_of, crate::specs::Format::pdu))]
 fn pdu_in(bytes: &[u8]) -> Result<Pdu<'_>, AlarmFault>
     ensures { Gives said result (pdu_of bytes.now) }
 {
+    // Judged once: no field in front of the body is missing behind this.
+    if bytes.len() < FRONT {
+        return Err(short_fault(bytes));
+    }
     let (header, rest) = header_at(bytes)?;
     let (size, rest) = u16_at(rest, AlarmFault::Short)?;
     let (body, _behind) = split(rest, size as usize, AlarmFault::Short)?;

@@ -1,8 +1,8 @@
 //! Who sends alarms.
-ghost use Rattle.std.specs.Prelude.{◌≡◌, ◌<◌, ◌≤◌, length, is_ok, is_none, IfSome, OnOk, OnErr};
+ghost use Rattle.std.specs.Prelude.{◌≡◌, ◌<◌, ◌≤◌, [], length, is_ok, is_none, IfSome, OnOk, OnErr};
 ghost use Rattle.pn_alarms.specs.Numbers.{send_number};
 ghost use Rattle.pn_alarms.specs.Sending.{due};
-ghost use Rattle.pn_alarms.specs.Sender.{notified, quiet, raised, is_of, ended_by, counts, answered, later};
+ghost use Rattle.pn_alarms.specs.Sender.{notice_of, quiet, raised, is_of, ended_by, counts, answered, later};
 ghost use Rattle.pn_alarms.specs.Standing.{kept_as};
 
 use crate::repeats::{Due, Repeats};
@@ -65,20 +65,18 @@ struct Standing {
 }
 
 impl Standing {
-    /// An alarm, with its AlarmSpecifier.
+    /// An alarm, with its AlarmSpecifier, without its data.
     fn new(alarm: &Alarm, alarm_specifier: u16) -> Standing
-        requires { length alarm.now.alarm_data.now ≤ 32 }
-        ensures { kept_as result ≡ notified alarm_specifier alarm.now }
+        ensures { kept_as result ≡ notice_of alarm_specifier alarm.now.slot_number alarm.now.subslot_number alarm.now.module_ident_number
+            alarm.now.submodule_ident_number [] }
     {
-        let mut alarm_data = ArrayVec::new();
-        let _ = alarm_data.try_extend_from_slice(alarm.alarm_data);
         Standing {
             slot_number: alarm.slot_number,
             subslot_number: alarm.subslot_number,
             module_ident_number: alarm.module_ident_number,
             submodule_ident_number: alarm.submodule_ident_number,
             alarm_specifier,
-            alarm_data,
+            alarm_data: ArrayVec::new(),
         }
     }
 
@@ -183,7 +181,9 @@ impl Sender {
         if self.standing.is_some() {
             return Err(RaiseFault::Busy);
         }
-        self.standing = Some(Standing::new(alarm, self.specifier));
+        // The data is written where it stays.
+        let standing = self.standing.insert(Standing::new(alarm, self.specifier));
+        let _ = standing.alarm_data.try_extend_from_slice(alarm.alarm_data);
         self.specifier = (self.specifier + 1) % 2048;
         self.repeats.send();
         Ok(())

@@ -1,6 +1,5 @@
 //! From PDUs to octets.
 ghost use Rattle.std.specs.Prelude.{◌≡◌, ◌+◌, ◌≤◌, ◌<◌, ◌++◌, [], List, ℕ, length, true, Ok};
-ghost use Rattle.arrayvec.specs.ArrayVec.{array_vec_len};
 ghost use Rattle.wire.specs.Formats.{big_bytes};
 ghost use Rattle.block_codec.specs.declared.block.Block.TheVariants.{AlarmNotification as notification};
 ghost use Rattle.block_codec.specs.Block.{block_bytes};
@@ -9,9 +8,8 @@ ghost use Rattle.pn_alarms.specs.Carried.{notification_of, alarm_pdu};
 ghost use Rattle.pn_alarms.specs.Format.{said, is_long, header, IsPdu, pdu_of, pdu_bytes};
 
 use crate::{Header, Pdu};
-use arrayvec::ArrayVec;
 use block_codec::{AlarmNotification, notification_front};
-use wire::{append, join};
+use wire::join;
 
 /// The octets from AlarmDstEndpoint to VarPartLen, which counts so many: in one array, as two that are joined would be copied.
 #[tactic(auto, unfolding(crate::specs::Format::header, crate::specs::Format::kind))]
@@ -43,24 +41,22 @@ fn header_octets(value: &Header, size: u16) -> [u8; 12]
     ]
 }
 
-/// Appends a PDU, which follows the FrameID of a frame. There must be room.
-pub fn write_pdu<const N: usize>(out: &mut ArrayVec<u8, N>, pdu: &Pdu)
-    requires room { array_vec_len out.old + 12 + length pdu.now.body.now ≤ N }
+/// A PDU, which follows the FrameID of a frame, up to what it carries, which is to follow.
+#[inline(always)]
+pub fn pdu_front(pdu: &Pdu) -> [u8; 12]
     // VarPartLen can count the octets.
     requires few { length pdu.now.body.now < 65536 }
     // An ERR says why.
     requires long { is_long pdu.now.header.kind (length pdu.now.body.now) ≡ true }
-    // The octets, each of them.
-    ensures exact { out.new.items ≡ out.old.items ++ pdu_bytes (said pdu.now) }
-    // How many they are.
-    ensures len { array_vec_len out.new ≡ array_vec_len out.old + 12 + length pdu.now.body.now }
+    // With what it carries behind them they are all octets.
+    ensures exact { result ++ pdu.now.body.now ≡ pdu_bytes (said pdu.now) }
+    ensures len { length result ≡ 12 }
     // They spell what was given.
     ensures spelled { IsPdu (pdu_bytes (said pdu.now)) (said pdu.now) }
     // With anything behind it, it is read as that.
     ensures behind { (more : List ℕ) → pdu_of (pdu_bytes (said pdu.now) ++ more) ≡ Ok (said pdu.now) }
 {
-    append(out, &header_octets(&pdu.header, pdu.body.len() as u16));
-    append(out, pdu.body);
+    header_octets(&pdu.header, pdu.body.len() as u16)
 }
 
 /// Data that carries an alarm, which follows the FrameID of a frame, up to the alarm's own data, which are to follow.
@@ -77,24 +73,4 @@ pub fn alarm_front(header: &Header, alarm: &AlarmNotification) -> [u8; 40]
 {
     let size = 28 + alarm.alarm_data.octets().len() as u16;
     join(&header_octets(header, size), &notification_front(alarm))
-}
-
-/// Appends data that carries an alarm, which follows the FrameID of a frame: at most 72 octets. There must be room.
-pub fn write_alarm<const N: usize>(
-    out: &mut ArrayVec<u8, N>,
-    header: &Header,
-    alarm: AlarmNotification,
-)
-    requires room { array_vec_len out.old + 72 ≤ N }
-    requires kind { header.now.kind ≡ Data }
-    requires few { length alarm.alarm_data ≤ 32 }
-    // The octets, each of them.
-    ensures exact { out.new.items ≡ out.old.items ++ pdu_bytes (alarm_pdu header.now alarm.entry) }
-    // With anything behind it, it is read as that, and what it carries as the alarm.
-    ensures behind { (more : List ℕ) → pdu_of (pdu_bytes (alarm_pdu header.now alarm.entry) ++ more)
-        ≡ Ok (alarm_pdu header.now alarm.entry) }
-    ensures carried { notification_of (alarm_pdu header.now alarm.entry).body ≡ Ok alarm.entry }
-{
-    append(out, &alarm_front(header, &alarm));
-    append(out, alarm.alarm_data.octets());
 }

@@ -88,6 +88,7 @@ impl<F: Flash<S>, const S: usize> Model for Journal<F, S> {
 
 impl<F: Flash<S>, const S: usize> Journal<F, S> {
     /// Reads what the flash keeps, and writes nothing. A refusal hands the flash back.
+    #[tactic(auto, unfolding(crate::specs::Image::capacity))]
     pub fn boot(flash: F) -> Result<Journal<F, S>, (BootFault, F)>
         // What is read there, or what a station leaves the factory with.
         ensures starts { IfOk result (λ journal. StartsWith (F.image flash) journal.settings journal.room) }
@@ -120,11 +121,20 @@ impl<F: Flash<S>, const S: usize> Journal<F, S> {
             MatchResult result (λ journal. F.is_reliable journal.flash) (λ refused. F.is_reliable refused.1
             × (refused.0 ≡ BootFault.Foreign)) }
     {
-        let mut journal = Journal::unstarted(flash);
-        match journal.load() {
-            Ok(()) => Ok(journal),
-            Err(fault) => Err((fault, journal.into_flash())),
-        }
+        // Made behind the reading: its large settings are moved once, and filled by nothing before.
+        let mut flash = flash;
+        let Ok(found) = read_start(&mut flash) else {
+            return Err((BootFault::FlashFault, flash));
+        };
+        let Some(start) = found else {
+            return Err((BootFault::Foreign, flash));
+        };
+        Ok(Journal {
+            flash,
+            settings: start.settings,
+            position: start.position,
+            has_failed: false,
+        })
     }
 
     /// A journal that did not start: it stores nothing, and has read nothing yet.

@@ -8,7 +8,7 @@ use arrayvec::ArrayVec;
 use block_codec::AlarmAck;
 use pn_alarms::{
     Abort, Alarm, AlarmFault, DeviceAlarms, Due, Message, PduFate, PduType, RaiseFault, Receiver,
-    Taken, read_message, read_notification, read_pdu, write_alarm, write_pdu,
+    Taken, alarm_front, pdu_front, read_message, read_notification, read_pdu,
 };
 use std::alloc::Global;
 
@@ -50,7 +50,9 @@ fn alarmed() -> DeviceAlarms {
 fn sent(alarms: &DeviceAlarms) -> ArrayVec<u8, 72> {
     let mut octets = ArrayVec::new();
     if let Some(alarm) = alarms.standing() {
-        write_alarm(&mut octets, &alarms.header(PduType::Data, 1, 1), alarm);
+        let front = alarm_front(&alarms.header(PduType::Data, 1, 1), &alarm);
+        let _ = octets.try_extend_from_slice(&front);
+        let _ = octets.try_extend_from_slice(alarm.alarm_data.octets());
     }
     octets
 }
@@ -174,19 +176,13 @@ fn acknowledged(rt: HostRuntime) {
     let mut alarms = alarmed();
     same(&rt, &hear(&mut alarms, Message::Nack), &PduFate::Ignored);
     same(&rt, &hear(&mut alarms, Message::Ack(0)), &PduFate::Ignored);
-    same(
-        &rt,
-        &hear(&mut alarms, Message::Ack(0xFFFF)),
-        &PduFate::Done,
-    );
+    let fate = hear(&mut alarms, Message::Ack(0xFFFF));
+    same(&rt, &fate, &PduFate::Done);
     assert!(rt; !is_due(&mut alarms));
     same(&rt, &hear(&mut alarms, Message::Abort), &PduFate::Aborted);
     let mut idle = DeviceAlarms::new(1, 3);
-    same(
-        &rt,
-        &hear(&mut idle, Message::Ack(0xFFFF)),
-        &PduFate::Ignored,
-    );
+    let fate = hear(&mut idle, Message::Ack(0xFFFF));
+    same(&rt, &fate, &PduFate::Ignored);
 }
 
 /// What becomes of the number that an alarm has.
@@ -257,7 +253,9 @@ fn each_length(rt: HostRuntime) {
 /// The ERR of a relation that is ended for this reason.
 fn ended(reason: Abort) -> ArrayVec<u8, 16> {
     let mut octets = ArrayVec::new();
-    write_pdu(&mut octets, &reason.pdu(2, 1, 0xFFFF, 0xFFFE));
+    let pdu = reason.pdu(2, 1, 0xFFFF, 0xFFFE);
+    let _ = octets.try_extend_from_slice(&pdu_front(&pdu));
+    let _ = octets.try_extend_from_slice(pdu.body);
     octets
 }
 

@@ -22,8 +22,8 @@ returns-in-Keeps-clause-steps g c = λ heard is.
     let call = asked c.args.serving.now.call.now in
     let made : write_of (uuid_of old.live.rest.link) old.station.real c.args.serving.now.blocks.now ≡ Ok c.in-Ok.field-0 =
     rw (← c.self.view_is) (rw (← c.uuid.ensures) (sym c.judge_write.ensures ∙ c.in-Ok.is)) in
-    quiet_steps g.F.Flash old _ heard (judged_effect old.station old.live c.args.serving.now.caller.now call c.in-Ok.field-0.request (Keeps c.in-Keeps.parameter)) _ _ c.requires.stored
-    (is ∙ effect_as old.station old.live c.args.serving.now.caller.now call _ c.in-Ok.field-0 (Keeps c.in-Keeps.parameter) made c.in-Keeps.is)
+    quiet_steps g.F.Flash old _ heard (judged_effect old.station old.live c.args.serving.now.caller.now call c.in-Ok.field-0.request (Keeps c.in-Keeps.taken)) _ _ c.requires.stored
+    (is ∙ effect_as old.station old.live c.args.serving.now.caller.now call _ c.in-Ok.field-0 (Keeps c.in-Keeps.taken) made c.in-Keeps.is)
     refl c.keep_parameter.ensures.state c.keep_parameter.ensures.frames c.keep_parameter.ensures.note c.keep_parameter.ensures.sendable
 
 pub returns-in-Err-clause-steps : goal.returns-in-Err-clause-steps

@@ -1,9 +1,9 @@
--- The layout, or its first fault.
+-- The layout in its place, or its first fault.
 use Rattle.std.proofs.Common.{sym, ◌∙◌, ap, Ok, Err}
 use Rattle.cyclic_data.specs.Layout.{Table}
 use Rattle.pnio_status.specs.declared.call_fault.CallFault.{CallFault}
 use Rattle.connect_requests.proofs.Judged.{layout_faulty, layout_good}
-use Rattle.connect_requests.proofs.layouts.layout_of.Goals as goal
+use Rattle.connect_requests.proofs.layouts.fill_layout.Goals as goal
 
 pub returns-in-Ok : goal.returns-in-Ok
 returns-in-Ok c = layout_good _ _ _ _ c.in-Ok.ensures.valid ∙ ap (λ (table : Table). Ok table) (sym c.in-Ok.ensures.value)
