@@ -14,9 +14,9 @@ use Rattle.plans.specs.Plan.{do_frames_fit, plan_of}
 use Rattle.plans.specs.declared.parts.Parts.{Parts}
 use Rattle.plans.specs.declared.plan.TooLong.TheVariants.{Frame, Connect}
 use Rattle.plans.specs.Parts.{AreOrdered, AreParts, IsRising, slots_of, subslots_of}
-use Rattle.port_operations.specs.declared.station.Module.{Module}
-use Rattle.port_operations.specs.declared.station.Submodule.{Submodule}
-use Rattle.port_operations.specs.Stations.{IsSmall, IsSmallModule, is_module, is_submodule, module_of, submodule_of, submodules_in}
+use Rattle.host_values.specs.declared.plugged.Module.{Module}
+use Rattle.host_values.specs.declared.plugged.Submodule.{Submodule}
+use Rattle.host_values.specs.Modules.{is_module, module_of, submodule_of, submodules_in}
 use Rattle.controller_operations.specs.declared.plan.WrittenPlan.{WrittenPlan}
 use Rattle.controller_operations.specs.declared.plan.WrittenRecord.{WrittenRecord}
 use Rattle.controller_operations.specs.Plans.{IsShort, IsWritten, are_addresses, are_ordered, are_plugged, are_records, are_times, is_name, is_ordered, is_record}
@@ -56,19 +56,6 @@ all_ordered (entry ∷ modules) are =
     let up = and_parts (nat_le entry.submodule_count 4) (is_rising 0 subslots) own.1 in
     let rest = all_ordered modules parts.1 in
     ((leb-true entry.slot 15 own.0, rest.0), (subst IsRising (sym (subslots_same (submodules_in entry))) (rising_from 0 subslots up.1).1, rest.1))
-
-all_small : (submodules : List Submodule) → list_all is_submodule submodules ≡ true → AllByRecursion IsSmall submodules
-all_small [] are = tt
-all_small (one ∷ others) are =
-    let parts = and_parts (is_submodule one) (list_all is_submodule others) are in
-    (leb-true one.parameter_count 2 parts.0, all_small others parts.1)
-
-all_modules_small : (modules : List Module) → list_all is_module modules ≡ true → AllByRecursion IsSmallModule modules
-all_modules_small [] are = tt
-all_modules_small (one ∷ others) are =
-    let parts = and_parts (is_module one) (list_all is_module others) are in
-    let own = and_parts (nat_le one.submodule_count 4) (list_all is_submodule (submodules_in one)) parts.0 in
-    ((leb-true one.submodule_count 4 own.0, all_small (submodules_in one) own.1), all_modules_small others parts.1)
 
 all_short : (records : List WrittenRecord) → list_all is_record records ≡ true → AllByRecursion IsShort records
 all_short [] are = tt
@@ -138,7 +125,7 @@ timed_in written are =
 
 record ArePlugged (modules : List Module) : Type 0 where
   some : 1 ≤ length (map module_of modules)
-  small : AllByRecursion IsSmallModule modules
+  small : list_all is_module modules ≡ true
   ordered : AreOrdered (map module_of modules)
 
 plugged_in : (modules : List Module) → are_ordered modules ≡ true → ArePlugged modules
@@ -150,7 +137,7 @@ plugged_in modules are =
     let each = all_ordered modules third.1 in
     record {
       some = subst (λ n. 1 ≤ n) (sym (length-map modules module_of)) (leb-true 1 (length modules) first.0);
-      small = all_modules_small modules second.0;
+      small = second.0;
       ordered = record { slots = subst IsRising (sym (slots_same modules)) (rising_from 0 slots third.0).1; few = each.0; subslots = each.1 };
     }
 

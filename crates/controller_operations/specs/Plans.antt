@@ -7,8 +7,8 @@ use Rattle.station_names.specs.Valid.{is_station_name}
 use Rattle.plans.specs.Plan.{plan_of}
 use Rattle.plans.specs.declared.parts.Parts.{Parts}
 use Rattle.plans.specs.declared.parts.PlanRecord.{PlanRecord}
-use Rattle.port_operations.specs.declared.station.Module.{Module}
-use Rattle.port_operations.specs.Stations.{IsSmallModule, is_module, module_of, submodules_in}
+use Rattle.host_values.specs.declared.plugged.Module.{Module}
+use Rattle.host_values.specs.Modules.{is_module, module_of, submodules_in}
 use Rattle.controller_operations.specs.declared.plan.WrittenPlan.{WrittenPlan}
 use Rattle.controller_operations.specs.declared.plan.WrittenRecord.{WrittenRecord}
 
@@ -103,7 +103,7 @@ pub record IsWritten (written : WrittenPlan) : Type 0 where
   pub controlled : is_station_name (controller_name_in written) ≡ true
   pub addressed : is_suite (suite_in written) ≡ true
   pub few_modules : written.module_count ≤ 16
-  pub small_modules : AllByRecursion IsSmallModule (modules_in written)
+  pub small_modules : list_all is_module (modules_in written) ≡ true
   pub few_records : written.record_count ≤ 32
   pub short_records : AllByRecursion IsShort (records_in written)
 

@@ -7,8 +7,8 @@ use Rattle.controller_core.specs.declared.event.Event.{Event}
 use Rattle.controller_core.specs.declared.event.Event.TheVariants as event
 use Rattle.controller_core.specs.declared.state.State as phase
 use Rattle.controller_core.specs.declared.state.State.TheVariants.{Looking, Addressing, Connecting, Writing, Ending, Waiting, Exchanging, Ended}
-use Rattle.port_operations.specs.declared.op.Op.{Op}
-use Rattle.port_operations.specs.Serves.{place_in}
+use Rattle.host_values.specs.declared.op.Op.{Op}
+use Rattle.host_values.specs.Places.{place_in}
 use Rattle.controller_operations.specs.declared.operation.Operation.{Operation}
 use Rattle.controller_operations.specs.declared.operation.Operation.TheVariants as operation
 use Rattle.controller_operations.specs.State.{State, advanced, after, has_frames}

@@ -7,7 +7,7 @@ ghost use Rattle.station_names.specs.Valid.{is_station_name};
 ghost use Rattle.wire.specs.Codec.{Gives};
 ghost use Rattle.plans.specs.Plan.{plan_of};
 ghost use Rattle.controller_core.specs.Machine.{fresh};
-ghost use Rattle.port_operations.specs.Stations.{IsSmallModule, module_of};
+ghost use Rattle.host_values.specs.Modules.{is_module, module_of};
 ghost use Rattle.controller_operations.specs.State.{opened};
 ghost use Rattle.controller_operations.specs.Plans.{IsShort, IsWritten, are_addresses as is_addressed, are_ordered as is_in_order};
 ghost use Rattle.controller_operations.specs.Plans.{are_plugged as is_plugged, are_records as is_recorded, are_times as is_timed};
@@ -17,9 +17,9 @@ ghost use Rattle.controller_operations.specs.Plans.{controller_name_in, parts_of
 
 use crate::port::Port;
 use arrayvec::ArrayVec;
+use host_values::{Module, Submodule, are_modules, modules};
 use plans::{Controller, Parts, Plan, PlanRecord, Station, Times, TooLong};
 use pn_values::{IpSuite, Mac, Real, StationName};
-use port_operations::{Module, Submodule, are_modules, modules};
 use station_names::check;
 use uuid::Uuid;
 
@@ -331,7 +331,7 @@ fn times_of(written: &WrittenPlan) -> Times
 #[inline(never)]
 fn real_in(written: &WrittenPlan) -> Real
     requires few { written.now.module_count ≤ 16 }
-    requires small { AllByRecursion IsSmallModule (modules_in written.now) }
+    requires small { list_all is_module (modules_in written.now) ≡ true }
     ensures { result ≡ record { modules = record { items = map module_of (modules_in written.now) } } }
 {
     Real {

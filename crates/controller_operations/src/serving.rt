@@ -2,7 +2,7 @@
 ghost use Rattle.std.specs.Prelude.{◌≡◌, ◌≤◌, Some, length, take};
 ghost use Rattle.cyclic_exchange.specs.Process.{value_at};
 ghost use Rattle.controller_core.specs.declared.event.Event.TheVariants.{Frame as Framed};
-ghost use Rattle.port_operations.specs.Serves.{place_in};
+ghost use Rattle.host_values.specs.Places.{place_in};
 ghost use Rattle.controller_operations.specs.State.{has_frames};
 ghost use Rattle.controller_operations.specs.Serves.{IsAlarm, IsEvent, IsGift, IsHandOut, IsHanded, IsInput, IsState, IsTick, IsValue};
 ghost use Rattle.controller_operations.specs.Serves.{Serves, cause_number, operation_of as operation_in, phase_number, why_no_place};
@@ -12,7 +12,7 @@ use crate::port::Port;
 use block_codec::AlarmNotification;
 use controller_core::{Event, State};
 use frame_codec::Bytes;
-use port_operations::{Op, place_of, put};
+use host_values::{Op, place_of, put};
 
 /// What an operation is answered with that is none.
 const UNKNOWN: u32 = 10;

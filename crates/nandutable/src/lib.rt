@@ -15,7 +15,8 @@ ghost use Rattle.port_operations.specs.Serves.{Serves, operation_of};
 ghost use Rattle.port_operations.specs.Stations.{is_station};
 
 use device_port::Port;
-use port_operations::{Op, Station, judge, port_of, serve};
+use host_values::Op;
+use port_operations::{Station, judge, port_of, serve};
 
 /// Why no device can be made of this station in a room of so many octets, or 0.
 #[unsafe(no_mangle)]

@@ -15,7 +15,7 @@ ghost use Rattle.controller_operations.specs.Plans.{is_plan, parts_of, why_not_m
 ghost use Rattle.controller_operations.specs.Serves.{Serves, operation_of};
 
 use controller_operations::{Port, WrittenPlan, judge, port_of, serve};
-use port_operations::Op;
+use host_values::Op;
 
 /// Why no controller can be made of this plan and this number of its relation in a room of so many octets, or 0.
 #[unsafe(no_mangle)]

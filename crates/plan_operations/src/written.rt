@@ -1,14 +1,14 @@
 //! A plan as it lies in the memory of the host.
 ghost use Rattle.std.specs.Prelude.{◌≡◌, ◌≤◌, ◌<◌, length, map, take};
 ghost use Rattle.plans.specs.Plan.{AreShort};
-ghost use Rattle.port_operations.specs.Stations.{module_of, parameter_of, submodule_of};
+ghost use Rattle.host_values.specs.Modules.{module_of, parameter_of, submodule_of};
 ghost use Rattle.controller_operations.specs.Plans.{parts_of, record_of};
 ghost use Rattle.plan_operations.specs.Readings.{IsNothing};
 
 use controller_operations::{WrittenPlan, WrittenRecord};
+use host_values::{Module, Parameter, Submodule};
 use plans::{Plan, PlanRecord};
 use pn_values::{ParameterRecord, RealModule, RealSubmodule};
-use port_operations::{Module, Parameter, Submodule};
 
 /// Makes it a plan of nothing.
 pub fn clear(written: &mut WrittenPlan)

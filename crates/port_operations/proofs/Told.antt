@@ -5,7 +5,7 @@ use Rattle.device_port.specs.Refusals.{refusal_number}
 use Rattle.device_port.specs.declared.port.Work.{Work}
 use Rattle.device_port.specs.declared.port.Work.TheVariants.{Nothing, Carry, Send}
 use Rattle.device_port.specs.declared.refusal.Refusal.{Refusal}
-use Rattle.port_operations.specs.declared.op.Op.{Op}
+use Rattle.host_values.specs.declared.op.Op.{Op}
 use Rattle.port_operations.specs.Serves.{IsHanded, IsPiece, IsValue, IsValueOf}
 
 -- the piece that is next, as it is told, is what is handed out

@@ -1,5 +1,5 @@
 -- What an operation of a host comes to.
-use Rattle.std.specs.Prelude.{◌≡◌, ◌==◌, ◌&&◌, ◌++◌, ℕ, nat_lt, if◌then◌else◌, List, [], ◌∷◌, take, slice_get, Option, Some, None, Result, Ok, Err, MatchResult}
+use Rattle.std.specs.Prelude.{◌≡◌, ◌==◌, ◌++◌, ℕ, if◌then◌else◌, List, [], ◌∷◌, take, slice_get, Option, Some, None, Result, Ok, Err, MatchResult}
 use Rattle.flash_model.specs.Calls.{Call, Programs, Erases, Arms}
 use Rattle.flash_model.specs.declared.flash.Sector.{Sector}
 use Rattle.flash_model.specs.declared.flash.Sector.TheVariants.{First, Second}
@@ -15,13 +15,14 @@ use Rattle.device_frames.specs.declared.event.Event.TheVariants.{Frame, Input, A
 use Rattle.device_frames.specs.declared.note.Note.{Note}
 use Rattle.device_frames.specs.Notes.{note_number}
 use Rattle.recorded_flash.specs.Entry.{call_of}
+use Rattle.host_values.specs.Places.{place_in}
+use Rattle.host_values.specs.declared.op.Op.{Op}
 use Rattle.device_port.specs.declared.port.Work.{Work}
 use Rattle.device_port.specs.declared.port.Work.TheVariants.{Nothing, Carry, Send}
 use Rattle.device_port.specs.declared.refusal.Refusal.{Refusal}
 use Rattle.device_port.specs.Refusals.{refusal_number}
 use Rattle.device_port.specs.State.{State, advanced, closed, lost}
 use Rattle.device_port.specs.Steps.{Answers, KnowsOrNot, PassesOrNot, StartsOrNot}
-use Rattle.port_operations.specs.declared.op.Op.{Op}
 use Rattle.port_operations.specs.declared.operation.Operation.{Operation}
 use Rattle.port_operations.specs.declared.operation.Operation.TheVariants as operation
 
@@ -56,10 +57,6 @@ IsNoted (Err refusal) told = Unit {0}
 -- an event was taken, and what became of it is told, or it was refused and nothing changed
 abbrev pub IsEvent : State → Event → ℕ → State → Op → Type 0
 IsEvent old event answer new told = (result : Result Note Refusal) × Answers old event result new × (answer ≡ answer_of result) × IsNoted result told
-
--- the slot and subslot that are asked for, where they are numbers of 16 bits
-abbrev pub place_in : ℕ → ℕ → Option (ℕ × ℕ)
-place_in slot subslot = if nat_lt slot 65536 && nat_lt subslot 65536 then Some (slot, subslot) else None
 
 -- where they are none, nothing is plugged there
 abbrev pub IsInput : Option (ℕ × ℕ) → State → List ℕ → ℕ → State → Op → Type 0

@@ -4,16 +4,17 @@ ghost use Rattle.device_frames.specs.declared.event.Event.TheVariants.{Frame as 
 ghost use Rattle.recorded_flash.specs.Entry.{call_of};
 ghost use Rattle.relations.specs.Link.{taken_of};
 ghost use Rattle.device_port.specs.State.{closed};
+ghost use Rattle.host_values.specs.Places.{place_in};
 ghost use Rattle.port_operations.specs.Serves.{IsAlarm, IsBoot, IsCall, IsEvent, IsInput, IsLamp, IsLeft, IsLoss, IsNextOf, IsNoted};
 ghost use Rattle.port_operations.specs.Serves.{IsOutput, IsPiece, IsRecordAt, IsRecordOf, IsSector, IsSettings, IsState, IsTick};
-ghost use Rattle.port_operations.specs.Serves.{IsValueOf, Serves, answer_of, operation_of as operation_in, phase_number, place_in};
+ghost use Rattle.port_operations.specs.Serves.{IsValueOf, Serves, answer_of, operation_of as operation_in, phase_number};
 ghost use Rattle.port_operations.specs.Serves.{sector_number as number_of, sector_of, settings_octets, value_of};
 
-use crate::op::Op;
 use crate::operation::{Operation, operation_of};
 use device_core::Note;
 use device_port::{Port, Refusal, Work};
 use flash_model::Sector;
+use host_values::{Op, place_of, put, put_more};
 use pn_values::Settings;
 use record_writes::TakenRecord;
 use recorded_flash::Recorded;
@@ -129,17 +130,6 @@ fn alarm(port: &mut Port, op: &mut Op, given: &[u8]) -> u32
     }
 }
 
-/// The slot and subslot that are asked for, where they are numbers of 16 bits.
-pub fn place_of(op: &Op) -> Option<(u16, u16)>
-    ensures { result ≡ place_in op.now.slot op.now.subslot }
-{
-    if op.slot < 65536 && op.subslot < 65536 {
-        Some((op.slot as u16, op.subslot as u16))
-    } else {
-        None
-    }
-}
-
 // What became of an event, or why it was refused.
 fn noted(outcome: Result<Note, Refusal>, op: &mut Op) -> u32
     ensures answer { result ≡ answer_of outcome }
@@ -249,38 +239,6 @@ fn sector_number(sector: Sector) -> u32
 }
 
 // ---- what is told
-
-/// Octets that an operation is answered with.
-pub fn put(op: &mut Op, octets: &[u8])
-    requires { length octets.now ≤ 1520 }
-    ensures octets { take op.new.length op.new.octets ≡ octets.now }
-    ensures length { op.new.length ≡ length octets.now }
-    ensures same { op.new ≡ record op.old { length = op.new.length; octets = op.new.octets } }
-{
-    op.length = 0;
-    put_more(op, octets);
-}
-
-// Octets behind those that an operation is answered with already.
-fn put_more(op: &mut Op, octets: &[u8])
-    requires { op.old.length + length octets.now ≤ 1520 }
-    ensures octets { take op.new.length op.new.octets ≡ take op.old.length op.old.octets ++ octets.now }
-    ensures length { op.new.length ≡ op.old.length + length octets.now }
-    ensures same { op.new ≡ record op.old { length = op.new.length; octets = op.new.octets } }
-{
-    let start = op.length as usize;
-    let end = start + octets.len();
-    write_at(&mut op.octets, start, octets);
-    op.length = end as u32;
-}
-
-// Writes octets from a place on, and leaves those before it.
-fn write_at(room: &mut [u8], start: usize, octets: &[u8])
-    requires { start + length octets.now ≤ length room.old }
-    ensures { take (start + length octets.now) room.new ≡ take start room.old ++ octets.now }
-{
-    room[..start + octets.len()][start..].copy_from_slice(octets);
-}
 
 fn output(port: &Port, op: &mut Op) -> u32
     ensures { IsOutput (place_in op.old.slot op.old.subslot) port.now result op.new }

@@ -33,7 +33,7 @@ use denote.Triple.Table.{framed}
 use denote.Triple.Walked.{Stays, walk_of, says, stay_dropped, gave_ref, Goes-dropped, Goes-gave_ref, ends_at}
 use Rattle.device_port.specs.State.{State}
 use Rattle.port_operations.specs.Serves.{Serves, operation_of}
-use Rattle.port_operations.specs.contracts.op.Op.{the_row as O}
+use Rattle.host_values.specs.contracts.op.Op.{the_row as O}
 use Rattle.device_port.specs.contracts.port.Port.{the_row as R}
 use Rattle.port_operations.specs.contracts.serve as g
 use Rattle.port_operations.proofs.serve.Met.{met}

@@ -2,7 +2,7 @@
 use super::PUMP;
 use configurator::plan_from_json;
 use controller_operations::{Port, serve};
-use port_operations::Op;
+use host_values::Op;
 use std::alloc::Global;
 use std::process::Abort;
 use std::test::Fail;

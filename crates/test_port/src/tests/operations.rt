@@ -1,7 +1,8 @@
 //! Operations as a host in C asks for them: numbers, answers, and where what is told lies.
 use crate::tests::stations::{booted, busy, lost, made};
 use device_port::Port;
-use port_operations::{Op, serve};
+use host_values::Op;
+use port_operations::serve;
 use std::process::Abort;
 use test_stations::SET;
 

@@ -1,6 +1,6 @@
 -- the places so far are what is given
 use Rattle.std.proofs.Common.{◌≡◌, length, map, take}
-use Rattle.port_operations.specs.Stations.{submodule_of}
+use Rattle.host_values.specs.Modules.{submodule_of}
 use Rattle.plan_operations.proofs.written.put_submodules.Given as goal
 
 abbrev pub invariant-loop-index : goal.invariant-loop-index

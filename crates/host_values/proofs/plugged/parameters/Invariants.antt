@@ -1,7 +1,7 @@
 -- those so far, and those that are left
 use Rattle.std.proofs.Common.{◌≡◌, ◌++◌, drop, length, map}
-use Rattle.port_operations.specs.Stations.{parameter_of}
-use Rattle.port_operations.proofs.station.parameters.Given as goal
+use Rattle.host_values.specs.Modules.{parameter_of}
+use Rattle.host_values.proofs.plugged.parameters.Given as goal
 
 abbrev pub invariant-loop-parameter : goal.invariant-loop-parameter
 invariant-loop-parameter l = record {
