@@ -13,6 +13,9 @@ use words::{Task, task_of};
 /// The status of words that ask for nothing.
 const USAGE: u8 = 64;
 
+/// How many bytes are written at a time.
+const BUFFER: usize = 65_536;
+
 fn main(rt: HostRuntime) -> ExitCode {
     match obey(&rt) {
         Ok(true) => ExitCode::SUCCESS,
@@ -47,7 +50,7 @@ fn obey(rt: &HostRuntime) -> Result<bool, RunFault> {
 /// Does a task. What the lines of a script printed is written whether a later one is refused or not.
 fn work(rt: &HostRuntime, task: Task) -> Result<(), RunFault> {
     let mut reader = rt.reader();
-    let Ok(mut writer) = BufWriter::new(rt.alloc(), io::writer(rt)) else {
+    let Ok(mut writer) = BufWriter::with_capacity(rt.alloc(), BUFFER, io::writer(rt)) else {
         return Err(RunFault::OutOfMemory);
     };
     let done = match task {

@@ -1,7 +1,7 @@
 //! The lines that are printed. Each function appends one of them to a text.
 ghost use Rattle.std.specs.Prelude.{◌≡◌, ◌≤◌, ◌++◌, length, OnOk, decimal, map};
 ghost use Rattle.hex.specs.Hex.{encode_lower};
-ghost use Rattle.script_lines.specs.Text.{boot_line, out_line, moved_line, out_lines, note_line, note_word};
+ghost use Rattle.script_lines.specs.Text.{boot_line, out_line, moved_line, out_lines, note_line};
 
 use crate::digits;
 use device_frames::Note;
@@ -53,27 +53,26 @@ pub fn outs(frames: &[Frame], text: &mut Vec<u8>) -> Result<(), AllocError>
 }
 
 /// What became of an event.
-#[tactic(auto, unfolding(crate::specs::Text::note_line))]
 pub fn note(note: Note, text: &mut Vec<u8>) -> Result<(), AllocError>
     ensures { OnOk result (text.new.items ≡ text.old.items ++ note_line note) }
 {
-    text.extend_from_slice(b"note ")?;
-    text.extend_from_slice(word(note))?;
-    text.extend_from_slice(b"\n")
+    text.extend_from_slice(line_of(note))
 }
 
-fn word(note: Note) -> &'static [u8]
-    ensures { result.now ≡ note_word note }
+/// The whole line of a note: nearly every line of a script prints one.
+#[tactic(auto, unfolding(crate::specs::Text::note_line))]
+fn line_of(note: Note) -> &'static [u8]
+    ensures { result.now ≡ note_line note }
 {
     match note {
-        Note::Done => b"done",
-        Note::NotMine => b"not-mine",
-        Note::Fault => b"fault",
-        Note::Filter => b"filter",
-        Note::OldCall => b"old-call",
-        Note::NoRelation => b"no-relation",
-        Note::StaleCycle => b"stale-cycle",
-        Note::Refused => b"refused",
+        Note::Done => b"note done\n",
+        Note::NotMine => b"note not-mine\n",
+        Note::Fault => b"note fault\n",
+        Note::Filter => b"note filter\n",
+        Note::OldCall => b"note old-call\n",
+        Note::NoRelation => b"note no-relation\n",
+        Note::StaleCycle => b"note stale-cycle\n",
+        Note::Refused => b"note refused\n",
     }
 }
 

@@ -141,11 +141,10 @@ impl<'a> Session<'a> {
             }
             Command::Config(catalogue) => self.config(catalogue, text),
             Command::Start(ar, activity) => if_there(self.start(ar, activity, text)),
-            Command::Give(slot, subslot, bytes) => if_there(self.hear(
-                &output(slot, subslot, bytes),
-                text,
-            )),
-            Command::Stop => if_there(self.hear(&ControllerEvent::Stop, text)),
+            Command::Give(slot, subslot, bytes) => {
+                if_there(self.give_output(slot, subslot, bytes, text))
+            }
+            Command::Stop => if_there(self.stop(text)),
             Command::Deliver => if_there(self.deliver(text)),
         }
     }
@@ -295,6 +294,33 @@ impl<'a> Session<'a> {
         }
         self.other.show(text)?;
         Ok(true)
+    }
+
+    /// Gives the controller's output to a submodule. Says whether there is a controller.
+    #[inline(never)]
+    fn give_output(
+        &mut self,
+        slot: u16,
+        subslot: u16,
+        bytes: &[u8],
+        text: &mut Vec<u8>,
+    ) -> Result<bool, AllocError>
+        ensures obeys { (network : Network) → Are network self.old →
+            IfOk result (Comes (heard_outcome network (heard.Give slot subslot (handed bytes.now)) network.other.controller) self.new
+            text.old.items text.new.items) }
+        ensures same { self.new.power ≡ self.old.power }
+    {
+        self.hear(&output(slot, subslot, bytes), text)
+    }
+
+    /// Has the controller end the relation. Says whether there is a controller.
+    #[inline(never)]
+    fn stop(&mut self, text: &mut Vec<u8>) -> Result<bool, AllocError>
+        ensures obeys { (network : Network) → Are network self.old →
+            IfOk result (Comes (heard_outcome network heard.Stop network.other.controller) self.new text.old.items text.new.items) }
+        ensures same { self.new.power ≡ self.old.power }
+    {
+        self.hear(&ControllerEvent::Stop, text)
     }
 
     /// Has the controller take an event of its application. Says whether there is a controller.

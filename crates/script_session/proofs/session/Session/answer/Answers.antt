@@ -32,7 +32,7 @@ returns-in-Config-clause-obeys c plans network right are plain = rw c.in-Config.
 
 pub returns-in-Give-clause-obeys : goal.returns-in-Give-clause-obeys
 unfolding said
-returns-in-Give-clause-obeys c plans network right are plain = rw c.in-Give.is (if_there_obeys _ _ _ _ _ _ (rw c.output.ensures at (c.hear.ensures.obeys network are)) c.if_there-in-Give.ensures)
+returns-in-Give-clause-obeys c plans network right are plain = rw c.in-Give.is (if_there_obeys _ _ _ _ _ _ (c.give_output.ensures.obeys network are) c.if_there-in-Give.ensures)
 
 pub returns-in-Frame-clause-lost : goal.returns-in-Frame-clause-lost
 returns-in-Frame-clause-lost c handed there gone = always_tells _ _ _ (c.hand_in.ensures.lost there gone) c.always.ensures
