@@ -48,6 +48,13 @@ impl<W: Write> BufWriter<W> {
             writer: rust::io::BufWriter::new(writer),
         })
     }
+
+    /// The same, so many bytes at a time.
+    pub fn with_capacity(_: Global, capacity: usize, writer: W) -> Result<BufWriter<W>> {
+        Ok(BufWriter {
+            writer: rust::io::BufWriter::with_capacity(capacity, writer),
+        })
+    }
 }
 
 impl<W: Write> Write for BufWriter<W> {
