@@ -16,7 +16,7 @@ pub(crate) fn read_all<R: Read>(alloc: Global, reader: &mut R) -> Result<Vec<u8>
     ensures faults { IfErr result (λ fault. (fault ≡ RunFault.Read) ⊎ (fault ≡ RunFault.OutOfMemory) ⊎ (fault ≡ RunFault.EndlessInput)) }
 {
     let mut input = Vec::new(alloc);
-    let mut chunk = [0; 65_536];
+    let mut chunk = [0; 4096];
     for turn in 0..LONGEST_SCRIPT + 1 {
         let Ok(read) = reader.read(&mut chunk) else {
             return Err(RunFault::Read);
