@@ -1,8 +1,9 @@
 /* Preloaded in front of a device (LD_PRELOAD), this takes the power away inside a call of its flash, or tells what is asked of the system.
- * Three words of the environment:
+ * Four words of the environment:
  *
  *   TORN=K:SEED   the K-th write (from 0, those of the start counted) reaches the disk in part, each bit by the seed, and the process
  *                 is killed in it
+ *   FULL=K:N      N writes from the K-th on find the disk full (N 0: all of them): the first half of each is written
  *   FAILS=K:N     N syncs from the K-th on answer that the disk failed (N 0: all of them)
  *   ORDER=FILE    a line for each write, sync, new name and frame, in their order */
 #define _GNU_SOURCE
@@ -73,13 +74,33 @@ static void tear(int fd, const uint8_t *octets, size_t length, off_t place, uint
         abort();
 }
 
+/* Whether a call is one of those that fail. */
+static int is_struck(const char *name, unsigned long *passed)
+{
+    unsigned long at, count, now;
+    if (!read_pair(name, &at, &count))
+        return 0;
+    now = (*passed)++;
+    return now >= at && (count == 0 || now < at + count);
+}
+
 ssize_t pwrite(int fd, const void *octets, size_t length, off_t place)
 {
+    static unsigned long filled;
+    static int is_half; /* of a write that found the disk full half is written: nothing of the rest */
     unsigned long at, seed;
     tell("write %lld %zu\n", (long long)place, length);
     if (read_pair("TORN", &at, &seed) && writes++ == at) {
         tear(fd, octets, length, place, seed);
         kill(getpid(), SIGKILL);
+    }
+    if (is_half || is_struck("FULL", &filled)) {
+        is_half = !is_half && length > 1;
+        if (!is_half) {
+            errno = ENOSPC;
+            return -1;
+        }
+        length /= 2;
     }
     return ((ssize_t(*)(int, const void *, size_t, off_t))next("pwrite"))(fd, octets, length, place);
 }
@@ -91,14 +112,10 @@ ssize_t pwrite64(int fd, const void *octets, size_t length, off_t place)
 
 int fdatasync(int fd)
 {
-    unsigned long at, count;
     tell("sync\n");
-    if (read_pair("FAILS", &at, &count)) {
-        unsigned long now = syncs++;
-        if (now >= at && (count == 0 || now < at + count)) {
-            errno = EIO;
-            return -1;
-        }
+    if (is_struck("FAILS", &syncs)) {
+        errno = EIO;
+        return -1;
     }
     return ((int (*)(int))next("fdatasync"))(fd);
 }
