@@ -1,9 +1,10 @@
 /* Preloaded in front of a device (LD_PRELOAD), this takes the power away inside a call of its flash, or tells what is asked of the system.
- * Four words of the environment:
+ * Five words of the environment:
  *
  *   TORN=K:SEED   the K-th write (from 0, those of the start counted) reaches the disk in part, each bit by the seed, and the process
  *                 is killed in it
  *   FULL=K:N      N writes from the K-th on find the disk full (N 0: all of them): the first half of each is written
+ *   GONE=K:N      the file is removed as the K-th write begins (N is 1)
  *   FAILS=K:N     N syncs from the K-th on answer that the disk failed (N 0: all of them)
  *   ORDER=FILE    a line for each write, sync, new name and frame, in their order */
 #define _GNU_SOURCE
@@ -84,9 +85,23 @@ static int is_struck(const char *name, unsigned long *passed)
     return now >= at && (count == 0 || now < at + count);
 }
 
+/* Removes the file of a descriptor. */
+static void remove_file(int fd)
+{
+    char descriptor[32], path[4096];
+    ssize_t length;
+    snprintf(descriptor, sizeof descriptor, "/proc/self/fd/%d", fd);
+    length = readlink(descriptor, path, sizeof path - 1);
+    if (length < 0)
+        abort();
+    path[length] = '\0';
+    if (unlink(path) != 0)
+        abort();
+}
+
 ssize_t pwrite(int fd, const void *octets, size_t length, off_t place)
 {
-    static unsigned long filled;
+    static unsigned long filled, left;
     static int is_half; /* of a write that found the disk full half is written: nothing of the rest */
     unsigned long at, seed;
     tell("write %lld %zu\n", (long long)place, length);
@@ -94,6 +109,8 @@ ssize_t pwrite(int fd, const void *octets, size_t length, off_t place)
         tear(fd, octets, length, place, seed);
         kill(getpid(), SIGKILL);
     }
+    if (is_struck("GONE", &left))
+        remove_file(fd);
     if (is_half || is_struck("FULL", &filled)) {
         is_half = !is_half && length > 1;
         if (!is_half) {
