@@ -10,8 +10,12 @@ def milliseconds(units):
     return f"{units * UNIT:g} ms"
 
 
+def counted(octets):
+    return f"{octets} octet" if octets == 1 else f"{octets} octets"
+
+
 def octets_of(part):
-    both = [f"{part.octets(way)} octets of {word}" for way, word in (("Input", "input"), ("Output", "output")) if part.octets(way)]
+    both = [f"{counted(part.octets(way))} of {word}" for way, word in (("Input", "input"), ("Output", "output")) if part.octets(way)]
     return " and ".join(both) or "no data"
 
 
@@ -19,28 +23,25 @@ def titled(name):
     return f" '{name}'" if name else ""
 
 
-def part_lines(subslot, part, margin):
+def part_lines(head, part, margin):
     """A submodule and its records. What no catalogue can hold is marked, with its line."""
     try:
         part.judge()
-        said, records = octets_of(part), part.records()
-        lines = [f"{margin}subslot {subslot}: {said}{titled(part.name)}, ident 0x{part.ident:08x}"]
-        for record in records:
-            lines.append(f"{margin}    record {record.index}, {record.length} octets, by default {record.data()[:64].hex()}")
+        lines = [f"{margin}{head}{titled(part.name)}, ident 0x{part.ident:08x}: {octets_of(part)}"]
+        for record in part.records():
+            lines.append(f"{margin}    record {record.index}, {counted(record.length)}, by default {record.data()[:64].hex()}")
         return lines
     except Refused as fault:
-        return [f"{margin}subslot {subslot}: not for a catalogue:{titled(part.name)} line {fault.line}: {fault.what}"]
+        return [f"{margin}{head}{titled(part.name)}: not for a catalogue, line {fault.line}: {fault.what}"]
 
 
 def item_lines(file, item, margin):
     lines = []
     for subslot, part in sorted(item.built_in(), key=lambda pair: pair[0]):
-        lines += part_lines(subslot, part, margin)
+        lines += part_lines(f"subslot {subslot}", part, margin)
     for reference in item.pluggable():
-        places = places_of(reference, "subslots")
-        lines.append(f"{margin}submodule {shown(reference.target)}, {places}")
         part = file.submodule(reference.target, reference.line)
-        lines += part_lines("of it", part, margin + "    ")
+        lines += part_lines(f"submodule {shown(reference.target)}, {places_of(reference, 'subslots')},", part, margin)
     return lines
 
 

@@ -58,7 +58,7 @@ class Numbers:
         return sum(last - first + 1 for first, last in self.pairs)
 
     def __str__(self):
-        return " ".join(str(first) if first == last else f"{first}..{last}" for first, last in self.pairs) or "none"
+        return " ".join(str(first) if first == last else f"{first}{' ' if first + 1 == last else '..'}{last}" for first, last in self.pairs) or "none"
 
 
 def values(element, name, most, default=()):
