@@ -3,7 +3,6 @@
 import ipaddress
 import json
 import re
-import sys
 
 from . import offer
 from .device import File
@@ -179,8 +178,6 @@ def text_of(catalogue):
 
 def run(words, say):
     """Does what the words ask for. Gives its status."""
-    # Names of the file may have letters that the terminal has not.
-    sys.stdout.reconfigure(errors="replace")
     if words in (["--help"], ["-h"]):
         print(USAGE, end="")
         return 0

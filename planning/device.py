@@ -92,7 +92,7 @@ class Submodule:
         return sum(item["Length"] if item["DataType"] == OCTET_STRING else OCTETS[item["DataType"]] for item in self.data(way))
 
     def judge(self):
-        """Refuses what no catalogue can say: another API than 0, IOPS or IOCS of another length than 1, safe data."""
+        """Refuses what no catalogue can say: another API than 0, IOPS or IOCS of another length than 1, safe or isochronous data."""
         if number(self.element, "API", 0, 4_294_967_295, 0) != 0:
             raise Refused(self.line, f"it is in API {shown(self.element.get('API'))}, and only API 0 is served")
         for data in self.element.all("IOData"):
@@ -102,6 +102,9 @@ class Submodule:
         safe = self.element.first("RecordDataList/F_ParameterRecordDataItem")
         if safe is not None:
             raise Refused(safe.line, "it wants parameters of PROFIsafe, which no catalogue has")
+        clocked = self.element.first("IsochroneMode")
+        if clocked is not None and clocked.get("IsochroneModeRequired") == "true":
+            raise Refused(clocked.line, "it works in isochronous mode alone, which the controller does not do")
 
     def records(self):
         """Its parameter records, in the order in which they are written."""
@@ -168,6 +171,19 @@ class AccessPoint(Item):
 
     def modules(self):
         return [Reference(element, "Slots") for element in self.element.all("UseableModules/ModuleItemRef")]
+
+    def judge(self):
+        """Refuses a device that does not speak as the controller does: in RT_CLASS_1, and without the advanced start-up."""
+        interface = self.element.first("SystemDefinedSubmoduleList/InterfaceSubmoduleItem")
+        if interface is None:
+            return
+        classes = interface.get("SupportedRT_Classes", "RT_CLASS_1")
+        if "RT_CLASS_1" not in classes.split(";"):
+            raise Refused(interface.line, f"its SupportedRT_Classes are {shown(classes)}, and the controller speaks RT_CLASS_1")
+        relations = interface.first("ApplicationRelations")
+        modes = relations.get("StartupMode", "Legacy") if relations is not None else "Legacy"
+        if "Legacy" not in modes.split(";"):
+            raise Refused(relations.line, f"its StartupMode is {shown(modes)}, and the controller starts up as Legacy alone")
 
     def clocks(self):
         """The element that says the send clocks and reduction ratios, and both lists."""

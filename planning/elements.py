@@ -100,4 +100,6 @@ def read(octets):
         builder.parser.Parse(octets, True)
     except expat.ExpatError as fault:
         raise Refused(fault.lineno, f"it is not well-formed XML: {expat.ErrorString(fault.code)}") from None
+    except (LookupError, ValueError):
+        raise Refused(1, "its encoding is not one that is read") from None
     return builder.root

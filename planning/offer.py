@@ -61,6 +61,10 @@ def point_lines(file, point):
     yield f"access point {shown(point.id)}{titled(point.name)}, ident 0x{point.ident:08x}, type of station {shown(point.station_type())}"
     yield f"    slots {point.physical()}, itself in {point.own_slots()}"
     yield f"    interval at least {milliseconds(point.least_interval())}; send clock {clocks}, reduction {ratios}"
+    try:
+        point.judge()
+    except Refused as fault:
+        yield f"    not for a catalogue, line {fault.line}: {fault.what}"
     yield from item_lines(file, point, "    ")
     for reference in point.modules():
         module = file.module(reference.target, reference.line)

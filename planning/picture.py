@@ -101,8 +101,7 @@ def frame_at(y, title, frame, keys):
     """A frame with its title and the numbers of its octets. Gives the lines, and where the next thing begins."""
     lines = [text_at(LEFT, y, title, 14, 'font-weight="bold"')]
     gap = frame.length - frame.used()
-    lines.append(text_at(LEFT, y + 18, f"DataLength {frame.length} octets: {frame.used()} used, {gap or 'none'} in gaps. Before them: FrameID (2). "
-                                       "After them: CycleCounter (2), DataStatus (1), TransferStatus (1)."))
+    lines.append(text_at(LEFT, y + 18, f"DataLength {frame.length} octets: {frame.used()} used, {gap or 'none'} in gaps"))
     y += 42
     for column in range(min(ROW, frame.length)):
         lines.append(text_at(LEFT + column * CELL + CELL / 2, y - 5, column, 9, 'text-anchor="middle" fill="#666666"'))
@@ -122,7 +121,9 @@ def legend_at(y):
         lines.append(text_at(x + CELL + 8, y + 15, said))
         x += 110
     lines.append(text_at(x, y + 15, "The number is that of the submodule in the table."))
-    return lines, y + LINE + 38
+    y += LINE + 22
+    lines.append(text_at(LEFT, y, "On the wire FrameID (2 octets) comes before them; CycleCounter (2), DataStatus (1) and TransferStatus (1) follow."))
+    return lines, y + 38
 
 
 def octets_said(frame, place, kind):

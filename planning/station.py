@@ -24,6 +24,7 @@ class Station:
         self.known_places = set()
         if 0 not in self.point.own_slots():
             raise Refused(self.point.line, f"its access point is in slot {self.point.own_slots()}, and only slot 0 is served")
+        self.point.judge()
         self.modules = self.plugged()
         # By slot: subslot and submodule, subslots ascending.
         self.parts = {slot: self.parts_of(slot, item) for slot, item in [(0, self.point), *self.modules.items()]}
@@ -132,7 +133,7 @@ class Station:
         found[subslot] = reference
 
     def judge_lengths(self):
-        """The frames of both directions, and the blocks of the Connect."""
+        """The frames of both directions, and the blocks of the Connect: ARBlockReq, two IOCRBlockReq, AlarmCRBlockReq and one of each module."""
         frames, connect = {"Input": 0, "Output": 0}, 58 + len(self.choice.controller_name) + 2 * 54 + 26
         for parts in self.parts.values():
             connect += 22
@@ -141,12 +142,14 @@ class Station:
                 # An IODataObject with its IOPS in one direction, its IOCS in the other.
                 frames["Input"] += (came + 1 if came or not sent else 0) + (1 if sent else 0)
                 frames["Output"] += (sent + 1 if sent else 0) + (1 if came or not sent else 0)
-                connect += 8 + 18 * (2 if came and sent else 1)
+                # The submodule with a description of each direction, and its place in each of both IOCRBlockReq.
+                connect += 8 + (6 + 12) * (2 if came and sent else 1)
                 for way, who in (("Input", "device"), ("Output", "controller")):
                     if frames[way] > MOST_DATA:
                         raise Refused(part.line, f"with it a frame of the {who} has {frames[way]:,} octets, and {MOST_DATA:,} is the most")
                 if connect > MOST_CONNECT:
                     raise Refused(part.line, f"with it the blocks of the Connect have {connect:,} octets, and {MOST_CONNECT:,} is the most")
+        self.frames, self.connect = frames, connect
 
     def records_of(self, slot):
         """The records of a slot that are not left out: subslot, record and octets, in the order in which they are written."""
