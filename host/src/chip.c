@@ -150,11 +150,25 @@ static int open_old(const char *path)
     return fd;
 }
 
+static void keep_apart(const struct stat *found, const char *path)
+{
+    if (streams_lead_to(found))
+        fail(STATUS_USAGE, "the flash file '%s' is a standard stream of this program too, whose lines would be written into it", path);
+}
+
+void chip_keep_apart(const char *path)
+{
+    struct stat found;
+    if (stat(path, &found) == 0)
+        keep_apart(&found, path);
+}
+
 static void judge(const struct chip *chip)
 {
     struct stat found;
     if (fstat(chip->fd, &found) != 0)
         fail(STATUS_INPUT, "the flash file '%s': %s", chip->path, strerror(errno));
+    keep_apart(&found, chip->path); /* one that was made may have been a stream under its other name */
     if (!S_ISREG(found.st_mode) && !S_ISBLK(found.st_mode))
         fail(STATUS_DATA, "'%s' is no file: name one with --flash", chip->path);
     if (S_ISREG(found.st_mode) && found.st_size != CHIP_SIZE)
@@ -164,18 +178,10 @@ static void judge(const struct chip *chip)
         fail(STATUS_IN_USE, "the flash file '%s' was replaced while it was opened: start again", chip->path);
 }
 
-void chip_keep_apart(const char *path)
-{
-    struct stat found;
-    if (stat(path, &found) == 0 && streams_lead_to(&found))
-        fail(STATUS_USAGE, "the flash file '%s' is a standard stream of this program too, whose lines would be written into it", path);
-}
-
 void chip_open(struct chip *chip, const char *path)
 {
     memset(chip, 0, sizeof *chip);
     chip->path = path;
-    chip_keep_apart(path);
     chip->fd = open_old(path);
     if (chip->fd < 0) {
         chip->fd = make(path);

@@ -1,10 +1,11 @@
 /* Preloaded in front of a device (LD_PRELOAD), this takes the power away inside a call of its flash, or tells what is asked of the system.
- * Five words of the environment:
+ * Six words of the environment:
  *
  *   TORN=K:SEED   the K-th write (from 0, those of the start counted) reaches the disk in part, each bit by the seed, and the process
  *                 is killed in it
  *   FULL=K:N      N writes from the K-th on find the disk full (N 0: all of them): the first half of each is written
  *   GONE=K:N      the file is removed as the K-th write begins (N is 1)
+ *   NO_NULL=1     there is no /dev/null
  *   FAILS=K:N     N syncs from the K-th on answer that the disk failed (N 0: all of them)
  *   ORDER=FILE    a line for each write, sync, new name and frame, in their order */
 #define _GNU_SOURCE
@@ -125,6 +126,20 @@ ssize_t pwrite(int fd, const void *octets, size_t length, off_t place)
 ssize_t pwrite64(int fd, const void *octets, size_t length, off_t place)
 {
     return pwrite(fd, octets, length, place);
+}
+
+int open(const char *path, int flags, ...)
+{
+    va_list values;
+    int mode;
+    if (strcmp(path, "/dev/null") == 0 && getenv("NO_NULL") != NULL) {
+        errno = ENOENT;
+        return -1;
+    }
+    va_start(values, flags);
+    mode = (flags & O_CREAT) != 0 ? va_arg(values, int) : 0;
+    va_end(values);
+    return ((int (*)(const char *, int, ...))next("open"))(path, flags, mode);
 }
 
 int fdatasync(int fd)
