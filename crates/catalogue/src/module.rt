@@ -8,7 +8,7 @@ ghost use Rattle.catalogue.specs.Modules.{Module, has_id, module_item};
 
 use crate::entry::list;
 use crate::tree::{items_at, long_at, string};
-use crate::{SubmoduleItem, TreeFault};
+use crate::{CatalogueFault, Key, PlacedFault, Step, SubmoduleItem};
 use serde_json::Value;
 use std::alloc::{AllocError, Global};
 use std::collections::BTreeSet;
@@ -47,18 +47,18 @@ fn module_of(
     ids: &mut BTreeSet<String>,
     before: &[ModuleItem],
     tree: &Value,
-) -> Result<ModuleItem, TreeFault>
+) -> Result<ModuleItem, PlacedFault>
     requires { (id : List ℕ) → contains_text ids.old id ≡ has_id id before.now }
     ensures read { Reads (λ found. found) result (module_item before.now (view tree.now)) }
     ensures ids { IfOk result (λ found. (id : List ℕ) → contains_text ids.new id ≡ has_id id (before.now ++ found ∷ [])) }
 {
-    let id = string(alloc, tree, "ID")?;
+    let id = string(alloc, tree, Key::Id)?;
     let is_new = add_id(alloc, ids, id.as_str())?;
     if !is_new {
-        return Err(TreeFault::Number);
+        return Err(PlacedFault::at(Key::Id, CatalogueFault::Number));
     }
-    let ident = long_at(tree, "ModuleIdentNumber", 1, 0xFFFF_FFFF)?;
-    let submodules = list(alloc, &(), tree, "VirtualSubmoduleItem")?;
+    let ident = long_at(tree, Key::ModuleIdentNumber, 1, 0xFFFF_FFFF)?;
+    let submodules = list(alloc, &(), tree, Key::VirtualSubmoduleItem)?;
     Ok(ModuleItem {
         id,
         ident,
@@ -67,14 +67,16 @@ fn module_of(
 }
 
 /// The modules that these trees are. Their IDs are kept beside them, so that a new one is judged in a few steps.
-fn modules_of(alloc: Global, trees: &[Value]) -> Result<Vec<ModuleItem>, TreeFault>
+fn modules_of(alloc: Global, trees: &[Value]) -> Result<Vec<ModuleItem>, PlacedFault>
     ensures { Reads (λ found. found.items) result (each module_item [] (items_view trees.now)) }
 {
     let mut ids = BTreeSet::new(alloc);
     let mut found = Vec::new(alloc);
     for tree in trees {
-        let module = module_of(alloc, &mut ids, found.as_slice(), tree)?;
-        found.push(module)?;
+        match module_of(alloc, &mut ids, found.as_slice(), tree) {
+            Ok(module) => found.push(module)?,
+            Err(fault) => return Err(fault.further(Step::Entry(found.len()))),
+        }
     }
     Ok(found)
 }
@@ -84,10 +86,13 @@ fn modules_of(alloc: Global, trees: &[Value]) -> Result<Vec<ModuleItem>, TreeFau
 pub(crate) fn modules_at(
     alloc: Global,
     tree: &Value,
-    key: &str,
-) -> Result<Vec<ModuleItem>, TreeFault>
-    ensures { Reads (λ found. found.items) result (list_at key.now module_item (view tree.now)) }
+    key: Key,
+) -> Result<Vec<ModuleItem>, PlacedFault>
+    ensures { Reads (λ found. found.items) result (list_at key module_item (view tree.now)) }
 {
     let trees = items_at(tree, key)?;
-    modules_of(alloc, trees)
+    match modules_of(alloc, trees) {
+        Ok(found) => Ok(found),
+        Err(found) => Err(found.further(Step::At(key))),
+    }
 }

@@ -1,6 +1,6 @@
 use Rattle.std.proofs.Common.{◌≡◌, drop}
 use Rattle.catalogue.specs.Modules.{submodules_of}
-use Rattle.catalogue.proofs.slot.records_of.Given as goal
+use Rattle.catalogue.proofs.slot.records_in.Given as goal
 
 -- what is found in all is found in what is left
 abbrev pub invariant-loop-module : goal.invariant-loop-module
