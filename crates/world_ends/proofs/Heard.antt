@@ -1,5 +1,5 @@
 -- What either end hears of each message of the other.
-use Rattle.std.proofs.Common.{◌≡◌, ◌⊎◌, inl, inr, ◌<◌, ◌≤◌, ◌+◌, ◌-◌, ◌==◌, ◌&&◌, ◌||◌, ℕ, Bool, true, false, cond, List, [], ◌∷◌, length, Option, Some, None, Result, Ok, Err, refl, sym, ap, subst, ◌∙◌, arith}
+use Rattle.std.proofs.Common.{◌≡◌, ◌⊎◌, inl, inr, ◌<◌, ◌+◌, ◌-◌, ◌==◌, ◌&&◌, ◌||◌, ℕ, Bool, true, false, cond, List, [], ◌∷◌, length, Option, Some, None, Result, Ok, Err, refl, sym, ap, subst, ◌∙◌, arith}
 use Rattle.std.specs.Prelude.{nat_eq, nat_le, nat_lt}
 use Rattle.std.specs.List.{AllByRecursion}
 use Rattle.std.specs.Cmp.Lexicographic.{pointwise, same_text}
@@ -24,7 +24,6 @@ use Rattle.rpc_core.specs.declared.fault.RpcFault.{RpcFault}
 use Rattle.rpc_core.specs.declared.interface.Interface.TheVariants.{Controller as controllers, Device as devices}
 use Rattle.rpc_core.specs.declared.header.CallHeader.{CallHeader}
 use Rattle.rpc_core.specs.Call.{Asked as Call, call_of}
-use Rattle.rpc_core.specs.Interface.{interface_uuid}
 use Rattle.rpc_core.specs.Response.{Answered as Response, is_done, response_of}
 use Rattle.rpc_core.specs.Sendable.{CanBeAnswered, CanBeCalled, IsHeader, IsStatus, IsUuid}
 use Rattle.connect_blocks.specs.declared.control.ControlBlock.{ControlBlock}
@@ -43,27 +42,27 @@ use Rattle.relations.specs.Ready.{ready_of}
 use Rattle.device_frames.specs.Heard as device
 use Rattle.device_frames.specs.Heard.{Heard, is_own}
 use Rattle.device_frames.specs.Sendable.{IsSendable}
-use Rattle.device_frames.specs.Sent.{Sent, IdentifyAnswer, GetAnswer, SetAnswer, ArpReply, CallAnswer, Again, ReadyCall, Ends, Exchanges, bytes_of, ready_frame, response_frame}
+use Rattle.device_frames.specs.Sent.{Sent, IdentifyAnswer, GetAnswer, SetAnswer, ArpReply, CallAnswer, Again, ReadyCall, Ends, Exchanges, bytes_of}
 use Rattle.device_core.specs.State.{Live, Station}
 use Rattle.controller_frames.specs.declared.request.Request.{Request}
 use Rattle.controller_frames.specs.declared.request.Request.TheVariants as asks
 use Rattle.controller_frames.specs.declared.setup.Setup.{Setup}
 use Rattle.controller_frames.specs.Heard as controller
 use Rattle.controller_frames.specs.Heard.{heard_alarm, heard_answer, heard_body, heard_call, heard_content, heard_first, heard_frame, heard_read, heard_real_time, heard_response, is_to}
-use Rattle.controller_frames.specs.Requests.{blocks_of, call_for, sequence_of}
+use Rattle.controller_frames.specs.Requests.{call_for, sequence_of}
 use Rattle.controller_frames.specs.Sent as said
 use Rattle.controller_frames.specs.Sent.{answer_frame, call_frame, calls_at, identify_multicast}
 use Rattle.controller_core.specs.Answers.{is_ready}
 use Rattle.controller_core.specs.Machine.{ready_in}
-use Rattle.frame_laws.specs.Sendable.{CanBeSent, IsHolder, IsMac, IsTag, carrying}
+use Rattle.frame_laws.specs.Sendable.{IsHolder, IsMac, IsTag, carrying}
 use Rattle.hearing_laws.specs.Hearing.{IsUncalled, IsUntold, all_hears, comes, mine_told, own_told}
 use Rattle.hearing_laws.specs.Stations.{IsAddress, IsCalled, IsCaller, IsDevice, IsNumbered, IsSetup, ready_call}
 use Rattle.sending_laws.specs.Addressed.{IsAimedAt, IsHeardFrom}
 use Rattle.both_ends.specs.Small as small
 use Rattle.both_ends.specs.Small.{ToController, ToDevice}
-use Rattle.both_ends.specs.Steps.{CallsWhile, SaysAtMost, SaysToDevice}
+use Rattle.both_ends.specs.Steps.{CallsWhile, SaysToDevice}
 use Rattle.controller_ends.specs.Small.{asked_by, readied_by, said_by, said_to}
-use Rattle.device_ends.specs.Owed.{IsAnswering, IsOfRelation, IsOwed}
+use Rattle.device_ends.specs.Owed.{IsAnswering, IsOwed}
 use Rattle.device_ends.specs.Small as ends
 use Rattle.device_ends.specs.Small.{IsHeardAs, IsHeardBy, confirms, heard_as}
 use Rattle.world_ends.specs.View.{IsSaidAs, rules_of}

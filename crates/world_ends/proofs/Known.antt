@@ -1,6 +1,6 @@
 -- What holds of a world at each point of a run from its beginning: each frame that ever was sent is known, and so is each message that is
 -- sent next.
-use Rattle.std.proofs.Common.{◌≡◌, ◌⊎◌, inl, inr, ℕ, zero, suc, Bool, true, false, List, [], ◌∷◌, ◌++◌, map, length, Option, Some, None, option_map, Ok, refl, sym, ap, subst, ◌∙◌, append-nil, append_assoc}
+use Rattle.std.proofs.Common.{◌≡◌, ◌⊎◌, inl, inr, ℕ, zero, suc, Bool, true, false, List, [], ◌∷◌, ◌++◌, map, Option, Some, None, option_map, Ok, refl, sym, ap, subst, ◌∙◌, append-nil, append_assoc}
 use Rattle.std.specs.Prelude.{slice_get}
 use Rattle.std.specs.List.{AllByRecursion}
 use Rattle.flash_model.specs.declared.flash.Flash.{Ghosts as Flash}
@@ -34,7 +34,6 @@ use Rattle.hearing_laws.specs.Stations.{IsDevice, IsSetup}
 use Rattle.sending_laws.specs.Addressed.{IsAimed, IsEventFrom}
 use Rattle.both_ends.specs.Small as small
 use Rattle.both_ends.specs.Small.{Rules, ToDevice}
-use Rattle.both_ends.specs.Runs.{AreSteps, end_of}
 use Rattle.both_ends.specs.StartUp.{Begins as BeginsSmall, IsRun, last_of}
 use Rattle.both_ends.specs.Steps.{DeviceSteps, IsDull, Steps}
 use Rattle.controller_ends.specs.Small.{IsInStep, said_by, small_of}
@@ -46,7 +45,7 @@ use Rattle.world_ends.specs.Played.{AreMade, AreMeant, ArePlaced, Begins, CanMee
 use Rattle.world_ends.proofs.Given.{GoesSo, HeardSo}
 use Rattle.world_ends.proofs.Heard.{IsKnown, IsKnownHeard, IsMetAs, IsOwnCall, IsPlans, IsTold, all_heard, all_met, all_said, all_told, opening_told}
 use Rattle.world_ends.proofs.Planned.{IsGood, heard_planned}
-use Rattle.world_ends.proofs.Runs.{InStep, Refines, controller_is, frames_are, happens_steps, last_viewed, rules_at}
+use Rattle.world_ends.proofs.Runs.{InStep, controller_is, frames_are, happens_steps, last_viewed, rules_at}
 
 some_is : {A : Type 0} (x y : A) → Some x ≡ Some y → x ≡ y
 some_is x y e = cc

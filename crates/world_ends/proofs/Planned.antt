@@ -1,6 +1,6 @@
 -- Each call that a device hears is one of the start-up.
-use Rattle.std.proofs.Common.{◌≡◌, ◌<◌, ◌≤◌, ◌+◌, ◌&&◌, ◌||◌, ◌==◌, ℕ, zero, suc, Bool, true, false, not, cond, List, [], ◌∷◌, ◌++◌, map, length, take, Option, Some, None, option_map, Result, Ok, Err, refl, sym, ap, subst, ◌∙◌, arith}
-use Rattle.std.specs.Prelude.{nat_eq, nat_lt, slice_get}
+use Rattle.std.proofs.Common.{◌≡◌, ◌<◌, ◌≤◌, ◌+◌, ◌&&◌, ◌==◌, ℕ, zero, suc, Bool, true, false, not, cond, List, [], ◌∷◌, ◌++◌, length, take, Option, Some, None, option_map, Result, Ok, Err, refl, sym, ap, subst, ◌∙◌, arith}
+use Rattle.std.specs.Prelude.{nat_lt, slice_get}
 use Rattle.std.specs.List.{AllByRecursion}
 use Rattle.std.proofs.lemmas.Bool.{ne_eqb}
 use Rattle.std.proofs.lemmas.Option.{slice_get-map}
@@ -19,7 +19,6 @@ use Rattle.block_codec.specs.Kinds.{number_of}
 use Rattle.block_codec.specs.Block.{block_bytes, block_of, front, in_iod_write_req}
 use Rattle.pnio_status.specs.declared.call_fault.CallFault.{CallFault}
 use Rattle.pnio_status.specs.declared.call_fault.CallFault.TheVariants as fault
-use Rattle.pnio_status.specs.declared.operation.Operation.{Operation}
 use Rattle.pnio_status.specs.Operation.{operation_of}
 use Rattle.call_blocks.specs.Judged.{judged as in_order}
 use Rattle.call_blocks.specs.Single.{formed, single_of}
@@ -48,7 +47,7 @@ use Rattle.controller_frames.specs.declared.request.Request.TheVariants as asks
 use Rattle.controller_frames.specs.declared.setup.Setup.{Setup}
 use Rattle.controller_frames.specs.Requests.{blocks_of, call_for, write_blocks, write_of as write_asked}
 use Rattle.block_laws.specs.Writable.{CanBeWritten}
-use Rattle.hearing_laws.specs.Stations.{IsCalled, IsSetup}
+use Rattle.hearing_laws.specs.Stations.{IsCalled}
 use Rattle.both_ends.specs.Small.{Rules}
 use Rattle.device_ends.specs.Small.{IsPlanned, IsPlannedAs, IsPlannedCall, IsPlannedIn, IsPlannedWrite}
 use Rattle.world_ends.specs.Played.{ArePlaced, IsParameter, IsPlaced}

@@ -1,14 +1,12 @@
 //! PDUs of alarms: the octets are worked out by hand from the formats, and those of the first alarm are a worked frame's.
 
 use super::blocks::with;
-use alarm_exchange::{Exchange, Kept, Move};
 use arrayvec::ArrayVec;
-use block_codec::AlarmAck;
+use block_codec::{AlarmAck, AlarmNotification};
 use pn_alarms::{
-    Abort, Alarm, AlarmFault, DeviceAlarms, Due, Message, PduFate, PduType, RaiseFault, Receiver,
-    Taken, alarm_front, pdu_front, read_message, read_notification, read_pdu,
+    Abort, Alarm, AlarmFault, ControllerAlarms, DeviceAlarms, Due, Message, PduFate, PduType,
+    RaiseFault, Receiver, Taken, alarm_front, pdu_front, read_message, read_notification, read_pdu,
 };
-use rattle_std::alloc::Global;
 
 /// The first alarm of a relation, of slot 1 and subslot 1, with two octets of data.
 const ALARM: [u8; 42] = [
@@ -273,17 +271,6 @@ fn relation_is_ended() {
     }
 }
 
-/// AlarmSpecifier and the first octet of data of each alarm.
-fn told(alarms: &[Kept]) -> ArrayVec<(u16, u8), 4> {
-    let mut list = ArrayVec::new();
-    for kept in alarms {
-        let alarm = kept.notification();
-        let octet = alarm.alarm_data.octets().first().copied().unwrap_or(0);
-        let _ = list.try_push((alarm.alarm_specifier, octet));
-    }
-    list
-}
-
 /// An AlarmAck's block of the first alarm.
 const CONFIRMED: AlarmAck = AlarmAck {
     alarm_type: 2,
@@ -294,46 +281,147 @@ const CONFIRMED: AlarmAck = AlarmAck {
     pnio_status: 0,
 };
 
-/// AlarmSpecifier and the first octet of data of each alarm that is raised, and of each that is taken, and how many times the
-/// device hears that one was confirmed.
-type Played = (ArrayVec<(u16, u8), 4>, ArrayVec<(u16, u8), 4>, usize);
+/// AlarmSpecifier and the first octet of data of an alarm.
+type Told = (u16, u8);
 
-/// What is made of these moves.
-fn played(alloc: Global, moves: &[Move]) -> Option<Played> {
-    let exchange = Exchange::play(alloc, 1, 3, moves).ok()?;
-    let (raised, taken) = (told(exchange.raised()), told(exchange.taken()));
-    Some((raised, taken, exchange.heard().len()))
+fn told(alarm: &AlarmNotification) -> Told {
+    let octet = alarm.alarm_data.octets().first().copied().unwrap_or(0);
+    (alarm.alarm_specifier, octet)
+}
+
+/// What may happen between both ends: what each sends stands at a place from then on, and comes whenever a move says so.
+#[derive(Clone, Copy)]
+enum Move {
+    /// The device raises an alarm with this octet of data.
+    Raise(u8),
+    /// The controller sends an AlarmAck.
+    Confirm,
+    AlarmComes(usize),
+    ConfirmComes(usize),
+    AckComes(usize),
+    NackComes,
+}
+
+/// Both ends, and what either sent and took.
+struct Ends {
+    device: DeviceAlarms,
+    controller: ControllerAlarms,
+    raised: Vec<Told>,
+    alarms: Vec<(u16, Told)>,
+    taken: Vec<Told>,
+    confirms: Vec<u16>,
+    heard: usize,
+    acks: Vec<u16>,
+}
+
+impl Ends {
+    fn new() -> Ends {
+        Ends {
+            device: DeviceAlarms::new(1, 3),
+            controller: ControllerAlarms::new(1, 3),
+            raised: Vec::new(),
+            alarms: Vec::new(),
+            taken: Vec::new(),
+            confirms: Vec::new(),
+            heard: 0,
+            acks: Vec::new(),
+        }
+    }
+
+    /// Raises an alarm, which is refused where one stands.
+    fn raise(&mut self, octet: u8) {
+        if self.device.raise(&alarm_of(&[octet])).is_err() {
+            return;
+        }
+        let number = self.device.header(PduType::Data, 1, 1).send_number;
+        if let Some(alarm) = self.device.standing() {
+            let told = told(&alarm);
+            self.raised.push(told);
+            self.alarms.push((number, told));
+        }
+    }
+
+    /// Confirms an alarm that was taken, and is not confirmed yet.
+    fn confirm(&mut self) {
+        if self.confirms.len() < self.taken.len() {
+            self.controller.confirm(CONFIRMED);
+            let header = self.controller.header(PduType::Data, 1, 1);
+            self.confirms.push(header.send_number);
+        }
+    }
+
+    fn alarm_comes(&mut self, place: usize) {
+        let Some((number, told)) = self.alarms.get(place).copied() else {
+            return;
+        };
+        match self.controller.take(number) {
+            Taken::New => {
+                self.taken.push(told);
+                self.acks.push(number);
+            }
+            Taken::Again => self.acks.push(number),
+            Taken::Refused => {}
+        }
+    }
+
+    fn confirm_comes(&mut self, place: usize) {
+        let Some(number) = self.confirms.get(place) else {
+            return;
+        };
+        let fate = self.device.hear(&Message::Data(*number, CONFIRMED));
+        if fate == PduFate::Data(Taken::New) {
+            self.heard += 1;
+        }
+    }
+
+    fn happen(&mut self, one: Move) {
+        match one {
+            Move::Raise(octet) => self.raise(octet),
+            Move::Confirm => self.confirm(),
+            Move::AlarmComes(place) => self.alarm_comes(place),
+            Move::ConfirmComes(place) => self.confirm_comes(place),
+            Move::AckComes(place) => {
+                if let Some(number) = self.acks.get(place) {
+                    self.device.hear(&Message::Ack(*number));
+                }
+            }
+            Move::NackComes => {
+                self.device.hear(&Message::Nack);
+            }
+        }
+    }
 }
 
 #[test]
 fn alarms_come_in_order_over_a_network_that_repeats_them() {
     let moves = [
-        Move::Raise(alarm_of(&[0xAA])),
+        Move::Raise(0xAA),
         // refused: one stands
-        Move::Raise(alarm_of(&[0xCC])),
+        Move::Raise(0xCC),
         Move::AlarmComes(0),
         Move::AlarmComes(0),
-        Move::AckComesToDevice(1),
-        Move::Confirm(CONFIRMED),
+        Move::AckComes(1),
+        Move::Confirm,
         // refused: one alarm was taken
-        Move::Confirm(CONFIRMED),
+        Move::Confirm,
         Move::ConfirmComes(0),
         Move::ConfirmComes(0),
-        Move::Raise(alarm_of(&[0xBB])),
+        Move::Raise(0xBB),
         Move::AlarmComes(0),
         Move::AlarmComes(1),
         // refused: a later one was taken, and the NACK ends nothing
         Move::AlarmComes(0),
-        Move::NackComesToDevice(0),
-        Move::NackComesToController(0),
-        Move::Raise(alarm_of(&[0xDD])),
+        Move::NackComes,
+        Move::Raise(0xDD),
         // no such place
         Move::AlarmComes(2),
     ];
-    let Some((raised, taken, heard)) = played(Global, &moves) else {
-        panic!("memory");
-    };
-    assert_eq!(raised.as_slice(), [(0, 0xAA), (1, 0xBB)].as_slice());
-    assert_eq!(taken.as_slice(), [(0, 0xAA), (1, 0xBB)].as_slice());
-    assert_eq!(heard, 1);
+    let mut ends = Ends::new();
+    for one in moves {
+        ends.happen(one);
+    }
+    assert_eq!(ends.raised, [(0, 0xAA), (1, 0xBB)]);
+    assert_eq!(ends.taken, [(0, 0xAA), (1, 0xBB)]);
+    assert_eq!(ends.heard, 1);
+    assert_eq!(ends.confirms.len(), 1);
 }

@@ -10,9 +10,9 @@ use Rattle.pn_alarms.specs.declared.repeats.Due.{Due}
 use Rattle.pn_alarms.specs.declared.repeats.Due.TheVariants as due_is
 use Rattle.pn_alarms.specs.Numbers.{next_number, send_number, is_last}
 use Rattle.pn_alarms.specs.Receiver.{last_behind}
-use Rattle.alarm_exchange.specs.Line.{Line, empty, with_sent, with_again, more_taken, with_come}
-use Rattle.alarm_exchange.specs.World.{repeated, line_after}
-use Rattle.alarm_exchange.proofs.Numbered.{number_of, last_of, next_is, same_number}
+use Rattle.alarm_laws.specs.Line.{Line, empty, with_sent, with_again, more_taken, with_come}
+use Rattle.alarm_laws.specs.World.{repeated, line_after}
+use Rattle.alarm_laws.proofs.Numbered.{number_of, last_of, next_is, same_number}
 
 -- ---- lists
 

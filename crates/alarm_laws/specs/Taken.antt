@@ -1,7 +1,7 @@
 -- What holds of both ends over any moves, from the start of a relation.
 use Rattle.std.specs.Prelude.{◌≤◌, ◌+◌, ℕ, List, length}
-use Rattle.alarm_exchange.specs.declared.exchange.Move.{Move}
-use Rattle.alarm_exchange.specs.World.{IsPrefixOf, behind_all, start}
+use Rattle.alarm_laws.specs.World.{Move}
+use Rattle.alarm_laws.specs.World.{IsPrefixOf, behind_all, start}
 
 -- While at most 32,768 alarms are raised, those that are taken begin those that were raised,
 abbrev pub AreTakenInOrder : Type 0

@@ -2,8 +2,6 @@
 use Rattle.std.specs.Prelude.{◌≡◌, ℕ, List, [], ◌∷◌, ◌++◌, length, nat_le, nat_lt, slice_get, Option, Some, None, if◌then◌else◌}
 use Rattle.record_blocks.specs.declared.alarm_ack.AlarmAck.{AlarmAck}
 use Rattle.record_blocks.specs.declared.alarm_notification.AlarmNotification.{AlarmNotification}
-use Rattle.alarm_exchange.specs.declared.exchange.Move.{Move}
-use Rattle.alarm_exchange.specs.declared.exchange.Move.TheVariants.{Raise, Confirm, DeviceTick, ControllerTick, AlarmComes, ConfirmComes, AckComesToDevice, AckComesToController, NackComesToDevice, NackComesToController}
 use Rattle.pn_alarms.specs.declared.message.Notice.TheVariants as message
 use Rattle.pn_alarms.specs.declared.repeats.Due.{Due}
 use Rattle.pn_alarms.specs.declared.repeats.Due.TheVariants as due_is
@@ -16,7 +14,7 @@ use Rattle.pn_alarms.specs.Receiver.{taken_as}
 use Rattle.pn_alarms.specs.Ends.{DeviceEnd, ControllerEnd}
 use Rattle.pn_alarms.specs.Device.{idle, end_raised, end_later, end_behind}
 use Rattle.pn_alarms.specs.Controller.{unheard, confirmed, controller_later, with_data, with_ack}
-use Rattle.alarm_exchange.specs.Line.{Line, empty, with_sent, with_again, with_come}
+use Rattle.alarm_laws.specs.Line.{Line, empty, with_sent, with_again, with_come}
 
 -- both ends; the alarms on their way to the controller, and the AlarmAcks on theirs to the device; and each ACK that ever was
 -- sent to either, and each NACK, by the number of the data that it refused. Of an ERR there is nothing here: who sends one has ended the
@@ -30,6 +28,21 @@ pub record World : Type 0 where
   pub acks_to_controller : List ℕ
   pub nacks_to_device : List ℕ
   pub nacks_to_controller : List ℕ
+
+-- What may happen between both ends: the device raises an alarm, of which one is refused that is too long, or comes while another stands;
+-- the controller sends an AlarmAck, if it took more alarms than it sent AlarmAcks; a unit passes at either; or the data, the ACK or the NACK
+-- of a place, of all that the one end ever sent, comes to the other.
+pub data Move : Type 0 where
+  Raise : (alarm : Alarm) → Move
+  Confirm : (ack : AlarmAck) → Move
+  DeviceTick : Move
+  ControllerTick : Move
+  AlarmComes : (place : ℕ) → Move
+  ConfirmComes : (place : ℕ) → Move
+  AckComesToDevice : (place : ℕ) → Move
+  AckComesToController : (place : ℕ) → Move
+  NackComesToDevice : (place : ℕ) → Move
+  NackComesToController : (place : ℕ) → Move
 
 -- nothing happened yet, in a relation with this RTATimeoutFactor and these RTARetries
 abbrev pub start : ℕ → ℕ → World

@@ -7,8 +7,8 @@ use Rattle.record_blocks.specs.declared.alarm_ack.AlarmAck.{AlarmAck}
 use Rattle.record_blocks.specs.declared.alarm_notification.AlarmNotification.{AlarmNotification}
 use Rattle.pn_alarms.specs.declared.receiver.Taken.{Taken}
 use Rattle.pn_alarms.specs.declared.receiver.Taken.TheVariants.{New, Again, Refused}
-use Rattle.alarm_exchange.specs.declared.exchange.Move.{Move}
-use Rattle.alarm_exchange.specs.declared.exchange.Move.TheVariants.{Raise, Confirm, DeviceTick, ControllerTick, AlarmComes, ConfirmComes, AckComesToDevice, AckComesToController, NackComesToDevice, NackComesToController}
+use Rattle.alarm_laws.specs.World.{Move}
+use Rattle.alarm_laws.specs.World.{Raise, Confirm, DeviceTick, ControllerTick, AlarmComes, ConfirmComes, AckComesToDevice, AckComesToController, NackComesToDevice, NackComesToController}
 use Rattle.pn_alarms.specs.declared.sender.Alarm.{Alarm}
 use Rattle.pn_alarms.specs.Numbers.{send_number, is_last}
 use Rattle.pn_alarms.specs.Sending.{Sending, due, rested}
@@ -17,9 +17,9 @@ use Rattle.pn_alarms.specs.Sender.{notified, raised, is_end}
 use Rattle.pn_alarms.specs.Receiver.{taken_as}
 use Rattle.pn_alarms.specs.Device.{sender_after, end_raised}
 use Rattle.pn_alarms.specs.Controller.{confirmed}
-use Rattle.alarm_exchange.specs.Line.{with_sent, more_taken}
-use Rattle.alarm_exchange.specs.World.{World, start, with_raised, after_raise, after_device_tick, after_controller_tick, after_alarm, after_confirms, after_ack_to_device, after_ack_to_controller, after_nack_to_device, happens, behind_all, IsPrefixOf}
-use Rattle.alarm_exchange.proofs.Lines.{IsLine, IsLast, line_starts, few_taken, line_sends, line_ticks, same_sent, same_taken, line_comes, more_is_more}
+use Rattle.alarm_laws.specs.Line.{with_sent, more_taken}
+use Rattle.alarm_laws.specs.World.{World, start, with_raised, after_raise, after_device_tick, after_controller_tick, after_alarm, after_confirms, after_ack_to_device, after_ack_to_controller, after_nack_to_device, happens, behind_all, IsPrefixOf}
+use Rattle.alarm_laws.proofs.Lines.{IsLine, IsLast, line_starts, few_taken, line_sends, line_ticks, same_sent, same_taken, line_comes, more_is_more}
 
 -- how many stand
 abbrev standing_count : Option AlarmNotification → ℕ
