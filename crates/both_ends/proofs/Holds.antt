@@ -1,5 +1,5 @@
--- What holds of both ends at each point of a start-up. What is true of earlier points stands here for itself: `Was`, that the controller
--- exchanged data; `Good`, that the device sent this ApplicationReady; `Handed`, that the controller was handed one.
+-- What holds of both ends at each point of a start-up. What is true of earlier points is a parameter: `Was`, that the controller
+-- exchanged data; `Past`, that a frame came to the device since; `Good`, that the device sent this ApplicationReady; `Handed`, that the controller was handed one.
 use Rattle.std.proofs.Common.{◌≡◌, ◌⊎◌, ◌<◌, ◌≤◌, ℕ, zero, suc, true, false, List, ◌++◌, length, Option, Some, None}
 use Rattle.std.specs.List.{AllByRecursion}
 use Rattle.both_ends.specs.Small.{Ask, Releases, ToDevice, Call, Confirms, Idle, ToController, Answers, Readies, Nothing, Rules, Started, Exchanging, Link, Kept, Controller, Seeking, Asking, Waiting, Exchanges, Ended, World}
@@ -84,13 +84,13 @@ module _ {T Q : Type 0} where
   AsksBehind kept link Ended = Unit {0}
 
   abbrev pub ConfirmedIn : Type 0 → Option (Link T Q) → Type 0
-  ConfirmedIn Was None = Unit {0}
-  ConfirmedIn Was (Some link) = link.phase ≡ Exchanging → Was
+  ConfirmedIn Past None = Unit {0}
+  ConfirmedIn Past (Some link) = link.phase ≡ Exchanging → Past
 
-  pub record Holds (rules : Rules T Q) (Was : Type 0) (Good : List ℕ → Type 0) (Handed : Type 0) (w : World T Q) : Type 0 where
+  pub record Holds (rules : Rules T Q) (Was Past : Type 0) (Good : List ℕ → Type 0) (Handed : Type 0) (w : World T Q) : Type 0 where
     pub held : HoldsAt rules w.device.kept w.device.link
     pub kept : KeepsFine rules Was Good w.device.kept w.device.link w.device.kept
     pub sent : AreFine rules Was Good w.device.kept w.device.link w.sent
     pub asked : AsksBehind w.device.kept w.device.link w.controller
     pub readied : w.controller ≡ Exchanges → Handed
-    pub confirmed : ConfirmedIn Was w.device.link
+    pub confirmed : ConfirmedIn Past w.device.link

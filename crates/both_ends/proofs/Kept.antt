@@ -181,14 +181,14 @@ module _ {T Q : Type 0} (rules : Rules T Q) where
 
   -- ---- steps
 
-  module _ (Was WasNow : Type 0) (Good GoodNow : List ℕ → Type 0) (was_on : Was → WasNow) (good_on : (frame : List ℕ) → Good frame → GoodNow frame) where
+  module _ (Was WasNow Past PastNow : Type 0) (Good GoodNow : List ℕ → Type 0) (was_on : Was → WasNow) (past_on : Past → PastNow) (good_on : (frame : List ℕ) → Good frame → GoodNow frame) where
     -- what a step of the device leaves, which sends these frames
     pub record Leaves (before after : Device T Q) (frames : List (List ℕ)) : Type 0 where
       pub grows : Grows before.kept before.link after.kept after.link
       pub held : HoldsAt rules after.kept after.link
       pub kept : KeepsFine rules WasNow GoodNow after.kept after.link after.kept
       pub new : AreFine rules WasNow GoodNow after.kept after.link frames
-      pub confirmed : ConfirmedIn WasNow after.link
+      pub confirmed : ConfirmedIn PastNow after.link
 
     -- each ApplicationReady that is sent now is good from now on
     abbrev pub AreGood : Device T Q → List (List ℕ) → Type 0
@@ -221,28 +221,28 @@ module _ {T Q : Type 0} (rules : Rules T Q) where
     )
 
     -- a confirmed relation stays one, and no call makes one of another
-    still_confirmed : (link after : Option (Link T Q)) → (after ≡ link) ⊎ (after ≡ None) → ConfirmedIn Was link → ConfirmedIn WasNow after
-    still_confirmed None after (inl same) confirmed = subst (λ (l : Option (Link T Q)). ConfirmedIn WasNow l) (sym same) tt
+    still_confirmed : (link after : Option (Link T Q)) → (after ≡ link) ⊎ (after ≡ None) → ConfirmedIn Past link → ConfirmedIn PastNow after
+    still_confirmed None after (inl same) confirmed = subst (λ (l : Option (Link T Q)). ConfirmedIn PastNow l) (sym same) tt
     still_confirmed (Some link) after (inl same) confirmed =
-        subst (λ (l : Option (Link T Q)). ConfirmedIn WasNow l) (sym same) (λ exchanges. was_on (confirmed exchanges))
-    still_confirmed link after (inr none) confirmed = subst (λ (l : Option (Link T Q)). ConfirmedIn WasNow l) (sym none) tt
+        subst (λ (l : Option (Link T Q)). ConfirmedIn PastNow l) (sym same) (λ exchanges. past_on (confirmed exchanges))
+    still_confirmed link after (inr none) confirmed = subst (λ (l : Option (Link T Q)). ConfirmedIn PastNow l) (sym none) tt
 
-    confirmed_by : (ask : Ask) (positive : Bool) (link after : Option (Link T Q)) → Does positive ask link after → ConfirmedIn Was link → ConfirmedIn WasNow after
+    confirmed_by : (ask : Ask) (positive : Bool) (link after : Option (Link T Q)) → Does positive ask link after → ConfirmedIn Past link → ConfirmedIn PastNow after
     confirmed_by ask false link after comes confirmed = still_confirmed link after (inl comes) confirmed
     confirmed_by Connects true link after comes confirmed =
-        subst (λ (l : Option (Link T Q)). ConfirmedIn WasNow l) (sym comes) (λ exchanges. absurd (started_is exchanges))
+        subst (λ (l : Option (Link T Q)). ConfirmedIn PastNow l) (sym comes) (λ exchanges. absurd (started_is exchanges))
       where
         started_is : Started ≡ Exchanging → ⊥
         started_is e = absurd cc
     confirmed_by (Writes number) true link after comes confirmed =
-        let before : ConfirmedIn Was (Some comes.link) = subst (λ (l : Option (Link T Q)). ConfirmedIn Was l) comes.was confirmed in
-        subst (λ (l : Option (Link T Q)). ConfirmedIn WasNow l) (sym comes.becomes) (λ exchanges. was_on (before exchanges))
+        let before : ConfirmedIn Past (Some comes.link) = subst (λ (l : Option (Link T Q)). ConfirmedIn Past l) comes.was confirmed in
+        subst (λ (l : Option (Link T Q)). ConfirmedIn PastNow l) (sym comes.becomes) (λ exchanges. past_on (before exchanges))
     confirmed_by Parameterized true link after comes confirmed =
-        subst (λ (l : Option (Link T Q)). ConfirmedIn WasNow l) (sym comes.becomes) (λ exchanges. absurd (awaiting_is exchanges))
+        subst (λ (l : Option (Link T Q)). ConfirmedIn PastNow l) (sym comes.becomes) (λ exchanges. absurd (awaiting_is exchanges))
       where
         awaiting_is : Awaiting ≡ Exchanging → ⊥
         awaiting_is e = absurd cc
-    confirmed_by Releases true link after comes confirmed = subst (λ (l : Option (Link T Q)). ConfirmedIn WasNow l) (sym comes) tt
+    confirmed_by Releases true link after comes confirmed = subst (λ (l : Option (Link T Q)). ConfirmedIn PastNow l) (sym comes) tt
 
     answer_tells : (sequence : ℕ) (ask : Ask) (positive : Bool) (kept : Option Kept) (link : Option (Link T Q)) (answer : Kept) (after : Option (Link T Q)) (frame : List ℕ)
         → IsCall rules sequence ask kept link → Does positive ask link after
@@ -251,7 +251,7 @@ module _ {T Q : Type 0} (rules : Rules T Q) where
     answer_tells sequence ask false kept link answer after frame call comes = tt
 
     module _ (before after : Device T Q) (frames : List (List ℕ)) (held : HoldsAt rules before.kept before.link)
-        (kept : KeepsFine rules Was Good before.kept before.link before.kept) (confirmed : ConfirmedIn Was before.link) where
+        (kept : KeepsFine rules Was Good before.kept before.link before.kept) (confirmed : ConfirmedIn Past before.link) where
       answered_leaves : (sequence : ℕ) (ask : Ask) → IsCall rules sequence ask before.kept before.link → AreGood after frames → IsAnswered rules sequence ask before after frames
           → Leaves before after frames
       answered_leaves sequence ask call good answered =
@@ -340,8 +340,8 @@ module _ {T Q : Type 0} (rules : Rules T Q) where
           is_past sequence link awaits (inl started) = absurd cc
           is_past sequence link awaits (inr past) = past
 
-      confirmed_leaves : Was → IsConfirmed before after frames → Leaves before after frames
-      confirmed_leaves was confirms =
+      confirmed_leaves : PastNow → IsConfirmed before after frames → Leaves before after frames
+      confirmed_leaves past confirms =
           let there = is_held before.kept before.link confirms.link confirms.was held in
           let now : Option (Link T Q) = Some (record confirms.link { phase = Exchanging }) in
           let grows : Grows before.kept before.link before.kept now = λ count took. record {
@@ -353,14 +353,14 @@ module _ {T Q : Type 0} (rules : Rules T Q) where
             held = subst (λ (k : Option Kept). HoldsAt rules k now) (sym there.1) (past_exchanging there.0.sequence confirms.link there.2 confirms.awaits);
             kept = keeps_on before.kept before.kept before.link now grows rules Was WasNow Good GoodNow was_on good_on before.kept kept;
             new = subst (λ (fs : List (List ℕ)). AreFine rules WasNow GoodNow before.kept now fs) (sym confirms.silent) tt;
-            confirmed = λ exchanges. was_on was;
+            confirmed = λ exchanges. past;
           })
 
-      confirms_leave : Was → IsConfirmed before after frames ⊎ Rests before after frames → Leaves before after frames
-      confirms_leave was (inl confirms) = confirmed_leaves was confirms
-      confirms_leave was (inr rests) = rests_leaves rests
+      confirms_leave : PastNow → IsConfirmed before after frames ⊎ Rests before after frames → Leaves before after frames
+      confirms_leave past (inl confirms) = confirmed_leaves past confirms
+      confirms_leave past (inr rests) = rests_leaves rests
 
-      pub device_leaves : (heard : ToDevice) → TellsDevice rules Was before.kept before.link heard → AreGood after frames → DeviceSteps rules heard before after frames
+      pub device_leaves : (heard : ToDevice) → TellsDevice rules PastNow before.kept before.link heard → AreGood after frames → DeviceSteps rules heard before after frames
           → Leaves before after frames
       device_leaves (Call sequence ask) tells good steps = call_leaves sequence ask tells good steps
       device_leaves Confirms tells good steps = confirms_leave tells steps

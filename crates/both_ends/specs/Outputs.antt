@@ -1,7 +1,7 @@
 -- The outputs of a device, and what its controller sends of them, over any list of moves.
 use Rattle.std.specs.Prelude.{◌≡◌, ◌⊎◌, ℕ, Bool, true, false, List, ◌∷◌, ◌++◌, slice_get, Option, Some, None}
 use Rattle.std.specs.List.{AllByRecursion}
-use Rattle.both_ends.specs.Small.{Move, ComesToDevice, ComesToController, AtDevice, AtController}
+use Rattle.both_ends.specs.Small.{Move, ComesToDevice, ComesToController, AtDevice, AtController, IsByController}
 use Rattle.both_ends.specs.Runs.{AreSteps, end_of}
 
 -- What outputs are: what is shown where no frame was accepted, and of the octets of one; which octets the controller sends of the values
@@ -79,14 +79,15 @@ module _ {O V : Type 0} where
     pub zeros : first.outputs ≡ rules.zeros
     pub none : AllByRecursion (BringsNone rules) first.sent
 
-  -- All outputs that are shown come from one frame: the controller sent it at an earlier point, and it brings the values that were last
-  -- given then.
+  -- All outputs that are shown come from one frame: the controller sent it with a move of its own, it brings the values that were last given
+  -- then, and it came to the device with a later move.
   pub record ComesFromOne (rules : Outputs O V) (first : Shown O V) (run : List (Move × Shown O V)) (outputs : O) : Type 0 where
     pub before : List (Move × Shown O V)
     pub move : Move
     pub point : Shown O V
     pub later : List (Move × Shown O V)
     pub all : run ≡ before ++ (move, point) ∷ later
+    pub by_controller : IsByController move
     -- it is one of the frames that were sent then
     pub frame : List ℕ
     pub frames : List (List ℕ)
@@ -94,6 +95,13 @@ module _ {O V : Type 0} where
     pub number : ℕ
     pub sent : slice_get frames number ≡ Some frame
     pub brings : rules.brought_by frame ≡ Some (rules.octets_of point.given)
+    -- it came to the device later
+    pub between : List (Move × Shown O V)
+    pub came : ℕ
+    pub next : Shown O V
+    pub others : List (Move × Shown O V)
+    pub since : later ≡ between ++ (ComesToDevice came, next) ∷ others
+    pub there : slice_get (shown_last point between).sent came ≡ Some frame
     -- and it is what is shown
     pub shown : outputs ≡ rules.shown_by (rules.octets_of point.given)
 

@@ -71,3 +71,17 @@ pub data Move : Type 0 where
   ComesToController : (number : ℕ) → Move
   AtDevice : Move
   AtController : Move
+
+-- a move of the device: a frame comes to it, or something happens at it alone
+abbrev pub IsByDevice : Move → Type 0
+IsByDevice (ComesToDevice number) = Unit {0}
+IsByDevice (ComesToController number) = ⊥
+IsByDevice AtDevice = Unit {0}
+IsByDevice AtController = ⊥
+
+-- and one of the controller
+abbrev pub IsByController : Move → Type 0
+IsByController (ComesToDevice number) = ⊥
+IsByController (ComesToController number) = Unit {0}
+IsByController AtDevice = ⊥
+IsByController AtController = Unit {0}

@@ -1,7 +1,7 @@
 -- The law of a start-up, over any list of moves.
 use Rattle.std.specs.Prelude.{◌≡◌, ℕ, List, ◌∷◌, ◌++◌, slice_get, Some, None}
 use Rattle.std.specs.List.{AllByRecursion}
-use Rattle.both_ends.specs.Small.{Readies, Rules, Awaiting, Link, Seeking, Exchanges, World, Move, ComesToController}
+use Rattle.both_ends.specs.Small.{Readies, Rules, Awaiting, Link, Seeking, Exchanges, World, Move, ComesToController, ComesToDevice, IsByController, IsByDevice}
 use Rattle.both_ends.specs.Runs.{AreSteps, end_of}
 use Rattle.both_ends.specs.Steps.{IsDull, Steps}
 
@@ -22,20 +22,21 @@ module _ {T Q : Type 0} where
     pub seeking : first.controller ≡ Seeking
     pub dull : AllByRecursion (IsDull rules) first.sent
 
-  -- The device sent this ApplicationReady: at an earlier point, at which it had accepted what the Connect asks for, and had taken the
-  -- records, in their order, each of them once.
+  -- The device sent this ApplicationReady, with a move of its own: at that point it had accepted what the Connect asks for, and had taken
+  -- the records, in their order, each of them once.
   pub record WasSent (rules : Rules T Q) (first : World T Q) (run : List (Move × World T Q)) (frame : List ℕ) : Type 0 where
     pub before : List (Move × World T Q)
     pub move : Move
     pub point : World T Q
     pub later : List (Move × World T Q)
     pub all : run ≡ before ++ (move, point) ∷ later
-    -- it is one of the frames that the device sent then
+    pub by_device : IsByDevice move
+    -- it is one of the frames that were sent then
     pub frames : List (List ℕ)
     pub behind : point.sent ≡ (last_of first before).sent ++ frames
     pub number : ℕ
     pub sent : slice_get frames number ≡ Some frame
-    pub by_device : point.controller ≡ (last_of first before).controller
+    pub still : point.controller ≡ (last_of first before).controller
     -- and this is its relation
     pub link : Link T Q
     pub has : point.device.link ≡ Some link
@@ -57,11 +58,15 @@ module _ {T Q : Type 0} where
     pub exchanges : point.controller ≡ Exchanges
     pub sent : WasSent rules first before frame
 
-  -- The controller was exchanging data, at an earlier point.
+  -- The controller was exchanging data after a move of its own, and after that a frame came to the device.
   pub record WasExchanging (run : List (Move × World T Q)) : Type 0 where
     pub before : List (Move × World T Q)
     pub move : Move
     pub point : World T Q
-    pub later : List (Move × World T Q)
-    pub all : run ≡ before ++ (move, point) ∷ later
+    pub by_controller : IsByController move
     pub exchanges : point.controller ≡ Exchanges
+    pub between : List (Move × World T Q)
+    pub number : ℕ
+    pub next : World T Q
+    pub later : List (Move × World T Q)
+    pub all : run ≡ before ++ (move, point) ∷ (between ++ (ComesToDevice number, next) ∷ later)
