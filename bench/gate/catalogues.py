@@ -3,7 +3,7 @@
 layouts of its cyclic frames, the blocks of its Connect and its records. It shares no line with the program, and judges no catalogue.
 
     bench/gate/catalogues.py --lines FILE       prints the layouts of a catalogue, as `pnscript plan` does
-    bench/gate/catalogues.py --table FILE       prints what the program table_plan has to print of a file of catalogues, one a line
+    bench/gate/catalogues.py --table FILE       prints what must come of a file of catalogues, one a line, in the table tests/tables/catalogues
                                                 whose fault is told by --faults FILE: a line for each, `-` or the fault
     bench/gate/catalogues.py --check            compares: each example with its layouts, the table with what stands there, and the Connect of
                                                 the demo station with the one that Scapy built in examples/exchange.txt
@@ -19,7 +19,7 @@ from program import TOP, answer_help, refuse
 
 OCTETS = {"Unsigned8": 1, "Integer8": 1, "Unsigned16": 2, "Integer16": 2, "Unsigned32": 4, "Integer32": 4, "Float32": 4}
 EXAMPLES = os.path.join(TOP, "examples", "catalogue")
-TABLE = os.path.join(TOP, "crates", "table_plan")
+TABLE = os.path.join(TOP, "tests", "tables", "catalogues")
 AR = bytes.fromhex("11111111222233334444555555555555")
 
 
@@ -124,7 +124,7 @@ def records_of(catalogue):
 
 
 def told_of(catalogue):
-    """What the program table_plan has to print of a catalogue that has a plan."""
+    """What must come of a catalogue that has a plan."""
     modules = modules_of(catalogue)
     return [*layouts_of(modules), f"connect {connect_of(catalogue, modules).hex()}", *records_of(catalogue)]
 
@@ -155,7 +155,7 @@ def check():
     catalogues, printed = read(os.path.join(TABLE, "stdin")).splitlines(), read(os.path.join(TABLE, "stdout"))
     faults = list(faults_in(printed.splitlines()))
     if len(faults) != len(catalogues) or table(catalogues, faults) != printed:
-        print("crates/table_plan: stdout is not what is reckoned of stdin")
+        print("tests/tables/catalogues: stdout is not what is computed of stdin")
         wrong += 1
     whole = [json.loads(text) for text, fault in zip(catalogues, faults) if fault == "-"]
     examples = sorted(glob.glob(os.path.join(EXAMPLES, "*.json")))
@@ -165,7 +165,7 @@ def check():
             print(f"{os.path.relpath(path, TOP)}: its layouts are others")
             wrong += 1
         if catalogue not in whole:
-            print(f"{os.path.relpath(path, TOP)}: it is no line of crates/table_plan/stdin")
+            print(f"{os.path.relpath(path, TOP)}: not a line of tests/tables/catalogues/stdin")
             wrong += 1
     pump = json.loads(read(os.path.join(EXAMPLES, "pump.json")))
     # Behind its ARUUID.

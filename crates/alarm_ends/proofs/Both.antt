@@ -11,7 +11,7 @@ use Rattle.device_core.specs.State.{State}
 use Rattle.controller_frames.specs.declared.setup.Setup.{Setup}
 use Rattle.controller_core.specs.declared.state.State.TheVariants.{Exchanging}
 use Rattle.controller_laws.specs.Alarms.{last_of}
-use Rattle.alarm_exchange.specs.World.{IsPrefixOf}
+use Rattle.alarm_laws.specs.World.{IsPrefixOf}
 use Rattle.network_world.specs.declared.moves.Move.{Move}
 use Rattle.network_world.specs.World.{World, Played}
 use Rattle.both_ends.specs.StartUp.{WasExchanging, WasHanded}

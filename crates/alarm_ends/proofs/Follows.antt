@@ -27,7 +27,7 @@ use Rattle.pn_alarms.specs.Receiver.{taken_as}
 use Rattle.cyclic_exchange.specs.declared.route.Route.{Route}
 use Rattle.relations.specs.Connect.{connect_of}
 use Rattle.relations.specs.Link.{Link}
-use Rattle.alarm_exchange.specs.Line.{more_taken, with_come}
+use Rattle.alarm_laws.specs.Line.{more_taken, with_come}
 use Rattle.device_frames.specs.declared.event.Event.TheVariants.{Frame}
 use Rattle.device_frames.specs.Heard.{Heard, Told, Calls, heard_of}
 use Rattle.device_frames.specs.Sent.{Sent, IdentifyAnswer, GetAnswer, SetAnswer, ArpReply, CallAnswer, Again, ReadyCall, Ends, Exchanges, bytes_of}

@@ -41,7 +41,7 @@ use Rattle.controller_core.specs.declared.event.Event.TheVariants as event
 use Rattle.controller_core.specs.State.{Controlling, Live as ControllerLive, with_live}
 use Rattle.controller_core.specs.Machine.{first as first_live, opening_of, step_of, turn_of, turned}
 use Rattle.controller_laws.specs.Alarms.{AreTakenInOrder, LackAtMostTheLast, Relation, ShowsTheLast, last_of, start}
-use Rattle.alarm_exchange.specs.World.{IsPrefixOf}
+use Rattle.alarm_laws.specs.World.{IsPrefixOf}
 use Rattle.network_world.specs.declared.moves.End.TheVariants.{Device, Controller}
 use Rattle.network_world.specs.declared.moves.Move.{Move}
 use Rattle.network_world.specs.declared.moves.Move.TheVariants as move

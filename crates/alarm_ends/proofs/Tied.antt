@@ -36,8 +36,8 @@ use Rattle.relations.specs.Exchanged.{raised_to}
 use Rattle.relations.specs.Link.{Link}
 use Rattle.relations.specs.Phases.{made_of, with_flow}
 use Rattle.relations.specs.Timers.{unit_later}
-use Rattle.alarm_exchange.specs.Line.{Line, with_sent}
-use Rattle.alarm_exchange.specs.World.{acks_after, line_after}
+use Rattle.alarm_laws.specs.Line.{Line, with_sent}
+use Rattle.alarm_laws.specs.World.{acks_after, line_after}
 use Rattle.device_frames.specs.Heard.{Heard, Ticks, Unreadable, Elsewhere, Asks, Resolves, Told, Cyclic as Comes, Alarms, Given, Raised}
 use Rattle.device_frames.specs.Relation.{alarms_of, frames_in, replies_of, where_due}
 use Rattle.device_frames.specs.Sent.{Sent, IdentifyAnswer, GetAnswer, SetAnswer, ArpReply, CallAnswer, Again, ReadyCall, Ends, Exchanges}

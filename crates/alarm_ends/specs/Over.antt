@@ -8,7 +8,7 @@ use Rattle.pn_values.specs.declared.mac.Mac.{Mac}
 use Rattle.pn_alarms.specs.Receiver.{taken_as}
 use Rattle.exchanges.specs.Flow.{Flow}
 use Rattle.relations.specs.Exchanged.{raised_to}
-use Rattle.alarm_exchange.specs.Line.{more_taken}
+use Rattle.alarm_laws.specs.Line.{more_taken}
 use Rattle.controller_frames.specs.Heard.{Heard, Nothing, Answers, Responds, Calls, Cyclic, Alarms, heard_of}
 use Rattle.controller_core.specs.Alarms.{is_alarm}
 use Rattle.controller_core.specs.State.{Controlling, Live}

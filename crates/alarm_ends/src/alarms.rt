@@ -1,7 +1,7 @@
 //! The law of alarms, of the worlds that moves make.
 ghost use Rattle.std.specs.Prelude.{◌≡◌, ◌≤◌, ◌+◌, length, List};
 ghost use Rattle.controller_laws.specs.Alarms.{last_of};
-ghost use Rattle.alarm_exchange.specs.World.{IsPrefixOf};
+ghost use Rattle.alarm_laws.specs.World.{IsPrefixOf};
 ghost use Rattle.network_world.specs.declared.moves.Move.{Move};
 ghost use Rattle.network_world.specs.World.{World};
 ghost use Rattle.world_ends.specs.Played.{AreMade, Begins, CanMeet, last_world};

@@ -1,1 +1,4 @@
 pub mod Sendable
+pub mod Line
+pub mod World
+pub mod Taken

@@ -9,6 +9,8 @@ ghost use Rattle.controller_core.specs.Machine.{first, turn_of};
 ghost use Rattle.both_ends.specs.Small.{Seeking};
 ghost use Rattle.controller_ends.specs.Small.{GoesOn, IsInStep, said_in, small_of};
 
+use controller_laws::turns_are_of_a_kind;
+
 /// The machine by which each step of a controller is stated, as far as a start-up goes.
 pub fn controller_goes_on()
     // A controller that was just made looks for the device.
@@ -16,4 +18,6 @@ pub fn controller_goes_on()
     // Whatever happens to it: its state moves as the small one does, and each message that it sends says to the device what it may then.
     ensures goes_on { (setup : Setup) (live : Live) (event : Event) → IsInStep setup.plan live.phase live.asked
         → GoesOn setup.plan (said_in setup (heard_of setup.plan.controller) event) live (turn_of setup live event) }
-{}
+{
+    turns_are_of_a_kind();
+}

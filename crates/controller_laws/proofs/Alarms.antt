@@ -26,23 +26,23 @@ use Rattle.pn_alarms.specs.Receiver.{last_behind, taken_as}
 use Rattle.pn_alarms.specs.Sender.{notified}
 use Rattle.pn_alarms.specs.Sending.{due}
 use Rattle.cyclic_exchange.specs.declared.route.Route.{Route}
-use Rattle.cyclic_exchange.specs.Received.{behind_frame}
 use Rattle.cyclic_exchange.specs.Units.{ending_of, is_again as is_again_due, tick_by}
-use Rattle.alarm_exchange.specs.declared.exchange.Move.{Move as Happening}
-use Rattle.alarm_exchange.specs.declared.exchange.Move.TheVariants as happening
-use Rattle.alarm_exchange.specs.Laws.{AreTakenInOrder as AreExchangedInOrder, LackAtMostTheLast as LackAtMostOne}
-use Rattle.alarm_exchange.specs.Line.{Line, empty, more_taken, with_come, with_sent}
-use Rattle.alarm_exchange.specs.World.{IsPrefixOf, World, acks_after, after_ack_to_controller, after_ack_to_device, after_alarm, after_confirm, after_confirms, after_nack_to_device, after_raise, behind_all, happens, line_after, nacks_after}
-use Rattle.alarm_exchange.specs.World.{start as nothing_happened}
+use Rattle.alarm_laws.specs.World.{Move as Happening}
+use Rattle.alarm_laws.specs.World as happening
+use Rattle.alarm_laws.specs.Taken.{AreTakenInOrder as AreExchangedInOrder, LackAtMostTheLast as LackAtMostOne}
+use Rattle.alarm_laws.specs.Line.{Line, empty, more_taken, with_come, with_sent}
+use Rattle.alarm_laws.specs.World.{IsPrefixOf, World, acks_after, after_ack_to_controller, after_ack_to_device, after_alarm, after_confirm, after_confirms, after_nack_to_device, after_raise, behind_all, happens, line_after, nacks_after}
+use Rattle.alarm_laws.specs.World.{start as nothing_happened}
 use Rattle.controller_frames.specs.declared.setup.Setup.{Setup}
 use Rattle.controller_frames.specs.Heard.{Heard, Nothing, Answers, Responds, Calls, Alarms}
 use Rattle.controller_frames.specs.Heard.{Cyclic as Comes}
 use Rattle.controller_frames.specs.Sent.{Sent, Requests, Agrees, Cycles, Confirms, Replies, Ends}
 use Rattle.controller_core.specs.Alarms.{ack_of, kept_alarm}
-use Rattle.controller_core.specs.Machine.{Turn, acks_in, alarmed, answered, brought, called, come, due_frames, flow_later, flowed, given, is_again, later, noticed, outputs_of, ready_in, requests_of, responded, stays, stopped, taken, where_due}
+use Rattle.controller_core.specs.Machine.{Turn, acks_in, brought, due_frames, flow_later, flowed, given, is_again, later, noticed, outputs_of, requests_of, stays, stopped, taken, turned, where_due}
 use Rattle.controller_core.specs.State.{Live}
 use Rattle.controller_laws.specs.Alarms.{AreTakenInOrder, LackAtMostTheLast, Move, Relation, Raises, PassesAtDevice, ComesToDevice, AlarmComes, AckComes, Hears, PassesAtController, Gives, Stops, ShowsTheLast, ack_comes, alarm_comes, behind, behind_one, comes_to_device, hears, is_looked_at, last_of, passed_at_device, raised_by, replied_by, start, turns}
-use Rattle.controller_laws.proofs.Quiet.{IsQuiet, IsReply, IsThere, answered_quiet, called_quiet, one_quiet, quiet_either, quiet_stays, requests_quiet, responded_quiet, stopped_quiet}
+use Rattle.controller_laws.specs.Turns as came
+use Rattle.controller_laws.proofs.Quiet.{IsQuiet, IsReply, IsThere, quiet_stays, requests_quiet, turn_quiet}
 
 -- ---- lists
 
@@ -354,20 +354,17 @@ ack_on r p source header place (Some number) there = acks_on r p place number (i
 
 hears_on : (setup : Setup) (r : Relation) (p : IsPlayed r) (heard : Heard) → IsPlayed (hears setup r heard)
 hears_on setup r p Nothing = quiet_on r (stays r.live) p (quiet_stays r.live)
-hears_on setup r p (Answers source answer) = quiet_on r (answered setup r.live source answer r.live.phase) p (answered_quiet setup r.live source answer r.live.phase)
-hears_on setup r p (Responds response) = quiet_on r (responded setup r.live response r.live.asked) p (responded_quiet setup r.live response r.live.asked)
-hears_on setup r p (Calls caller call) = quiet_on r (called setup r.live caller call (ready_in call)) p (called_quiet setup r.live caller call (ready_in call))
+hears_on setup r p (Answers source answer) = quiet_on r (turned setup r.live (Answers source answer)) p (turn_quiet setup r.live (came.Hears (Answers source answer)) tt)
+hears_on setup r p (Responds response) = quiet_on r (turned setup r.live (Responds response)) p (turn_quiet setup r.live (came.Hears (Responds response)) tt)
+hears_on setup r p (Calls caller call) = quiet_on r (turned setup r.live (Calls caller call)) p (turn_quiet setup r.live (came.Hears (Calls caller call)) tt)
 hears_on setup r p (Comes source frame_id body) =
-    quiet_on r (stays (come r.live source frame_id body)) p
-    (one_quiet r.live r.live.stands (record r.live { cyclic = behind_frame r.live.cyclic source frame_id body }) r.live
-    (record { alarms = refl; alarm = refl; sent = λ pdus acks nacks. tt }) (quiet_stays r.live))
+    quiet_on r (turned setup r.live (Comes source frame_id body)) p (turn_quiet setup r.live (came.Hears (Comes source frame_id body)) tt)
 hears_on setup r p (Alarms source header (notice.Data number alarm)) = p
 hears_on setup r p (Alarms source header (notice.Ack number)) = p
 hears_on setup r p (Alarms source header notice.Nack) =
-    quiet_on r (alarmed r.live source header notice.Nack) p (quiet_either (is_looked_at r source header) (quiet_stays r.live) (quiet_stays r.live))
+    quiet_on r (turned setup r.live (Alarms source header notice.Nack)) p (turn_quiet setup r.live (came.Hears (Alarms source header notice.Nack)) tt)
 hears_on setup r p (Alarms source header notice.Abort) =
-    quiet_on r (alarmed r.live source header notice.Abort) p
-    (quiet_either (is_looked_at r source header) (record { alarms = refl; alarm = refl; sent = λ pdus acks nacks. tt }) (quiet_stays r.live))
+    quiet_on r (turned setup r.live (Alarms source header notice.Abort)) p (turn_quiet setup r.live (came.Hears (Alarms source header notice.Abort)) tt)
 
 -- ---- a unit passes at the controller
 
@@ -443,7 +440,7 @@ one_on setup r (Hears heard) p = hears_on setup r p heard
 one_on setup r PassesAtController p = stands_on r p r.live.stands
 one_on setup r (Gives slot subslot value) p =
     quiet_on r (stays (given r.live slot subslot value)) p (record { alarms = refl; alarm = refl; sent = λ pdus acks nacks. tt })
-one_on setup r Stops p = quiet_on r (stopped setup r.live r.live.phase) p (stopped_quiet setup r.live r.live.phase)
+one_on setup r Stops p = quiet_on r (stopped setup r.live r.live.phase) p (turn_quiet setup r.live came.Halts tt)
 
 all_on : (setup : Setup) (moves : List Move) (r : Relation) → IsPlayed r → IsPlayed (behind setup moves r)
 all_on setup [] r p = p

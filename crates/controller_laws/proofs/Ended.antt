@@ -1,36 +1,31 @@
 -- What comes to a controller that ended, and what it sends.
-use Rattle.std.proofs.Common.{◌≡◌, ◌⊎◌, inl, inr, ◌++◌, ◌&&◌, ℕ, Bool, true, false, List, [], ◌∷◌, length, map, Option, Some, None, refl, sym, ap, subst, ◌∙◌}
+use Rattle.std.proofs.Common.{◌≡◌, ◌⊎◌, inl, inr, ◌++◌, ℕ, Bool, true, false, List, [], ◌∷◌, length, map, Option, Some, None, refl, sym, ap, subst, ◌∙◌}
 use Rattle.std.specs.Prelude.{if◌then◌else◌, unwrap_or}
+use Rattle.std.proofs.lemmas.Bool.{false≢true}
 use Rattle.std.specs.List.{AllByRecursion}
 use Rattle.pn_values.specs.declared.mac.Mac.{Mac}
-use Rattle.frame_codec.specs.declared.udp.Caller.{Caller}
-use Rattle.rpc_core.specs.Call.{Asked as Call}
-use Rattle.rpc_core.specs.Response.{Answered as Response}
-use Rattle.connect_blocks.specs.declared.control.ControlBlock.{ControlBlock}
 use Rattle.cyclic_data.specs.declared.place.PlaceKind.TheVariants.{Data}
 use Rattle.cyclic_data.specs.Image.{Shown, cell_at, changed, has_size}
 use Rattle.cyclic_exchange.specs.Cyclic.{Cyclic}
 use Rattle.cyclic_exchange.specs.Process.{with_good}
-use Rattle.cyclic_exchange.specs.Received.{behind_frame}
 use Rattle.controller_frames.specs.declared.setup.Setup.{Setup}
 use Rattle.controller_frames.specs.declared.request.Request.{Request}
 use Rattle.controller_frames.specs.declared.request.Request.TheVariants as asks
-use Rattle.controller_frames.specs.Heard.{Heard, Nothing, Answers, Responds, Calls, Alarms, heard_of}
-use Rattle.controller_frames.specs.Heard.{Cyclic as Comes}
+use Rattle.controller_frames.specs.Heard.{Heard, heard_of}
 use Rattle.controller_frames.specs.Sent.{bytes_of}
 use Rattle.controller_core.specs.declared.event.Event.{Event}
 use Rattle.controller_core.specs.declared.event.Event.TheVariants.{Frame, Tick, Give, Stop}
 use Rattle.controller_core.specs.declared.state.Cause.{Cause}
 use Rattle.controller_core.specs.declared.state.State.{State}
-use Rattle.controller_core.specs.declared.state.State.TheVariants.{Ended}
+use Rattle.controller_core.specs.declared.state.State.TheVariants.{Looking, Addressing, Ending, Waiting, Exchanging, Ended}
 use Rattle.controller_core.specs.State.{Controlling, Live, with_live}
-use Rattle.controller_core.specs.Alarms.{is_alarm}
-use Rattle.controller_core.specs.Answers.{is_answer, is_ready}
-use Rattle.controller_core.specs.Machine.{Turn, answered, called, flow_later, flowed, brought, given, is_again, later, noticed, readied, ready_in, requests_of, responded, stays, step_of, stopped, ticked, turned}
+use Rattle.controller_core.specs.Machine.{Turn, flow_later, flowed, brought, given, is_again, later, requests_of, stays, step_of, stopped, ticked, turned}
 use Rattle.controller_core.specs.Machine.{where_due as sent_where_due}
 use Rattle.controller_laws.specs.Runs.{frames_of}
 use Rattle.controller_laws.specs.Ended.{CountsUnits, DropsWhatComes, HasEnded, IsAnswered, IsDropped, IsSilent, KeepsItsCause, RepeatsItsRelease, is_unit, may_release, release_in, release_of, where_due}
-use Rattle.controller_laws.proofs.Whole.{IsEnd, IsTold, reached_on, whole_end}
+use Rattle.controller_laws.specs.Turns.{Hears, Passes, Gets, IsEnd, IsKind, IsTold, Kind, Rests, Connects, Addresses, Ends, Releases, Relates, Writes, Waits, Forgets, Begins, Repeats, Follows, Takes, IsAcked, Gives, Flows, Breaks, Idles, turn_by}
+use Rattle.controller_laws.proofs.OneTurn.{is_over, is_release, not_over, turn_is, untold}
+use Rattle.controller_laws.proofs.Whole.{reached_on, whole_end}
 
 -- ---- a frame
 
@@ -38,43 +33,55 @@ use Rattle.controller_laws.proofs.Whole.{IsEnd, IsTold, reached_on, whole_end}
 abbrev IsUnmoved : Setup → Live → Heard → Turn → Type 0
 IsUnmoved setup live heard turn = (turn ≡ stays live) ⊎ (IsAnswered setup live heard × (turn ≡ stays (record live { asked = None })))
 
-not_so : (is : Bool) (x y : Turn) → x ≡ y → (if is then x else y) ≡ y
-not_so true x y e = e
-not_so false x y e = refl
+module _ (setup : Setup) (live : Live) (heard : Heard) (cause : Cause) (h : IsEnd cause live) where
+  -- no other request than the Release stands
+  unasked : (request : Request) → is_release request ≡ false → live.asked ≡ Some request → ⊥
+  unasked request other stood = untold request cause other (subst (λ (o : Option Request). IsTold cause o) stood h.asked)
 
-called_none : (setup : Setup) (live : Live) (caller : Caller) (call : Call) (block : Option ControlBlock) (cause : Cause) → live.phase ≡ Ended cause
-    → called setup live caller call block ≡ stays live
-called_none setup live caller call (Some block) cause e =
-    not_so (is_ready setup block) (readied live caller call block live.phase) (stays live) (ap (λ (phase : State). readied live caller call block phase) e)
-called_none setup live caller call None cause e = refl
+  -- it is in no other phase
+  other_phase : (phase : State) → is_over phase ≡ false → live.phase ≡ phase → ⊥
+  other_phase phase stands is = not_over phase cause stands (sym is ∙ h.phase)
 
-answered_as : (setup : Setup) (live : Live) (response : Response) (sequence : ℕ) (is : Bool) → live.asked ≡ Some (asks.Release sequence)
-    → is_answer setup (asks.Release sequence) response.header ≡ is
-    → IsUnmoved setup live (Responds response) (if is then stays (record live { asked = None }) else stays live)
-answered_as setup live response sequence true stood right =
-    inr (record { response = response; sequence = sequence; stood = stood; comes = refl; right = right }, refl)
-answered_as setup live response sequence false stood right = inl refl
+  either_phase : (one other : State) → is_over one ≡ false → is_over other ≡ false → (live.phase ≡ one) ⊎ (live.phase ≡ other) → ⊥
+  either_phase one other stands too (inl is) = other_phase one stands is
+  either_phase one other stands too (inr is) = other_phase other too is
 
-responded_as : (setup : Setup) (live : Live) (response : Response) (asked : Option Request) (cause : Cause) → live.asked ≡ asked → IsTold cause asked
-    → IsUnmoved setup live (Responds response) (responded setup live response asked)
-responded_as setup live response None cause stood told = inl refl
-responded_as setup live response (Some asks.Identify) cause stood told = absurd told
-responded_as setup live response (Some asks.Address) cause stood told = absurd told
-responded_as setup live response (Some asks.Connect) cause stood told = absurd told
-responded_as setup live response (Some (asks.Write number)) cause stood told = absurd told
-responded_as setup live response (Some asks.PrmEnd) cause stood told = absurd told
-responded_as setup live response (Some (asks.Release sequence)) cause stood told =
-    answered_as setup live response sequence (is_answer setup (asks.Release sequence) response.header) stood refl
+  up_not : live.stands ≡ true → ⊥
+  up_not up = false≢true (sym h.down ∙ up)
+
+  same_heard : (other : Heard) → Hears heard ≡ Hears other → other ≡ heard
+  same_heard other e = cc
+
+  not_gets : (slot subslot : ℕ) (value : List ℕ) → Hears heard ≡ Gets slot subslot value → ⊥
+  not_gets slot subslot value e = cc
+
+  not_passes : Hears heard ≡ Passes → ⊥
+  not_passes e = cc
+
+  unmoved_by : (kind : Kind) → IsKind setup live (Hears heard) kind → IsUnmoved setup live heard (turn_by setup live kind)
+  unmoved_by Rests holds = inl refl
+  unmoved_by (Connects source) holds = absurd (either_phase Looking Addressing refl refl holds.seeking)
+  unmoved_by (Addresses source) holds = absurd (either_phase Looking Addressing refl refl holds.seeking)
+  unmoved_by (Ends mine) holds = absurd (holds cause h)
+  unmoved_by (Releases mine) holds = absurd (holds.0 cause h)
+  unmoved_by (Relates frame_id) holds = absurd (unasked asks.Connect refl holds.0.stood)
+  unmoved_by (Writes number) holds = absurd (unasked (asks.Write number) refl holds.stood)
+  unmoved_by Waits holds = absurd (unasked asks.PrmEnd refl holds.stood)
+  unmoved_by Forgets holds = inr (subst (λ (other : Heard). IsAnswered setup live other) (same_heard holds.0 holds.1) holds.2, refl)
+  unmoved_by (Begins caller call block) holds = absurd (either_phase Ending Waiting refl refl holds.0)
+  unmoved_by (Repeats caller call block) holds = absurd (other_phase Exchanging refl holds.0)
+  unmoved_by (Follows source frame_id body) holds = absurd (up_not holds)
+  unmoved_by (Takes number alarm) holds = absurd (up_not holds.0)
+  unmoved_by (IsAcked number) holds = absurd (up_not holds.0)
+  unmoved_by (Gives slot subslot value) holds = absurd (not_gets slot subslot value holds)
+  unmoved_by Flows holds = absurd (not_passes holds.0)
+  unmoved_by (Breaks reason) holds = absurd (not_passes holds.0)
+  unmoved_by Idles holds = absurd (not_passes holds.0)
 
 heard_as : (setup : Setup) (live : Live) (heard : Heard) (cause : Cause) → IsEnd cause live → IsUnmoved setup live heard (turned setup live heard)
-heard_as setup live Nothing cause h = inl refl
-heard_as setup live (Answers source answer) cause h = inl (ap (λ (phase : State). answered setup live source answer phase) h.phase)
-heard_as setup live (Responds response) cause h = responded_as setup live response live.asked cause refl h.asked
-heard_as setup live (Calls caller call) cause h = inl (called_none setup live caller call (ready_in call) cause h.phase)
-heard_as setup live (Comes source frame_id body) cause h =
-    inl (ap (λ (is : Bool). stays (if is then record live { cyclic = behind_frame live.cyclic source frame_id body } else live)) h.down)
-heard_as setup live (Alarms source header told) cause h =
-    inl (ap (λ (is : Bool). if is && is_alarm live.cyclic.route source header then noticed live told else stays live) h.down)
+heard_as setup live heard cause h =
+    let turn = turn_is setup live (Hears heard) in
+    subst (λ (t : Turn). IsUnmoved setup live heard t) (sym turn.is) (unmoved_by setup live heard cause h turn.kind turn.holds)
 
 -- ---- an output, a stop and a unit
 

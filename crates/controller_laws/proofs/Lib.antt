@@ -1,3 +1,4 @@
+pub mod OneTurn
 pub mod Whole
 pub mod Ended
 pub mod Quiet

@@ -13,8 +13,8 @@ use Rattle.pn_alarms.specs.Numbers.{send_number}
 use Rattle.pn_alarms.specs.Receiver.{taken_as}
 use Rattle.pn_alarms.specs.Sender.{notified}
 use Rattle.pn_alarms.specs.Sending.{due}
-use Rattle.alarm_exchange.specs.Line.{Line, empty, with_come, with_sent}
-use Rattle.alarm_exchange.specs.World.{IsPrefixOf, acks_after, line_after}
+use Rattle.alarm_laws.specs.Line.{Line, empty, with_come, with_sent}
+use Rattle.alarm_laws.specs.World.{IsPrefixOf, acks_after, line_after}
 use Rattle.controller_frames.specs.declared.setup.Setup.{Setup}
 use Rattle.controller_frames.specs.Heard.{Heard, Alarms}
 use Rattle.controller_frames.specs.Sent.{Sent, Confirms, Replies}

@@ -1,3 +1,4 @@
 pub mod Runs
 pub mod Ended
+pub mod Turns
 pub mod Alarms

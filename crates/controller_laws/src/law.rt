@@ -27,5 +27,5 @@ pub fn alarms_are_taken_in_order()
     // It shows the last that it took.
     ensures shown { ShowsTheLast }
 {
-    alarm_exchange::alarms_are_taken_in_order();
+    alarm_laws::alarms_are_taken_in_order();
 }

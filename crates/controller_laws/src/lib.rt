@@ -3,5 +3,7 @@
 #![tactic(auto)]
 
 mod law;
+mod turns;
 
 pub use law::{alarms_are_taken_in_order, ended_is_kept};
+pub use turns::turns_are_of_a_kind;

@@ -1,7 +1,8 @@
 -- How long what a controller sends is.
-use Rattle.std.proofs.Common.{◌≡◌, ◌≤◌, ◌<◌, ◌+◌, ◌%◌, ◌==◌, ◌&&◌, nat_eq, ℕ, Bool, true, false, List, [], ◌++◌, length, Option, Some, None, refl, sym, ap, ◌∙◌, arith}
+use Rattle.std.proofs.Common.{◌≡◌, ◌≤◌, ◌<◌, ◌+◌, ◌%◌, ◌&&◌, nat_eq, nat_lt, ℕ, Bool, true, false, List, [], ◌∷◌, ◌++◌, length, Option, Some, None, Result, Ok, Err, if◌then◌else◌, unwrap_or, refl, sym, ap, ◌∙◌, arith}
+use Rattle.std.specs.List.{AllByRecursion}
 use Rattle.std.specs.Cmp.Lexicographic.{pointwise, same_text}
-use Rattle.std.proofs.lemmas.Bool.{and_parts}
+use Rattle.std.proofs.lemmas.Bool.{and_parts, ltb-true}
 use Rattle.std.proofs.lemmas.List.{length-append}
 use Rattle.wire.specs.Formats.{big_bytes}
 use Rattle.std.proofs.lemmas.List.FromFn.{length-map-range_with_len}
@@ -13,13 +14,29 @@ use Rattle.block_codec.specs.declared.block.Block.{Block}
 use Rattle.block_codec.specs.declared.block.Block.TheVariants as is
 use Rattle.block_codec.specs.Block.{block_bytes, block_size, fields_of}
 use Rattle.rpc_core.specs.Call.{Asked as Call}
-use Rattle.cyclic_data.specs.Image.{Shown, octets_of}
-use Rattle.cyclic_data.specs.Tail.{cyclic_frame, cyclic_tail}
+use Rattle.pn_values.specs.declared.mac.Mac.{Mac}
+use Rattle.cyclic_data.specs.declared.tail.CyclicTail.{CyclicTail}
+use Rattle.cyclic_data.specs.declared.tail.ShortFrame.{ShortFrame}
+use Rattle.cyclic_data.specs.declared.place.PlaceKind.TheVariants.{Data as data_at}
+use Rattle.cyclic_data.specs.Image.{Shown, cell_at, has_size, octets_of}
+use Rattle.cyclic_data.specs.Tail.{cyclic_frame, cyclic_of, cyclic_tail}
 use Rattle.pn_alarms.specs.Numbers.{next_number}
+use Rattle.cyclic_exchange.specs.Cyclic.{Cyclic}
 use Rattle.cyclic_exchange.specs.Frames.{cyclic_body}
-use Rattle.controller_frames.specs.Sent.{ready_answer, ready_done}
+use Rattle.cyclic_exchange.specs.Process.{provided_at}
+use Rattle.cyclic_exchange.specs.Received.{behind_frame, behind_read, is_new, is_of_partner}
+use Rattle.plans.specs.declared.parts.Parts.{Parts}
+use Rattle.plans.specs.Plan.{IsPlan}
+use Rattle.controller_frames.specs.declared.request.Request.{Request}
+use Rattle.controller_frames.specs.declared.request.Request.TheVariants as asks
+use Rattle.controller_frames.specs.Heard.{Heard}
+use Rattle.controller_frames.specs.Requests.{writing_from}
+use Rattle.controller_frames.specs.Sent.{Sent, ready_answer, ready_done}
+use Rattle.controller_core.specs.Machine.{next_sequence, where_due}
+use Rattle.controller_laws.specs.Turns.{Came, Hears, Passes, Gets, Halts}
 use Rattle.rpc_core.specs.Sendable.{CanBeAnswered, IsHeader}
-use Rattle.sending_laws.specs.Sized.{IsShort}
+use Rattle.hearing_laws.specs.Stations.{IsNumbered}
+use Rattle.sending_laws.specs.Sized.{AreFew, IsFew, IsShort}
 
 abbrev pub BlocksAreLong : Type 0
 BlocksAreLong = (block : Block) → length (block_bytes block) ≡ block_size block
@@ -63,3 +80,79 @@ pub named_so : (block ar : List ℕ) (session : Bool) → (pointwise nat_eq bloc
 named_so block ar session e sixteen =
     let parts = and_parts (pointwise nat_eq block ar) session e in
     ap length (same_text block ar (sym parts.0)) ∙ sixteen
+
+-- ---- requests
+
+pub numbered : (request : Request) → IsFew request → IsNumbered request
+numbered asks.Identify is = tt
+numbered asks.Address is = tt
+numbered asks.Connect is = tt
+numbered (asks.Write number) is = omega (arith, is)
+numbered asks.PrmEnd is = tt
+numbered (asks.Release sequence) is = is
+
+picked_few : (number : ℕ) (test : Bool) → (test ≡ true → number < 32) → IsFew (if test then asks.Write number else asks.PrmEnd)
+picked_few number true few = few refl
+picked_few number false few = tt
+
+pub writing_few : (plan : Parts) (number : ℕ) → IsPlan plan → IsFew (writing_from plan number)
+writing_few plan number is =
+    picked_few number (nat_lt number (length plan.records.items)) (λ e. let below = ltb-true number (length plan.records.items) e in omega (arith, below, is.few_records))
+
+pub sequence_few : (plan : Parts) (asked : Option Request) → IsPlan plan → AreFew asked → next_sequence plan asked < 4294967296
+sequence_few plan None is few = omega (arith, is.few_records)
+sequence_few plan (Some asks.Identify) is few = omega (arith, is.few_records)
+sequence_few plan (Some asks.Address) is few = omega (arith, is.few_records)
+sequence_few plan (Some asks.Connect) is few = omega arith
+sequence_few plan (Some (asks.Write number)) is few = omega (arith, few)
+sequence_few plan (Some asks.PrmEnd) is few = omega (arith, is.few_records)
+sequence_few plan (Some (asks.Release sequence)) is few = omega (arith, is.few_records)
+
+-- ---- messages
+
+pub all_append : (P : Sent → Type 0) (xs ys : List Sent) → AllByRecursion P xs → AllByRecursion P ys → AllByRecursion P (xs ++ ys)
+all_append P [] ys one other = other
+all_append P (x ∷ xs) ys one other = (one.0, all_append P xs ys one.1 other)
+
+pub due_all : (P : Sent → Type 0) (test : Bool) (sent : List Sent) → AllByRecursion P sent → AllByRecursion P (where_due test sent)
+due_all P true sent is = is
+due_all P false sent is = tt
+
+-- ---- what comes
+
+-- what holds of what is heard
+abbrev pub CameSo : (Heard → Type 0) → Came → Type 0
+CameSo P (Hears heard) = P heard
+CameSo P Passes = Unit {0}
+CameSo P (Gets slot subslot value) = Unit {0}
+CameSo P Halts = Unit {0}
+
+-- ---- cyclic frames
+
+-- neither a frame that is heard nor a value that is given changes the route, or how much is sent
+pub record Stays (before after : Cyclic) : Type 0 where
+  pub route : after.route ≡ before.route
+  pub long : after.shown.data_length ≡ before.shown.data_length
+
+stays_so : (cyclic : Cyclic) → Stays cyclic cyclic
+stays_so cyclic = record { route = refl; long = refl }
+
+stays_if : (before : Cyclic) (test : Bool) (one other : Cyclic) → Stays before one → Stays before other → Stays before (if test then one else other)
+stays_if before true one other first second = first
+stays_if before false one other first second = second
+
+read_stays : (cyclic : Cyclic) (read : Result (List ℕ × CyclicTail) ShortFrame) → Stays cyclic (behind_read cyclic read)
+read_stays cyclic (Ok x) = stays_if cyclic (is_new cyclic x.1) _ cyclic (record { route = refl; long = refl }) (stays_so cyclic)
+read_stays cyclic (Err short) = stays_so cyclic
+
+pub frame_stays : (cyclic : Cyclic) (source : Mac) (frame_id : ℕ) (body : List ℕ) → Stays cyclic (behind_frame cyclic source frame_id body)
+frame_stays cyclic source frame_id body =
+    stays_if cyclic (is_of_partner cyclic.route source frame_id) _ cyclic (read_stays cyclic (cyclic_of cyclic.taken.data_length body)) (stays_so cyclic)
+
+option_stays : (before : Cyclic) (test : Bool) (one : Cyclic) → Stays before one → Stays before (unwrap_or (if test then Some one else None) before)
+option_stays before true one is = is
+option_stays before false one is = stays_so before
+
+pub given_stays : (cyclic : Cyclic) (slot subslot : ℕ) (value : List ℕ) → Stays cyclic (unwrap_or (provided_at cyclic slot subslot value) cyclic)
+given_stays cyclic slot subslot value =
+    option_stays cyclic (has_size (length value) (cell_at data_at slot subslot cyclic.shown.cells)) _ (record { route = refl; long = refl })

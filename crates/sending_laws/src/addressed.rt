@@ -9,6 +9,7 @@ ghost use Rattle.hearing_laws.specs.Stations.{IsSetup};
 ghost use Rattle.sending_laws.specs.Addressed.{IsAimed, IsAimedAt, IsEventFrom};
 
 use block_laws::blocks_are_read;
+use controller_laws::turns_are_of_a_kind;
 
 /// Each message of a controller's machine goes to a station, whatever frames of data and alarms it hears: laws of the definitions.
 pub fn messages_are_addressed()
@@ -19,4 +20,5 @@ pub fn messages_are_addressed()
         → IsAimed (turn_of setup live event).live × AllByRecursion (IsAimedAt mac) (turn_of setup live event).sent }
 {
     blocks_are_read();
+    turns_are_of_a_kind();
 }

@@ -16,6 +16,7 @@ ghost use Rattle.sending_laws.specs.Messages.{CanBeSent};
 ghost use Rattle.sending_laws.specs.Sized.{IsLive, IsSized, IsSizedEvent};
 
 use block_laws::blocks_are_read;
+use controller_laws::turns_are_of_a_kind;
 use hearing_laws::{
     alarms_are_heard, answers_are_heard, ends_are_heard, inputs_are_heard, packets_are_heard,
     ready_calls_are_heard, responses_are_heard,
@@ -37,6 +38,7 @@ pub fn messages_can_be_sent()
         → IsLive (turn_of setup live event).live × AllByRecursion (CanBeSent setup) (turn_of setup live event).sent }
 {
     blocks_are_read();
+    turns_are_of_a_kind();
 }
 
 /// What a controller hears of a device has its sizes: a law of the definitions.

@@ -6,8 +6,6 @@ mod kind;
 mod law;
 mod schedule;
 mod station;
-#[cfg(test)]
-mod tests;
 mod told;
 mod watch;
 

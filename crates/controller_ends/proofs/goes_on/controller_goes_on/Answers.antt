@@ -6,4 +6,4 @@ pub returns-clause-begins : goal.returns-clause-begins
 returns-clause-begins c = λ plan. (refl, refl)
 
 pub returns-clause-goes_on : goal.returns-clause-goes_on
-returns-clause-goes_on c = λ setup live event in_step. event_goes setup live event in_step
+returns-clause-goes_on c = λ setup live event in_step. event_goes setup live event (c.turns_are_of_a_kind.ensures.event setup live event) in_step

@@ -1,4 +1,0 @@
-pub mod Line
-pub mod World
-pub mod Shown
-pub mod Laws

@@ -1,0 +1,13 @@
+//! Tests of the public calls of blocks and records: what no contract says, worked rows and octets from outside.
+//!
+//! Blocks, their lists, the records and the differences that are made of them, and the calls that read and write records.
+#![cfg(test)]
+
+mod blocks;
+mod differences;
+mod lists;
+mod reads;
+mod records;
+mod statuses;
+mod within;
+mod writes;

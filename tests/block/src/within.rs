@@ -1,0 +1,85 @@
+//! Records that are read within a relation.
+
+use super::reads::{Asked, GOOD, plugged, sent};
+use super::records::settings;
+use block_fields::Uuid;
+use demo_station::identity;
+use pnio_status::{CallFault, Operation};
+use record_reads::{Blocks, names_relation, read_within};
+
+/// The ModuleDiffBlock, in any slot.
+const DIFFERENCE: Asked = Asked {
+    slot: 9,
+    subslot: 9,
+    index: 0xE002,
+    ..GOOD
+};
+
+/// What a Read is answered while the relation of an ARUUID of these octets stands, whose ModuleDiffBlock is these.
+fn answered(relation: u8, differing: &[u8], asked: Asked) -> Result<Blocks, CallFault> {
+    let uuid = Uuid::from_bytes([relation; 16]);
+    let mut answer = Blocks::new();
+    read_within(
+        Some(&uuid),
+        differing,
+        &identity(),
+        &plugged(),
+        &settings(),
+        &asked.octets(),
+        &mut answer,
+    )?;
+    Ok(answer)
+}
+
+/// Whether a ModuleDiffBlock of these octets is read, so many by RecordDataLength.
+fn reads_difference(differing: &[u8; 5], size: u8) -> bool {
+    let Some(differing) = differing.get(..usize::from(size)) else {
+        return false;
+    };
+    let Ok(answer) = answered(7, differing, DIFFERENCE) else {
+        return false;
+    };
+    match sent(&answer) {
+        Some((told, record)) => told == [0, 0, 0, size].as_slice() && record == differing,
+        None => false,
+    }
+}
+
+#[test]
+fn reads_what_differs() {
+    for size in 0..=5 {
+        assert!(reads_difference(&[1, 2, 3, 4, 5], size), "{size}");
+    }
+}
+
+/// The four octets of the status by which a Read within a relation is answered.
+fn refused_in(relation: u8, asked: Asked) -> Option<[u8; 4]> {
+    let status = answered(relation, &[], asked)
+        .err()?
+        .number(Operation::Read);
+    Some([status.code, status.decode, status.code1, status.code2])
+}
+
+#[test]
+fn reads_within_its_relation_alone() {
+    for asked in [DIFFERENCE, GOOD, Asked { api: 1, ..GOOD }] {
+        assert_eq!(refused_in(8, asked), Some([0xDE, 0x81, 0x40, 0x05]));
+    }
+    assert!(answered(7, &[], GOOD).is_ok());
+}
+
+#[test]
+fn knows_whose_relation_a_read_names() {
+    let octets = GOOD.octets();
+    assert!(names_relation(Some(&Uuid::from_bytes([7; 16])), &octets));
+    assert!(!names_relation(Some(&Uuid::from_bytes([8; 16])), &octets));
+    assert!(!names_relation(None, &octets));
+}
+
+#[test]
+fn knows_no_relation_that_a_broken_read_names() {
+    let mut octets = GOOD.octets();
+    // another BlockLength
+    octets[3] = 59;
+    assert!(!names_relation(Some(&Uuid::from_bytes([7; 16])), &octets));
+}

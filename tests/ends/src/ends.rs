@@ -1,0 +1,385 @@
+//! Both ends by their public calls, frame by frame. The octets that are wanted come from the rules of IEC 61158-6-10.
+
+use super::{OTHER_MODULES, PUMP};
+use configurator::plan_from_json;
+use controller_core::{Cause, Controller, Event as ControllerEvent, State};
+use demo_station::identity;
+use device_core::{Device, Event, Note};
+use flash_model::{MemoryFlash, Order};
+use frame_codec::{Bytes, Frame, Outbox};
+use rattle_std::alloc::Global;
+use relations::Phase;
+use test_stations::{
+    DONE, SET, Station, WRITE, call, frame, is_filled, is_padded, octets, plugged, set_pump, step,
+};
+use uuid::Uuid;
+
+// A Write of I&M2 in the relation whose ARUUID is 1111..11.
+const WRITE_DATE: [u8; 86] =
+    *b"\x00\x08\x00\x3c\x01\x00\x00\x00\x11\x11\x11\x11\x11\x11\x11\x11\x11\x11\x11\x11\x11\x11\x11\x11\
+    \x00\x00\x00\x00\x00\x00\x00\x01\x00\x00\xaf\xf2\x00\x00\x00\x16\
+    \x00\x00\x00\x00\x00\x00\x00\x00\x00\x00\x00\x00\x00\x00\x00\x00\x00\x00\x00\x00\x00\x00\x00\x00\
+    \x00\x22\x00\x12\x01\x002024-05-06 07:08";
+
+// The ERR of a device that ends its relation for another reason.
+const ABORT: [u8; 36] =
+    *b"\x02\x00\x00\x00\x00\x02\x02\x00\x00\x00\x00\x01\x81\x00\xa0\x00\x88\x92\xfe\x01\
+    \x00\x01\x00\x01\x14\x01\xff\xff\xff\xfe\x00\x04\xcf\x81\xfd\x0d";
+
+// A ResetToFactory of mode 1.
+const ASKED: [u8; 32] =
+    *b"\x02\x00\x00\x00\x00\x01\x02\x00\x00\x00\x00\x02\x88\x92\xfe\xfd\x04\x00\x00\x00\x00\x02\x00\x00\x00\x06\
+    \x05\x06\x00\x02\x00\x02";
+
+// The answer to one that is done, and to one of a mode that there is not.
+const RESET: [u8; 33] =
+    *b"\x02\x00\x00\x00\x00\x02\x02\x00\x00\x00\x00\x01\x88\x92\xfe\xfd\x04\x01\x00\x00\x00\x02\x00\x00\x00\x08\
+    \x05\x04\x00\x03\x05\x06\x00";
+
+const REFUSED: [u8; 33] =
+    *b"\x02\x00\x00\x00\x00\x02\x02\x00\x00\x00\x00\x01\x88\x92\xfe\xfd\x04\x01\x00\x00\x00\x02\x00\x00\x00\x08\
+    \x05\x04\x00\x03\x05\x06\x02";
+
+// The modules of the plan that the demo station has not: another one in slot 2, and none in slot 3.
+const DIFFERENCES: [u8; 50] = *b"\x81\x04\x00\x2e\x01\x00\x00\x01\x00\x00\x00\x00\x00\x02\
+    \x00\x02\x00\x00\x00\x20\x00\x01\x00\x01\x00\x01\x00\x00\x00\x20\x90\x00\
+    \x00\x03\x00\x00\x00\x00\x00\x00\x00\x01\x00\x01\x00\x00\x00\x00\x98\x00";
+
+/// Both ends, the last frame that the controller sent, and what the device answered to the one before.
+struct Ends {
+    device: Station,
+    controller: Controller,
+    sent: Bytes,
+    answers: Outbox,
+}
+
+/// A controller of a plan. Each octet of its ARUUID is this one; the activity of its calls is another than that of other controllers.
+fn controller(alloc: Global, catalogue: &str, octet: u8) -> Controller {
+    let plan = plan_from_json(alloc, catalogue.as_bytes())
+        .ok()
+        .expect("there is a plan");
+    Controller::new(
+        plan,
+        Uuid::from_bytes([octet; 16]),
+        Uuid::from_bytes([octet.wrapping_add(0x40); 16]),
+    )
+}
+
+/// What a controller sends of an event. As for a device, what such a step promises is read here, and not again in each test.
+fn told(controller: &mut Controller, event: &ControllerEvent) -> Outbox {
+    let mut outbox = Outbox::new();
+    controller.step(event, &mut outbox);
+    outbox
+}
+
+/// The controller hears a frame. The last one that it sends then stays.
+fn hear(controller: &mut Controller, frame: &Frame, sent: &mut Bytes) {
+    let event = ControllerEvent::Frame(octets(frame.as_slice()));
+    let outbox = told(controller, &event);
+    if let Some(last) = outbox.as_slice().last() {
+        *sent = octets(last.as_slice());
+    }
+}
+
+impl Ends {
+    /// The demo station with the name of the plan, and a controller of the plan, which looks for it.
+    fn new(alloc: Global, catalogue: &str) -> Ends {
+        let mut device = Device::boot(identity(), plugged(), MemoryFlash::blank())
+            .ok()
+            .expect("it starts");
+        let mut answers = Outbox::new();
+        let _ = step(&mut device, &frame(&SET), &mut answers);
+        let controller = controller(alloc, catalogue, 0x11);
+        let sent = octets(controller.opening().as_slice());
+        Ends {
+            device,
+            controller,
+            sent,
+            answers,
+        }
+    }
+
+    /// The device hears what the controller sent last, and the controller what the device answers.
+    fn turn(&mut self) {
+        let event = frame(self.sent.as_slice());
+        let _ = step(&mut self.device, &event, &mut self.answers);
+        for frame in self.answers.as_slice() {
+            hear(&mut self.controller, frame, &mut self.sent);
+        }
+    }
+
+    /// The same, so many times.
+    fn turns(&mut self, count: u32) {
+        for _ in 0..count {
+            self.turn();
+        }
+    }
+
+    /// Both ends exchange data.
+    fn started(alloc: Global) -> Ends {
+        let mut ends = Ends::new(alloc, PUMP);
+        ends.turns(5);
+        ends
+    }
+
+    /// What the controller is at.
+    fn is_at(&self, state: State) {
+        assert_eq!(self.controller.state(), state);
+    }
+
+    /// What the relation of the device waits for, if there is one.
+    fn is_related(&self, phase: Option<Phase>) {
+        assert_eq!(self.device.phase(), phase);
+    }
+
+    /// This becomes of an event at the device.
+    fn notes(&mut self, event: &Event, note: Note) {
+        assert_eq!(step(&mut self.device, event, &mut self.answers), note);
+    }
+
+    /// The device sent one frame, of so many octets.
+    fn is_answer_long(&self, length: usize) {
+        let answer = one(&self.answers).expect("an answer");
+        assert_eq!(answer.len(), length);
+    }
+
+    /// The device sent one frame: these octets, filled up.
+    fn is_answer(&self, octets: &[u8]) {
+        assert!(is_padded(&self.answers, octets));
+    }
+
+    /// The device answered a call with this status.
+    fn has_status(&self, status: [u8; 4]) {
+        assert_eq!(status_of(&self.answers), Some(status.as_slice()));
+    }
+
+    /// The date of installation under which the device runs.
+    fn has_date(&self, date: &[u8; 16]) {
+        assert_eq!(self.device.running().im2.as_bytes(), date.as_slice());
+    }
+
+    /// The name under which it runs.
+    fn is_named(&self, name: &[u8]) {
+        assert_eq!(self.device.running().name.as_bytes(), name);
+    }
+}
+
+/// A ResetToFactory of this mode, at most 127: its BlockQualifier is twice the mode.
+fn reset(mode: u8) -> Bytes {
+    let mut request = ASKED;
+    request[31] = mode.wrapping_mul(2);
+    octets(&request)
+}
+
+/// Whether these octets, cut at any place, are no frame to the device.
+fn is_none_where_cut(device: &mut Station, octets: &[u8]) -> bool {
+    let mut is_none = true;
+    for length in 0..octets.len() {
+        is_none = is_none && is_fault(device, &octets[..length]);
+    }
+    is_none
+}
+
+/// Whether these octets are no frame to the device.
+fn is_fault(device: &mut Station, octets: &[u8]) -> bool {
+    let mut outbox = Outbox::new();
+    let note = step(device, &frame(octets), &mut outbox);
+    note == Note::Fault && outbox.len() == 0
+}
+
+/// The one frame in a box.
+fn one(outbox: &Outbox) -> Option<Bytes> {
+    match outbox.as_slice() {
+        [sent] => Some(octets(sent.as_slice())),
+        _ => None,
+    }
+}
+
+/// The two frames in a box, as they come to a device.
+fn two(outbox: &Outbox) -> Option<(Event, Event)> {
+    match outbox.as_slice() {
+        [first, second] => Some((frame(first.as_slice()), frame(second.as_slice()))),
+        _ => None,
+    }
+}
+
+/// The two frames in a box are these octets, each filled up.
+fn are_filled(outbox: &Outbox, first: &[u8], second: &[u8]) -> bool {
+    match outbox.as_slice() {
+        [one, other] => is_filled(one, first) && is_filled(other, second),
+        _ => false,
+    }
+}
+
+/// The one frame in a box ends with these octets, which begin at this place.
+fn ends_with(outbox: &Outbox, place: usize, octets: &[u8]) -> bool {
+    match outbox.as_slice() {
+        [sent] => sent.as_slice().get(place..) == Some(octets),
+        _ => false,
+    }
+}
+
+/// The status in a response.
+fn status_of(outbox: &Outbox) -> Option<&[u8]> {
+    match outbox.as_slice() {
+        [answer] => answer.as_slice().get(122..126),
+        _ => None,
+    }
+}
+
+/// The alarm that a controller shows is the process alarm of the module in slot 1, with AlarmSpecifier 0 and the octets aa bb.
+fn is_alarm_shown(controller: &Controller) -> bool {
+    match controller.alarm() {
+        Some(alarm) => {
+            alarm.alarm_type == 2
+                && alarm.slot_number == 1
+                && alarm.subslot_number == 1
+                && alarm.alarm_specifier == 0
+                && alarm.alarm_data.octets() == [0xAA, 0xBB].as_slice()
+        }
+        None => false,
+    }
+}
+
+// What the controller is at behind each turn of a start-up.
+const STATES: [State; 5] = [
+    State::Addressing,
+    State::Connecting,
+    State::Ending,
+    State::Exchanging,
+    State::Exchanging,
+];
+
+#[test]
+fn a_start_up() {
+    let mut ends = Ends::new(Global, PUMP);
+    for state in STATES {
+        ends.turn();
+        ends.is_at(state);
+    }
+    ends.is_related(Some(Phase::Exchanging));
+}
+
+// The Connect of the plan is a frame of 533 octets, and cut anywhere it is none; its answer is one of 212.
+#[test]
+fn a_connect_that_is_cut_is_none() {
+    let mut ends = Ends::new(Global, PUMP);
+    ends.turns(2);
+    assert_eq!(ends.sent.len(), 533);
+    assert!(is_none_where_cut(&mut ends.device, ends.sent.as_slice()));
+    ends.turn();
+    ends.is_answer_long(212);
+    ends.is_at(State::Ending);
+}
+
+#[test]
+fn other_modules_are_told() {
+    let mut ends = Ends::new(Global, OTHER_MODULES);
+    ends.turns(3);
+    ends.is_answer_long(262);
+    assert!(ends_with(&ends.answers, 212, &DIFFERENCES));
+    ends.is_at(State::Ended(Cause::ModuleDiff));
+    ends.is_related(Some(Phase::Started));
+    ends.turn();
+    ends.is_related(None);
+}
+
+// Mode 7 is none.
+#[test]
+fn a_reset_that_is_refused_is_an_answer() {
+    let mut ends = Ends::started(Global);
+    ends.sent = reset(7);
+    ends.turn();
+    ends.is_answer(&REFUSED);
+    ends.is_at(State::Exchanging);
+}
+
+// Mode 2 ends the relation.
+#[test]
+fn a_reset_is_an_err_and_an_answer() {
+    let mut ends = Ends::started(Global);
+    ends.sent = reset(2);
+    ends.turn();
+    assert!(are_filled(&ends.answers, &ABORT, &RESET));
+    ends.is_at(State::Ended(Cause::Aborted));
+    ends.is_named(b"");
+}
+
+#[test]
+fn no_name_is_set_before_the_release() {
+    let mut ends = Ends::started(Global);
+    let mut refused = DONE;
+    refused[32] = 6;
+    ends.notes(&set_pump(b'9'), Note::Done);
+    ends.is_answer(&refused);
+    let stopped = told(&mut ends.controller, &ControllerEvent::Stop);
+    ends.sent = one(&stopped).expect("a Release");
+    ends.turn();
+    ends.is_related(None);
+    ends.notes(&set_pump(b'9'), Note::Done);
+    ends.is_answer(&DONE);
+}
+
+// The controller takes the alarm of the device, and the next one can be raised behind its AlarmAck.
+#[test]
+fn an_alarm_is_taken() {
+    let mut ends = Ends::started(Global);
+    let raised = Event::Alarm(1, 1, octets(&[0xAA, 0xBB]));
+    ends.notes(&raised, Note::Done);
+    let alarm = one(&ends.answers).expect("an alarm");
+    let acks = told(&mut ends.controller, &ControllerEvent::Frame(alarm));
+    assert!(is_alarm_shown(&ends.controller));
+    let again = Event::Alarm(1, 1, octets(&[0xCC]));
+    ends.notes(&again, Note::Refused);
+    let (ack, alarm_ack) = two(&acks).expect("an ACK and an AlarmAck");
+    ends.notes(&ack, Note::Done);
+    ends.notes(&alarm_ack, Note::Done);
+    ends.notes(&again, Note::Done);
+}
+
+// A Write that is repeated has the same answer and is one command; one of a smaller number is none.
+#[test]
+fn a_write_that_is_repeated_is_one_command() {
+    let mut ends = Ends::started(Global);
+    let first = call(WRITE, 9, 5, &WRITE_DATE);
+    ends.notes(&frame(first.as_slice()), Note::Done);
+    ends.has_status([0; 4]);
+    let answer = one(&ends.answers).expect("an answer");
+    ends.notes(&frame(first.as_slice()), Note::Done);
+    let repeated = one(&ends.answers).expect("the answer again");
+    assert_eq!(repeated.as_slice(), answer.as_slice());
+    let older = call(WRITE, 9, 4, &WRITE_DATE);
+    ends.notes(&frame(older.as_slice()), Note::OldCall);
+    assert_eq!(ends.answers.len(), 0);
+    ends.has_date(b"2024-05-06 07:08");
+}
+
+// The flash fails in a Write, and the exchange goes on.
+#[test]
+fn a_fault_of_the_flash_is_a_status() {
+    let mut ends = Ends::started(Global);
+    ends.device.arm(Order::Fault {
+        after: 0,
+        mask: [0xFF; 8],
+    });
+    let write = call(WRITE, 9, 0, &WRITE_DATE);
+    ends.notes(&frame(write.as_slice()), Note::Done);
+    ends.has_status([0xDF, 0x80, 0xB5, 5]);
+    ends.is_related(Some(Phase::Exchanging));
+}
+
+// Another controller finds the station with its address, and its Connect is refused.
+#[test]
+fn a_second_controller_is_refused() {
+    let mut ends = Ends::started(Global);
+    let other = controller(Global, PUMP, 0x22);
+    ends.sent = octets(other.opening().as_slice());
+    ends.controller = other;
+    ends.turn();
+    ends.is_at(State::Connecting);
+    ends.turn();
+    ends.has_status([0xDB, 0x81, 0x40, 4]);
+    ends.is_answer_long(142);
+    ends.is_at(State::Ended(Cause::Refused));
+    ends.is_related(Some(Phase::Exchanging));
+}

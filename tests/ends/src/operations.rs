@@ -1,0 +1,136 @@
+//! A controller as a host in C asks for it: numbers, answers, and where what is told lies.
+
+use super::PUMP;
+use configurator::plan_from_json;
+use controller_operations::{Port, serve};
+use host_values::Op;
+use rattle_std::alloc::Global;
+use uuid::Uuid;
+
+/// Units of time in a second: so long a request stands before it is sent again.
+const SECOND: u32 = 32000;
+
+/// The controller of the demo station's plan, whose first frame waits.
+fn begun(alloc: Global) -> Port {
+    let plan = plan_from_json(alloc, PUMP.as_bytes())
+        .ok()
+        .expect("there is a plan");
+    Port::new(
+        plan,
+        Uuid::from_bytes([0x11; 16]),
+        Uuid::from_bytes([0x51; 16]),
+    )
+}
+
+/// An operation of this number, with nothing else in it.
+fn asked(what: u32) -> Op {
+    Op {
+        what,
+        slot: 0,
+        subslot: 0,
+        units: 0,
+        note: 0,
+        phase: 0,
+        work: 0,
+        sector: 0,
+        place: 0,
+        length: 0,
+        octets: [0; 1520],
+    }
+}
+
+/// The same, of a submodule.
+fn asked_of(what: u32, slot: u32, subslot: u32) -> Op {
+    let mut op = asked(what);
+    op.slot = slot;
+    op.subslot = subslot;
+    op
+}
+
+/// What it is answered with.
+fn answer(port: &mut Port, what: u32) -> u32 {
+    let mut op = asked(what);
+    serve(port, &mut op, &[])
+}
+
+/// The kind of the next piece of work, which is taken.
+fn next(port: &mut Port) -> u32 {
+    let mut op = asked(7);
+    let _ = serve(port, &mut op, &[]);
+    op.work
+}
+
+/// How far it is, and why it ended.
+fn state(port: &mut Port) -> (u32, u32) {
+    let mut op = asked(9);
+    let _ = serve(port, &mut op, &[]);
+    (op.phase, op.note)
+}
+
+#[test]
+fn events_wait_for_the_frames() {
+    let mut port = begun(Global);
+    for what in [3, 4, 5, 13] {
+        assert_eq!(answer(&mut port, what), 7);
+    }
+    let mut op = asked(7);
+    assert_eq!(serve(&mut port, &mut op, &[]), 0);
+    assert_eq!(op.work, 3);
+    assert!(op.octets.starts_with(b"\x01\x0e\xcf\x00\x00\x00"));
+    assert_eq!(next(&mut port), 0);
+    for what in [3, 4] {
+        assert_eq!(answer(&mut port, what), 0);
+    }
+}
+
+#[test]
+fn no_such_operation_or_slot() {
+    let mut port = begun(Global);
+    for what in [0, 1, 2, 6, 10, 11, 14, u32::MAX] {
+        assert_eq!(answer(&mut port, what), 10);
+    }
+    assert_eq!(next(&mut port), 3);
+    for what in [5, 8] {
+        let mut op = asked_of(what, 65536 + 1, 1);
+        assert_eq!(serve(&mut port, &mut op, &[0, 0]), 9);
+    }
+    let mut op = asked_of(8, 3, 1);
+    assert_eq!(serve(&mut port, &mut op, &[]), 9);
+    assert_eq!(answer(&mut port, 12), 9);
+}
+
+#[test]
+fn an_input_is_told() {
+    let mut port = begun(Global);
+    let mut op = asked_of(8, 1, 1);
+    op.octets = [0xFF; 1520];
+    assert_eq!(serve(&mut port, &mut op, &[]), 0);
+    assert_eq!(op.length, 2);
+    assert!(op.octets.starts_with(&[0, 0, 0xFF]));
+}
+
+#[test]
+fn time_stops_at_what_is_sent() {
+    let mut port = begun(Global);
+    assert_eq!(next(&mut port), 3);
+    let mut op = asked(4);
+    op.units = SECOND + 7;
+    assert_eq!(serve(&mut port, &mut op, &[]), 0);
+    assert_eq!(op.units, 7);
+    assert_eq!(answer(&mut port, 4), 7);
+    assert_eq!(next(&mut port), 3);
+    assert_eq!(next(&mut port), 0);
+}
+
+#[test]
+fn it_is_stopped() {
+    let mut port = begun(Global);
+    assert_eq!(state(&mut port), (1, 0));
+    assert_eq!(next(&mut port), 3);
+    assert_eq!(answer(&mut port, 13), 0);
+    assert_eq!(state(&mut port), (8, 7));
+    let mut op = asked(4);
+    op.units = SECOND + 7;
+    assert_eq!(serve(&mut port, &mut op, &[]), 0);
+    assert_eq!(op.units, 0);
+}

@@ -1,0 +1,12 @@
+//! Tests of a device as a host drives it: each call once where it is taken, and once for each number that it is refused with.
+//!
+//! The numbers of refusals are those of `include/nandutable.h`, and the octets those of other programs.
+#![cfg(test)]
+
+mod calls;
+mod cycles;
+mod operations;
+mod refusals;
+mod stations;
+mod told;
+mod work;

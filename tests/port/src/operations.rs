@@ -1,0 +1,85 @@
+//! Operations as a host in C asks for them: numbers, answers, and where what is told lies.
+use crate::stations::{booted, busy, lost, made};
+use device_port::Port;
+use host_values::Op;
+use port_operations::serve;
+use test_stations::SET;
+
+/// An operation of this number, with nothing else in it.
+fn asked(what: u32) -> Op {
+    Op {
+        what,
+        slot: 0,
+        subslot: 0,
+        units: 0,
+        note: 0,
+        phase: 0,
+        work: 0,
+        sector: 0,
+        place: 0,
+        length: 0,
+        octets: [0; 1520],
+    }
+}
+
+/// What it is answered with.
+fn answer(port: &mut Port, what: u32) -> u32 {
+    let mut op = asked(what);
+    serve(port, &mut op, &[])
+}
+
+#[test]
+fn before_a_start_and_behind_a_loss() {
+    let mut early = made();
+    let mut late = lost();
+    for what in 3..14 {
+        assert_eq!(answer(&mut early, what), 5);
+        assert_eq!(answer(&mut late, what), 14);
+    }
+}
+
+#[test]
+fn no_such_operation_sector_or_slot() {
+    let mut port = made();
+    for what in [0, 14, u32::MAX] {
+        assert_eq!(answer(&mut port, what), 10);
+    }
+    let mut op = asked(1);
+    op.sector = 2;
+    assert_eq!(serve(&mut port, &mut op, &[0xFF; 4096]), 8);
+    let mut port = booted();
+    for what in [5, 6, 8] {
+        let mut op = asked(what);
+        op.slot = 65536 + 2;
+        op.subslot = 1;
+        assert_eq!(serve(&mut port, &mut op, &[]), 9);
+    }
+    assert_eq!(answer(&mut port, 13), 15);
+}
+
+#[test]
+fn work_is_told() {
+    let mut port = booted();
+    let mut op = asked(3);
+    assert_eq!(serve(&mut port, &mut op, &SET), 0);
+    assert_eq!(op.note, 0);
+    // The first base: its sector is erased, its 437 octets are programmed behind its gate's, and the gate is closed.
+    for (work, length) in [(2, 0), (1, 437), (1, 1), (3, 60), (0, 0)] {
+        let mut op = asked(7);
+        assert_eq!(serve(&mut port, &mut op, &[]), 0);
+        assert_eq!((op.work, op.length), (work, length));
+    }
+}
+
+#[test]
+fn settings_are_told() {
+    let mut port = busy();
+    for what in [10, 11] {
+        let mut op = asked(what);
+        assert_eq!(serve(&mut port, &mut op, &[]), 0);
+        assert_eq!(op.length, 196);
+        let name = &op.octets[190..196];
+        assert!(name == b"pump-1".as_slice());
+        assert!(op.octets[12..66].iter().all(|octet| *octet == b' '));
+    }
+}

@@ -1,0 +1,196 @@
+//! What a relation exchanges: cyclic frames each way, and an alarm. The octets were worked out by hand from IEC 61158-6-10.
+use crate::Tried;
+use crate::connects::{THREE, connect};
+use crate::requests::{exchanging, exchanging_by, related};
+use device_core::{Event, Note};
+use frame_codec::Outbox;
+use relations::Phase;
+use test_stations::{Station, frame, is_filled, octets, set};
+
+// The first cyclic frame of the device, for which the application gave 12 34.
+const INPUTS: [u8; 64] =
+    *b"\x02\x00\x00\x00\x00\x02\x02\x00\x00\x00\x00\x01\x81\x00\xc0\x00\x88\x92\xc0\x01\
+    \x80\x80\x80\x12\x34\x80\x80\x00\x00\x00\x00\x00\x00\x00\x00\x00\x00\x00\x00\x00\
+    \x00\x00\x00\x00\x00\x00\x00\x00\x00\x00\x00\x00\x00\x00\x00\x00\x00\x00\x00\x00\x00\x20\x35\x00";
+
+// A cyclic frame of the controller: the output aa 55, with the CycleCounter 32.
+const OUTPUTS: [u8; 64] =
+    *b"\x02\x00\x00\x00\x00\x01\x02\x00\x00\x00\x00\x02\x81\x00\xc0\x00\x88\x92\xc0\x00\
+    \xaa\x55\x80\x80\x80\x80\x80\x00\x00\x00\x00\x00\x00\x00\x00\x00\x00\x00\x00\x00\
+    \x00\x00\x00\x00\x00\x00\x00\x00\x00\x00\x00\x00\x00\x00\x00\x00\x00\x00\x00\x00\x00\x20\x35\x00";
+
+// The first process alarm of the module in slot 1, with aa bb.
+const NOTIFIED: [u8; 62] =
+    *b"\x02\x00\x00\x00\x00\x02\x02\x00\x00\x00\x00\x01\x81\x00\xc0\x00\x88\x92\xfc\x01\
+    \x00\x01\x00\x01\x11\x11\xff\xff\xff\xfe\x00\x1e\
+    \x00\x01\x00\x1a\x01\x00\x00\x02\x00\x00\x00\x00\x00\x01\x00\x01\x00\x00\x00\x10\x00\x00\x00\x10\x00\x00\
+    \x00\x01\xaa\xbb";
+
+// The controller's ACK of it, and the AlarmAck of its application.
+const ACK: [u8; 32] =
+    *b"\x02\x00\x00\x00\x00\x01\x02\x00\x00\x00\x00\x02\x81\x00\xc0\x00\x88\x92\xfc\x01\
+    \x00\x01\x00\x01\x13\x01\xff\xff\xff\xff\x00\x00";
+
+const ALARM_ACK: [u8; 54] =
+    *b"\x02\x00\x00\x00\x00\x01\x02\x00\x00\x00\x00\x02\x81\x00\xc0\x00\x88\x92\xfc\x01\
+    \x00\x01\x00\x01\x11\x11\xff\xff\xff\xff\x00\x16\
+    \x80\x01\x00\x12\x01\x00\x00\x02\x00\x00\x00\x00\x00\x01\x00\x01\x00\x00\x00\x00\x00\x00";
+
+// The device's ACK of the AlarmAck.
+const TAKEN: [u8; 32] =
+    *b"\x02\x00\x00\x00\x00\x02\x02\x00\x00\x00\x00\x01\x81\x00\xc0\x00\x88\x92\xfc\x01\
+    \x00\x01\x00\x01\x13\x01\xff\xff\xff\xff\x00\x00";
+
+// The ERR of a device whose controller is silent.
+const SILENT: [u8; 36] =
+    *b"\x02\x00\x00\x00\x00\x02\x02\x00\x00\x00\x00\x01\x81\x00\xa0\x00\x88\x92\xfe\x01\
+    \x00\x01\x00\x01\x14\x01\xff\xff\xff\xfe\x00\x04\xcf\x81\xfd\x05";
+
+// The ERR of a device whose alarm nobody acknowledges: one alarm was sent, and none was taken.
+const SPENT: [u8; 36] =
+    *b"\x02\x00\x00\x00\x00\x02\x02\x00\x00\x00\x00\x01\x81\x00\xa0\x00\x88\x92\xfe\x01\
+    \x00\x01\x00\x01\x14\x01\xff\xff\xff\xfe\x00\x04\xcf\x81\xfd\x0d";
+
+// The application raises an alarm of the module in slot 1.
+fn alarm(bytes: &[u8]) -> Event {
+    Event::Alarm(1, 1, octets(bytes))
+}
+
+impl Tried {
+    /// The first interval of a relation: behind its last unit one frame is sent, which holds this input.
+    pub(crate) fn sends_interval(&mut self, value: [u8; 2]) {
+        self.passes(31, 0);
+        let mut wanted = INPUTS;
+        wanted[23..25].copy_from_slice(&value);
+        self.sends(&Event::Tick, &wanted);
+    }
+
+    // The output of the module in slot 2.
+    fn is_output(&self, value: [u8; 2]) {
+        assert_eq!(self.station.output(2, 1), Some(value.as_slice()));
+    }
+
+    // 3,200 units go by, with so many frames in all but the last of them, and in that one the alarm is sent again.
+    fn notifies_again(&mut self, between: usize, with_inputs: bool) {
+        self.passes(3199, between);
+        self.notes(&Event::Tick, Note::Done);
+        assert!(is_notified_again(&self.last, with_inputs));
+    }
+}
+
+#[test]
+fn inputs_are_sent_each_interval() {
+    let mut device = Tried::new(related(600, THREE));
+    for (value, note) in [
+        ([0x12, 0x34].as_slice(), Note::Done),
+        (&[0x12], Note::Refused),
+        (&[], Note::Refused),
+    ] {
+        let given = Event::Input(1, 1, octets(value));
+        device.sends_none(&given, note);
+    }
+    device.sends_interval([0x12, 0x34]);
+    device.passes(32, 1);
+}
+
+#[test]
+fn one_alarm_stands_at_a_time() {
+    let mut device = Tried::new(exchanging());
+    device.sends(&alarm(&[0xAA, 0xBB]), &NOTIFIED);
+    device.notes(&alarm(&[0xCC]), Note::Refused);
+    device.sends_none(&frame(&ACK), Note::Done);
+    device.notes(&alarm(&[0xCC]), Note::Refused);
+    device.sends(&frame(&ALARM_ACK), &TAKEN);
+    device.notes(&alarm(&[0xCC]), Note::Done);
+    assert_eq!(device.last.len(), 1);
+}
+
+// A station whose controller may be silent for 7,427 intervals, by DataHoldFactor of both IOCRs.
+fn patient() -> Option<Station> {
+    let mut blocks = connect(0x11, 600, THREE);
+    for place in [95, 179usize] {
+        if let Some(there) = blocks.as_mut_slice().get_mut(place) {
+            *there = 0x1D;
+        }
+    }
+    exchanging_by(blocks.as_slice())
+}
+
+// The alarm is sent again, in front of the frame of inputs where one is due in this unit.
+fn is_notified_again(outbox: &Outbox, with_inputs: bool) -> bool {
+    match outbox.as_slice() {
+        [sent] => !with_inputs && is_filled(sent, &NOTIFIED),
+        [sent, inputs] => {
+            with_inputs
+                && is_filled(sent, &NOTIFIED)
+                && inputs.as_slice().starts_with(&INPUTS[..20])
+        }
+        _ => false,
+    }
+}
+
+// An alarm that is raised so many units behind the Connect and that nobody acknowledges: it is sent again three times, each 3,200
+// units behind the one before, with so many frames of inputs between, and the fourth time ends the relation, with nothing beside the ERR.
+fn is_spent(first: u32, between: usize) {
+    let mut device = Tried::new(patient());
+    device.passes(first, 0);
+    device.notes(&alarm(&[0xAA, 0xBB]), Note::Done);
+    assert!(is_notified_again(&device.last, false));
+    for _ in 0..3 {
+        device.notifies_again(between, first == 0);
+    }
+    device.passes(3199, between);
+    device.is_at(Some(Phase::Exchanging));
+    device.sends(&Event::Tick, &SPENT);
+    device.is_at(None);
+    device.passes(32, 0);
+}
+
+#[test]
+fn an_alarm_that_nobody_acknowledges() {
+    is_spent(0, 99);
+    is_spent(5, 100)
+}
+
+/// A cyclic frame with this CycleCounter and this output.
+pub(crate) fn outputs(counter: u16, [first, second]: [u8; 2]) -> Event {
+    let [high, low] = counter.to_be_bytes();
+    let mut bytes = octets(&OUTPUTS);
+    for (place, octet) in [(20, first), (21, second), (60, high), (61, low)] {
+        set(&mut bytes, place, octet);
+    }
+    Event::Frame(bytes)
+}
+
+// Cyclic frames by their CycleCounter and their output, what becomes of each, and the output behind it.
+const NEWER_AND_OLDER: [(u16, [u8; 2], Note, [u8; 2]); 6] = [
+    (65_520, [1, 0], Note::Done, [1, 0]),
+    (16, [0, 2], Note::Done, [0, 2]),
+    (65_520, [3, 3], Note::StaleCycle, [0, 2]),
+    (16, [4, 4], Note::StaleCycle, [0, 2]),
+    (61_456, [5, 0], Note::Done, [5, 0]),
+    (57_361, [6, 6], Note::StaleCycle, [5, 0]),
+];
+
+#[test]
+fn outputs_are_those_of_the_newest_frame() {
+    let mut device = Tried::new(exchanging());
+    device.is_output([0, 0]);
+    for (counter, value, note, shown) in NEWER_AND_OLDER {
+        device.sends_none(&outputs(counter, value), note);
+        device.is_output(shown);
+    }
+}
+
+#[test]
+fn silence_of_three_intervals_ends_the_exchange() {
+    let mut device = Tried::new(exchanging());
+    device.passes(95, 2);
+    device.notes(&frame(&OUTPUTS), Note::Done);
+    device.passes(95, 3);
+    device.notes(&frame(&OUTPUTS), Note::StaleCycle);
+    device.is_at(Some(Phase::Exchanging));
+    device.sends(&Event::Tick, &SILENT);
+    device.is_at(None);
+    device.notes(&frame(&OUTPUTS), Note::NoRelation);
+}

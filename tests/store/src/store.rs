@@ -1,0 +1,94 @@
+//! The store over a flash in memory that stays where it is.
+
+use arrayvec::ArrayVec;
+use flash_model::{Lent, MemoryFlash, Order};
+use pn_values::{BlockError, Command, ImValue, Padded, SetItem};
+use settings_journal::BootFault;
+use settings_store::Store;
+
+/// The smallest size: room for one slot.
+const SIZE: usize = 768;
+
+/// A store over a flash that stays where it is.
+type Kept<'a> = Store<Lent<'a, MemoryFlash<SIZE>>, SIZE>;
+
+fn date(byte: u8) -> SetItem {
+    SetItem::Ask(Command::SetIm(ImValue::Im2(Padded::new([byte; 16]))))
+}
+
+fn start(flash: &mut MemoryFlash<SIZE>) -> Result<Kept<'_>, BootFault> {
+    match Store::boot(Lent::new(flash)) {
+        Ok(store) => Ok(store),
+        Err((fault, _)) => Err(fault),
+    }
+}
+
+/// An item is carried out, and answered so.
+fn carries(store: &mut Kept<'_>, item: &SetItem, answer: BlockError) {
+    assert_eq!(store.carry(item), answer);
+}
+
+/// The date that runs is this octet over and over.
+fn runs(store: &Kept<'_>, octet: u8) {
+    assert_eq!(store.running().im2.as_bytes(), [octet; 16].as_slice());
+}
+
+/// The same of the date that is stored.
+fn is_stored(store: &Kept<'_>, octet: u8) {
+    assert_eq!(store.stored().im2.as_bytes(), [octet; 16].as_slice());
+}
+
+#[test]
+fn what_is_done_is_shown_and_found_again() {
+    let mut flash = MemoryFlash::blank();
+    let mut store = start(&mut flash).unwrap();
+    carries(&mut store, &date(b'1'), BlockError::Done);
+    let answer = SetItem::Answer(BlockError::Value);
+    carries(&mut store, &answer, BlockError::Value);
+    carries(&mut store, &date(b'2'), BlockError::Done);
+    runs(&store, b'2');
+    drop(store);
+    let store = start(&mut flash).unwrap();
+    is_stored(&store, b'2');
+    runs(&store, b'2');
+}
+
+#[test]
+fn a_loss_of_power_that_was_armed_ends_it() {
+    let mut flash = MemoryFlash::blank();
+    let mut store = start(&mut flash).unwrap();
+    let mask = [0; 8];
+    store.arm(Order::Cut { after: 0, mask });
+    carries(&mut store, &date(b'1'), BlockError::Local);
+    carries(&mut store, &date(b'2'), BlockError::Local);
+    assert!(store.is_lost());
+    runs(&store, b' ');
+    drop(store);
+    flash.power_up();
+    is_stored(&start(&mut flash).unwrap(), b' ');
+}
+
+/// What four items are answered.
+fn answers(store: &mut Kept<'_>, items: &[SetItem; 4]) -> ArrayVec<BlockError, 4> {
+    store.carry_out(items)
+}
+
+#[test]
+fn items_are_carried_out_in_order() {
+    let mut flash = MemoryFlash::blank();
+    let mut store = start(&mut flash).unwrap();
+    let items = [
+        date(b'1'),
+        SetItem::Signal,
+        SetItem::Answer(BlockError::Suboption),
+        date(b'2'),
+    ];
+    let wanted = [
+        BlockError::Done,
+        BlockError::Done,
+        BlockError::Suboption,
+        BlockError::Done,
+    ];
+    assert_eq!(answers(&mut store, &items).as_slice(), wanted.as_slice());
+    runs(&store, b'2');
+}

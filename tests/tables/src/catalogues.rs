@@ -1,0 +1,58 @@
+//! What becomes of catalogues. Each line of `stdin` is a catalogue. Expected are the layouts of its plan, as `pnscript plan`
+//! prints them, then the blocks of the plan's Connect and its records, or else its fault:
+//!
+//! ```text
+//! config FAULT                        why it has no plan
+//! connect HEX                         the blocks, with the ARUUID 11111111-2222-3333-4444-555555555555
+//! record SLOT SUBSLOT INDEX HEX       a record, in the order in which they are written
+//! ```
+//!
+//! Layouts and faults of the first 160 lines come from a reference model that was written from the rules of the catalogue alone
+//! and shares no line with this repository; the two after them are those of `examples/catalogue`, and the others are the demo
+//! station with one thing changed. The Connects and the records are computed by `bench/gate/catalogues.py`.
+
+use crate::{hex, is_same};
+use configurator::plan_from_json;
+use plans::Plan;
+use rattle_std::alloc::Global;
+use script_runner::plan_text;
+use uuid::Uuid;
+
+/// The ARUUID of the Connects.
+const AR: Uuid = Uuid::from_u128(0x11111111_2222_3333_4444_555555555555);
+
+/// The Connect of a plan, and its records.
+fn plan_lines(plan: &Plan) -> String {
+    let connect = format!("connect {}\n", hex(plan.connect(&AR).as_slice()));
+    let records = plan.records().iter().map(|record| {
+        let data = hex(record.data.as_slice());
+        format!(
+            "record {} {} {} {data}\n",
+            record.slot, record.subslot, record.index
+        )
+    });
+    connect + &records.collect::<String>()
+}
+
+/// What a catalogue comes to.
+fn row(catalogue: &str) -> String {
+    let mut text = Vec::new();
+    match plan_text(Global, &mut catalogue.as_bytes(), &mut text) {
+        Ok(()) => {
+            let plan = plan_from_json(Global, catalogue.as_bytes())
+                .ok()
+                .expect("a plan");
+            String::from_utf8(text).expect("text") + &plan_lines(&plan)
+        }
+        Err(fault) => format!("{fault}\n"),
+    }
+}
+
+#[test]
+fn each_catalogue_has_its_plan_or_its_fault() {
+    let text: String = include_str!("../catalogues/stdin")
+        .lines()
+        .map(row)
+        .collect();
+    is_same(&text, include_str!("../catalogues/stdout"));
+}

@@ -1,0 +1,103 @@
+//! What serves the calls of a relation.
+
+use pn_values::{Command, Identity, Mac, Real, Settings};
+use pnio_status::{CallFault, Operation};
+use record_reads::{Blocks, names_relation, read_implicit, read_within};
+use record_writes::{Effect, Write, judge_write, put_write_answer};
+use relations::{Partner, Relation};
+use std::mem;
+
+/// The station with its texts and its relation.
+pub(crate) struct Device {
+    identity: Identity,
+    real: Real,
+    settings: Settings,
+    pub(crate) relation: Relation,
+}
+
+/// Who calls.
+const PARTNER: Partner = Partner {
+    mac: Mac {
+        octets: [2, 0, 0, 0, 0, 2],
+    },
+    address: [192, 168, 0, 1],
+};
+
+impl Device {
+    /// As it leaves the factory.
+    pub(crate) fn new() -> Device {
+        Device {
+            identity: demo_station::identity(),
+            real: demo_station::real(),
+            settings: Settings::factory(),
+            relation: Relation::new(),
+        }
+    }
+
+    /// A command of DCP or of a Write.
+    pub(crate) fn carry(&mut self, command: &Command) {
+        let settings = mem::replace(&mut self.settings, Settings::factory());
+        self.settings = command.apply(settings);
+    }
+
+    /// A new call. Puts the blocks of its answer into an empty list.
+    pub(crate) fn serve(
+        &mut self,
+        operation: Operation,
+        blocks: &[u8],
+        answer: &mut Blocks,
+    ) -> Result<(), CallFault> {
+        match operation {
+            Operation::Connect => {
+                self.relation
+                    .connect(&self.identity, &self.real, PARTNER, blocks, answer)
+            }
+            Operation::Release => self.relation.release(blocks, answer),
+            Operation::Control => self.relation.control(blocks, answer),
+            Operation::Write => self.write(blocks, answer),
+            Operation::Read => self.read(blocks, answer),
+            Operation::ReadImplicit => self.read_implicit(blocks, answer),
+        }
+    }
+
+    /// A Read within the relation.
+    fn read(&mut self, blocks: &[u8], answer: &mut Blocks) -> Result<(), CallFault> {
+        read_within(
+            self.relation.uuid(),
+            self.relation.differing(),
+            &self.identity,
+            &self.real,
+            &self.settings,
+            blocks,
+            answer,
+        )?;
+        self.restart_timer();
+        Ok(())
+    }
+
+    /// A Read by anybody.
+    fn read_implicit(&mut self, blocks: &[u8], answer: &mut Blocks) -> Result<(), CallFault> {
+        read_implicit(&self.identity, &self.real, &self.settings, blocks, answer)?;
+        if names_relation(self.relation.uuid(), blocks) {
+            self.restart_timer();
+        }
+        Ok(())
+    }
+
+    /// A Write within the relation.
+    fn write(&mut self, blocks: &[u8], answer: &mut Blocks) -> Result<(), CallFault> {
+        let Write { request, effect } = judge_write(blocks, self.relation.uuid(), &self.real)?;
+        match effect {
+            Effect::Stores(value) => self.carry(&Command::SetIm(value)),
+            Effect::Keeps(taken) => self.relation.keep(taken)?,
+        }
+        put_write_answer(answer, &request);
+        self.restart_timer();
+        Ok(())
+    }
+
+    /// A call that names the relation was answered positively.
+    fn restart_timer(&mut self) {
+        self.relation.hear_controller(true, Ok(()));
+    }
+}
