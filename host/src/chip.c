@@ -90,8 +90,7 @@ static _Noreturn void not_made(const char *path, const char *made)
     fail(STATUS_CREATE, "the flash file '%s' cannot be made: %s", path, strerror(why));
 }
 
-/* A file of the other name may be the flash of another device. What a start left behind that was cut off as it made one is shorter than
- * a flash, or erased. */
+/* A file of the other name may be the flash of another device. What an interrupted start left there is shorter than a flash, or erased. */
 static void judge_left(int fd, const char *made, const char *path)
 {
     static uint8_t found[2 * PN_SECTOR_SIZE];
@@ -204,7 +203,7 @@ static int is_there(struct chip *chip)
     else if (found.st_nlink == 0)
         chip->why = "it was removed";
     else if (S_ISREG(found.st_mode) && found.st_size != CHIP_SIZE)
-        chip->why = "it was cut, or octets were put behind it";
+        chip->why = "its length changed";
     else if (!is_named(chip->fd, chip->path))
         chip->why = "its name is gone, or names another file";
     return chip->why == NULL;
@@ -258,7 +257,7 @@ static int failed(struct chip *chip)
     return 1;
 }
 
-/* Carries what the sector is to hold out. The file is looked at again behind the write: one that was removed or replaced in between holds
+/* Carries what the sector is to hold out. The file is looked at again after the write: one that was removed or replaced in between holds
  * nothing of it for the next start. */
 static int carry(struct chip *chip, uint32_t sector, uint32_t place, uint32_t length)
 {

@@ -428,7 +428,7 @@ static void usage(void)
          "  --period US           time is handed in so often while a relation stands, 31 to 10000 microseconds; at least as often as the\n"
          "                        controller's interval (default: 250)\n"
          "  --realtime N          runs by this priority, 1 to 99, of the first-in first-out scheduler\n"
-         "  --sets-per-second N   takes so many Sets of DCP a second, 1 to 1000000, and drops the others (default: no limit)\n"
+         "  --sets-per-second N   takes at most N Sets of DCP a second, 1 to 1000000, and drops the others (default: no limit)\n"
          "  --help, --version\n"
          "\n"
          "It takes the capability CAP_NET_RAW: run it as root, or once `setcap cap_net_raw+ep nandutable-device`.\n"

@@ -2,7 +2,7 @@
 #include "wire.h"
 #include <string.h>
 
-/* A Set takes so many parts of room, and each nanosecond brings as many as the limit has Sets. */
+/* A Set takes this many parts of the room. Each nanosecond adds as many parts as the limit has Sets. */
 #define SETS_PART 1000000000ull
 
 enum { FRAME_SET = 0xFEFD, SERVICE_SET = 4, REQUEST = 0 };

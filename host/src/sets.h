@@ -10,7 +10,7 @@
 
 struct sets {
     uint32_t limit;   /* a second; 0: none */
-    uint64_t room;    /* in parts of a Set: SETS_PART are one */
+    uint64_t room;    /* in parts of a Set */
     uint64_t filled;  /* when the room was looked at last, in nanoseconds of the clock */
     uint64_t dropped; /* Sets that were beyond the limit */
 };
