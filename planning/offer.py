@@ -4,6 +4,7 @@ from .elements import Refused
 from .values import shown
 
 UNIT = 0.03125  # milliseconds: 31.25 microseconds
+MOST_OCTETS = 64  # of a record in a catalogue
 
 
 def milliseconds(units):
@@ -28,11 +29,16 @@ def part_lines(head, part, margin):
     try:
         part.judge()
         lines = [f"{margin}{head}{titled(part.name)}, ident 0x{part.ident:08x}: {octets_of(part)}"]
-        for record in part.records():
-            lines.append(f"{margin}    record {record.index}, {counted(record.length)}, by default {record.data()[:64].hex()}")
-        return lines
+        return lines + [f"{margin}    {record_line(record)}" for record in part.records()]
     except Refused as fault:
         return [f"{margin}{head}{titled(part.name)}: not for a catalogue, line {fault.line}: {fault.what}"]
+
+
+def record_line(record):
+    said = f"record {record.index}, {counted(record.length)}"
+    if record.length > MOST_OCTETS:
+        return f"{said}: not for a catalogue, line {record.line}: it has more than {MOST_OCTETS} octets"
+    return f"{said}, by default {record.data().hex()}"
 
 
 def item_lines(file, item, margin):

@@ -1,14 +1,13 @@
 """The catalogue of a station, of what a GSDML file says and what was chosen. What a catalogue cannot hold is refused with a line of the file."""
 
 from .elements import Refused
-from .offer import milliseconds
+from .offer import MOST_OCTETS, milliseconds
 from .values import shown
 
 MOST_SLOT = 15
 MOST_PARTS = 4
 MOST_RECORDS = 2
 MOST_ALL_RECORDS = 32
-MOST_OCTETS = 64
 MOST_DATA = 1_440
 MOST_CONNECT = 1_372
 
