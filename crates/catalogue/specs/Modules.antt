@@ -1,5 +1,5 @@
 -- Modules of the catalogue.
-use Rattle.std.specs.Prelude.{ℕ, List, [], ◌∷◌, Bool, Ok, if◌then◌else◌}
+use Rattle.std.specs.Prelude.{ℕ, suc, List, [], ◌∷◌, Bool, Option, Some, None, option_map, Ok, if◌then◌else◌}
 use Rattle.std.specs.List.{list_any}
 use Rattle.std.specs.Str.{bytes_eq}
 use Rattle.catalogue.specs.declared.key.Key.TheVariants as key
@@ -15,6 +15,11 @@ pub record Module : Type 0 where
 -- one of them has this ID
 abbrev pub has_id : List ℕ → List Module → Bool
 has_id id modules = list_any (λ other. bytes_eq other.id id) modules
+
+-- where the module with this ID is among them
+abbrev pub place_of : List ℕ → List Module → Option ℕ
+place_of id [] = None
+place_of id (entry ∷ entries) = if bytes_eq entry.id id then Some 0 else option_map suc (place_of id entries)
 
 -- the submodules of the module with this ID: none where none has it
 abbrev pub submodules_of : List ℕ → List Module → List Submodule

@@ -7,7 +7,7 @@ ghost use Rattle.catalogue.specs.Catalogues.{Catalogue, Found, Refuses, identity
 ghost use Rattle.catalogue.specs.Kept.{IsInRange};
 
 use crate::access_point::access_point;
-use crate::module::modules_at;
+use crate::module::{ModuleTable, modules_at};
 use crate::project::project_of;
 use crate::tree::{member_at, word_at};
 use crate::{AccessPoint, CatalogueFault, Key, ModuleItem, PlacedFault, Project, Step};
@@ -86,9 +86,9 @@ fn project_in(
     alloc: Global,
     tree: &Value,
     least_interval: u32,
-    modules: &Vec<ModuleItem>,
+    modules: &ModuleTable,
 ) -> Result<Project, PlacedFault>
-    ensures { Reads (λ found. found) result (project_in least_interval modules.now.items (view tree.now)) }
+    ensures { Reads (λ found. found) result (project_in least_interval modules.now (view tree.now)) }
 {
     let item = member_at(tree, Key::Project)?;
     match project_of(alloc, item, least_interval, modules) {
@@ -117,7 +117,7 @@ pub fn read_tree(alloc: Global, tree: &Value) -> Result<Catalogue, PlacedFault>
     Ok(Catalogue {
         identity,
         access_point,
-        modules,
+        modules: modules.into_items(),
         project,
     })
 }

@@ -7,8 +7,9 @@ ghost use Rattle.catalogue.specs.Modules.{Module};
 ghost use Rattle.catalogue.specs.Projects.{Station, Controller, Project, station, controller, controller_in, reduction, project};
 
 use crate::entry::list;
+use crate::module::ModuleTable;
 use crate::tree::{member_at, string, word_at};
-use crate::{CatalogueFault, Key, ModuleItem, PlacedFault, SlotItem, Step};
+use crate::{CatalogueFault, Key, PlacedFault, SlotItem, Step};
 use serde_json::Value;
 use std::alloc::Global;
 use std::marker::Model;
@@ -129,9 +130,9 @@ pub(crate) fn project_of(
     alloc: Global,
     tree: &Value,
     least_interval: u32,
-    modules: &Vec<ModuleItem>,
+    modules: &ModuleTable,
 ) -> Result<Project, PlacedFault>
-    ensures { Reads (λ found. found) result (project least_interval modules.now.items (view tree.now)) }
+    ensures { Reads (λ found. found) result (project least_interval modules.now (view tree.now)) }
 {
     let station = station(alloc, tree)?;
     let controller = controller_in(alloc, tree)?;

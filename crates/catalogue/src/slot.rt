@@ -9,8 +9,9 @@ ghost use Rattle.catalogue.specs.Modules.{submodules_of};
 ghost use Rattle.catalogue.specs.Slots.{Record, Slot, record_item, slot_item, records_of, hex_or_fault, octets_at, length_of, parameters_of};
 
 use crate::entry::{Entry, each_of};
+use crate::module::ModuleTable;
 use crate::tree::{items_at, string, text, whole_at, word_at};
-use crate::{CatalogueFault, Key, ModuleItem, ParameterItem, PlacedFault, Step, SubmoduleItem};
+use crate::{CatalogueFault, Key, ParameterItem, PlacedFault, Step, SubmoduleItem};
 use hex::FromHexError;
 use serde_json::Value;
 use std::alloc::Global;
@@ -127,19 +128,19 @@ impl Entry<Vec<SubmoduleItem>> for RecordItem {
 fn records_in(
     alloc: Global,
     trees: &[Value],
-    modules: &Vec<ModuleItem>,
+    modules: &ModuleTable,
     target: &str,
 ) -> Result<Vec<RecordItem>, PlacedFault>
     ensures { Reads (λ records. records.items) result
-        (each (λ _ entry. record_item (submodules_of target.now modules.now.items) entry) [] (items_view trees.now)) }
+        (each (λ _ entry. record_item (submodules_of target.now modules.now) entry) [] (items_view trees.now)) }
 {
-    for module in modules {
-        if module.id.as_str() == target {
-            return each_of(alloc, &module.submodules, trees);
+    match modules.submodules(target) {
+        Some(submodules) => each_of(alloc, submodules, trees),
+        None => {
+            let none = Vec::new(alloc);
+            each_of(alloc, &none, trees)
         }
     }
-    let none = Vec::new(alloc);
-    each_of(alloc, &none, trees)
 }
 
 /// The records of a slot, of a module with these submodules. Where there are none, no module is looked for.
@@ -147,10 +148,10 @@ fn records_in(
 fn records_of(
     alloc: Global,
     tree: &Value,
-    modules: &Vec<ModuleItem>,
+    modules: &ModuleTable,
     target: &str,
 ) -> Result<Vec<RecordItem>, PlacedFault>
-    ensures { Reads (λ records. records.items) result (records_of modules.now.items target.now (view tree.now)) }
+    ensures { Reads (λ records. records.items) result (records_of modules.now target.now (view tree.now)) }
 {
     let trees = items_at(tree, Key::Records)?;
     if trees.is_empty() {
@@ -162,13 +163,13 @@ fn records_of(
     }
 }
 
-impl Entry<Vec<ModuleItem>> for SlotItem {
-    ghost reader = { λ modules _ tree. slot_item modules.items tree };
+impl Entry<ModuleTable> for SlotItem {
+    ghost reader = { λ modules _ tree. slot_item modules tree };
 
     #[tactic(auto, unfolding(crate::specs::Slots::slot_item))]
     fn read(
         alloc: Global,
-        context: &Vec<ModuleItem>,
+        context: &ModuleTable,
         _before: &[SlotItem],
         tree: &Value,
     ) -> Result<SlotItem, PlacedFault> {

@@ -9,4 +9,4 @@ returns-in_err-project c = rw c.in_ok-identity.ensures (rw c.in_ok-access_point.
 
 pub returns : goal.returns
 unfolding catalogue
-returns c = rw c.in_ok-identity.ensures (rw c.in_ok-access_point.ensures (rw c.in_ok-modules.ensures (rw (sym c.least_interval-least_interval.ensures) (rw c.in_ok-project.ensures refl))))
+returns c = rw c.into_items.ensures (rw c.in_ok-identity.ensures (rw c.in_ok-access_point.ensures (rw c.in_ok-modules.ensures (rw (sym c.least_interval-least_interval.ensures) (rw c.in_ok-project.ensures refl)))))
