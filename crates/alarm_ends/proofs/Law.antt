@@ -177,9 +177,9 @@ module _ {F : Type 0} where
 
     -- ---- the device
 
-    turned : (heard : Heard) (outcomes : List Outcome) → IsMeantAtDevice before heard
+    turn_at : (heard : Heard) (outcomes : List Outcome) → IsMeantAtDevice before heard
         → IsTurn station.real.modules.items live.rest.calls live.rest.link heard (heard_step outcomes station live heard).live.rest.link (heard_step outcomes station live heard).sent
-    turned heard outcomes meant =
+    turn_at heard outcomes meant =
         as_alarms station.real.modules.items live.rest.calls live.rest.link heard _ _ (so.turns (rules_of setup station) setup.activity outcomes station live heard meant.planned).is
 
     module _ (heard : Heard) (now : List AlarmNotification) (first : (sequence : ℕ) → heard_as heard ≡ small.Call sequence small.Connects → sequence ≡ 0) (called : IsCallIn heard)
@@ -193,7 +193,7 @@ module _ {F : Type 0} where
           let rules = rules_of setup station in
           let turn = turn_sized station.identity setup.plan setup.ar follows.apart station.real.modules.items live.rest.calls live.rest.link heard step.live.rest.link step.sent follows.real follows.sized
           (λ makes. (makes_planned setup station live before.controller.live before.sent raised taken follows heard meant.planned first step.live.rest.link step.sent makes).1)
-          (turned heard outcomes meant) in
+          (turn_at heard outcomes meant) in
           let heard_so = meant.sent outcomes heard_it.steps.sendable in
           let owes = (so.turns rules setup.activity outcomes station live heard meant.planned).owed in
           let serves = all_served setup station live outcomes heard meant.planned
@@ -219,7 +219,7 @@ module _ {F : Type 0} where
         turn_on setup follows.relation station.real.modules.items live.rest.calls live.rest.link heard (heard_step outcomes station live heard).live.rest.link (heard_step outcomes station live heard).sent
         follows.tied is unraised
         (makes_fresh setup station live before.controller.live before.sent raised taken follows heard meant.planned first (heard_step outcomes station live heard).live.rest.link (heard_step outcomes station live heard).sent)
-        (turned heard outcomes meant))
+        (turn_at heard outcomes meant))
 
     device_raises : (slot subslot : ℕ) (octets : List ℕ) → AtDevice as_flash before (Raised slot subslot octets) after → IsMeantAtDevice before (Raised slot subslot octets)
         → FollowsAt after (raised ++ raised_in (raised_to station.real.modules.items slot subslot octets live.rest.link)) taken

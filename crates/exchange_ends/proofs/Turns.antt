@@ -1,5 +1,5 @@
 -- Each turn of a controller, as far as outputs go: it goes on as the controller of a plan, and its messages go to stations.
-use Rattle.std.proofs.Common.{◌≡◌, ◌&&◌, ◌+◌, ℕ, Bool, true, false, cond, List, [], ◌∷◌, ◌++◌, Option, Some, None, Result, Ok, Err, refl, subst, ap, ◌∙◌, sym, length, unwrap_or, arith}
+use Rattle.std.proofs.Common.{◌≡◌, ◌⊎◌, inl, inr, ◌&&◌, ◌+◌, ℕ, Bool, true, false, cond, List, [], ◌∷◌, ◌++◌, Option, Some, None, Result, Ok, Err, refl, subst, ap, ◌∙◌, sym, length, unwrap_or, arith}
 use Rattle.std.specs.Prelude.{if◌then◌else◌}
 use Rattle.std.specs.List.{AllByRecursion}
 use Rattle.pn_values.specs.declared.mac.Mac.{Mac}
@@ -44,16 +44,11 @@ use Rattle.controller_core.specs.Alarms.{is_alarm}
 use Rattle.controller_core.specs.Answers.{is_addressed, is_answer, is_found, is_ready, is_right, is_set_answer}
 use Rattle.controller_core.specs.Connect.{found_in, is_whole, nothing}
 use Rattle.controller_frames.specs.Requests.{writing_from}
-use Rattle.controller_core.specs.Machine.{Turn, acks_in, addressed, answered, asking, behind_data, brought, called, come, connected, decided, done, flow_later, flowed, found, given, is_again, judged, next_sequence, noticed, over, phase_for, readied, ready_in, related_by, released, requests_of, responded, stays, stopped, taken, ticked, turn_of, turned, where_due}
+use Rattle.controller_core.specs.Machine.{Turn, acks_in, addressed, answered, asking, behind_data, brought, called, come, connected, decided, done, flow_later, flowed, found, given, is_again, judged, next_sequence, noticed, over, phase_for, readied, ready_in, standing, writing, related_by, released, requests_of, responded, stays, stopped, taken, ticked, turn_of, turned, where_due}
 use Rattle.controller_core.specs.State.{Live}
+use Rattle.controller_laws.specs.Turns.{Came, Hears, Passes, Gets, Halts, IsKind, IsReadied, IsSought, IsTurn, Kind, Rests, Connects, Addresses, Releases, Relates, Writes, Waits, Forgets, Begins, Repeats, Follows, Takes, IsAcked, Gives, Flows, Breaks, Idles, came_by, turn_by}
+use Rattle.controller_laws.specs.Turns as sort
 use Rattle.exchange_ends.proofs.Brings.{IsAddressed, IsNow, IsWay}
-
--- what was found in the blocks of an answer to the Connect
-abbrev TypeOf : {A : Type 0} → A → Type 0
-TypeOf {A = A} x = A
-
-abbrev Found : Type 0
-Found = TypeOf nothing
 
 -- a controller that sends to stations, with an image of so many octets
 pub record IsKeptAs (many : ℕ) (station : Mac) (route : Route) (shown : Image) : Type 0 where
@@ -90,16 +85,23 @@ shown_behind live Ticks = live.cyclic.shown
 shown_behind live (Give slot subslot value) = (given live slot subslot value.items).cyclic.shown
 shown_behind live Stop = live.cyclic.shown
 
+-- who is heard then has an address of six octets, and no output is given
+abbrev IsSixIn : Came → Type 0
+IsSixIn (Hears heard) = IsSix heard
+IsSixIn Passes = Unit {0}
+IsSixIn Halts = Unit {0}
+IsSixIn (Gets slot subslot value) = ⊥
+
+-- each turn of a controller is of a kind
+abbrev pub KindsSo : Type 0
+KindsSo = (setup : Setup) (live : Live) (event : Event) → IsTurn setup live (came_by setup event) (turn_of setup live event)
+
 module _ (size : ℕ) where
   -- a turn of it, behind which it goes on so, and this is what it sends of its outputs
   pub record Tells (shown : Image) (turn : Turn) : Type 0 where
     pub told : AllByRecursion (IsSaid turn.live.cyclic.shown) turn.sent
     pub kept : IsKept size turn.live
     pub same : turn.live.cyclic.shown ≡ shown
-
-  either : (shown : Image) (test : Bool) (one other : Turn) → Tells shown one → Tells shown other → Tells shown (if test then one else other)
-  either shown true one other first second = first
-  either shown false one other first second = second
 
   stays_tells : (live : Live) → IsKept size live → Tells live.cyclic.shown (stays live)
   stays_tells live k = record { told = tt; kept = k; same = refl }
@@ -113,107 +115,17 @@ module _ (size : ℕ) where
   released_tells : (setup : Setup) (why : Cause) (live : Live) → IsKept size live → Tells live.cyclic.shown (released setup why live)
   released_tells setup why live k = asking_tells (Ended why) (asks.Release (next_sequence setup.plan live.asked)) (over why live) k
 
-  stopped_tells : (setup : Setup) (live : Live) (phase : State) → IsKept size live → Tells live.cyclic.shown (stopped setup live phase)
-  stopped_tells setup live Looking k = over_tells cause.Stopped live k
-  stopped_tells setup live Addressing k = over_tells cause.Stopped live k
-  stopped_tells setup live Connecting k = released_tells setup cause.Stopped live k
-  stopped_tells setup live Writing k = released_tells setup cause.Stopped live k
-  stopped_tells setup live Ending k = released_tells setup cause.Stopped live k
-  stopped_tells setup live Waiting k = released_tells setup cause.Stopped live k
-  stopped_tells setup live Exchanging k = released_tells setup cause.Stopped live k
-  stopped_tells setup live (Ended why) k = stays_tells live k
-
-  found_tells : (setup : Setup) (live : Live) (source : Mac) (answer : Answered) → IsMac source → IsKept size live → Tells live.cyclic.shown (found setup live source answer)
-  found_tells setup live source answer six k =
-      let met : Live = record live { device = source } in
-      let now : IsKept size met = record { device = six; way = k.way; size = k.size } in
-      either live.cyclic.shown (is_right setup.plan answer) (if is_addressed setup.plan answer then asking Connecting asks.Connect met else asking Addressing asks.Address met)
-      (stays (over cause.WrongDevice live))
-      (either live.cyclic.shown (is_addressed setup.plan answer) (asking Connecting asks.Connect met) (asking Addressing asks.Address met)
-      (asking_tells Connecting asks.Connect met now) (asking_tells Addressing asks.Address met now))
-      (over_tells cause.WrongDevice live k)
-
-  addressed_tells : (live : Live) (answer : Answered) → IsKept size live → Tells live.cyclic.shown (addressed live answer)
-  addressed_tells live answer k =
-      either live.cyclic.shown (is_agreed answer) (asking Connecting asks.Connect live) (stays (over cause.Refused live)) (asking_tells Connecting asks.Connect live k) (over_tells cause.Refused live k)
-
-  answered_tells : (setup : Setup) (live : Live) (source : Mac) (answer : Answered) (phase : State) → IsMac source → IsKept size live → Tells live.cyclic.shown (answered setup live source answer phase)
-  answered_tells setup live source answer Looking six k =
-      either live.cyclic.shown (is_found setup.plan answer) (found setup live source answer) (stays live) (found_tells setup live source answer six k) (stays_tells live k)
-  answered_tells setup live source answer Addressing six k =
-      either live.cyclic.shown (is_set_answer answer) (addressed live answer) (stays live) (addressed_tells live answer k) (stays_tells live k)
-  answered_tells setup live source answer Connecting six k = stays_tells live k
-  answered_tells setup live source answer Writing six k = stays_tells live k
-  answered_tells setup live source answer Ending six k = stays_tells live k
-  answered_tells setup live source answer Waiting six k = stays_tells live k
-  answered_tells setup live source answer Exchanging six k = stays_tells live k
-  answered_tells setup live source answer (Ended why) six k = stays_tells live k
-
-  related_tells : (setup : Setup) (live : Live) (output : Option ℕ) → IsKept size live → Tells live.cyclic.shown (related_by setup live output)
-  related_tells setup live (Some frame_id) k = record {
+  related_tells : (setup : Setup) (live : Live) (frame_id : ℕ) → IsKept size live → Tells live.cyclic.shown (writing (writing_from setup.plan 0) (standing setup live frame_id))
+  related_tells setup live frame_id k = record {
     told = ((tt, k.device), tt);
     same = refl;
     kept = record { device = k.device; way = record { partner = k.device; sent_tag = omega arith; alarm_tag = omega arith }; size = k.size };
   }
-  related_tells setup live None k = stays_tells _ k
-
-  connected_tells : (setup : Setup) (live : Live) (read : Option Found) → IsKept size live → Tells live.cyclic.shown (connected setup live read)
-  connected_tells setup live (Some found_is) k =
-      either live.cyclic.shown (is_whole found_is) (if found_is.differs then released setup cause.ModuleDiff live else related_by setup live found_is.output) (stays live)
-      (either live.cyclic.shown found_is.differs (released setup cause.ModuleDiff live) (related_by setup live found_is.output)
-      (released_tells setup cause.ModuleDiff live k) (related_tells setup live found_is.output k))
-      (stays_tells live k)
-  connected_tells setup live None k = stays_tells _ k
-
-  done_tells : (setup : Setup) (live : Live) (blocks : List ℕ) (request : Request) → IsKept size live → Tells live.cyclic.shown (done setup live blocks request)
-  done_tells setup live blocks asks.Identify k = stays_tells _ k
-  done_tells setup live blocks asks.Address k = stays_tells _ k
-  done_tells setup live blocks asks.Connect k = connected_tells setup live (found_in 400 blocks nothing) k
-  done_tells setup live blocks (asks.Write number) k =
-      let next = writing_from setup.plan (number + 1) in
-      asking_tells (phase_for next) next live k
-  done_tells setup live blocks asks.PrmEnd k = stays_tells _ k
-  done_tells setup live blocks (asks.Release sequence) k = stays_tells _ k
-
-  judged_tells : (setup : Setup) (live : Live) (response : Response) (request : Request) → IsKept size live → Tells live.cyclic.shown (judged setup live response request)
-  judged_tells setup live response request k = either live.cyclic.shown (is_done response.status) _ _ (done_tells setup live response.blocks request k) (stays_tells _ k)
-
-  decided_tells : (setup : Setup) (live : Live) (response : Response) (request : Request) → IsKept size live → Tells live.cyclic.shown (decided setup live response request)
-  decided_tells setup live response asks.Identify k = judged_tells setup live response asks.Identify k
-  decided_tells setup live response asks.Address k = judged_tells setup live response asks.Address k
-  decided_tells setup live response asks.Connect k = judged_tells setup live response asks.Connect k
-  decided_tells setup live response (asks.Write number) k = judged_tells setup live response (asks.Write number) k
-  decided_tells setup live response asks.PrmEnd k = judged_tells setup live response asks.PrmEnd k
-  decided_tells setup live response (asks.Release sequence) k = stays_tells _ k
-
-  responded_tells : (setup : Setup) (live : Live) (response : Response) (asked : Option Request) → IsKept size live → Tells live.cyclic.shown (responded setup live response asked)
-  responded_tells setup live response (Some request) k = either live.cyclic.shown (is_answer setup request response.header) _ _ (decided_tells setup live response request k) (stays_tells _ k)
-  responded_tells setup live response None k = stays_tells _ k
-
-  readied_tells : (live : Live) (caller : Caller) (call : Call) (block : ControlBlock) (phase : State) → IsMac caller.mac → IsKept size live → Tells live.cyclic.shown (readied live caller call block phase)
-  readied_tells live caller call block Looking from k = stays_tells _ k
-  readied_tells live caller call block Addressing from k = stays_tells _ k
-  readied_tells live caller call block Connecting from k = stays_tells _ k
-  readied_tells live caller call block Writing from k = stays_tells _ k
-  readied_tells live caller call block Ending from k = record { told = ((tt, from), tt); same = refl; kept = k }
-  readied_tells live caller call block Waiting from k = record { told = ((tt, from), tt); same = refl; kept = k }
-  readied_tells live caller call block Exchanging from k = record { told = ((tt, from), tt); same = refl; kept = k }
-  readied_tells live caller call block (Ended why) from k = stays_tells _ k
-
-  called_tells : (setup : Setup) (live : Live) (caller : Caller) (call : Call) (block : Option ControlBlock) → IsMac caller.mac → IsKept size live → Tells live.cyclic.shown (called setup live caller call block)
-  called_tells setup live caller call (Some block) from k = either live.cyclic.shown (is_ready setup block) _ _ (readied_tells live caller call block live.phase from k) (stays_tells _ k)
-  called_tells setup live caller call None from k = stays_tells _ k
 
   taken_tells : (live : Live) (alarm : AlarmNotification) (as_is : Taken) → IsKept size live → Tells live.cyclic.shown (taken live alarm as_is)
   taken_tells live alarm New k = record { told = ((tt, k.way), ((tt, k.way), tt)); same = refl; kept = k }
   taken_tells live alarm Again k = record { told = ((tt, k.way), tt); same = refl; kept = k }
   taken_tells live alarm Refused k = record { told = ((tt, k.way), tt); same = refl; kept = k }
-
-  noticed_tells : (live : Live) (told : ToController) → IsKept size live → Tells live.cyclic.shown (noticed live told)
-  noticed_tells live (notice.Data number alarm) k = taken_tells (behind_data live number) alarm (taken_as live.alarms.seen number) k
-  noticed_tells live (notice.Ack number) k = stays_tells _ k
-  noticed_tells live notice.Nack k = stays_tells _ k
-  noticed_tells live notice.Abort k = stays_tells _ k
 
   -- a cyclic frame changes neither the route nor what is sent
   read_keeps : (cyclic : Cyclic) (read : Result (List ℕ × CyclicTail) ShortFrame)
@@ -241,30 +153,6 @@ module _ (size : ℕ) where
     way = subst (λ (r : Route). IsWay r) (sym route) k.way;
     size = shown ∙ k.size;
   }
-
-  come_keeps : (live : Live) (source : Mac) (frame_id : ℕ) (bytes : List ℕ) → IsKept size live → IsKept size (come live source frame_id bytes)
-  come_keeps live source frame_id bytes k = by_standing live.stands
-    where
-      by_standing : (b : Bool) → IsKept size (cond b (record live { cyclic = behind_frame live.cyclic source frame_id bytes }) live)
-      by_standing true =
-          let keeps = frame_keeps live.cyclic source frame_id bytes in
-          with_cyclic live (behind_frame live.cyclic source frame_id bytes) keeps.0 (ap (λ (image : Image). image.data_length) keeps.1) k
-      by_standing false = k
-
-  come_same : (live : Live) (source : Mac) (frame_id : ℕ) (bytes : List ℕ) → (come live source frame_id bytes).cyclic.shown ≡ live.cyclic.shown
-  come_same live source frame_id bytes = by_standing live.stands
-    where
-      by_standing : (b : Bool) → (cond b (record live { cyclic = behind_frame live.cyclic source frame_id bytes }) live).cyclic.shown ≡ live.cyclic.shown
-      by_standing true = (frame_keeps live.cyclic source frame_id bytes).1
-      by_standing false = refl
-
-  turned_tells : (setup : Setup) (live : Live) (heard : Heard) → IsSix heard → IsKept size live → Tells live.cyclic.shown (turned setup live heard)
-  turned_tells setup live Nothing six k = stays_tells _ k
-  turned_tells setup live (Answers source answer) six k = answered_tells setup live source answer live.phase six k
-  turned_tells setup live (Responds response) six k = responded_tells setup live response live.asked k
-  turned_tells setup live (Calls caller call) six k = called_tells setup live caller call (ready_in call) six k
-  turned_tells setup live (Comes source frame_id body) six k = record { told = tt; same = come_same live source frame_id body; kept = come_keeps live source frame_id body k }
-  turned_tells setup live (Alarms source header told) six k = either live.cyclic.shown (live.stands && is_alarm live.cyclic.route source header) _ _ (noticed_tells live told k) (stays_tells _ k)
 
   -- ---- units
 
@@ -298,11 +186,6 @@ module _ (size : ℕ) where
         kept = k;
       }
 
-  ticked_tells : (live : Live) → IsKept size live → Tells live.cyclic.shown (ticked live)
-  ticked_tells live k =
-      either live.cyclic.shown live.stands _ _ (flowed_tells (flow_later live) (is_again live) (brought live) (brought live).ending k)
-      (record { told = due_tells live.cyclic.shown (is_again live) (requests_of live.device live.asked) (request_tells live.cyclic.shown live.device live.asked k.device); same = refl; kept = k })
-
   given_keeps : (live : Live) (slot subslot : ℕ) (value : List ℕ) → IsKept size live → IsKept size (given live slot subslot value)
   given_keeps live slot subslot value k = by_size (has_size (length value) (cell_at Data slot subslot live.cyclic.shown.cells))
     where
@@ -312,8 +195,49 @@ module _ (size : ℕ) where
       by_size true = record { device = k.device; way = k.way; size = k.size }
       by_size false = k
 
-  pub turn_tells : (setup : Setup) (live : Live) (event : Event) → IsSixAt setup event → IsKept size live → Tells (shown_behind live event) (turn_of setup live event)
-  turn_tells setup live (Frame bytes) six k = turned_tells setup live (heard_of setup.plan.controller bytes.items) six k
-  turn_tells setup live Ticks six k = ticked_tells live k
-  turn_tells setup live (Give slot subslot value) six k = record { told = tt; same = refl; kept = given_keeps live slot subslot value.items k }
-  turn_tells setup live Stop six k = stopped_tells setup live live.phase k
+  -- ---- a turn of each kind
+
+  module _ (setup : Setup) (live : Live) (came : Came) (six : IsSixIn came) (k : IsKept size live) where
+    source_six : (source : Mac) → (source ≡ live.device) ⊎ ((answer : Answered) × (came ≡ Hears (Answers source answer))) → IsMac source
+    source_six source (inl same) = subst (λ (m : Mac). IsMac m) (sym same) k.device
+    source_six source (inr heard) = subst (λ (c : Came). IsSixIn c) heard.1 six
+
+    met_tells : (phase : State) (request : Request) (source : Mac) → IsSought live came source → Tells live.cyclic.shown (asking phase request (record live { device = source }))
+    met_tells phase request source sought =
+        let one = source_six source sought.known in
+        record { told = ((tt, one), tt); kept = record { device = one; way = k.way; size = k.size }; same = refl }
+
+    readied_tells : (caller : Caller) (call : Call) (block : ControlBlock) → IsReadied setup came caller call block → IsMac caller.mac
+    readied_tells caller call block readied = subst (λ (c : Came). IsSixIn c) readied.comes six
+
+    kind_tells : (kind : Kind) → IsKind setup live came kind → Tells live.cyclic.shown (turn_by setup live kind)
+    kind_tells Rests holds = stays_tells live k
+    kind_tells (Connects source) holds = met_tells Connecting asks.Connect source holds
+    kind_tells (Addresses source) holds = met_tells Addressing asks.Address source holds
+    kind_tells (sort.Ends why) holds = over_tells why live k
+    kind_tells (Releases why) holds = released_tells setup why live k
+    kind_tells (Relates frame_id) holds = related_tells setup live frame_id k
+    kind_tells (Writes number) holds = let next = writing_from setup.plan (number + 1) in asking_tells (phase_for next) next live k
+    kind_tells Waits holds = record { told = tt; kept = k; same = refl }
+    kind_tells Forgets holds = record { told = tt; kept = k; same = refl }
+    kind_tells (Begins caller call block) holds = record { told = ((tt, readied_tells caller call block holds.1), tt); kept = k; same = refl }
+    kind_tells (Repeats caller call block) holds = record { told = ((tt, readied_tells caller call block holds.1), tt); kept = k; same = refl }
+    kind_tells (Follows source frame_id body) holds =
+        let keeps = frame_keeps live.cyclic source frame_id body in
+        record { told = tt; kept = with_cyclic live (behind_frame live.cyclic source frame_id body) keeps.0 (ap (λ (image : Image). image.data_length) keeps.1) k; same = keeps.1 }
+    kind_tells (Takes number alarm) holds = taken_tells (behind_data live number) alarm (taken_as live.alarms.seen number) k
+    kind_tells (IsAcked number) holds = record { told = tt; kept = k; same = refl }
+    kind_tells (Gives slot subslot value) holds = absurd (subst (λ (c : Came). IsSixIn c) holds six)
+    kind_tells Flows holds = flowed_tells (flow_later live) (is_again live) (brought live) None k
+    kind_tells (Breaks reason) holds = flowed_tells (flow_later live) (is_again live) (brought live) (Some reason) k
+    kind_tells Idles holds =
+        record { told = due_tells live.cyclic.shown (is_again live) (requests_of live.device live.asked) (request_tells live.cyclic.shown live.device live.asked k.device); same = refl; kept = k }
+
+    came_tells : (turn : Turn) → IsTurn setup live came turn → Tells live.cyclic.shown turn
+    came_tells turn of = subst (λ (t : Turn). Tells live.cyclic.shown t) (sym of.is) (kind_tells of.kind of.holds)
+
+  pub turn_tells : KindsSo → (setup : Setup) (live : Live) (event : Event) → IsSixAt setup event → IsKept size live → Tells (shown_behind live event) (turn_of setup live event)
+  turn_tells kinds setup live (Frame bytes) six k = came_tells setup live (Hears (heard_of setup.plan.controller bytes.items)) six k _ (kinds setup live (Frame bytes))
+  turn_tells kinds setup live Ticks six k = came_tells setup live Passes tt k _ (kinds setup live Ticks)
+  turn_tells kinds setup live (Give slot subslot value) six k = record { told = tt; same = refl; kept = given_keeps live slot subslot value.items k }
+  turn_tells kinds setup live Stop six k = came_tells setup live Halts tt k _ (kinds setup live Stop)

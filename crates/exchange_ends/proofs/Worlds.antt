@@ -40,7 +40,7 @@ use Rattle.exchange_ends.specs.Shown.{accepted_in, brought_in, image_in, outputs
 use Rattle.exchange_ends.specs.Given.{image_given}
 use Rattle.exchange_ends.proofs.Moves.{ArePlacedOnce, first_image, given_more, shown_with}
 use Rattle.exchange_ends.proofs.Brings.{IsAddressed, IsNow, all_bring, request_silent}
-use Rattle.exchange_ends.proofs.Turns.{IsKept, IsSaid, shown_behind, turn_tells}
+use Rattle.exchange_ends.proofs.Turns.{IsKept, KindsSo, IsSaid, shown_behind, turn_tells}
 use Rattle.exchange_ends.proofs.Six.{six_event}
 use Rattle.exchange_ends.proofs.Shows.{AreKeptSilent, IsOursIn, ShowsIn, frames_silent, turn_shows}
 
@@ -94,7 +94,7 @@ abbrev pub TurnsSo : Type 0
 TurnsSo = (rules : Rules TakenRecord Request) (activity : List ℕ) (outcomes : List Outcome) (station : Station) (live : Live) (heard : Heard) → IsPlanned rules activity station.real heard
     → Turn station live heard (heard_step outcomes station live heard).live.rest (heard_step outcomes station live heard).sent
 
-module _ (turns : TurnsSo) (sound : IsSound ethernet) (whole : IsSoundWhole layers) {F : Type 0} where
+module _ (turns : TurnsSo) (kinds : KindsSo) (sound : IsSound ethernet) (whole : IsSoundWhole layers) {F : Type 0} where
   abbrev rules_at : World F → Outputs Image Image
   rules_at w = outputs_of w.controller.setup w.device.station.identity
 
@@ -121,7 +121,7 @@ module _ (turns : TurnsSo) (sound : IsSound ethernet) (whole : IsSoundWhole laye
       let there : after ≡ now =
       is ∙ (ap (λ (c : Controlling). record { device = before.device; controller = c; sent = before.sent ++ (step_of before.controller event).frames }) (controller_is before.controller event)
       ∙ ap (λ (frames : List (List ℕ)). record { device = before.device; controller = with_live before.controller turn.live; sent = before.sent ++ frames }) (frames_are before.controller event)) in
-      let tells = turn_tells size setup before.controller.live event (six_event whole setup event) holds.kept in
+      let tells = turn_tells size kinds setup before.controller.live event (six_event whole setup event) holds.kept in
       let shown = turn.live.cyclic.shown in
       subst (λ (w : World F). Refines before w (shown_behind before.controller.live event) (GivesAtController (rules_at before) (shown_of before) (shown_of w))) (sym there) (record {
         is = record {

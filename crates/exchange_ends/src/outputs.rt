@@ -10,6 +10,7 @@ ghost use Rattle.exchange_ends.specs.Shown.{has_accepted};
 
 use both_ends::outputs_are_given;
 use controller_frames::Setup;
+use controller_laws::turns_are_of_a_kind;
 use cyclic_data::Image;
 use device_ends::device_turns;
 use flash_model::Flash;
@@ -39,6 +40,7 @@ pub fn worlds_show_what_is_given<F: Flash<S>, const S: usize>(setup: &Setup, ide
     stations_are_real(setup, identity);
     formats_are_sound();
     device_turns();
+    turns_are_of_a_kind();
     worlds_start_up::<F, S>(setup, identity);
     outputs_are_given::<Image, Image>();
 }

@@ -5,7 +5,7 @@ use Rattle.alarm_ends.specs.Sized.{AreSizedModules}
 use Rattle.alarm_ends.proofs.Both.{Laws, cut_so, on_bad, on_good, played_so}
 use Rattle.alarm_ends.proofs.together.play_both_ends.Goals as goal
 
-laws : (g : _) → (c : goal.After-play g) → Laws g.F.Flash c.args.setup c.args.identity.now
+laws : (g : _) → (c : goal.After-play-played g) → Laws g.F.Flash c.args.setup c.args.identity.now
 laws g c = record {
   run = c.worlds_start_up.ensures.run;
   handed = c.worlds_start_up.ensures.controller;
@@ -21,12 +21,12 @@ laws g c = record {
 
 pub returns-clause-played : goal.returns-clause-played
 returns-clause-played g c =
-    on_good _ _ c.play.result (played_so g.F.Flash c.args.setup c.args.identity.now (laws g c) c.requires.meets c.args.device c.requires.known
-    (subst (λ (r : Real). AreSizedModules r.modules.items) c.real.ensures c.modules_are_sized.ensures) c.begin_world.result c.begin_world.ensures.begins c.begin_world.ensures.device
-    c.args.moves.now c.play.new.self) c.play.ensures.played
+    on_good _ _ c.play-played.result (played_so g.F.Flash c.args.setup c.args.identity.now (laws g c) c.requires.meets c.args.device c.requires.known
+    (subst (λ (r : Real). AreSizedModules r.modules.items) c.real.ensures c.modules_are_sized.ensures) c.begin_world-world.result c.begin_world-world.ensures.begins c.begin_world-world.ensures.device
+    c.args.moves.now c.play-played.new.self) c.play-played.ensures.played
 
 pub returns-clause-cut : goal.returns-clause-cut
 returns-clause-cut g c =
-    on_bad _ _ c.play.result (cut_so g.F.Flash c.args.setup c.args.identity.now (laws g c) c.requires.meets c.args.device c.requires.known
-    (subst (λ (r : Real). AreSizedModules r.modules.items) c.real.ensures c.modules_are_sized.ensures) c.begin_world.result c.begin_world.ensures.begins c.begin_world.ensures.device
-    c.args.moves.now c.play.new.self) c.play.ensures.front
+    on_bad _ _ c.play-played.result (cut_so g.F.Flash c.args.setup c.args.identity.now (laws g c) c.requires.meets c.args.device c.requires.known
+    (subst (λ (r : Real). AreSizedModules r.modules.items) c.real.ensures c.modules_are_sized.ensures) c.begin_world-world.result c.begin_world-world.ensures.begins c.begin_world-world.ensures.device
+    c.args.moves.now c.play-played.new.self) c.play-played.ensures.front
