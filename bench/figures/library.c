@@ -1,6 +1,6 @@
 /* Figures of the library through its header, for bench/figures/library.py: how deep each call goes into a stack that was painted
  * (`stack`), and so many units of time in one call (`quiet`), units one by one (`tick`) or cyclic frames (`cyclic`) to be counted by
- * callgrind, behind a script on standard input. */
+ * callgrind, behind a script on standard input: what is executed within pn_step, and not what this program does. */
 #define _GNU_SOURCE
 #include "nandutable.h"
 #include <pthread.h>
@@ -81,7 +81,7 @@ static void on_stack(struct line *line)
 
 static void take_all(void (*does)(struct line *))
 {
-    struct line line = {.kind = 4};
+    static struct line line = {.kind = 4}; /* made once: a line is 2 KiB to be cleared */
     do
         does(&line);
     while (op.work != PN_NOTHING);
@@ -169,7 +169,7 @@ int main(int count, char **words)
     start(plain);
     play(plain);
     if (count > 1 && strcmp(words[1], "tick") == 0) {
-        struct line line = {.kind = 3};
+        static struct line line = {.kind = 3};
         for (unsigned long i = 0; i < n; i++) {
             line.units = 1;
             call(&line);
@@ -181,7 +181,7 @@ int main(int count, char **words)
             next_cyclic();
     if (count > 1 && strcmp(words[1], "quiet") == 0)
         for (unsigned long i = 0; i < n; i += 1000) {
-            struct line line = {.kind = 3, .units = 1000};
+            static struct line line = {.kind = 3, .units = 1000};
             call(&line);
         }
     return 0;

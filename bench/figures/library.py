@@ -36,8 +36,10 @@ def script(name, until=None):
 
 
 def instructions(program, folder, what, turns, given):
+    """The instructions of the library alone: what is executed within its call, and nothing of the program that makes it."""
     kept = os.path.join(folder, "callgrind")
-    run(["valgrind", "--tool=callgrind", "--quiet", f"--callgrind-out-file={kept}", program, what, str(turns)], given)
+    run(["valgrind", "--tool=callgrind", "--quiet", "--collect-atstart=no", "--toggle-collect=pn_step", f"--callgrind-out-file={kept}", program, what,
+         str(turns)], given)
     with open(kept) as file:
         return int(re.search(r"^(?:summary|totals): (\d+)", file.read(), re.MULTILINE).group(1))
 

@@ -1,9 +1,10 @@
 #!/usr/bin/env python3
 """Counts the instructions of making the plan of a catalogue, for each octet of its text, at three sizes and kinds of text that are long in
-one thing each: modules as a maker writes them, modules of two keys, the lists by which modules are let into slots, what is put into slots,
-and what nobody reads. What the program does at an empty text is taken off. Its status is 1 where a figure passes its bound.
+one thing each: modules as a maker writes them, modules of two keys, the lists by which modules are let into slots, what is put into slots
+with its records, and what nobody reads. What the program does at an empty text is taken off. Its status is 1 where a figure passes its bound.
 
-Needs valgrind. Use: bench/figures/plans.py [PROGRAM]   (the proved one if left out)
+Needs valgrind. Use: bench/figures/plans.py [PROGRAM] [OCTETS]   (the proved program if left out; OCTETS: one size in place of the three, as
+16777216, the longest text that the program reads: minutes a kind)
 """
 
 import json
@@ -81,6 +82,18 @@ def with_entries(catalogue, number):
     catalogue["Project"]["Slots"].append({"Slot": slot, "ModuleItemTarget": "IN2"})
 
 
+def with_long_list(catalogue, number):
+    catalogue["DeviceAccessPointItem"]["PhysicalSlots"].append(number % 32_768)
+
+
+def with_records(catalogue, number):
+    """Modules of their own in as many slots, and a record for each: in slots that the device does not have."""
+    parameters = [{"Index": 1, "Length": 1}]
+    part = {"Subslot": 1, "SubmoduleIdentNumber": 1, "ParameterRecordDataItem": parameters}
+    catalogue["ModuleItem"].append({"ID": f"m{number}", "ModuleIdentNumber": 1, "VirtualSubmoduleItem": [part]})
+    catalogue["Project"]["Slots"].append({"Slot": number + 3, "ModuleItemTarget": f"m{number}", "Records": [{"Subslot": 1, "Index": 1, "Data": "00"}]})
+
+
 def with_words(catalogue, number):
     catalogue[f"Text-{number}"] = "what a tool may keep of a device \u2014 and nobody reads"
 
@@ -93,21 +106,25 @@ def with_keys(catalogue, number):
 KINDS = [("modules of a maker", with_modules(whole_module), 0), ("modules of two keys", with_modules(short_module), 0),
          ("parameter records", with_parameters, 0), ("slots in a list", with_slots, 0), ("fixed slots of many", with_physical, 0),
          ("fixed slots of two", with_fixed, 0), ("references", with_references, 0), ("slots that are used", with_entries, 5),
+         ("physical slots", with_long_list, 0), ("records of many slots", with_records, 5),
          ("other keys", with_words, 0), ("short keys", with_keys, 0)]
 
 
 def text_of(add, size):
-    """A catalogue of so many octets, blanks at its end."""
+    """A catalogue of that many octets, blanks at its end: at most a fiftieth of it."""
     with open(os.path.join(TOP, "examples", "catalogue", "pump.json"), encoding="utf-8") as file:
         catalogue = json.load(file)
-    last, count = catalogue, 0
+    last, count = json.dumps(catalogue, separators=(",", ":")), 0
     while True:
-        for _ in range(max(1, (size - len(json.dumps(catalogue))) // 1024)):
+        # As many as surely fit, by what those before took; then one by one.
+        left = size - len(last)
+        more = max(1, min(count, left * count // (2 * len(last))) if left > size // 50 else 1)
+        for _ in range(more):
             add(catalogue, count)
             count += 1
         text = json.dumps(catalogue, separators=(",", ":"))
-        if len(text) > size:
-            return last.ljust(size).encode()
+        if len(text) > size or size > 1_000_000 and len(text) > size - size // 50:
+            return (last if len(text) > size else text).ljust(size).encode()
         last = text
 
 
@@ -121,13 +138,14 @@ def total(program, text, wanted):
 
 def main(words):
     answer_help(__doc__, words)
-    if len(words) > 1:
+    if len(words) > 2 or len(words) == 2 and not words[1].isdigit():
         return refuse(words)
     need("valgrind")
     program = words[0] if words else proved()
+    sizes = (int(words[1]),) if len(words) == 2 else SIZES
     nothing, wrong = total(program, b"", 5), 0
     for name, add, status in KINDS:
-        for size in SIZES:
+        for size in sizes:
             figure = (total(program, text_of(add, size), status) - nothing) / size
             wrong += figure > BOUND
             print(f"plan, {name}, {size:,} octets: {figure:.0f} instructions an octet (at most {BOUND})")

@@ -5,6 +5,7 @@ layouts of its cyclic frames, the blocks of its Connect and its records. It shar
     bench/gate/catalogues.py --lines FILE       prints the layouts of a catalogue, as `pnscript plan` does
     bench/gate/catalogues.py --table FILE       prints what must come of a file of catalogues, one a line, in the table tests/tables/catalogues
                                                 whose fault is told by --faults FILE: a line for each, `-` or the fault
+    bench/gate/catalogues.py --bounds           writes the last rows of that table: catalogues at each bound of the rules and one past it
     bench/gate/catalogues.py --check            compares: each example with its layouts, the table with what stands there, and the Connect of
                                                 the demo station with the one that Scapy built in examples/exchange.txt
 """
@@ -15,6 +16,7 @@ import os
 import struct
 import sys
 
+import catalogue_bounds
 from program import TOP, answer_help, refuse
 
 OCTETS = {"Unsigned8": 1, "Integer8": 1, "Unsigned16": 2, "Integer16": 2, "Unsigned32": 4, "Integer32": 4, "Float32": 4}
@@ -149,6 +151,24 @@ def faults_in(printed):
             yield line if line.startswith("config ") else "-"
 
 
+def bounded(catalogues, faults):
+    """The table with the rows at the bounds as its last: catalogues, faults and the keys of these rows."""
+    rows = catalogue_bounds.rows()
+    texts = {text for text, _, _ in rows}
+    others = [(text, fault) for text, fault in zip(catalogues, faults) if text not in texts]
+    keys = "".join(where + "\n" for _, _, where in rows)
+    return [text for text, _ in others] + [text for text, _, _ in rows], [fault for _, fault in others] + [fault for _, fault, _ in rows], keys
+
+
+def write_bounds():
+    """Writes the rows at the bounds anew."""
+    catalogues, printed = read(os.path.join(TABLE, "stdin")).splitlines(), read(os.path.join(TABLE, "stdout"))
+    catalogues, faults, keys = bounded(catalogues, list(faults_in(printed.splitlines())))
+    for name, text in (("stdin", "".join(line + "\n" for line in catalogues)), ("stdout", table(catalogues, faults)), ("places", keys)):
+        with open(os.path.join(TABLE, name), "w", encoding="utf-8") as file:
+            file.write(text)
+
+
 def check():
     """Compares. Gives how many things differ."""
     wrong = 0
@@ -156,6 +176,9 @@ def check():
     faults = list(faults_in(printed.splitlines()))
     if len(faults) != len(catalogues) or table(catalogues, faults) != printed:
         print("tests/tables/catalogues: stdout is not what is computed of stdin")
+        wrong += 1
+    if bounded(catalogues, faults) != (catalogues, faults, read(os.path.join(TABLE, "places"))):
+        print("tests/tables/catalogues: its last rows are not those at the bounds (catalogues.py --bounds)")
         wrong += 1
     whole = [json.loads(text) for text, fault in zip(catalogues, faults) if fault == "-"]
     examples = sorted(glob.glob(os.path.join(EXAMPLES, "*.json")))
@@ -180,6 +203,9 @@ def main(words):
     answer_help(__doc__, words)
     if words == ["--check"]:
         return check()
+    if words == ["--bounds"]:
+        write_bounds()
+        return 0
     if len(words) == 2 and words[0] == "--lines":
         print("\n".join(layouts_of(modules_of(json.loads(read(words[1]))))))
         return 0

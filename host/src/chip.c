@@ -1,6 +1,7 @@
 #define _GNU_SOURCE
 #include "chip.h"
 #include "say.h"
+#include "streams.h"
 #include <errno.h>
 #include <fcntl.h>
 #include <libgen.h>
@@ -89,6 +90,22 @@ static _Noreturn void not_made(const char *path, const char *made)
     fail(STATUS_CREATE, "the flash file '%s' cannot be made: %s", path, strerror(why));
 }
 
+/* A file of the other name may be the flash of another device. What an interrupted start left there is shorter than a flash, or erased. */
+static void judge_left(int fd, const char *made, const char *path)
+{
+    static uint8_t found[2 * PN_SECTOR_SIZE];
+    struct stat left;
+    int is_left = fstat(fd, &left) == 0 && S_ISREG(left.st_mode) && left.st_size <= CHIP_SIZE;
+    if (is_left && left.st_size == CHIP_SIZE) {
+        is_left = read_at(fd, found, sizeof found, 0) == 0;
+        for (size_t i = 0; i < sizeof found; i++)
+            is_left &= found[i] == 0xFF;
+    }
+    if (!is_left)
+        fail(STATUS_CREATE, "the flash file '%s' cannot be made: it is made under the name '%s', which is there and holds something: name another file, or move that one away",
+             path, made);
+}
+
 /* Makes a file of erased sectors under another name, syncs it, gives it its name, and syncs the folder: at no moment is there a file
  * of this name with fewer octets. The lock that it is given first stays with it. The answer is -1 where another process was faster. */
 static int make(const char *path)
@@ -98,12 +115,18 @@ static int make(const char *path)
     int fd;
     if (snprintf(made, sizeof made, "%s.new", path) >= (int)sizeof made)
         fail(STATUS_CREATE, "the name of the flash file is too long");
-    fd = open(made, O_RDWR | O_CREAT | O_CLOEXEC, 0600);
+    fd = open(made, O_RDWR | O_CREAT | O_NOFOLLOW | O_NONBLOCK | O_CLOEXEC, 0600);
     if (fd < 0)
         not_made(path, NULL);
     lock(fd, path);
     /* Whoever holds the lock of the file of this name is the only one that may rename it. */
-    if (!is_named(fd, made) || access(path, F_OK) == 0) {
+    if (!is_named(fd, made)) {
+        close(fd);
+        return -1;
+    }
+    judge_left(fd, made, path);
+    if (access(path, F_OK) == 0) {
+        unlink(made);
         close(fd);
         return -1;
     }
@@ -126,11 +149,25 @@ static int open_old(const char *path)
     return fd;
 }
 
+static void keep_apart(const struct stat *found, const char *path)
+{
+    if (streams_lead_to(found))
+        fail(STATUS_USAGE, "the flash file '%s' is a standard stream of this program too, whose lines would be written into it", path);
+}
+
+void chip_keep_apart(const char *path)
+{
+    struct stat found;
+    if (stat(path, &found) == 0)
+        keep_apart(&found, path);
+}
+
 static void judge(const struct chip *chip)
 {
     struct stat found;
     if (fstat(chip->fd, &found) != 0)
         fail(STATUS_INPUT, "the flash file '%s': %s", chip->path, strerror(errno));
+    keep_apart(&found, chip->path); /* one that was made may have been a stream under its other name */
     if (!S_ISREG(found.st_mode) && !S_ISBLK(found.st_mode))
         fail(STATUS_DATA, "'%s' is no file: name one with --flash", chip->path);
     if (S_ISREG(found.st_mode) && found.st_size != CHIP_SIZE)
@@ -156,25 +193,75 @@ void chip_open(struct chip *chip, const char *path)
     judge(chip);
 }
 
-int chip_settle(struct chip *chip)
+/* Whether the file is still there as this process opened it: it has a name, this is its name, and it has its length. */
+static int is_there(struct chip *chip)
 {
-    for (unsigned i = 0; i < 2; i++) {
-        off_t place = (off_t)i * PN_SECTOR_SIZE;
-        if (read_at(chip->fd, chip->sectors[i], PN_SECTOR_SIZE, place) != 0)
-            return 1;
-        if (write_durably(chip->fd, chip->sectors[i], PN_SECTOR_SIZE, place) != 0)
-            return 1;
-    }
-    return 0;
+    struct stat found;
+    chip->why = NULL;
+    if (fstat(chip->fd, &found) != 0)
+        chip->why = strerror(errno);
+    else if (found.st_nlink == 0)
+        chip->why = "it was removed";
+    else if (S_ISREG(found.st_mode) && found.st_size != CHIP_SIZE)
+        chip->why = "its length changed";
+    else if (!is_named(chip->fd, chip->path))
+        chip->why = "its name is gone, or names another file";
+    return chip->why == NULL;
 }
 
-/* Carries what the sector is to hold out. */
-static int carry(struct chip *chip, uint32_t sector, uint32_t place, uint32_t length)
+/* Whether the file is there, and holds what this process put there. */
+static int is_ours(struct chip *chip)
+{
+    static uint8_t found[PN_SECTOR_SIZE];
+    if (!is_there(chip))
+        return 0;
+    for (unsigned i = 0; i < 2; i++) {
+        if (read_at(chip->fd, found, sizeof found, (off_t)i * PN_SECTOR_SIZE) != 0)
+            chip->why = "it cannot be read";
+        else if (memcmp(found, chip->sectors[i], sizeof found) != 0)
+            chip->why = "something else was written into it";
+        if (chip->why != NULL)
+            return 0;
+    }
+    return 1;
+}
+
+/* Writes octets of a sector to their place, durably. */
+static int store(struct chip *chip, uint32_t sector, uint32_t place, uint32_t length)
 {
     if (write_durably(chip->fd, chip->sectors[sector] + place, length, (off_t)sector * PN_SECTOR_SIZE + place) == 0)
         return 0;
+    chip->why = strerror(errno);
+    return 1;
+}
+
+int chip_settle(struct chip *chip)
+{
+    if (!is_there(chip))
+        return 1;
+    for (uint32_t i = 0; i < 2; i++) {
+        if (read_at(chip->fd, chip->sectors[i], PN_SECTOR_SIZE, (off_t)i * PN_SECTOR_SIZE) != 0) {
+            chip->why = strerror(errno);
+            return 1;
+        }
+        if (store(chip, i, 0, PN_SECTOR_SIZE) != 0)
+            return 1;
+    }
+    return !is_ours(chip);
+}
+
+/* A call failed: what lies in memory need not lie in the file. */
+static int failed(struct chip *chip)
+{
     chip->faults++;
     return 1;
+}
+
+/* Carries what the sector is to hold out. The file is looked at again after the write: one that was removed or replaced in between holds
+ * nothing of it for the next start. */
+static int carry(struct chip *chip, uint32_t sector, uint32_t place, uint32_t length)
+{
+    return store(chip, sector, place, length) == 0 && is_ours(chip) ? 0 : failed(chip);
 }
 
 int chip_program(struct chip *chip, uint32_t sector, uint32_t place, const uint8_t *octets, uint32_t length)
@@ -182,6 +269,8 @@ int chip_program(struct chip *chip, uint32_t sector, uint32_t place, const uint8
     if (sector > 1 || place > PN_SECTOR_SIZE || length > PN_SECTOR_SIZE - place)
         return 1;
     chip->programs++;
+    if (!is_ours(chip))
+        return failed(chip);
     for (uint32_t i = 0; i < length; i++)
         chip->sectors[sector][place + i] &= octets[i];
     return carry(chip, sector, place, length);
@@ -192,6 +281,8 @@ int chip_erase(struct chip *chip, uint32_t sector)
     if (sector > 1)
         return 1;
     chip->erases++;
+    if (!is_ours(chip))
+        return failed(chip);
     memset(chip->sectors[sector], 0xFF, PN_SECTOR_SIZE);
     return carry(chip, sector, 0, PN_SECTOR_SIZE);
 }

@@ -6,6 +6,7 @@
 #include "reasons.h"
 #include "say.h"
 #include "station.h"
+#include "streams.h"
 #include "ticker.h"
 #include "wake.h"
 #include "wire.h"
@@ -26,8 +27,7 @@
 #define IDLE_MOST 32000u        /* units */
 #define LONGEST_PERIOD 1000000ull
 #define FRAMES_AT_ONCE 64
-/* FrameIDs: of a Set, and of the cyclic frames that the controller asks a device for. */
-#define FRAME_SET 0xFEFDu
+/* The FrameID of the cyclic frames that the controller asks a device for. */
 #define FRAME_INPUT 0xC001u
 /* A Release is waited for so long, and the status is written so often. */
 #define RELEASE_WAITS (SECOND / 5)
@@ -37,6 +37,7 @@ struct options {
     const char *interface;
     const char *plan;
     const char *socket;
+    const char *socket_group; /* who may use the socket too, or nobody */
     uint8_t assigned[6]; /* who is given the station's name first */
     int has_assigned;
     int is_list;
@@ -56,7 +57,8 @@ struct controller {
     struct places inputs;
     struct places outputs;
     struct reasons reasons;
-    uint8_t device[6]; /* whom it asked last, by a Set of DCP */
+    uint8_t device[6]; /* the other end of the relation: whom its cyclic frames go to */
+    int has_device;
     uint64_t interval; /* of cyclic frames, in nanoseconds */
     uint64_t period;
     /* What was told last. */
@@ -90,8 +92,10 @@ static const char *const causes[] = {
 static int transmit(void *context, const uint8_t *octets, uint32_t length)
 {
     struct controller *controller = context;
-    if (wire_frame_id(octets, length) == FRAME_SET)
+    if (wire_is_cyclic(octets, length)) {
         memcpy(controller->device, octets, sizeof controller->device);
+        controller->has_device = 1;
+    }
     return wire_send(&controller->wire, octets, length);
 }
 
@@ -241,7 +245,7 @@ static size_t cyclic_length(const struct controller *controller, const uint8_t *
 /* Whether a frame is a whole cyclic one of the relation, as far as that is seen from outside: others are not counted. */
 static int is_of_relation(const struct controller *controller, const uint8_t *octets, size_t length)
 {
-    return wire_frame_id(octets, length) == FRAME_INPUT && memcmp(octets, controller->plan.controller_mac, 6) == 0 &&
+    return controller->has_device && wire_frame_id(octets, length) == FRAME_INPUT && memcmp(octets, controller->plan.controller_mac, 6) == 0 &&
            memcmp(octets + 6, controller->device, sizeof controller->device) == 0 && cyclic_length(controller, octets, length) <= length;
 }
 
@@ -381,19 +385,21 @@ static void take_line(void *context, char *line)
 
 static void usage(void)
 {
-    puts("Usage: nandutable-controller IFACE PLAN.json [--assign MAC] [--socket PATH] [--period US] [--realtime N]\n"
+    puts("Usage: nandutable-controller IFACE PLAN.json [--assign MAC] [--socket PATH] [--socket-group GROUP] [--period US]\n"
+         "                             [--realtime N]\n"
          "       nandutable-controller IFACE --list\n"
          "\n"
          "A PROFINET IO controller on the network interface IFACE. It finds the station of the plan by its name, gives it its address, makes\n"
          "the relation, writes its records, and exchanges data until it is stopped.\n"
          "\n"
-         "  PLAN.json        a catalogue in JSON, as `pnscript plan` reads it: host/demo/pump.json is one, installed\n"
-         "                   share/doc/nandutable/pump.json\n"
-         "  --list           prints a line for each station that answers within a second, and ends\n"
-         "  --assign MAC     first gives the station with this MAC address the name of the plan, to be kept\n"
-         "  --socket PATH    lines go in and out over this unix socket, and not over the standard streams\n"
-         "  --period US      time is handed in so often, 31 to 10000 microseconds (default: the plan's interval, at most 1000)\n"
-         "  --realtime N     runs by this priority, 1 to 99, of the first-in first-out scheduler\n"
+         "  PLAN.json             a catalogue in JSON with the keys of GSDML: host/demo/pump.json is one, installed\n"
+         "                        share/doc/nandutable/pump.json\n"
+         "  --list                prints a line for each station that answers within a second, and ends\n"
+         "  --assign MAC          first gives the station with this MAC address the name of the plan, to be kept\n"
+         "  --socket PATH         lines go in and out over this unix socket, and not over the standard streams\n"
+         "  --socket-group GROUP  the members of this group may use the socket too, and not its owner alone\n"
+         "  --period US           time is handed in so often, 31 to 10000 microseconds (default: the plan's interval, at most 1000)\n"
+         "  --realtime N          runs by this priority, 1 to 99, of the first-in first-out scheduler\n"
          "  --help, --version\n"
          "\n"
          "It takes the capability CAP_NET_RAW: run it as root, or once `setcap cap_net_raw+ep nandutable-controller`.\n"
@@ -419,6 +425,7 @@ static void take_option(struct options *options, int option, const char *word)
     unsigned long number;
     switch (option) {
     case 'u': options->socket = word; return;
+    case 'g': options->socket_group = word; return;
     case 'l': options->is_list = 1; return;
     case 'a':
         if (!words_mac(word, options->assigned))
@@ -441,10 +448,10 @@ static void take_option(struct options *options, int option, const char *word)
 
 static void read_words(struct options *options, int count, char *words[])
 {
-    static const struct option known[] = {{"socket", required_argument, NULL, 'u'}, {"period", required_argument, NULL, 'p'},
-                                          {"realtime", required_argument, NULL, 'r'}, {"help", no_argument, NULL, 'h'},
-                                          {"list", no_argument, NULL, 'l'},       {"assign", required_argument, NULL, 'a'},
-                                          {"version", no_argument, NULL, 'v'},        {NULL, 0, NULL, 0}};
+    static const struct option known[] = {
+        {"list", no_argument, NULL, 'l'},       {"assign", required_argument, NULL, 'a'}, {"socket", required_argument, NULL, 'u'},
+        {"socket-group", required_argument, NULL, 'g'}, {"period", required_argument, NULL, 'p'}, {"realtime", required_argument, NULL, 'r'},
+        {"help", no_argument, NULL, 'h'},       {"version", no_argument, NULL, 'v'},      {NULL, 0, NULL, 0}};
     int option;
     memset(options, 0, sizeof *options);
     opterr = 0;
@@ -461,6 +468,8 @@ static void read_words(struct options *options, int count, char *words[])
     }
     if (optind + (options->is_list ? 1 : 2) != count)
         misused(options->is_list ? "name a network interface, and nothing else" : "name a network interface and a plan, and nothing else", "");
+    if (options->socket_group != NULL && options->socket == NULL)
+        misused("--socket-group takes --socket", "");
     options->interface = words[optind];
     options->plan = options->is_list ? NULL : words[optind + 1];
 }
@@ -500,7 +509,7 @@ static void open_all(struct controller *controller, const struct options *option
     wire_take(&controller->wire, plan->controller_mac);
     if (options->has_assigned)
         assign(controller, options->assigned);
-    lines_open(&controller->lines, options->socket);
+    lines_open(&controller->lines, options->socket, options->socket_group);
     if (options->realtime != 0)
         wake_realtime(options->realtime);
     wake_open(&controller->wake);
@@ -591,6 +600,7 @@ int main(int count, char *words[])
 {
     static struct controller controller;
     struct options options;
+    streams_secure();
     say_as("nandutable-controller");
     read_words(&options, count, words);
     if (options.is_list)

@@ -4,7 +4,9 @@
 #include "histogram.h"
 #include "lines.h"
 #include "say.h"
+#include "sets.h"
 #include "station.h"
+#include "streams.h"
 #include "ticker.h"
 #include "wake.h"
 #include "wire.h"
@@ -29,10 +31,12 @@ struct options {
     const char *flash;
     const char *station;
     const char *socket;
+    const char *socket_group; /* who may use the socket too, or nobody */
     uint8_t mac[6];
     int has_mac;
     uint64_t period; /* nanoseconds */
     int realtime;
+    uint32_t sets_a_second; /* 0: no limit */
 };
 
 struct device {
@@ -47,6 +51,7 @@ struct device {
     struct lines lines;
     struct places inputs;
     struct places outputs;
+    struct sets sets;
     uint64_t period;
     /* What was told last. */
     uint32_t phase;
@@ -98,8 +103,8 @@ static void start(struct device *device)
 {
     uint32_t answer;
     if (chip_settle(&device->chip) != 0)
-        fail(STATUS_INPUT, "the flash file '%s' cannot be read and written: %s. Nothing was sent of the step that it failed in; mend the disk and start again",
-             device->chip.path, strerror(errno));
+        fail(STATUS_INPUT, "the flash file '%s' cannot be read and written: %s. Nothing was sent of the step that it failed in; put it right and start again",
+             device->chip.path, device->chip.why);
     must(pn_make(&device->room, &device->station), "pn_make");
     answer = pn_boot(&device->room, &device->op, device->chip.sectors[0], device->chip.sectors[1]);
     if (answer == PN_FOREIGN)
@@ -116,7 +121,7 @@ static void carry_out(struct device *device)
 {
     if (pn_carry_out(&device->room, &device->op, &device->host) != PN_FLASH_FAULT)
         return;
-    lines_tell(&device->lines, "power lost: a call of the flash failed: %s", strerror(errno));
+    lines_tell(&device->lines, "power lost: a call of the flash failed: %s", device->chip.why);
     start(device);
     lines_tell(&device->lines, "boot ok");
     look(device, 0);
@@ -254,6 +259,8 @@ static void take_frame(struct device *device, const uint8_t *octets, size_t leng
 {
     int is_cyclic = wire_is_cyclic(octets, length);
     uint32_t note;
+    if (!sets_let_in(&device->sets, octets, length, device->station.mac, ticker_now()))
+        return;
     must(pn_frame(&device->room, &device->op, octets, length), "pn_frame");
     note = device->op.note;
     if (note < sizeof device->notes / sizeof device->notes[0])
@@ -324,6 +331,7 @@ static void statistics(struct device *device, void (*tell)(struct lines *, const
          device->wire.not_sent, wire_missed(&device->wire));
     for (unsigned i = 0; i < sizeof notes / sizeof notes[0]; i++)
         tell(lines, "note %s %" PRIu64, notes[i], device->notes[i]);
+    tell(lines, "sets dropped %" PRIu64, device->sets.dropped);
     tell(lines, "flash programs %" PRIu64 " erases %" PRIu64 " faults %" PRIu64, device->chip.programs, device->chip.erases, device->chip.faults);
     tell(lines, "time units %" PRIu64 " forgotten %" PRIu64 " stalls %" PRIu64 " most-at-once %" PRIu64, device->ticker.given, device->ticker.forgotten,
          device->ticker.stalls, device->ticker.longest);
@@ -404,20 +412,23 @@ static void take_line(void *context, char *line)
 
 static void usage(void)
 {
-    puts("Usage: nandutable-device IFACE --flash FILE [--station FILE] [--mac MAC] [--socket PATH] [--period US] [--realtime N]\n"
+    puts("Usage: nandutable-device IFACE --flash FILE [--station FILE] [--mac MAC] [--socket PATH] [--socket-group GROUP]\n"
+         "                         [--period US] [--realtime N] [--sets-per-second N]\n"
          "\n"
          "A PROFINET IO device on the network interface IFACE. Its name, address and I&M texts are in the flash file, and are there again\n"
          "after a power failure at any moment.\n"
          "\n"
-         "  --flash FILE     the flash: 8,192 octets; made where there is none. One process a file\n"
-         "  --station FILE   a catalogue in JSON, as `pnscript plan` reads it: identity and modules. Without: the demo station, with two\n"
-         "                   octets of input in slot 1 and two of output in slot 2, as in host/demo/pump.json, installed\n"
-         "                   share/doc/nandutable/pump.json\n"
-         "  --mac MAC        the device's MAC address, where it is not to be the interface's\n"
-         "  --socket PATH    lines go in and out over this unix socket, and not over the standard streams\n"
-         "  --period US      time is handed in so often while a relation stands, 31 to 10000 microseconds; at least as often as the\n"
-         "                   controller's interval (default: 250)\n"
-         "  --realtime N     runs by this priority, 1 to 99, of the first-in first-out scheduler\n"
+         "  --flash FILE          the flash: 8,192 octets; made where there is none. One process a file\n"
+         "  --station FILE        a catalogue in JSON with the keys of GSDML: identity and modules. Without: the demo station, with two\n"
+         "                        octets of input in slot 1 and two of output in slot 2, as in host/demo/pump.json, installed\n"
+         "                        share/doc/nandutable/pump.json\n"
+         "  --mac MAC             the device's MAC address, where it is not to be the interface's\n"
+         "  --socket PATH         lines go in and out over this unix socket, and not over the standard streams\n"
+         "  --socket-group GROUP  the members of this group may use the socket too, and not its owner alone\n"
+         "  --period US           time is handed in so often while a relation stands, 31 to 10000 microseconds; at least as often as the\n"
+         "                        controller's interval (default: 250)\n"
+         "  --realtime N          runs by this priority, 1 to 99, of the first-in first-out scheduler\n"
+         "  --sets-per-second N   takes at most N Sets of DCP a second, 1 to 1000000, and drops the others (default: no limit)\n"
          "  --help, --version\n"
          "\n"
          "It takes the capability CAP_NET_RAW: run it as root, or once `setcap cap_net_raw+ep nandutable-device`.\n"
@@ -443,6 +454,7 @@ static void take_option(struct options *options, int option, const char *word)
     case 'f': options->flash = word; return;
     case 's': options->station = word; return;
     case 'u': options->socket = word; return;
+    case 'g': options->socket_group = word; return;
     case 'm':
         if (!words_mac(word, options->mac) || options->mac[0] % 2 != 0)
             misused("--mac takes six octets in hex between colons, the first one even: ", word);
@@ -458,20 +470,37 @@ static void take_option(struct options *options, int option, const char *word)
             misused("--realtime takes 1 to 99: ", word);
         options->realtime = (int)number;
         return;
+    case 'l':
+        if (!words_number(word, SETS_MOST, &number) || number < 1)
+            misused("--sets-per-second takes 1 to 1000000: ", word);
+        options->sets_a_second = (uint32_t)number;
+        return;
     default: misused("there is no such option, or its word is missing", "");
     }
 }
 
+static const struct option known[] = {
+    {"flash", required_argument, NULL, 'f'},           {"station", required_argument, NULL, 's'}, {"socket", required_argument, NULL, 'u'},
+    {"socket-group", required_argument, NULL, 'g'},    {"mac", required_argument, NULL, 'm'},     {"period", required_argument, NULL, 'p'},
+    {"sets-per-second", required_argument, NULL, 'l'}, {"realtime", required_argument, NULL, 'r'}, {"help", no_argument, NULL, 'h'},
+    {"version", no_argument, NULL, 'v'},               {NULL, 0, NULL, 0}};
+
+/* Looks at the flash file's name alone, before there is anything to be said: a message could go into that file. */
+static void keep_flash_apart(int count, char *words[])
+{
+    int option;
+    opterr = 0;
+    while ((option = getopt_long(count, words, "-h", known, NULL)) != -1) /* in the order in which they stand */
+        if (option == 'f')
+            chip_keep_apart(optarg);
+    optind = 0; /* from the first word again */
+}
+
 static void read_words(struct options *options, int count, char *words[])
 {
-    static const struct option known[] = {
-        {"flash", required_argument, NULL, 'f'},  {"station", required_argument, NULL, 's'}, {"socket", required_argument, NULL, 'u'},
-        {"mac", required_argument, NULL, 'm'},    {"period", required_argument, NULL, 'p'},  {"realtime", required_argument, NULL, 'r'},
-        {"help", no_argument, NULL, 'h'},         {"version", no_argument, NULL, 'v'},       {NULL, 0, NULL, 0}};
     int option;
     memset(options, 0, sizeof *options);
     options->period = 250000;
-    opterr = 0;
     while ((option = getopt_long(count, words, "h", known, NULL)) != -1) {
         if (option == 'h') {
             usage();
@@ -488,6 +517,8 @@ static void read_words(struct options *options, int count, char *words[])
     options->interface = words[optind];
     if (options->flash == NULL)
         misused("name a flash file with --flash", "");
+    if (options->socket_group != NULL && options->socket == NULL)
+        misused("--socket-group takes --socket", "");
 }
 
 static void make_station(struct device *device, const struct options *options)
@@ -509,12 +540,13 @@ static void open_all(struct device *device, const struct options *options)
 {
     device->host = (pn_host){device, program, erase, transmit};
     device->period = options->period;
+    sets_limit(&device->sets, options->sets_a_second, ticker_now());
     wire_open(&device->wire, options->interface);
     make_station(device, options);
     wire_take(&device->wire, device->station.mac);
     wire_join_identify(&device->wire);
     chip_open(&device->chip, options->flash);
-    lines_open(&device->lines, options->socket);
+    lines_open(&device->lines, options->socket, options->socket_group);
     if (options->realtime != 0)
         wake_realtime(options->realtime);
     wake_open(&device->wake);
@@ -572,7 +604,9 @@ int main(int count, char *words[])
 {
     static struct device device;
     struct options options;
+    streams_secure();
     say_as("nandutable-device");
+    keep_flash_apart(count, words);
     read_words(&options, count, words);
     open_all(&device, &options);
     begin(&device);

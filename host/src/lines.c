@@ -3,6 +3,7 @@
 #include "say.h"
 #include <errno.h>
 #include <fcntl.h>
+#include <grp.h>
 #include <stdarg.h>
 #include <stdio.h>
 #include <string.h>
@@ -42,7 +43,19 @@ static void remove_left(const char *path, const struct sockaddr_un *address)
     unlink(path);
 }
 
-static int listen_at(const char *path)
+/* Lets the members of a group use the socket of this path. */
+static void share(const char *path, const char *group)
+{
+    const struct group *found;
+    errno = 0;
+    found = getgrnam(group);
+    if (found == NULL)
+        fail(STATUS_USAGE, "there is no group '%s' for --socket-group%s%s", group, errno != 0 ? ": " : "", errno != 0 ? strerror(errno) : "");
+    if (chown(path, (uid_t)-1, found->gr_gid) != 0 || chmod(path, 0660) != 0)
+        fail(STATUS_CREATE, "the socket '%s' cannot be given to the group '%s': %s (who starts the program must be a member)", path, group, strerror(errno));
+}
+
+static int listen_at(const char *path, const char *group)
 {
     struct sockaddr_un address = address_of(path);
     mode_t before;
@@ -54,6 +67,8 @@ static int listen_at(const char *path)
     before = umask(0177); /* for the owner alone */
     is_bound = bind(fd, (struct sockaddr *)&address, sizeof address) == 0;
     umask(before);
+    if (is_bound && group != NULL)
+        share(path, group);
     if (!is_bound || listen(fd, LINES_TALKERS) != 0)
         fail(STATUS_CREATE, "the socket '%s' cannot be made: %s", path, strerror(errno));
     return fd;
@@ -92,7 +107,7 @@ static int without_waiting(int fd)
     return again < 0 ? fd : again;
 }
 
-void lines_open(struct lines *lines, const char *path)
+void lines_open(struct lines *lines, const char *path, const char *group)
 {
     memset(lines, 0, sizeof *lines);
     for (int i = 0; i < LINES_TALKERS; i++)
@@ -100,7 +115,7 @@ void lines_open(struct lines *lines, const char *path)
     lines->path = path;
     lines->listener = NOBODY;
     if (path != NULL) {
-        lines->listener = listen_at(path);
+        lines->listener = listen_at(path, group);
         return;
     }
     lines->talkers[0].in = STDIN_FILENO;

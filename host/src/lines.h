@@ -35,8 +35,9 @@ struct lines {
     struct talker *asking; /* who gave the line that is being answered, or nobody */
 };
 
-/* Opens the standard streams, or a socket of this path in their place. */
-void lines_open(struct lines *lines, const char *path);
+/* Opens the standard streams, or a socket of this path in their place. The socket is for its owner alone, or for the members of a group
+ * too: a name, or NULL for none. */
+void lines_open(struct lines *lines, const char *path, const char *group);
 
 /* Closes, and removes the socket's name. */
 void lines_close(struct lines *lines);

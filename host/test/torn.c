@@ -1,8 +1,11 @@
 /* Preloaded in front of a device (LD_PRELOAD), this takes the power away inside a call of its flash, or tells what is asked of the system.
- * Three words of the environment:
+ * Six words of the environment:
  *
  *   TORN=K:SEED   the K-th write (from 0, those of the start counted) reaches the disk in part, each bit by the seed, and the process
  *                 is killed in it
+ *   FULL=K:N      N writes from the K-th on find the disk full (N 0: all of them): the first half of each is written
+ *   GONE=K:N      the file is removed as the K-th write begins (N is 1)
+ *   NO_NULL=1     there is no /dev/null
  *   FAILS=K:N     N syncs from the K-th on answer that the disk failed (N 0: all of them)
  *   ORDER=FILE    a line for each write, sync, new name and frame, in their order */
 #define _GNU_SOURCE
@@ -73,13 +76,49 @@ static void tear(int fd, const uint8_t *octets, size_t length, off_t place, uint
         abort();
 }
 
+/* Whether a call is one of those that fail. */
+static int is_struck(const char *name, unsigned long *passed)
+{
+    unsigned long at, count, now;
+    if (!read_pair(name, &at, &count))
+        return 0;
+    now = (*passed)++;
+    return now >= at && (count == 0 || now < at + count);
+}
+
+/* Removes the file of a descriptor. */
+static void remove_file(int fd)
+{
+    char descriptor[32], path[4096];
+    ssize_t length;
+    snprintf(descriptor, sizeof descriptor, "/proc/self/fd/%d", fd);
+    length = readlink(descriptor, path, sizeof path - 1);
+    if (length < 0)
+        abort();
+    path[length] = '\0';
+    if (unlink(path) != 0)
+        abort();
+}
+
 ssize_t pwrite(int fd, const void *octets, size_t length, off_t place)
 {
+    static unsigned long filled, left;
+    static int is_half; /* of a write that found the disk full half is written: nothing of the rest */
     unsigned long at, seed;
     tell("write %lld %zu\n", (long long)place, length);
     if (read_pair("TORN", &at, &seed) && writes++ == at) {
         tear(fd, octets, length, place, seed);
         kill(getpid(), SIGKILL);
+    }
+    if (is_struck("GONE", &left))
+        remove_file(fd);
+    if (is_half || is_struck("FULL", &filled)) {
+        is_half = !is_half && length > 1;
+        if (!is_half) {
+            errno = ENOSPC;
+            return -1;
+        }
+        length /= 2;
     }
     return ((ssize_t(*)(int, const void *, size_t, off_t))next("pwrite"))(fd, octets, length, place);
 }
@@ -89,16 +128,26 @@ ssize_t pwrite64(int fd, const void *octets, size_t length, off_t place)
     return pwrite(fd, octets, length, place);
 }
 
+int open(const char *path, int flags, ...)
+{
+    va_list values;
+    int mode;
+    if (strcmp(path, "/dev/null") == 0 && getenv("NO_NULL") != NULL) {
+        errno = ENOENT;
+        return -1;
+    }
+    va_start(values, flags);
+    mode = (flags & O_CREAT) != 0 ? va_arg(values, int) : 0;
+    va_end(values);
+    return ((int (*)(const char *, int, ...))next("open"))(path, flags, mode);
+}
+
 int fdatasync(int fd)
 {
-    unsigned long at, count;
     tell("sync\n");
-    if (read_pair("FAILS", &at, &count)) {
-        unsigned long now = syncs++;
-        if (now >= at && (count == 0 || now < at + count)) {
-            errno = EIO;
-            return -1;
-        }
+    if (is_struck("FAILS", &syncs)) {
+        errno = EIO;
+        return -1;
     }
     return ((int (*)(int))next("fdatasync"))(fd);
 }

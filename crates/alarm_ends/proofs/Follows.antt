@@ -60,7 +60,7 @@ use Rattle.alarm_ends.specs.Sized.{AreSizedModules}
 use Rattle.sending_laws.specs.Sized.{IsLive}
 use Rattle.alarm_ends.proofs.Placed.{IsPlaced}
 use Rattle.alarm_ends.proofs.Sizes.{AreSizedIn}
-use Rattle.alarm_ends.proofs.Turns.{Makes}
+use Rattle.device_ends.specs.Turn.{Makes}
 use Rattle.alarm_ends.proofs.Tied.{Goes, IsFresh, IsHeard, IsSaid, IsTied, heard_stays, said_stays}
 
 -- ---- a frame

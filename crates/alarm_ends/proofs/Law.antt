@@ -49,7 +49,7 @@ use Rattle.network_world.specs.World.{World, AtDevice, Comes, Delivers, Happens,
 use Rattle.both_ends.specs.Small as small
 use Rattle.both_ends.specs.Small.{Rules}
 use Rattle.both_ends.specs.Steps.{DeviceSteps}
-use Rattle.device_ends.specs.Owed.{IsOwed}
+use Rattle.device_ends.specs.Turn.{IsRaise, Turn}
 use Rattle.device_ends.specs.Small.{IsHeardAs, IsPlanned, heard_as, kept_in, link_of, small_of}
 use Rattle.world_ends.specs.Played.{AreMade, AreMeant, Begins, CanMeet, last_world}
 use Rattle.world_ends.specs.View.{IsMeant, IsMeantAtController, IsMeantAtDevice, rules_of}
@@ -66,7 +66,7 @@ use Rattle.alarm_ends.proofs.Sizes.{turn_sized}
 use Rattle.alarm_ends.specs.Over.{IsOneOfTheLastTwo, raised_in, raised_over, raised_with, taken_by, taken_from, taken_in, taken_over, taken_with}
 use Rattle.alarm_ends.proofs.Opening.{asks_unheard}
 use Rattle.alarm_ends.proofs.Lists.{each_at, holds_if, none_some}
-use Rattle.alarm_ends.proofs.Turns.{step_raises, step_turns}
+use Rattle.alarm_ends.proofs.Turns.{IsTurn, as_alarms}
 use Rattle.alarm_ends.proofs.Tied.{Goes, IsHeard, IsSaid, IsUnraised, raise_on, turn_on}
 use Rattle.alarm_ends.proofs.Follows.{Follows, IsEventIn, IsIn, controller_follows, device_follows, kept_at, makes_fresh, makes_planned, taken_at, unlinked_new}
 
@@ -134,9 +134,12 @@ pub record DeviceSo : Type 0 where
       → IsPlanned rules activity station.real heard
       → AllByRecursion (IsHeardAs rules station.identity) (heard_step outcomes station live heard).sent
       → DeviceSteps rules (heard_as heard) (small_of activity live) (small_of activity (heard_step outcomes station live heard).live) (heard_step outcomes station live heard).frames
-  pub owed : (rules : Rules TakenRecord Request) (activity : List ℕ) (outcomes : List Outcome) (station : Station) (live : Live) (heard : Heard)
+  pub turns : (rules : Rules TakenRecord Request) (activity : List ℕ) (outcomes : List Outcome) (station : Station) (live : Live) (heard : Heard)
       → IsPlanned rules activity station.real heard
-      → AllByRecursion (IsOwed heard live) (heard_step outcomes station live heard).sent
+      → Turn station live heard (heard_step outcomes station live heard).live.rest (heard_step outcomes station live heard).sent
+  pub raises : (outcomes : List Outcome) (station : Station) (live : Live) (slot subslot : ℕ) (octets : List ℕ)
+      → IsRaise station.real.modules.items live.rest.link slot subslot octets (heard_step outcomes station live (Raised slot subslot octets)).live.rest.link
+      (heard_step outcomes station live (Raised slot subslot octets)).sent
 
 -- a step of the controller
 controller_is : (old : Controlling) (one : Event) → (step_of old one).controller ≡ with_live old (turn_of old.setup old.live one).live
@@ -174,6 +177,11 @@ module _ {F : Type 0} where
 
     -- ---- the device
 
+    turned : (heard : Heard) (outcomes : List Outcome) → IsMeantAtDevice before heard
+        → IsTurn station.real.modules.items live.rest.calls live.rest.link heard (heard_step outcomes station live heard).live.rest.link (heard_step outcomes station live heard).sent
+    turned heard outcomes meant =
+        as_alarms station.real.modules.items live.rest.calls live.rest.link heard _ _ (so.turns (rules_of setup station) setup.activity outcomes station live heard meant.planned).is
+
     module _ (heard : Heard) (now : List AlarmNotification) (first : (sequence : ℕ) → heard_as heard ≡ small.Call sequence small.Connects → sequence ≡ 0) (called : IsCallIn heard)
         (made : AtDevice as_flash before heard after) (meant : IsMeantAtDevice before heard) where
       device_on : ((outcomes : List Outcome) → Goes setup follows.relation live.rest.link (heard_step outcomes station live heard).live.rest.link (heard_step outcomes station live heard).sent now)
@@ -185,9 +193,9 @@ module _ {F : Type 0} where
           let rules = rules_of setup station in
           let turn = turn_sized station.identity setup.plan setup.ar follows.apart station.real.modules.items live.rest.calls live.rest.link heard step.live.rest.link step.sent follows.real follows.sized
           (λ makes. (makes_planned setup station live before.controller.live before.sent raised taken follows heard meant.planned first step.live.rest.link step.sent makes).1)
-          (step_turns outcomes station live heard) in
+          (turned heard outcomes meant) in
           let heard_so = meant.sent outcomes heard_it.steps.sendable in
-          let owes = so.owed rules setup.activity outcomes station live heard meant.planned in
+          let owes = (so.turns rules setup.activity outcomes station live heard meant.planned).owed in
           let serves = all_served setup station live outcomes heard meant.planned
           (unlinked_new setup station live before.controller.live before.sent raised taken follows heard meant.planned first) owes in
           let all : Follows setup station step.live before.controller.live (before.sent ++ step.frames) (raised ++ now) taken =
@@ -211,14 +219,14 @@ module _ {F : Type 0} where
         turn_on setup follows.relation station.real.modules.items live.rest.calls live.rest.link heard (heard_step outcomes station live heard).live.rest.link (heard_step outcomes station live heard).sent
         follows.tied is unraised
         (makes_fresh setup station live before.controller.live before.sent raised taken follows heard meant.planned first (heard_step outcomes station live heard).live.rest.link (heard_step outcomes station live heard).sent)
-        (step_turns outcomes station live heard))
+        (turned heard outcomes meant))
 
     device_raises : (slot subslot : ℕ) (octets : List ℕ) → AtDevice as_flash before (Raised slot subslot octets) after → IsMeantAtDevice before (Raised slot subslot octets)
         → FollowsAt after (raised ++ raised_in (raised_to station.real.modules.items slot subslot octets live.rest.link)) taken
     device_raises slot subslot octets made meant =
         device_on (Raised slot subslot octets) _ (λ sequence e. absurd (idle_call sequence e)) (λ caller address call e other. absurd (other refl)) made meant (λ outcomes.
         raise_on setup follows.relation station.real.modules.items live.rest.link slot subslot octets (heard_step outcomes station live (Raised slot subslot octets)).live.rest.link
-        (heard_step outcomes station live (Raised slot subslot octets)).sent follows.tied (step_raises outcomes station live slot subslot octets))
+        (heard_step outcomes station live (Raised slot subslot octets)).sent follows.tied (so.raises outcomes station live slot subslot octets))
       where
         idle_call : (sequence : ℕ) → small.Idle ≡ small.Call sequence small.Connects → ⊥
         idle_call sequence e = absurd cc

@@ -13,3 +13,4 @@ pub mod Differs
 pub mod Served
 pub mod Well
 pub mod Law
+pub mod Both

@@ -44,7 +44,8 @@ use Rattle.alarm_laws.specs.Sendable.{IsHeader}
 use Rattle.sending_laws.specs.Sized.{IsShort}
 use Rattle.alarm_ends.specs.Sized.{AreSizedModules, IsSizedModule, IsSizedPart}
 use Rattle.alarm_ends.proofs.Lists.{each_behind, none_some, some_is}
-use Rattle.alarm_ends.proofs.Turns.{AreCalm, HearsAck, HearsData, IsCalm, IsSameOr, IsTurn, Makes, Passes, Raises, Way, way_of}
+use Rattle.device_ends.specs.Turn.{AreCalm, HearsAck, HearsData, IsCalm, Makes, Passes, Raises}
+use Rattle.alarm_ends.proofs.Turns.{IsSameOr, IsTurn, Way, way_of}
 use Rattle.alarm_ends.proofs.Tied.{may_be, way_before}
 
 -- ---- a message

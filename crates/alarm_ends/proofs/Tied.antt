@@ -47,7 +47,8 @@ use Rattle.controller_laws.specs.Alarms.{Relation, Move, Raises as raising, Pass
 use Rattle.alarm_ends.proofs.Told.{noted_in, reply_of, told_at}
 use Rattle.alarm_ends.specs.Over.{one_in, raised_in}
 use Rattle.alarm_ends.proofs.Lists.{Extends, at_end, each_behind, more_extends, none_some, some_is, unchanged}
-use Rattle.alarm_ends.proofs.Turns.{AreCalm, HearsAck, HearsData, IsCalm, IsRaise, IsSameOr, IsTurn, Makes, Passes, Raises, Refused, Way, way_of}
+use Rattle.device_ends.specs.Turn.{AreCalm, HearsAck, HearsData, IsCalm, IsRaise, Makes, Passes, Raises, Refused}
+use Rattle.alarm_ends.proofs.Turns.{IsSameOr, IsTurn, Way, way_of}
 
 -- ---- what is said stands among what was sent
 

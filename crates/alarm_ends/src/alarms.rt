@@ -11,7 +11,7 @@ ghost use Rattle.alarm_ends.specs.Over.{IsOneOfTheLastTwo, raised_over, taken_ov
 use crate::chosen::answers_choose_well;
 use controller_frames::Setup;
 use controller_laws::alarms_are_taken_in_order;
-use device_ends::{device_goes_on, device_sends_what_it_owes};
+use device_ends::{device_goes_on, device_turns};
 use flash_model::Flash;
 use frame_laws::frames_are_read;
 use hearing_laws::{
@@ -63,6 +63,6 @@ pub fn worlds_take_alarms<F: Flash<S>, const S: usize>(setup: &Setup, identity: 
     messages_can_be_sent();
     worlds_start_up::<F, S>(setup, identity);
     device_goes_on();
-    device_sends_what_it_owes();
+    device_turns();
     alarms_are_taken_in_order();
 }

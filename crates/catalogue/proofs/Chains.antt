@@ -1,13 +1,13 @@
 -- Chains of readings, of which one fails.
 use Rattle.std.proofs.Common.{◌≡◌, ◌⊎◌, inl, inr, refl, Result, Err}
-use Rattle.catalogue.specs.declared.fault.TreeFault.{TreeFault}
-use Rattle.catalogue.specs.declared.fault.TreeFault.TheVariants.{OutOfMemory}
+use Rattle.catalogue.specs.declared.fault.CatalogueFault.TheVariants.{OutOfMemory}
+use Rattle.catalogue.specs.declared.fault.PlacedFault.{PlacedFault}
 use Rattle.catalogue.specs.Reader.{◌>>=◌, Reads}
 
-failed : {A B C : Type 0} (view : A → C) (fault : TreeFault) (read : Result B TreeFault) (next : B → Result C TreeFault) → (fault ≡ OutOfMemory) ⊎ (read ≡ Err fault) → Reads view (Err fault) (read >>= next)
+failed : {A B C : Type 0} (view : A → C) (fault : PlacedFault) (read : Result B PlacedFault) (next : B → Result C PlacedFault) → (fault.fault ≡ OutOfMemory) ⊎ (read ≡ Err fault) → Reads view (Err fault) (read >>= next)
 failed view fault read next (inl memory) = inl memory
 failed view fault read next (inr fails) = inr (rw fails refl)
 
 -- what fails of a chain is its fault
-pub fails : {A B C : Type 0} (view : A → C) (fault : TreeFault) (read : Result B TreeFault) (next : B → Result C TreeFault) (result : Result A TreeFault) → result ≡ Err fault → (fault ≡ OutOfMemory) ⊎ (read ≡ Err fault) → Reads view result (read >>= next)
+pub fails : {A B C : Type 0} (view : A → C) (fault : PlacedFault) (read : Result B PlacedFault) (next : B → Result C PlacedFault) (result : Result A PlacedFault) → result ≡ Err fault → (fault.fault ≡ OutOfMemory) ⊎ (read ≡ Err fault) → Reads view result (read >>= next)
 fails view fault read next result is given = rw is (failed view fault read next given)

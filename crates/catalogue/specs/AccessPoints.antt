@@ -1,9 +1,12 @@
 -- The access point of a device, and which modules it takes where.
-use Rattle.std.specs.Prelude.{ℕ, codes, List, [], Result, Ok, Err, if◌then◌else◌}
+use Rattle.std.specs.Prelude.{ℕ, List, [], Result, Ok}
 use Rattle.serde_json.specs.Data.{Items}
-use Rattle.catalogue.specs.declared.fault.TreeFault.{TreeFault}
-use Rattle.catalogue.specs.declared.fault.TreeFault.TheVariants.{WrongKind}
-use Rattle.catalogue.specs.Reader.{◌>>=◌, Reader, each, is_whole, items_of, whole, number, number_at, text_at, list_at}
+use Rattle.catalogue.specs.declared.fault.PlacedFault.{PlacedFault}
+use Rattle.catalogue.specs.declared.fault.Step.TheVariants.{At}
+use Rattle.catalogue.specs.declared.key.Key.{Key}
+use Rattle.catalogue.specs.declared.key.Key.TheVariants as key
+use Rattle.catalogue.specs.Placed.{bare, behind}
+use Rattle.catalogue.specs.Reader.{◌>>=◌, Reader, each, items_of, whole, number, number_at, text_at, list_at}
 use Rattle.catalogue.specs.Submodules.{Submodule, submodule}
 
 -- Where a module may stand.
@@ -22,28 +25,28 @@ pub record AccessPoint : Type 0 where
   pub references : List Reference
 
 -- slots: first each is a whole number, then each is within its range
-abbrev pub slots_in : Items → Result (List ℕ) TreeFault
-slots_in trees = if is_whole trees then each (λ _ tree. number 0 32767 tree) [] trees else Err WrongKind
+abbrev pub slots_in : Items → Result (List ℕ) PlacedFault
+slots_in trees = each (λ _ tree. bare (whole tree)) [] trees >>= λ _. each (λ _ tree. bare (number 0 32767 tree)) [] trees
 
 -- the slots at a key
-unfoldable pub slots_at : List ℕ → Reader (List ℕ)
-slots_at key tree = items_of key tree >>= slots_in
+unfoldable pub slots_at : Key → Reader (List ℕ)
+slots_at key tree = items_of key tree >>= λ trees. behind (At key) (slots_in trees)
 
 -- where a module may stand
 unfoldable pub reference : Reader Reference
 reference tree =
-    text_at (codes "ModuleItemTarget") tree >>= λ target.
-    list_at (codes "AllowedInSlots") (λ _ entry. whole entry) tree >>= λ allowed_in.
-    list_at (codes "FixedInSlots") (λ _ entry. whole entry) tree >>= λ fixed_in.
+    text_at key.ModuleItemTarget tree >>= λ target.
+    list_at key.AllowedInSlots (λ _ entry. bare (whole entry)) tree >>= λ allowed_in.
+    list_at key.FixedInSlots (λ _ entry. bare (whole entry)) tree >>= λ fixed_in.
     Ok (record { target = target; allowed_in = allowed_in; fixed_in = fixed_in })
 
 -- an access point
 unfoldable pub access_point : Reader AccessPoint
 access_point tree =
-    number_at (codes "ModuleIdentNumber") 1 4294967295 tree >>= λ ident.
-    slots_at (codes "PhysicalSlots") tree >>= λ physical_slots.
-    text_at (codes "DNS_CompatibleName") tree >>= λ station_type.
-    number_at (codes "MinDeviceInterval") 1 65536 tree >>= λ least_interval.
-    list_at (codes "VirtualSubmoduleItem") submodule tree >>= λ submodules.
-    list_at (codes "ModuleItemRef") (λ _ entry. reference entry) tree >>= λ references.
+    number_at key.ModuleIdentNumber 1 4294967295 tree >>= λ ident.
+    slots_at key.PhysicalSlots tree >>= λ physical_slots.
+    text_at key.StationType tree >>= λ station_type.
+    number_at key.MinDeviceInterval 1 65536 tree >>= λ least_interval.
+    list_at key.VirtualSubmoduleItem submodule tree >>= λ submodules.
+    list_at key.ModuleItemRef (λ _ entry. reference entry) tree >>= λ references.
     Ok (record { ident = ident; physical_slots = physical_slots; station_type = station_type; least_interval = least_interval; submodules = submodules; references = references })

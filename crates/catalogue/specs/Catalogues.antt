@@ -1,12 +1,13 @@
 -- The whole catalogue.
-use Rattle.std.specs.Prelude.{◌≡◌, ◌⊎◌, ℕ, codes, List, Some, Ok, Err, IsUtf8}
+use Rattle.std.specs.Prelude.{◌≡◌, ◌⊎◌, ℕ, List, Some, Ok, Err, IsUtf8}
 use Rattle.serde_json.specs.Data.{Data}
 use Rattle.serde_json.specs.Read.{read}
-use Rattle.catalogue.specs.declared.fault.TreeFault.{TreeFault}
-use Rattle.catalogue.specs.declared.fault.CatalogueFault.{CatalogueFault}
 use Rattle.catalogue.specs.declared.fault.CatalogueFault.TheVariants.{Json, OutOfMemory}
+use Rattle.catalogue.specs.declared.fault.PlacedFault.{PlacedFault}
+use Rattle.catalogue.specs.declared.fault.Step.TheVariants.{At}
+use Rattle.catalogue.specs.declared.key.Key.TheVariants as key
 use Rattle.catalogue.specs.declared.catalogue.DeviceIdentity.{DeviceIdentity}
-use Rattle.catalogue.specs.Fault.{fault_of}
+use Rattle.catalogue.specs.Placed.{behind, here}
 use Rattle.catalogue.specs.Reader.{◌>>=◌, Reader, member, number_at, list_at}
 use Rattle.catalogue.specs.AccessPoints.{AccessPoint, access_point}
 use Rattle.catalogue.specs.Modules.{Module, module_item}
@@ -22,20 +23,27 @@ pub record Catalogue : Type 0 where
 -- what the device says it is
 unfoldable pub identity : Reader DeviceIdentity
 identity tree =
-    member (codes "DeviceIdentity") tree >>= λ entry.
-    number_at (codes "VendorID") 0 65535 entry >>= λ vendor_id.
-    number_at (codes "DeviceID") 0 65535 entry >>= λ device_id.
+    number_at key.VendorId 0 65535 tree >>= λ vendor_id.
+    number_at key.DeviceId 0 65535 tree >>= λ device_id.
     Ok (record { vendor_id = vendor_id; device_id = device_id })
+
+-- the three objects at their keys
+unfoldable pub identity_in : Reader DeviceIdentity
+identity_in tree = member key.DeviceIdentity tree >>= λ entry. behind (At key.DeviceIdentity) (identity entry)
+
+unfoldable pub access_point_in : Reader AccessPoint
+access_point_in tree = member key.DeviceAccessPointItem tree >>= λ entry. behind (At key.DeviceAccessPointItem) (access_point entry)
+
+unfoldable pub project_in : ℕ → List Module → Reader Project
+project_in least_interval modules tree = member key.Project tree >>= λ entry. behind (At key.Project) (project least_interval modules entry)
 
 -- a catalogue, in the order of its keys
 unfoldable pub catalogue : Reader Catalogue
 catalogue tree =
-    identity tree >>= λ identity.
-    member (codes "DeviceAccessPointItem") tree >>= λ point.
-    access_point point >>= λ access_point.
-    list_at (codes "ModuleItem") module_item tree >>= λ modules.
-    member (codes "Project") tree >>= λ entry.
-    project access_point.least_interval modules entry >>= λ project.
+    identity_in tree >>= λ identity.
+    access_point_in tree >>= λ access_point.
+    list_at key.ModuleItem module_item tree >>= λ modules.
+    project_in access_point.least_interval modules tree >>= λ project.
     Ok (record { identity = identity; access_point = access_point; modules = modules; project = project })
 
 -- a text is JSON of this tree
@@ -46,6 +54,9 @@ IsReading text tree = IsUtf8 text × (read text ≡ Some tree)
 abbrev pub Found : List ℕ → Catalogue → Type 0
 Found text found = (tree : Data) × IsReading text tree × (catalogue tree ≡ Ok found)
 
--- memory was refused; or a text is no JSON, and only then is the fault Json; or it is JSON of a tree with this first fault
-abbrev pub Refuses : List ℕ → CatalogueFault → Type 0
-Refuses text fault = (fault ≡ OutOfMemory) ⊎ (((fault ≡ Json) × ((tree : Data) → ¬ IsReading text tree)) ⊎ ((tree : Data) × (found : TreeFault) × IsReading text tree × (catalogue tree ≡ Err found) × (fault ≡ fault_of found)))
+-- memory was refused; or a text is no JSON, and only then is the fault Json; or it is JSON of a tree with this first fault at this place
+abbrev pub Refuses : List ℕ → PlacedFault → Type 0
+Refuses text found =
+    (found.fault ≡ OutOfMemory)
+    ⊎ (((found ≡ here Json) × ((tree : Data) → ¬ IsReading text tree))
+    ⊎ ((tree : Data) × IsReading text tree × (catalogue tree ≡ Err found)))

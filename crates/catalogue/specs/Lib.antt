@@ -1,8 +1,9 @@
 pub mod AccessPoints
 pub mod Catalogues
-pub mod Fault
 pub mod Kept
+pub mod Keys
 pub mod Modules
+pub mod Placed
 pub mod Projects
 pub mod Reader
 pub mod Slots

@@ -1,7 +1,8 @@
 -- Modules of the catalogue.
-use Rattle.std.specs.Prelude.{ℕ, codes, List, [], ◌∷◌, Bool, Ok, if◌then◌else◌}
+use Rattle.std.specs.Prelude.{ℕ, suc, List, [], ◌∷◌, Bool, Option, Some, None, option_map, Ok, if◌then◌else◌}
 use Rattle.std.specs.List.{list_any}
 use Rattle.std.specs.Str.{bytes_eq}
+use Rattle.catalogue.specs.declared.key.Key.TheVariants as key
 use Rattle.catalogue.specs.Reader.{◌>>=◌, Reader, number_at, text_at, list_at}
 use Rattle.catalogue.specs.Submodules.{Submodule, submodule, unless}
 
@@ -15,6 +16,11 @@ pub record Module : Type 0 where
 abbrev pub has_id : List ℕ → List Module → Bool
 has_id id modules = list_any (λ other. bytes_eq other.id id) modules
 
+-- where the module with this ID is among them
+abbrev pub place_of : List ℕ → List Module → Option ℕ
+place_of id [] = None
+place_of id (entry ∷ entries) = if bytes_eq entry.id id then Some 0 else option_map suc (place_of id entries)
+
 -- the submodules of the module with this ID: none where none has it
 abbrev pub submodules_of : List ℕ → List Module → List Submodule
 submodules_of id [] = []
@@ -23,8 +29,8 @@ submodules_of id (entry ∷ entries) = if bytes_eq entry.id id then entry.submod
 -- a module, whose ID is new
 unfoldable pub module_item : List Module → Reader Module
 module_item before tree =
-    text_at (codes "ID") tree >>= λ id.
-    unless (has_id id before) (
-    number_at (codes "ModuleIdentNumber") 1 4294967295 tree >>= λ ident.
-    list_at (codes "VirtualSubmoduleItem") submodule tree >>= λ submodules.
+    text_at key.Id tree >>= λ id.
+    unless key.Id (has_id id before) (
+    number_at key.ModuleIdentNumber 1 4294967295 tree >>= λ ident.
+    list_at key.VirtualSubmoduleItem submodule tree >>= λ submodules.
     Ok (record { id = id; ident = ident; submodules = submodules }))

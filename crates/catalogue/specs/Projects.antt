@@ -1,7 +1,10 @@
 -- What a project wants of a station.
-use Rattle.std.specs.Prelude.{◌*◌, ℕ, codes, List, Result, Ok, Err, nat_lt, if◌then◌else◌}
-use Rattle.catalogue.specs.declared.fault.TreeFault.{TreeFault}
-use Rattle.catalogue.specs.declared.fault.TreeFault.TheVariants.{Number}
+use Rattle.std.specs.Prelude.{◌*◌, ℕ, List, Result, Ok, Err, nat_lt, if◌then◌else◌}
+use Rattle.catalogue.specs.declared.fault.PlacedFault.{PlacedFault}
+use Rattle.catalogue.specs.declared.fault.CatalogueFault.TheVariants.{Number}
+use Rattle.catalogue.specs.declared.fault.Step.TheVariants.{At}
+use Rattle.catalogue.specs.declared.key.Key.TheVariants as key
+use Rattle.catalogue.specs.Placed.{at_key, behind}
 use Rattle.catalogue.specs.Reader.{◌>>=◌, Reader, member, number_at, text_at, list_at}
 use Rattle.catalogue.specs.Modules.{Module}
 use Rattle.catalogue.specs.Slots.{Slot, slot_item}
@@ -31,36 +34,39 @@ pub record Project : Type 0 where
 -- the station's name and IP suite
 unfoldable pub station : Reader Station
 station tree =
-    text_at (codes "NameOfStation") tree >>= λ name.
-    text_at (codes "IPAddress") tree >>= λ address.
-    text_at (codes "SubnetMask") tree >>= λ mask.
-    text_at (codes "Gateway") tree >>= λ gateway.
+    text_at key.NameOfStation tree >>= λ name.
+    text_at key.IpAddress tree >>= λ address.
+    text_at key.SubnetMask tree >>= λ mask.
+    text_at key.Gateway tree >>= λ gateway.
     Ok (record { name = name; address = address; mask = mask; gateway = gateway })
 
 -- the controller
 unfoldable pub controller : Reader Controller
 controller tree =
-    member (codes "Controller") tree >>= λ entry.
-    text_at (codes "NameOfStation") entry >>= λ name.
-    text_at (codes "MAC") entry >>= λ mac.
-    text_at (codes "IPAddress") entry >>= λ address.
+    text_at key.NameOfStation tree >>= λ name.
+    text_at key.Mac tree >>= λ mac.
+    text_at key.IpAddress tree >>= λ address.
     Ok (record { name = name; mac = mac; address = address })
 
+-- the controller of a project
+unfoldable pub controller_in : Reader Controller
+controller_in tree = member key.Controller tree >>= λ entry. behind (At key.Controller) (controller entry)
+
 -- a ReductionRatio whose interval is not below the device's least
-abbrev pub kept_by : ℕ → ℕ → ℕ → Result ℕ TreeFault
-kept_by send_clock least_interval ratio = if nat_lt (send_clock * ratio) least_interval then Err Number else Ok ratio
+abbrev pub kept_by : ℕ → ℕ → ℕ → Result ℕ PlacedFault
+kept_by send_clock least_interval ratio = if nat_lt (send_clock * ratio) least_interval then Err (at_key key.ReductionRatio Number) else Ok ratio
 
 -- the ReductionRatio
 unfoldable pub reduction : ℕ → ℕ → Reader ℕ
-reduction send_clock least_interval tree = number_at (codes "ReductionRatio") 1 512 tree >>= kept_by send_clock least_interval
+reduction send_clock least_interval tree = number_at key.ReductionRatio 1 512 tree >>= kept_by send_clock least_interval
 
 -- a project, of a device with this least interval and these modules
 unfoldable pub project : ℕ → List Module → Reader Project
 project least_interval modules tree =
     station tree >>= λ station.
-    controller tree >>= λ controller.
-    number_at (codes "SendClockFactor") 1 128 tree >>= λ send_clock_factor.
+    controller_in tree >>= λ controller.
+    number_at key.SendClockFactor 1 128 tree >>= λ send_clock_factor.
     reduction send_clock_factor least_interval tree >>= λ reduction_ratio.
-    number_at (codes "DataHoldFactor") 1 7680 tree >>= λ data_hold_factor.
-    list_at (codes "Slots") (λ _ entry. slot_item modules entry) tree >>= λ slots.
+    number_at key.DataHoldFactor 1 7680 tree >>= λ data_hold_factor.
+    list_at key.Slots (λ _ entry. slot_item modules entry) tree >>= λ slots.
     Ok (record { station = station; controller = controller; send_clock_factor = send_clock_factor; reduction_ratio = reduction_ratio; data_hold_factor = data_hold_factor; slots = slots })

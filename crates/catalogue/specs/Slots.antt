@@ -1,10 +1,14 @@
 -- What a project puts into its slots, and the records that it writes.
-use Rattle.std.specs.Prelude.{◌==◌, ℕ, codes, List, [], ◌∷◌, length, Option, Some, None, ok_or, Result, Ok, Err, if◌then◌else◌}
+use Rattle.std.specs.Prelude.{◌==◌, ℕ, List, [], ◌∷◌, length, Option, Some, None, ok_or, Result, Ok, Err, if◌then◌else◌}
 use Rattle.hex.specs.Hex.{decode_of}
 use Rattle.hex.specs.declared.error.FromHexError.{FromHexError}
-use Rattle.catalogue.specs.declared.fault.TreeFault.{TreeFault}
-use Rattle.catalogue.specs.declared.fault.TreeFault.TheVariants.{WrongKind, Number}
+use Rattle.catalogue.specs.declared.fault.CatalogueFault.{CatalogueFault}
+use Rattle.catalogue.specs.declared.fault.PlacedFault.{PlacedFault}
+use Rattle.catalogue.specs.declared.fault.CatalogueFault.TheVariants.{WrongKind, Number}
 use Rattle.catalogue.specs.declared.submodule.ParameterItem.{ParameterItem}
+use Rattle.catalogue.specs.declared.key.Key.{Key}
+use Rattle.catalogue.specs.declared.key.Key.TheVariants as key
+use Rattle.catalogue.specs.Placed.{at_key, placed}
 use Rattle.catalogue.specs.Reader.{◌>>=◌, Reader, whole_at, number_at, text_at, list_at}
 use Rattle.catalogue.specs.Submodules.{Submodule}
 use Rattle.catalogue.specs.Modules.{Module, submodules_of}
@@ -23,13 +27,13 @@ pub record Slot : Type 0 where
   pub records : List Record
 
 -- octets, or no hex
-abbrev pub hex_or_fault : Result (List ℕ) FromHexError → Result (List ℕ) TreeFault
+abbrev pub hex_or_fault : Result (List ℕ) FromHexError → Result (List ℕ) CatalogueFault
 hex_or_fault (Ok octets) = Ok octets
 hex_or_fault (Err _) = Err WrongKind
 
 -- the octets that the text at a key is in hex
-unfoldable pub octets_at : List ℕ → Reader (List ℕ)
-octets_at key tree = text_at key tree >>= λ text. hex_or_fault (decode_of text)
+unfoldable pub octets_at : Key → Reader (List ℕ)
+octets_at key tree = text_at key tree >>= λ text. placed key (hex_or_fault (decode_of text))
 
 -- the parameter records of the submodule with this subslot
 abbrev pub parameters_of : ℕ → List Submodule → Option (List ParameterItem)
@@ -42,27 +46,27 @@ length_of index [] = None
 length_of index (entry ∷ entries) = if entry.index == index then Some entry.length else length_of index entries
 
 -- octets of this length
-abbrev pub of_length : ℕ → List ℕ → Result (List ℕ) TreeFault
-of_length size octets = if length octets == size then Ok octets else Err Number
+abbrev pub of_length : ℕ → List ℕ → Result (List ℕ) PlacedFault
+of_length size octets = if length octets == size then Ok octets else Err (at_key key.Data Number)
 
 -- a record that the submodules of its module have, with its length
 unfoldable pub record_item : List Submodule → Reader Record
 record_item submodules tree =
-    number_at (codes "Subslot") 1 36863 tree >>= λ subslot.
-    ok_or (parameters_of subslot submodules) Number >>= λ parameters.
-    number_at (codes "Index") 0 32767 tree >>= λ index.
-    ok_or (length_of index parameters) Number >>= λ size.
-    octets_at (codes "Data") tree >>= of_length size >>= λ octets.
+    number_at key.Subslot 1 36863 tree >>= λ subslot.
+    ok_or (parameters_of subslot submodules) (at_key key.Subslot Number) >>= λ parameters.
+    number_at key.Index 0 32767 tree >>= λ index.
+    ok_or (length_of index parameters) (at_key key.Index Number) >>= λ size.
+    octets_at key.Data tree >>= of_length size >>= λ octets.
     Ok (record { subslot = subslot; index = index; octets = octets })
 
 -- the records of a slot with this module
 abbrev pub records_of : List Module → List ℕ → Reader (List Record)
-records_of modules target tree = list_at (codes "Records") (λ _ entry. record_item (submodules_of target modules) entry) tree
+records_of modules target tree = list_at key.Records (λ _ entry. record_item (submodules_of target modules) entry) tree
 
 -- what stands in a slot
 unfoldable pub slot_item : List Module → Reader Slot
 slot_item modules tree =
-    whole_at (codes "Slot") tree >>= λ slot.
-    text_at (codes "ModuleItemTarget") tree >>= λ target.
+    whole_at key.Slot tree >>= λ slot.
+    text_at key.ModuleItemTarget tree >>= λ target.
     records_of modules target tree >>= λ records.
     Ok (record { slot = slot; target = target; records = records })

@@ -1,12 +1,17 @@
 -- Submodules of the catalogue, with their data and their parameter records.
-use Rattle.std.specs.Prelude.{◌+◌, ◌||◌, ◌==◌, ℕ, min, codes, List, Bool, Option, Some, None, ok_or, Result, Ok, Err, if◌then◌else◌}
+use Rattle.std.specs.Prelude.{◌+◌, ◌||◌, ◌==◌, ℕ, suc, min, codes, List, Bool, Option, Some, None, ok_or, Result, Ok, Err, if◌then◌else◌}
 use Rattle.std.specs.List.{list_any}
 use Rattle.std.specs.Str.{bytes_eq}
 use Rattle.serde_json.specs.Data.{Data, Items, no_items, item}
 use Rattle.serde_json.specs.Find.{get}
-use Rattle.catalogue.specs.declared.fault.TreeFault.{TreeFault}
-use Rattle.catalogue.specs.declared.fault.TreeFault.TheVariants.{WrongKind, Number}
+use Rattle.catalogue.specs.declared.fault.PlacedFault.{PlacedFault}
+use Rattle.catalogue.specs.declared.fault.CatalogueFault.TheVariants.{WrongKind, Number}
 use Rattle.catalogue.specs.declared.submodule.ParameterItem.{ParameterItem}
+use Rattle.catalogue.specs.declared.fault.Step.TheVariants.{At, Entry}
+use Rattle.catalogue.specs.declared.key.Key.{Key}
+use Rattle.catalogue.specs.declared.key.Key.TheVariants as key
+use Rattle.catalogue.specs.Keys.{name_of}
+use Rattle.catalogue.specs.Placed.{at_key, behind}
 use Rattle.catalogue.specs.Reader.{◌>>=◌, Reader, number_at, text_at, items_of, list_at}
 
 -- A submodule: a parameter record is an index with its length in octets.
@@ -39,32 +44,36 @@ size_of_type name =
     else (if is_long_type name then Some 4 else None))
 
 -- the octets of an item of this type: an OctetString says its length beside it
-abbrev pub item_of_type : Data → List ℕ → Result ℕ TreeFault
+abbrev pub item_of_type : Data → List ℕ → Result ℕ PlacedFault
 item_of_type tree name =
-    if bytes_eq name (codes "OctetString") then number_at (codes "Length") 1 1440 tree
-    else ok_or (size_of_type name) WrongKind
+    if bytes_eq name (codes "OctetString") then number_at key.Length 1 1440 tree
+    else ok_or (size_of_type name) (at_key key.DataType WrongKind)
 
 -- the octets of one item of data
 unfoldable pub data_item : Reader ℕ
-data_item tree = text_at (codes "DataType") tree >>= item_of_type tree
+data_item tree = text_at key.DataType tree >>= item_of_type tree
 
--- the octets of items of data together with so many before them; all above 65,535 are told as that
-abbrev pub octets_in : ℕ → Items → Result ℕ TreeFault
-octets_in before no_items = Ok before
-octets_in before (item tree trees) = data_item tree >>= λ octets. octets_in (min (before + octets) 65535) trees
+-- the octets of items of data together with those of the ones before them, which are counted too; all above 65,535 are told as that
+abbrev pub octets_in : ℕ → ℕ → Items → Result ℕ PlacedFault
+octets_in index before no_items = Ok before
+octets_in index before (item tree trees) =
+    behind (Entry index) (data_item tree) >>= λ octets. octets_in (suc index) (min (before + octets) 65535) trees
 
 -- the octets of the items of data at a key
-unfoldable pub octets_at : List ℕ → Reader ℕ
-octets_at key tree = items_of key tree >>= octets_in 0
+unfoldable pub octets_at : Key → Reader ℕ
+octets_at key tree = items_of key tree >>= λ trees. behind (At key) (octets_in 0 0 trees)
 
 -- the octets of input and output
-abbrev pub io_within : Option Data → Result (ℕ × ℕ) TreeFault
+unfoldable pub io_in : Reader (ℕ × ℕ)
+io_in tree = octets_at key.Input tree >>= λ input. octets_at key.Output tree >>= λ output. Ok (input, output)
+
+abbrev pub io_within : Option Data → Result (ℕ × ℕ) PlacedFault
 io_within None = Ok (0, 0)
-io_within (Some io) = octets_at (codes "Input") io >>= λ input. octets_at (codes "Output") io >>= λ output. Ok (input, output)
+io_within (Some io) = behind (At key.IoData) (io_in io)
 
 -- the octets of input and output of a submodule: none where it says nothing of them
 unfoldable pub io_of : Reader (ℕ × ℕ)
-io_of tree = io_within (get (codes "IOData") tree)
+io_of tree = io_within (get (name_of key.IoData) tree)
 
 -- one of them has this index
 abbrev pub has_index : ℕ → List ParameterItem → Bool
@@ -74,24 +83,24 @@ has_index index items = list_any (λ other. other.index == index) items
 abbrev pub has_subslot : ℕ → List Submodule → Bool
 has_subslot subslot submodules = list_any (λ other. other.subslot == subslot) submodules
 
--- what is new, or a fault of its number
-abbrev pub unless : {A : Type 0} → Bool → Result A TreeFault → Result A TreeFault
-unless repeats read = if repeats then Err Number else read
+-- what is new, or a fault of the number at its key
+abbrev pub unless : {A : Type 0} → Key → Bool → Result A PlacedFault → Result A PlacedFault
+unless key repeats read = if repeats then Err (at_key key Number) else read
 
 -- a parameter record, whose index is new
 unfoldable pub parameter : List ParameterItem → Reader ParameterItem
 parameter before tree =
-    number_at (codes "Index") 0 32767 tree >>= λ index.
-    unless (has_index index before) (
-    number_at (codes "Length") 1 64 tree >>= λ length.
+    number_at key.Index 0 32767 tree >>= λ index.
+    unless key.Index (has_index index before) (
+    number_at key.Length 1 64 tree >>= λ length.
     Ok (record { index = index; length = length }))
 
 -- a submodule, whose subslot is new
 unfoldable pub submodule : List Submodule → Reader Submodule
 submodule before tree =
-    number_at (codes "Subslot") 1 36863 tree >>= λ subslot.
-    unless (has_subslot subslot before) (
-    number_at (codes "SubmoduleIdentNumber") 0 4294967295 tree >>= λ ident.
+    number_at key.Subslot 1 36863 tree >>= λ subslot.
+    unless key.Subslot (has_subslot subslot before) (
+    number_at key.SubmoduleIdentNumber 0 4294967295 tree >>= λ ident.
     io_of tree >>= λ io.
-    list_at (codes "ParameterRecordDataItem") parameter tree >>= λ parameters.
+    list_at key.ParameterRecordDataItem parameter tree >>= λ parameters.
     Ok (record { subslot = subslot; ident = ident; input = io.0; output = io.1; parameters = parameters }))

@@ -1,12 +1,13 @@
 //! The access point of a device, and which modules it takes where.
 ghost use Rattle.std.specs.Prelude.{◌≡◌, List, string_bytes};
 ghost use Rattle.serde_json.specs.View.{view, items_view};
+ghost use Rattle.catalogue.specs.Placed.{bare};
 ghost use Rattle.catalogue.specs.Reader.{Reads, number, whole};
 ghost use Rattle.catalogue.specs.AccessPoints.{AccessPoint, Reference, slots_in, slots_at, reference, access_point};
 
 use crate::entry::{Entry, each_of, list};
-use crate::tree::{are_whole, items_at, long_at, number_in, string, whole};
-use crate::{SubmoduleItem, TreeFault};
+use crate::tree::{items_at, long_at, number_in, string, whole};
+use crate::{Key, PlacedFault, Step, SubmoduleItem};
 use serde_json::Value;
 use std::alloc::Global;
 use std::marker::Model;
@@ -58,51 +59,55 @@ impl Model for AccessPoint {
 }
 
 impl Entry<()> for u16 {
-    ghost reader = { λ _ _ tree. number 0 32767 tree };
+    ghost reader = { λ _ _ tree. bare (number 0 32767 tree) };
 
     fn read(
         _alloc: Global,
         _context: &(),
         _before: &[u16],
         tree: &Value,
-    ) -> Result<u16, TreeFault> {
-        let slot = number_in(tree, 0, 32_767)?;
-        Ok(slot as u16)
+    ) -> Result<u16, PlacedFault> {
+        match number_in(tree, 0, 32_767) {
+            Ok(slot) => Ok(slot as u16),
+            Err(fault) => Err(PlacedFault::here(fault)),
+        }
     }
 }
 
 impl Entry<()> for u64 {
-    ghost reader = { λ _ _ tree. whole tree };
+    ghost reader = { λ _ _ tree. bare (whole tree) };
 
     fn read(
         _alloc: Global,
         _context: &(),
         _before: &[u64],
         tree: &Value,
-    ) -> Result<u64, TreeFault> {
-        let slot = whole(tree)?;
-        Ok(slot)
+    ) -> Result<u64, PlacedFault> {
+        match whole(tree) {
+            Ok(slot) => Ok(slot),
+            Err(fault) => Err(PlacedFault::here(fault)),
+        }
     }
 }
 
 /// Slots: first each is a whole number, then each is within its range.
-fn slots_of(alloc: Global, trees: &[Value]) -> Result<Vec<u16>, TreeFault>
+fn slots_of(alloc: Global, trees: &[Value]) -> Result<Vec<u16>, PlacedFault>
     ensures { Reads (λ slots. slots.items) result (slots_in (items_view trees.now)) }
 {
-    if are_whole(trees) {
-        each_of(alloc, &(), trees)
-    } else {
-        Err(TreeFault::WrongKind)
-    }
+    let _numbers: Vec<u64> = each_of(alloc, &(), trees)?;
+    each_of(alloc, &(), trees)
 }
 
 /// The slots at a key.
 #[tactic(auto, unfolding(crate::specs::AccessPoints::slots_at))]
-fn slots_at(alloc: Global, tree: &Value, key: &str) -> Result<Vec<u16>, TreeFault>
-    ensures { Reads (λ slots. slots.items) result (slots_at key.now (view tree.now)) }
+fn slots_at(alloc: Global, tree: &Value, key: Key) -> Result<Vec<u16>, PlacedFault>
+    ensures { Reads (λ slots. slots.items) result (slots_at key (view tree.now)) }
 {
     let trees = items_at(tree, key)?;
-    slots_of(alloc, trees)
+    match slots_of(alloc, trees) {
+        Ok(slots) => Ok(slots),
+        Err(found) => Err(found.further(Step::At(key))),
+    }
 }
 
 impl Entry<()> for ModuleReference {
@@ -114,10 +119,10 @@ impl Entry<()> for ModuleReference {
         _context: &(),
         _before: &[ModuleReference],
         tree: &Value,
-    ) -> Result<ModuleReference, TreeFault> {
-        let target = string(alloc, tree, "ModuleItemTarget")?;
-        let allowed_in = list(alloc, &(), tree, "AllowedInSlots")?;
-        let fixed_in = list(alloc, &(), tree, "FixedInSlots")?;
+    ) -> Result<ModuleReference, PlacedFault> {
+        let target = string(alloc, tree, Key::ModuleItemTarget)?;
+        let allowed_in = list(alloc, &(), tree, Key::AllowedInSlots)?;
+        let fixed_in = list(alloc, &(), tree, Key::FixedInSlots)?;
         Ok(ModuleReference {
             target,
             allowed_in,
@@ -128,15 +133,15 @@ impl Entry<()> for ModuleReference {
 
 /// The access point that a tree is.
 #[tactic(auto, unfolding(crate::specs::AccessPoints::access_point))]
-pub(crate) fn access_point(alloc: Global, tree: &Value) -> Result<AccessPoint, TreeFault>
+pub(crate) fn access_point(alloc: Global, tree: &Value) -> Result<AccessPoint, PlacedFault>
     ensures { Reads (λ found. found) result (access_point (view tree.now)) }
 {
-    let ident = long_at(tree, "ModuleIdentNumber", 1, 0xFFFF_FFFF)?;
-    let physical_slots = slots_at(alloc, tree, "PhysicalSlots")?;
-    let station_type = string(alloc, tree, "DNS_CompatibleName")?;
-    let least_interval = long_at(tree, "MinDeviceInterval", 1, 65_536)?;
-    let submodules = list(alloc, &(), tree, "VirtualSubmoduleItem")?;
-    let references = list(alloc, &(), tree, "ModuleItemRef")?;
+    let ident = long_at(tree, Key::ModuleIdentNumber, 1, 0xFFFF_FFFF)?;
+    let physical_slots = slots_at(alloc, tree, Key::PhysicalSlots)?;
+    let station_type = string(alloc, tree, Key::StationType)?;
+    let least_interval = long_at(tree, Key::MinDeviceInterval, 1, 65_536)?;
+    let submodules = list(alloc, &(), tree, Key::VirtualSubmoduleItem)?;
+    let references = list(alloc, &(), tree, Key::ModuleItemRef)?;
     Ok(AccessPoint {
         ident,
         physical_slots,

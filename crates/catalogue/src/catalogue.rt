@@ -2,14 +2,15 @@
 ghost use Rattle.std.specs.Prelude.{◌≡◌, IfOk, IfErr, List};
 ghost use Rattle.serde_json.specs.View.{view};
 ghost use Rattle.catalogue.specs.Reader.{Reads};
-ghost use Rattle.catalogue.specs.Catalogues.{Catalogue, Found, Refuses, identity, catalogue};
+ghost use Rattle.catalogue.specs.Modules.{Module};
+ghost use Rattle.catalogue.specs.Catalogues.{Catalogue, Found, Refuses, identity, identity_in, access_point_in, project_in, catalogue};
 ghost use Rattle.catalogue.specs.Kept.{IsInRange};
 
 use crate::access_point::access_point;
-use crate::module::modules_at;
+use crate::module::{ModuleTable, modules_at};
 use crate::project::project_of;
 use crate::tree::{member_at, word_at};
-use crate::{AccessPoint, CatalogueFault, ModuleItem, Project, TreeFault};
+use crate::{AccessPoint, CatalogueFault, Key, ModuleItem, PlacedFault, Project, Step};
 use serde_json::Value;
 use std::alloc::Global;
 use std::marker::Model;
@@ -44,16 +45,56 @@ impl Model for Catalogue {
 
 /// The identity of the device.
 #[tactic(auto, unfolding(crate::specs::Catalogues::identity))]
-fn identity(tree: &Value) -> Result<DeviceIdentity, TreeFault>
+fn identity(tree: &Value) -> Result<DeviceIdentity, PlacedFault>
     ensures { Reads (λ found. found) result (identity (view tree.now)) }
 {
-    let item = member_at(tree, "DeviceIdentity")?;
-    let vendor_id = word_at(item, "VendorID", 0, 0xFFFF)?;
-    let device_id = word_at(item, "DeviceID", 0, 0xFFFF)?;
+    let vendor_id = word_at(tree, Key::VendorId, 0, 0xFFFF)?;
+    let device_id = word_at(tree, Key::DeviceId, 0, 0xFFFF)?;
     Ok(DeviceIdentity {
         vendor_id,
         device_id,
     })
+}
+
+/// The same, at its key.
+#[tactic(auto, unfolding(crate::specs::Catalogues::identity_in))]
+fn identity_in(tree: &Value) -> Result<DeviceIdentity, PlacedFault>
+    ensures { Reads (λ found. found) result (identity_in (view tree.now)) }
+{
+    let item = member_at(tree, Key::DeviceIdentity)?;
+    match identity(item) {
+        Ok(found) => Ok(found),
+        Err(found) => Err(found.further(Step::At(Key::DeviceIdentity))),
+    }
+}
+
+/// The access point, at its key.
+#[tactic(auto, unfolding(crate::specs::Catalogues::access_point_in))]
+fn access_point_in(alloc: Global, tree: &Value) -> Result<AccessPoint, PlacedFault>
+    ensures { Reads (λ found. found) result (access_point_in (view tree.now)) }
+{
+    let item = member_at(tree, Key::DeviceAccessPointItem)?;
+    match access_point(alloc, item) {
+        Ok(found) => Ok(found),
+        Err(found) => Err(found.further(Step::At(Key::DeviceAccessPointItem))),
+    }
+}
+
+/// The project, at its key.
+#[tactic(auto, unfolding(crate::specs::Catalogues::project_in))]
+fn project_in(
+    alloc: Global,
+    tree: &Value,
+    least_interval: u32,
+    modules: &ModuleTable,
+) -> Result<Project, PlacedFault>
+    ensures { Reads (λ found. found) result (project_in least_interval modules.now (view tree.now)) }
+{
+    let item = member_at(tree, Key::Project)?;
+    match project_of(alloc, item, least_interval, modules) {
+        Ok(found) => Ok(found),
+        Err(found) => Err(found.further(Step::At(Key::Project))),
+    }
 }
 
 /// The least interval of the device.
@@ -65,35 +106,34 @@ fn least_interval(access_point: &AccessPoint) -> u32
 
 /// The catalogue that a tree is.
 #[tactic(auto, unfolding(crate::specs::Catalogues::catalogue))]
-pub fn read_tree(alloc: Global, tree: &Value) -> Result<Catalogue, TreeFault>
+pub fn read_tree(alloc: Global, tree: &Value) -> Result<Catalogue, PlacedFault>
     ensures { Reads (λ found. found) result (catalogue (view tree.now)) }
 {
-    let identity = identity(tree)?;
-    let point = member_at(tree, "DeviceAccessPointItem")?;
-    let access_point = access_point(alloc, point)?;
-    let modules = modules_at(alloc, tree, "ModuleItem")?;
-    let item = member_at(tree, "Project")?;
+    let identity = identity_in(tree)?;
+    let access_point = access_point_in(alloc, tree)?;
+    let modules = modules_at(alloc, tree, Key::ModuleItem)?;
     let least_interval = least_interval(&access_point);
-    let project = project_of(alloc, item, least_interval, &modules)?;
+    let project = project_in(alloc, tree, least_interval, &modules)?;
     Ok(Catalogue {
         identity,
         access_point,
-        modules,
+        modules: modules.into_items(),
         project,
     })
 }
 
-/// Reads a catalogue. The first fault in the order of keys counts.
-pub fn read(alloc: Global, text: &[u8]) -> Result<Catalogue, CatalogueFault>
+/// Reads a catalogue. The first fault in the order of keys counts, and its place is told.
+pub fn read(alloc: Global, text: &[u8]) -> Result<Catalogue, PlacedFault>
     ensures found { IfOk result (Found text.now) }
     ensures kept { IfOk result IsInRange }
     ensures refused { IfErr result (Refuses text.now) }
 {
     let tree = match Value::from_slice(alloc, text) {
         Ok(tree) => tree,
-        Err(error) if error.is_memory() => return Err(CatalogueFault::OutOfMemory),
-        Err(_) => return Err(CatalogueFault::Json),
+        Err(error) if error.is_memory() => {
+            return Err(PlacedFault::here(CatalogueFault::OutOfMemory));
+        }
+        Err(_) => return Err(PlacedFault::here(CatalogueFault::Json)),
     };
-    let catalogue = read_tree(alloc, &tree)?;
-    Ok(catalogue)
+    read_tree(alloc, &tree)
 }

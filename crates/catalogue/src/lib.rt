@@ -5,6 +5,7 @@ mod access_point;
 mod catalogue;
 mod entry;
 mod fault;
+mod key;
 mod module;
 mod project;
 mod slot;
@@ -13,7 +14,8 @@ mod tree;
 
 pub use access_point::{AccessPoint, ModuleReference};
 pub use catalogue::{Catalogue, DeviceIdentity, read, read_tree};
-pub use fault::{CatalogueFault, TreeFault};
+pub use fault::{CatalogueFault, PlacedFault, Step};
+pub use key::Key;
 pub use module::ModuleItem;
 pub use project::{ControllerItem, Project, StationItem};
 pub use slot::{RecordItem, SlotItem};

@@ -1,17 +1,17 @@
 //! Modules of the catalogue.
-ghost use Rattle.std.specs.Prelude.{◌≡◌, ◌++◌, ℕ, true, not, codes, cond, List, [], ◌∷◌, IfOk, OnOk, string_bytes};
-ghost use Rattle.std.specs.BTreeSet.{contains_text};
+ghost use Rattle.std.specs.Prelude.{◌≡◌, ◌++◌, ℕ, not, cond, is_some, List, [], ◌∷◌, IfOk, IfSome, IfNone, OnOk, string_bytes};
+ghost use Rattle.std.specs.BTreeMap.{get_by_text};
 ghost use Rattle.std.specs.Str.{bytes_eq};
 ghost use Rattle.serde_json.specs.View.{view, items_view};
 ghost use Rattle.catalogue.specs.Reader.{Reads, each, list_at};
-ghost use Rattle.catalogue.specs.Modules.{Module, has_id, module_item};
+ghost use Rattle.catalogue.specs.Modules.{Module, has_id, module_item, place_of, submodules_of};
 
 use crate::entry::list;
 use crate::tree::{items_at, long_at, string};
-use crate::{SubmoduleItem, TreeFault};
+use crate::{CatalogueFault, Key, PlacedFault, Step, SubmoduleItem};
 use serde_json::Value;
 use std::alloc::{AllocError, Global};
-use std::collections::BTreeSet;
+use std::collections::BTreeMap;
 use std::marker::Model;
 
 /// A module that can be put into a slot.
@@ -29,36 +29,115 @@ impl Model for ModuleItem {
     ghost view = { λ item. record { id = string_bytes item.id; ident = item.ident; submodules = item.submodules.items } };
 }
 
-/// Adds an ID to those of the modules before. Says whether it is new.
-fn add_id(alloc: Global, ids: &mut BTreeSet<String>, id: &str) -> Result<bool, AllocError>
-    ensures new { IfOk result (λ is_new. is_new ≡ not (contains_text ids.old id.now)) }
-    ensures added { OnOk result ((other : List ℕ) → contains_text ids.new other
-        ≡ cond (bytes_eq id.now other) true (contains_text ids.old other)) }
-{
-    let copy = String::from_str(alloc, id)?;
-    let is_new = ids.insert(copy)?;
-    Ok(is_new)
+/// Modules, and by its ID where each is, so that one is found in a few steps however many there are.
+#[derive(Drop)]
+pub(crate) struct ModuleTable {
+    items: Vec<ModuleItem>,
+    places: BTreeMap<String, usize>,
 }
 
-/// A module behind others, of which these are the IDs: its own is new, and then one of them.
+impl Model for ModuleTable {
+    ghost use Rattle.std.specs.Prelude.{◌≡◌, ℕ, List};
+    ghost use Rattle.std.specs.BTreeMap.{get_by_text};
+    ghost use Rattle.catalogue.specs.Modules.{Module, place_of};
+
+    ghost Value = { List Module };
+
+    ghost view = { λ table. table.items.items };
+
+    ghost invariant = { λ table. (id : List ℕ) → get_by_text table.places id ≡ place_of id table.items.items };
+}
+
+impl ModuleTable {
+    /// The submodules of the module with this ID.
+    pub(crate) fn submodules(&self, id: &str) -> Option<&Vec<SubmoduleItem>>
+        ensures some { IfSome result (λ found. found.now.items ≡ submodules_of id.now self.now) }
+        ensures none { IfNone result (submodules_of id.now self.now ≡ []) }
+    {
+        let place = self.places.get(id).copied();
+        submodules_at(self.items.as_slice(), place)
+    }
+
+    /// The modules.
+    pub(crate) fn into_items(self) -> Vec<ModuleItem>
+        ensures { result.items ≡ self }
+    {
+        self.items
+    }
+}
+
+/// The submodules of the module at a place, if it is the place of one.
+#[tactic(auto, using(crate::proofs::Ids::at_place, crate::proofs::Ids::is_there, crate::proofs::Ids::no_place))]
+fn submodules_at(modules: &[ModuleItem], place: Option<usize>) -> Option<&Vec<SubmoduleItem>>
+    ensures some { (id : List ℕ) → place ≡ place_of id modules.now → IfSome result (λ found. found.now.items ≡ submodules_of id modules.now) }
+    ensures none { (id : List ℕ) → place ≡ place_of id modules.now → IfNone result (submodules_of id modules.now ≡ []) }
+{
+    match place {
+        Some(place) => {
+            if place < modules.len() {
+                let module = &modules[place];
+                Some(&module.submodules)
+            } else {
+                None
+            }
+        }
+        None => None,
+    }
+}
+
+/// Whether a map has no place for an ID.
+fn has_no_place(places: &BTreeMap<String, usize>, id: &str) -> bool
+    ensures { result ≡ not (is_some (get_by_text places.now id.now)) }
+{
+    match places.get(id) {
+        Some(_) => false,
+        None => true,
+    }
+}
+
+/// Whether none of these modules has an ID: this is where they are.
+fn is_new(places: &BTreeMap<String, usize>, before: &[ModuleItem], id: &str) -> bool
+    requires { (other : List ℕ) → get_by_text places.now other ≡ place_of other before.now }
+    ensures { result ≡ not (has_id id.now before.now) }
+{
+    has_no_place(places, id)
+}
+
+/// Keeps where the module with an ID is.
+fn put_place(
+    alloc: Global,
+    places: &mut BTreeMap<String, usize>,
+    id: &str,
+    place: usize,
+) -> Result<(), AllocError>
+    ensures { OnOk result ((other : List ℕ) → get_by_text places.new other
+        ≡ cond (bytes_eq id.now other) (Some place) (get_by_text places.old other)) }
+{
+    let key = String::from_str(alloc, id)?;
+    places.insert(key, place)?;
+    Ok(())
+}
+
+/// A module behind others, of which these are the places: its ID is new, and then it is one of them.
 #[tactic(auto, unfolding(crate::specs::Modules::module_item))]
 fn module_of(
     alloc: Global,
-    ids: &mut BTreeSet<String>,
+    places: &mut BTreeMap<String, usize>,
     before: &[ModuleItem],
     tree: &Value,
-) -> Result<ModuleItem, TreeFault>
-    requires { (id : List ℕ) → contains_text ids.old id ≡ has_id id before.now }
+) -> Result<ModuleItem, PlacedFault>
+    requires { (id : List ℕ) → get_by_text places.old id ≡ place_of id before.now }
     ensures read { Reads (λ found. found) result (module_item before.now (view tree.now)) }
-    ensures ids { IfOk result (λ found. (id : List ℕ) → contains_text ids.new id ≡ has_id id (before.now ++ found ∷ [])) }
+    ensures places { IfOk result (λ found. (id : List ℕ) → get_by_text places.new id ≡ place_of id (before.now ++ found ∷ [])) }
 {
-    let id = string(alloc, tree, "ID")?;
-    let is_new = add_id(alloc, ids, id.as_str())?;
+    let id = string(alloc, tree, Key::Id)?;
+    let is_new = is_new(places, before, id.as_str());
     if !is_new {
-        return Err(TreeFault::Number);
+        return Err(PlacedFault::at(Key::Id, CatalogueFault::Number));
     }
-    let ident = long_at(tree, "ModuleIdentNumber", 1, 0xFFFF_FFFF)?;
-    let submodules = list(alloc, &(), tree, "VirtualSubmoduleItem")?;
+    put_place(alloc, places, id.as_str(), before.len())?;
+    let ident = long_at(tree, Key::ModuleIdentNumber, 1, 0xFFFF_FFFF)?;
+    let submodules = list(alloc, &(), tree, Key::VirtualSubmoduleItem)?;
     Ok(ModuleItem {
         id,
         ident,
@@ -66,28 +145,32 @@ fn module_of(
     })
 }
 
-/// The modules that these trees are. Their IDs are kept beside them, so that a new one is judged in a few steps.
-fn modules_of(alloc: Global, trees: &[Value]) -> Result<Vec<ModuleItem>, TreeFault>
-    ensures { Reads (λ found. found.items) result (each module_item [] (items_view trees.now)) }
+/// The modules that these trees are.
+fn modules_of(alloc: Global, trees: &[Value]) -> Result<ModuleTable, PlacedFault>
+    ensures { Reads (λ found. found) result (each module_item [] (items_view trees.now)) }
 {
-    let mut ids = BTreeSet::new(alloc);
+    let mut places = BTreeMap::new(alloc);
     let mut found = Vec::new(alloc);
     for tree in trees {
-        let module = module_of(alloc, &mut ids, found.as_slice(), tree)?;
-        found.push(module)?;
+        match module_of(alloc, &mut places, found.as_slice(), tree) {
+            Ok(module) => found.push(module)?,
+            Err(fault) => return Err(fault.further(Step::Entry(found.len()))),
+        }
     }
-    Ok(found)
+    Ok(ModuleTable {
+        items: found,
+        places,
+    })
 }
 
 /// The modules of a catalogue.
 #[tactic(auto, unfolding(crate::specs::Reader::list_at))]
-pub(crate) fn modules_at(
-    alloc: Global,
-    tree: &Value,
-    key: &str,
-) -> Result<Vec<ModuleItem>, TreeFault>
-    ensures { Reads (λ found. found.items) result (list_at key.now module_item (view tree.now)) }
+pub(crate) fn modules_at(alloc: Global, tree: &Value, key: Key) -> Result<ModuleTable, PlacedFault>
+    ensures { Reads (λ found. found) result (list_at key module_item (view tree.now)) }
 {
     let trees = items_at(tree, key)?;
-    modules_of(alloc, trees)
+    match modules_of(alloc, trees) {
+        Ok(found) => Ok(found),
+        Err(found) => Err(found.further(Step::At(key))),
+    }
 }

@@ -4,11 +4,12 @@ ghost use Rattle.wire.specs.Codec.{Gives};
 ghost use Rattle.serde_json.specs.View.{view};
 ghost use Rattle.catalogue.specs.Reader.{Reads};
 ghost use Rattle.catalogue.specs.Modules.{Module};
-ghost use Rattle.catalogue.specs.Projects.{Station, Controller, Project, station, controller, reduction, project};
+ghost use Rattle.catalogue.specs.Projects.{Station, Controller, Project, station, controller, controller_in, reduction, project};
 
 use crate::entry::list;
+use crate::module::ModuleTable;
 use crate::tree::{member_at, string, word_at};
-use crate::{ModuleItem, SlotItem, TreeFault};
+use crate::{CatalogueFault, Key, PlacedFault, SlotItem, Step};
 use serde_json::Value;
 use std::alloc::Global;
 use std::marker::Model;
@@ -73,13 +74,13 @@ impl Model for Project {
 
 /// The station's name and IP suite.
 #[tactic(auto, unfolding(crate::specs::Projects::station))]
-fn station(alloc: Global, tree: &Value) -> Result<StationItem, TreeFault>
+fn station(alloc: Global, tree: &Value) -> Result<StationItem, PlacedFault>
     ensures { Reads (λ found. found) result (station (view tree.now)) }
 {
-    let name = string(alloc, tree, "NameOfStation")?;
-    let address = string(alloc, tree, "IPAddress")?;
-    let mask = string(alloc, tree, "SubnetMask")?;
-    let gateway = string(alloc, tree, "Gateway")?;
+    let name = string(alloc, tree, Key::NameOfStation)?;
+    let address = string(alloc, tree, Key::IpAddress)?;
+    let mask = string(alloc, tree, Key::SubnetMask)?;
+    let gateway = string(alloc, tree, Key::Gateway)?;
     Ok(StationItem {
         name,
         address,
@@ -90,24 +91,35 @@ fn station(alloc: Global, tree: &Value) -> Result<StationItem, TreeFault>
 
 /// The controller.
 #[tactic(auto, unfolding(crate::specs::Projects::controller))]
-fn controller(alloc: Global, tree: &Value) -> Result<ControllerItem, TreeFault>
+fn controller(alloc: Global, tree: &Value) -> Result<ControllerItem, PlacedFault>
     ensures { Reads (λ found. found) result (controller (view tree.now)) }
 {
-    let item = member_at(tree, "Controller")?;
-    let name = string(alloc, item, "NameOfStation")?;
-    let mac = string(alloc, item, "MAC")?;
-    let address = string(alloc, item, "IPAddress")?;
+    let name = string(alloc, tree, Key::NameOfStation)?;
+    let mac = string(alloc, tree, Key::Mac)?;
+    let address = string(alloc, tree, Key::IpAddress)?;
     Ok(ControllerItem { name, mac, address })
+}
+
+/// The controller of a project.
+#[tactic(auto, unfolding(crate::specs::Projects::controller_in))]
+fn controller_in(alloc: Global, tree: &Value) -> Result<ControllerItem, PlacedFault>
+    ensures { Reads (λ found. found) result (controller_in (view tree.now)) }
+{
+    let item = member_at(tree, Key::Controller)?;
+    match controller(alloc, item) {
+        Ok(found) => Ok(found),
+        Err(found) => Err(found.further(Step::At(Key::Controller))),
+    }
 }
 
 /// The ReductionRatio, which makes an interval that the device can keep.
 #[tactic(auto, unfolding(crate::specs::Projects::reduction))]
-fn reduction(tree: &Value, send_clock: u16, least_interval: u32) -> Result<u16, TreeFault>
+fn reduction(tree: &Value, send_clock: u16, least_interval: u32) -> Result<u16, PlacedFault>
     ensures { Gives (λ n. n) result (reduction send_clock least_interval (view tree.now)) }
 {
-    let reduction = word_at(tree, "ReductionRatio", 1, 512)?;
+    let reduction = word_at(tree, Key::ReductionRatio, 1, 512)?;
     if (send_clock as u32) * (reduction as u32) < least_interval {
-        return Err(TreeFault::Number);
+        return Err(PlacedFault::at(Key::ReductionRatio, CatalogueFault::Number));
     }
     Ok(reduction)
 }
@@ -118,16 +130,16 @@ pub(crate) fn project_of(
     alloc: Global,
     tree: &Value,
     least_interval: u32,
-    modules: &Vec<ModuleItem>,
-) -> Result<Project, TreeFault>
-    ensures { Reads (λ found. found) result (project least_interval modules.now.items (view tree.now)) }
+    modules: &ModuleTable,
+) -> Result<Project, PlacedFault>
+    ensures { Reads (λ found. found) result (project least_interval modules.now (view tree.now)) }
 {
     let station = station(alloc, tree)?;
-    let controller = controller(alloc, tree)?;
-    let send_clock_factor = word_at(tree, "SendClockFactor", 1, 128)?;
+    let controller = controller_in(alloc, tree)?;
+    let send_clock_factor = word_at(tree, Key::SendClockFactor, 1, 128)?;
     let reduction_ratio = reduction(tree, send_clock_factor, least_interval)?;
-    let data_hold_factor = word_at(tree, "DataHoldFactor", 1, 7680)?;
-    let slots = list(alloc, modules, tree, "Slots")?;
+    let data_hold_factor = word_at(tree, Key::DataHoldFactor, 1, 7680)?;
+    let slots = list(alloc, modules, tree, Key::Slots)?;
     Ok(Project {
         station,
         controller,

@@ -1,14 +1,17 @@
 //! What a project puts into its slots, and the records that it writes.
-ghost use Rattle.std.specs.Prelude.{◌≡◌, List, Option, option_map, string_bytes};
-ghost use Rattle.serde_json.specs.View.{view};
-ghost use Rattle.catalogue.specs.Reader.{Reads};
+ghost use Rattle.std.specs.Prelude.{◌≡◌, List, [], Option, option_map, string_bytes};
+ghost use Rattle.serde_json.specs.View.{view, items_view};
+ghost use Rattle.hex.specs.Hex.{decode_of};
+ghost use Rattle.catalogue.specs.Placed.{placed};
+ghost use Rattle.catalogue.specs.Reader.{Reads, each};
 ghost use Rattle.catalogue.specs.Submodules.{Submodule};
 ghost use Rattle.catalogue.specs.Modules.{submodules_of};
-ghost use Rattle.catalogue.specs.Slots.{Record, Slot, record_item, slot_item, records_of, octets_at, length_of, parameters_of};
+ghost use Rattle.catalogue.specs.Slots.{Record, Slot, record_item, slot_item, records_of, hex_or_fault, octets_at, length_of, parameters_of};
 
 use crate::entry::{Entry, each_of};
+use crate::module::ModuleTable;
 use crate::tree::{items_at, string, text, whole_at, word_at};
-use crate::{ModuleItem, ParameterItem, SubmoduleItem, TreeFault};
+use crate::{CatalogueFault, Key, ParameterItem, PlacedFault, Step, SubmoduleItem};
 use hex::FromHexError;
 use serde_json::Value;
 use std::alloc::Global;
@@ -43,16 +46,25 @@ impl Model for SlotItem {
     ghost view = { λ item. record { slot = item.slot; target = string_bytes item.target; records = item.records.items } };
 }
 
-/// The octets that the text at a key is in hex.
-#[tactic(auto, unfolding(crate::specs::Slots::octets_at))]
-fn octets_at(alloc: Global, tree: &Value, key: &str) -> Result<Vec<u8>, TreeFault>
-    ensures { Reads (λ octets. octets.items) result (octets_at key.now (view tree.now)) }
+/// The octets that a text at a key is in hex.
+fn decoded(alloc: Global, text: &str, key: Key) -> Result<Vec<u8>, PlacedFault>
+    ensures { Reads (λ octets. octets.items) result (placed key (hex_or_fault (decode_of text.now))) }
 {
-    let text = text(tree, key)?;
     match hex::decode(alloc, text) {
         Ok(octets) => Ok(octets),
-        Err(FromHexError::OutOfMemory) => Err(TreeFault::OutOfMemory),
-        Err(_) => Err(TreeFault::WrongKind),
+        Err(FromHexError::OutOfMemory) => Err(PlacedFault::here(CatalogueFault::OutOfMemory)),
+        Err(_) => Err(PlacedFault::at(key, CatalogueFault::WrongKind)),
+    }
+}
+
+/// The octets that the text at a key is in hex.
+#[tactic(auto, unfolding(crate::specs::Slots::octets_at))]
+fn octets_at(alloc: Global, tree: &Value, key: Key) -> Result<Vec<u8>, PlacedFault>
+    ensures { Reads (λ octets. octets.items) result (octets_at key (view tree.now)) }
+{
+    match text(tree, key) {
+        Ok(text) => decoded(alloc, text, key),
+        Err(found) => Err(found),
     }
 }
 
@@ -89,20 +101,20 @@ impl Entry<Vec<SubmoduleItem>> for RecordItem {
         context: &Vec<SubmoduleItem>,
         _before: &[RecordItem],
         tree: &Value,
-    ) -> Result<RecordItem, TreeFault> {
-        let subslot = word_at(tree, "Subslot", 1, 36_863)?;
+    ) -> Result<RecordItem, PlacedFault> {
+        let subslot = word_at(tree, Key::Subslot, 1, 36_863)?;
         let parameters = match parameters_of(context, subslot) {
             Some(parameters) => parameters,
-            None => return Err(TreeFault::Number),
+            None => return Err(PlacedFault::at(Key::Subslot, CatalogueFault::Number)),
         };
-        let index = word_at(tree, "Index", 0, 32_767)?;
+        let index = word_at(tree, Key::Index, 0, 32_767)?;
         let length = match length_of(parameters, index) {
             Some(length) => length,
-            None => return Err(TreeFault::Number),
+            None => return Err(PlacedFault::at(Key::Index, CatalogueFault::Number)),
         };
-        let octets = octets_at(alloc, tree, "Data")?;
+        let octets = octets_at(alloc, tree, Key::Data)?;
         if octets.len() != length as usize {
-            return Err(TreeFault::Number);
+            return Err(PlacedFault::at(Key::Data, CatalogueFault::Number));
         }
         Ok(RecordItem {
             subslot,
@@ -112,41 +124,57 @@ impl Entry<Vec<SubmoduleItem>> for RecordItem {
     }
 }
 
+/// The records that these trees are, of the module with this ID.
+fn records_in(
+    alloc: Global,
+    trees: &[Value],
+    modules: &ModuleTable,
+    target: &str,
+) -> Result<Vec<RecordItem>, PlacedFault>
+    ensures { Reads (λ records. records.items) result
+        (each (λ _ entry. record_item (submodules_of target.now modules.now) entry) [] (items_view trees.now)) }
+{
+    match modules.submodules(target) {
+        Some(submodules) => each_of(alloc, submodules, trees),
+        None => {
+            let none = Vec::new(alloc);
+            each_of(alloc, &none, trees)
+        }
+    }
+}
+
 /// The records of a slot, of a module with these submodules. Where there are none, no module is looked for.
 #[tactic(auto, unfolding(crate::specs::Reader::list_at))]
 fn records_of(
     alloc: Global,
     tree: &Value,
-    modules: &Vec<ModuleItem>,
+    modules: &ModuleTable,
     target: &str,
-) -> Result<Vec<RecordItem>, TreeFault>
-    ensures { Reads (λ records. records.items) result (records_of modules.now.items target.now (view tree.now)) }
+) -> Result<Vec<RecordItem>, PlacedFault>
+    ensures { Reads (λ records. records.items) result (records_of modules.now target.now (view tree.now)) }
 {
-    let trees = items_at(tree, "Records")?;
+    let trees = items_at(tree, Key::Records)?;
     if trees.is_empty() {
         return Ok(Vec::new(alloc));
     }
-    for module in modules {
-        if module.id.as_str() == target {
-            return each_of(alloc, &module.submodules, trees);
-        }
+    match records_in(alloc, trees, modules, target) {
+        Ok(records) => Ok(records),
+        Err(found) => Err(found.further(Step::At(Key::Records))),
     }
-    let none = Vec::new(alloc);
-    each_of(alloc, &none, trees)
 }
 
-impl Entry<Vec<ModuleItem>> for SlotItem {
-    ghost reader = { λ modules _ tree. slot_item modules.items tree };
+impl Entry<ModuleTable> for SlotItem {
+    ghost reader = { λ modules _ tree. slot_item modules tree };
 
     #[tactic(auto, unfolding(crate::specs::Slots::slot_item))]
     fn read(
         alloc: Global,
-        context: &Vec<ModuleItem>,
+        context: &ModuleTable,
         _before: &[SlotItem],
         tree: &Value,
-    ) -> Result<SlotItem, TreeFault> {
-        let slot = whole_at(tree, "Slot")?;
-        let target = string(alloc, tree, "ModuleItemTarget")?;
+    ) -> Result<SlotItem, PlacedFault> {
+        let slot = whole_at(tree, Key::Slot)?;
+        let target = string(alloc, tree, Key::ModuleItemTarget)?;
         let records = records_of(alloc, tree, context, target.as_str())?;
         Ok(SlotItem {
             slot,

@@ -3,12 +3,12 @@ ghost use Rattle.std.specs.Prelude.{◌≡◌, List, Some, None, ℕ};
 ghost use Rattle.wire.specs.Codec.{Gives};
 ghost use Rattle.serde_json.specs.View.{view, items_view};
 ghost use Rattle.catalogue.specs.Reader.{Reads};
-ghost use Rattle.catalogue.specs.Submodules.{Submodule, is_octet_type, is_word_type, is_long_type, size_of_type, data_item, octets_in};
-ghost use Rattle.catalogue.specs.Submodules.{octets_at, io_of, has_index, has_subslot, parameter, submodule};
+ghost use Rattle.catalogue.specs.Submodules.{Submodule, is_octet_type, is_word_type, is_long_type, size_of_type, item_of_type, data_item, octets_in};
+ghost use Rattle.catalogue.specs.Submodules.{octets_at, io_in, io_of, has_index, has_subslot, parameter, submodule};
 
-use crate::TreeFault;
 use crate::entry::{Entry, list};
 use crate::tree::{items_at, long_at, member_at, text, word_at};
+use crate::{CatalogueFault, Key, PlacedFault, Step};
 use serde_json::Value;
 use std::alloc::Global;
 use std::marker::Model;
@@ -86,54 +86,77 @@ fn size_of_type(name: &str) -> Option<u16>
     None
 }
 
-/// The octets of one item of data.
-#[tactic(auto, unfolding(crate::specs::Submodules::data_item))]
-fn data_item(tree: &Value) -> Result<u16, TreeFault>
-    ensures { Gives (λ octets. octets) result (data_item (view tree.now)) }
+/// The octets of an item of this type.
+fn item_of_type(tree: &Value, name: &str) -> Result<u16, PlacedFault>
+    ensures { Gives (λ octets. octets) result (item_of_type (view tree.now) name.now) }
 {
-    let name = text(tree, "DataType")?;
     if name == "OctetString" {
-        return word_at(tree, "Length", 1, 1440);
+        return word_at(tree, Key::Length, 1, 1440);
     }
     match size_of_type(name) {
         Some(octets) => Ok(octets),
-        None => Err(TreeFault::WrongKind),
+        None => Err(PlacedFault::at(Key::DataType, CatalogueFault::WrongKind)),
+    }
+}
+
+/// The octets of one item of data.
+#[tactic(auto, unfolding(crate::specs::Submodules::data_item))]
+fn data_item(tree: &Value) -> Result<u16, PlacedFault>
+    ensures { Gives (λ octets. octets) result (data_item (view tree.now)) }
+{
+    match text(tree, Key::DataType) {
+        Ok(name) => item_of_type(tree, name),
+        Err(found) => Err(found),
     }
 }
 
 /// The octets of items of data together, at most 65,535.
-fn octets_of(trees: &[Value]) -> Result<u16, TreeFault>
-    ensures { Gives (λ octets. octets) result (octets_in 0 (items_view trees.now)) }
+fn octets_of(trees: &[Value]) -> Result<u16, PlacedFault>
+    ensures { Gives (λ octets. octets) result (octets_in 0 0 (items_view trees.now)) }
 {
     let mut octets = 0u16;
-    for tree in trees {
-        let more = data_item(tree)?;
-        octets = octets.saturating_add(more);
+    for index in 0..trees.len() {
+        match data_item(&trees[index]) {
+            Ok(more) => octets = octets.saturating_add(more),
+            Err(found) => return Err(found.further(Step::Entry(index))),
+        }
     }
     Ok(octets)
 }
 
 /// The octets of the items of data at a key.
 #[tactic(auto, unfolding(crate::specs::Submodules::octets_at))]
-fn octets_at(tree: &Value, key: &str) -> Result<u16, TreeFault>
-    ensures { Gives (λ octets. octets) result (octets_at key.now (view tree.now)) }
+fn octets_at(tree: &Value, key: Key) -> Result<u16, PlacedFault>
+    ensures { Gives (λ octets. octets) result (octets_at key (view tree.now)) }
 {
     let trees = items_at(tree, key)?;
-    octets_of(trees)
+    match octets_of(trees) {
+        Ok(octets) => Ok(octets),
+        Err(found) => Err(found.further(Step::At(key))),
+    }
 }
 
-/// The octets of input and of output of a submodule.
+/// The octets of input and of output.
+#[tactic(auto, unfolding(crate::specs::Submodules::io_in))]
+fn io_in(tree: &Value) -> Result<(u16, u16), PlacedFault>
+    ensures { Gives (λ io. io) result (io_in (view tree.now)) }
+{
+    let input = octets_at(tree, Key::Input)?;
+    let output = octets_at(tree, Key::Output)?;
+    Ok((input, output))
+}
+
+/// The octets of input and of output of a submodule: none if it says nothing of them.
 #[tactic(auto, unfolding(crate::specs::Submodules::io_of))]
-fn io_at(tree: &Value) -> Result<(u16, u16), TreeFault>
+fn io_at(tree: &Value) -> Result<(u16, u16), PlacedFault>
     ensures { Gives (λ io. io) result (io_of (view tree.now)) }
 {
-    match tree.get("IOData") {
+    match tree.get(Key::IoData.name()) {
         None => Ok((0, 0)),
-        Some(io) => {
-            let input = octets_at(io, "Input")?;
-            let output = octets_at(io, "Output")?;
-            Ok((input, output))
-        }
+        Some(io) => match io_in(io) {
+            Ok(octets) => Ok(octets),
+            Err(found) => Err(found.further(Step::At(Key::IoData))),
+        },
     }
 }
 
@@ -160,12 +183,12 @@ impl Entry<()> for ParameterItem {
         _context: &(),
         before: &[ParameterItem],
         tree: &Value,
-    ) -> Result<ParameterItem, TreeFault> {
-        let index = word_at(tree, "Index", 0, 32_767)?;
+    ) -> Result<ParameterItem, PlacedFault> {
+        let index = word_at(tree, Key::Index, 0, 32_767)?;
         if has_index(before, index) {
-            return Err(TreeFault::Number);
+            return Err(PlacedFault::at(Key::Index, CatalogueFault::Number));
         }
-        let length = word_at(tree, "Length", 1, 64)?;
+        let length = word_at(tree, Key::Length, 1, 64)?;
         Ok(ParameterItem { index, length })
     }
 }
@@ -179,14 +202,14 @@ impl Entry<()> for SubmoduleItem {
         _context: &(),
         before: &[SubmoduleItem],
         tree: &Value,
-    ) -> Result<SubmoduleItem, TreeFault> {
-        let subslot = word_at(tree, "Subslot", 1, 36_863)?;
+    ) -> Result<SubmoduleItem, PlacedFault> {
+        let subslot = word_at(tree, Key::Subslot, 1, 36_863)?;
         if has_subslot(before, subslot) {
-            return Err(TreeFault::Number);
+            return Err(PlacedFault::at(Key::Subslot, CatalogueFault::Number));
         }
-        let ident = long_at(tree, "SubmoduleIdentNumber", 0, 0xFFFF_FFFF)?;
+        let ident = long_at(tree, Key::SubmoduleIdentNumber, 0, 0xFFFF_FFFF)?;
         let (input, output) = io_at(tree)?;
-        let parameters = list(alloc, &(), tree, "ParameterRecordDataItem")?;
+        let parameters = list(alloc, &(), tree, Key::ParameterRecordDataItem)?;
         Ok(SubmoduleItem {
             subslot,
             ident,

@@ -3,6 +3,7 @@ pub mod Allowed
 pub mod Fault
 pub mod Few
 pub mod Known
+pub mod Places
 pub mod Planned
 pub mod Seen
 pub mod Standing

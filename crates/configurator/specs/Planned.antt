@@ -5,13 +5,15 @@ use Rattle.plans.specs.declared.parts.Parts.{Parts}
 use Rattle.plans.specs.declared.parts.PlanRecord.{PlanRecord}
 use Rattle.plans.specs.declared.plan.TooLong.TheVariants as long
 use Rattle.plans.specs.Plan.{plan_of}
-use Rattle.catalogue.specs.declared.fault.CatalogueFault.{CatalogueFault}
+use Rattle.catalogue.specs.declared.fault.PlacedFault.{PlacedFault}
 use Rattle.catalogue.specs.Slots.{Record, Slot}
 use Rattle.catalogue.specs.Catalogues.{Catalogue, Found, Refuses}
 use Rattle.configurator.specs.declared.addresses.Addresses.{Addresses}
 use Rattle.configurator.specs.declared.fault.PlanFault.{PlanFault}
 use Rattle.configurator.specs.declared.fault.PlanFault.TheVariants.{NotAllowedInSlot, TooManySlots, FrameTooLong, ConnectTooLong, Name, Address, OutOfMemory}
+use Rattle.configurator.specs.declared.place.Refusal.{Refusal}
 use Rattle.configurator.specs.Fault.{of_catalogue}
+use Rattle.configurator.specs.Places.{place_of}
 use Rattle.configurator.specs.Addresses.{AreAddresses, AreNamed}
 use Rattle.configurator.specs.Allowed.{are_allowed}
 use Rattle.configurator.specs.Few.{are_few}
@@ -79,5 +81,11 @@ IsPlanOf text parts = (found : Catalogue) × Found text found × Judged found (O
 -- a text is refused as it is read; or it is a catalogue whose first fault over the whole is this
 abbrev pub IsRefused : List ℕ → PlanFault → Type 0
 IsRefused text fault =
-    ((found : CatalogueFault) × Refuses text found × (fault ≡ of_catalogue found))
+    ((found : PlacedFault) × Refuses text found × (fault ≡ of_catalogue found.fault))
     ⊎ ((found : Catalogue) × Found text found × Judged found (Err fault))
+
+-- the same, at the place of the fault
+abbrev pub IsRefusedAt : List ℕ → Refusal → Type 0
+IsRefusedAt text refusal =
+    ((found : PlacedFault) × Refuses text found × (refusal.fault ≡ of_catalogue found.fault) × (refusal.place ≡ found.place))
+    ⊎ ((found : Catalogue) × Found text found × Judged found (Err refusal.fault) × (refusal.place.items ≡ place_of found refusal.fault))

@@ -8,10 +8,12 @@ mod fault;
 mod few;
 mod known;
 mod names;
+mod place;
 mod plan;
 mod records;
 mod station;
 mod submodules;
 
 pub use fault::PlanFault;
-pub use plan::plan_from_json;
+pub use place::Refusal;
+pub use plan::{plan_from_json, plan_or_place};

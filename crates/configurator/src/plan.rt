@@ -1,19 +1,21 @@
 //! From a text to a plan.
-ghost use Rattle.std.specs.Prelude.{◌≡◌, true, IfOk, IfErr};
+ghost use Rattle.std.specs.Prelude.{◌≡◌, true, IfOk, IfErr, Ok};
 ghost use Rattle.pn_values.specs.StationName.{IsStationName};
+ghost use Rattle.catalogue.specs.Catalogues.{Found};
 ghost use Rattle.catalogue.specs.Kept.{IsInRange};
 ghost use Rattle.plans.specs.Parts.{AreParts};
 ghost use Rattle.configurator.specs.Addresses.{AreAddresses, AreNamed};
 ghost use Rattle.configurator.specs.Few.{are_few};
-ghost use Rattle.configurator.specs.Planned.{IsPlanOf, IsRefused, Judged, parts_of};
+ghost use Rattle.configurator.specs.Planned.{IsPlanOf, IsRefused, IsRefusedAt, Judged, parts_of};
 
-use crate::PlanFault;
 use crate::addresses::{Addresses, addresses_of};
 use crate::allowed::are_allowed;
 use crate::few::are_few;
 use crate::names::{Names, names_of};
+use crate::place::place_of;
 use crate::records::records_of;
 use crate::station::real_of;
+use crate::{PlanFault, Refusal};
 use catalogue::{Catalogue, read};
 use plans::{Controller, Parts, Plan, Station, Times};
 use std::alloc::Global;
@@ -92,14 +94,39 @@ fn plan_of(alloc: Global, catalogue: &Catalogue) -> Result<Plan, PlanFault>
     planned(alloc, catalogue, names, addresses)
 }
 
-/// The plan of the catalogue that a text of JSON is (the keys are GSDML's), or its first fault.
+/// The catalogue that a text of JSON is (the keys are GSDML's) and its plan, or the first fault and its place.
+pub fn plan_or_place(alloc: Global, text: &[u8]) -> Result<(Plan, Catalogue), Refusal>
+    ensures found { IfOk result (λ both. Found text.now both.1) }
+    ensures judged { IfOk result (λ both. Judged both.1 (Ok both.0)) }
+    ensures refused { IfErr result (IsRefusedAt text.now) }
+{
+    let catalogue = match read(alloc, text) {
+        Ok(catalogue) => catalogue,
+        Err(found) => {
+            let fault = PlanFault::from(found.fault);
+            return Err(Refusal {
+                fault,
+                place: found.place,
+            });
+        }
+    };
+    match plan_of(alloc, &catalogue) {
+        Ok(plan) => Ok((plan, catalogue)),
+        Err(fault) => {
+            let place = place_of(&catalogue, fault);
+            Err(Refusal { fault, place })
+        }
+    }
+}
+
+/// The plan of the catalogue that a text of JSON is, or its first fault.
 pub fn plan_from_json(alloc: Global, text: &[u8]) -> Result<Plan, PlanFault>
     ensures planned { IfOk result (IsPlanOf text.now) }
     ensures refused { IfErr result (IsRefused text.now) }
 {
     let catalogue = match read(alloc, text) {
         Ok(catalogue) => catalogue,
-        Err(fault) => return Err(PlanFault::from(fault)),
+        Err(found) => return Err(PlanFault::from(found.fault)),
     };
     plan_of(alloc, &catalogue)
 }

@@ -9,6 +9,7 @@ use Rattle.pn_alarms.specs.declared.pdu.PduType.{PduType}
 use Rattle.pn_alarms.specs.Controller.{controller_header}
 use Rattle.pn_alarms.specs.Ends.{ControllerEnd}
 use Rattle.cyclic_exchange.specs.declared.route.Route.{Route}
+use Rattle.plans.specs.Numbers.{alarm_endpoint}
 use Rattle.controller_core.specs.declared.kept.KeptAlarm.{KeptAlarm}
 
 -- the AlarmAck of an alarm: without an error
@@ -39,11 +40,11 @@ alarm_in kept = record {
   alarm_data = kept.alarm_data.items;
 }
 
--- the header of a PDU that is sent now, from endpoint 1 of the controller to that of the device
+-- the header of a PDU that is sent now, from the endpoint of the controller to that of the device
 abbrev pub header_of : ControllerEnd → Route → PduType → Header
-header_of alarms route kind = controller_header alarms kind route.reference 1
+header_of alarms route kind = controller_header alarms kind route.reference alarm_endpoint
 
 -- whether an alarm frame is of the relation
 abbrev pub is_alarm : Route → Mac → Header → Bool
 is_alarm route source header =
-    pointwise nat_eq source.octets route.partner.octets && (header.destination == 1 && header.source == route.reference)
+    pointwise nat_eq source.octets route.partner.octets && (header.destination == alarm_endpoint && header.source == route.reference)

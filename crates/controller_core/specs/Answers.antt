@@ -12,6 +12,7 @@ use Rattle.rpc_core.specs.declared.header.CallHeader.{CallHeader}
 use Rattle.connect_blocks.specs.declared.control.ControlBlock.{ControlBlock}
 use Rattle.plans.specs.declared.parts.Parts.{Parts}
 use Rattle.plans.specs.declared.parts.Station.{Station}
+use Rattle.plans.specs.Numbers.{session_number}
 use Rattle.controller_frames.specs.declared.setup.Setup.{Setup}
 use Rattle.controller_frames.specs.declared.request.Request.{Request}
 use Rattle.controller_frames.specs.declared.request.Request.TheVariants as asks
@@ -34,10 +35,12 @@ abbrev pub is_told : List ℕ → Option (List ℕ) → Bool
 is_told wanted (Some value) = pointwise nat_eq value wanted
 is_told wanted None = false
 
--- an answer to the Identify, of the station that has the plan's name
+-- an answer to the Identify, of the station that has the plan's name; one that says that Identify is not supported (ServiceType 5) is
+-- none
 abbrev pub is_found : Parts → Answered → Bool
 is_found plan answer =
-    is_identify answer.service && (answer.xid == 1 && is_told plan.station.name (value_among NameOfStation answer.blocks))
+    is_identify answer.service
+    && (answer.is_supported && (answer.xid == 1 && is_told plan.station.name (value_among NameOfStation answer.blocks)))
 
 -- VendorID and DeviceID
 abbrev pub ident_bytes : Station → List ℕ
@@ -72,4 +75,4 @@ is_answer setup request header =
 
 -- an ApplicationReady of the relation
 abbrev pub is_ready : Setup → ControlBlock → Bool
-is_ready setup block = pointwise nat_eq block.ar_uuid setup.ar && block.session_key == 1
+is_ready setup block = pointwise nat_eq block.ar_uuid setup.ar && block.session_key == session_number

@@ -37,6 +37,7 @@ use Rattle.cyclic_exchange.specs.Received.{behind_frame}
 use Rattle.cyclic_exchange.specs.Units.{Brought, cyclic_later, tick_of}
 use Rattle.plans.specs.declared.parts.Parts.{Parts}
 use Rattle.plans.specs.declared.parts.Times.{Times}
+use Rattle.plans.specs.Numbers.{alarm_factor, alarm_retries, high_tag, input_frame_id}
 use Rattle.plans.specs.Packed.{layout_in}
 use Rattle.plans.specs.Parts.{data_of}
 use Rattle.controller_frames.specs.declared.setup.Setup.{Setup}
@@ -129,7 +130,7 @@ writing request live = asking (phase_for request) request live
 
 -- with whom, and under which numbers, by the FrameID that the device chose for outputs
 abbrev pub route_of : Mac → ℕ → Route
-route_of device frame_id = record { partner = device; sent_id = frame_id; sent_tag = 0xC000; taken_id = 0xC001; alarm_tag = 0xC000; reference = 1 }
+route_of device frame_id = record { partner = device; sent_id = frame_id; sent_tag = high_tag; taken_id = input_frame_id; alarm_tag = high_tag; reference = 1 }
 
 abbrev pub interval_of : Times → ℕ
 interval_of times = times.send_clock_factor * times.reduction_ratio
@@ -370,7 +371,7 @@ first plan = record {
   units = 0;
   stands = false;
   cyclic = first_cyclic plan;
-  alarms = unheard 1 3;
+  alarms = unheard alarm_factor alarm_retries;
   alarm = None;
 }
 

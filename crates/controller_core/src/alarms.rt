@@ -15,18 +15,16 @@ use block_codec::AlarmNotification;
 use controller_frames::{send_alarm_ack, send_alarm_reply};
 use cyclic_exchange::Route;
 use frame_codec::Outbox;
+use plans::ALARM_REFERENCE;
 use pn_alarms::{ControllerAlarms, Header, Notice, PduType, Taken};
 use pn_values::Mac;
-
-/// The endpoint of the controller: LocalAlarmReference of its Connect.
-const OWN_REFERENCE: u16 = 1;
 
 /// Whether an alarm frame of this station, with these endpoints, is of the relation.
 pub(crate) fn is_alarm(route: &Route, source: Mac, header: &Header) -> bool
     ensures { result ≡ is_alarm route.now source header.now }
 {
     source.is(&route.partner)
-        && header.destination == OWN_REFERENCE
+        && header.destination == ALARM_REFERENCE
         && header.source == route.reference
 }
 
@@ -34,7 +32,7 @@ pub(crate) fn is_alarm(route: &Route, source: Mac, header: &Header) -> bool
 pub(crate) fn header_of(alarms: &ControllerAlarms, route: &Route, kind: PduType) -> Header
     ensures { result ≡ header_of alarms.now route.now kind }
 {
-    alarms.header(kind, route.reference, OWN_REFERENCE)
+    alarms.header(kind, route.reference, ALARM_REFERENCE)
 }
 
 impl Controller {

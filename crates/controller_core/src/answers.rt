@@ -34,7 +34,9 @@ pub(crate) fn is_found(plan: &Plan, answer: &dcp_core::Response<'_>) -> bool
     ensures { result ≡ is_found plan.now (answered_as answer.now) }
 {
     // Every station that hears an Identify may answer, and earlier requests of others are under way: name and transaction decide.
+    // One that does not support Identify has not looked at the name that it was asked for.
     matches!(answer.service, Service::Identify)
+        && answer.is_supported
         && answer.xid == 1
         && is_told(
             plan.station().name.as_bytes(),

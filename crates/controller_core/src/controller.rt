@@ -10,7 +10,7 @@ use controller_frames::{Request, Setup, send_request};
 use cyclic_data::{Consumer, PlaceKind, Provider};
 use cyclic_exchange::{CyclicExchange, Route, Statuses};
 use frame_codec::{Frame, Outbox};
-use plans::{Plan, Times};
+use plans::{INPUT_FRAME_ID, Plan, RTA_RETRIES, RTA_TIMEOUT_FACTOR, TAG_HIGH, Times};
 use pn_alarms::ControllerAlarms;
 use pn_values::Mac;
 use rpc_core::Uuid;
@@ -19,16 +19,7 @@ use std::marker::Model;
 /// The status of good data (IEC 61158-6-10, 4.7.2.1.1).
 const GOOD: u8 = 0x80;
 
-/// RTATimeoutFactor and RTARetries of the plan's Connect.
-const TIMEOUT_FACTOR: u16 = 1;
-
-const RETRIES: u16 = 3;
-
-/// IOCRTagHeader and TagHeaderHigh, the FrameID of inputs, and the endpoint of the device.
-const TAG: u16 = 0xC000;
-
-const INPUT_ID: u16 = 0xC001;
-
+/// The endpoint of the device.
 const REFERENCE: u16 = 1;
 
 /// FrameID of outputs before the device chose one.
@@ -103,9 +94,9 @@ pub(crate) fn route_of(device: Mac, frame_id: u16) -> Route
     Route {
         partner: device,
         sent_id: frame_id,
-        sent_tag: TAG,
-        taken_id: INPUT_ID,
-        alarm_tag: TAG,
+        sent_tag: TAG_HIGH,
+        taken_id: INPUT_FRAME_ID,
+        alarm_tag: TAG_HIGH,
         reference: REFERENCE,
     }
 }
@@ -162,7 +153,7 @@ impl Controller {
             units: 0,
             stands: false,
             exchange: CyclicExchange::new(),
-            alarms: ControllerAlarms::new(TIMEOUT_FACTOR, RETRIES),
+            alarms: ControllerAlarms::new(RTA_TIMEOUT_FACTOR, RTA_RETRIES),
             alarm: None,
         };
         // The exchange is large: it is opened where it stays.

@@ -33,12 +33,10 @@ use controller_frames::{
 use cyclic_data::Provider;
 use cyclic_exchange::Tick;
 use frame_codec::{Bytes, Caller, Outbox, is_cyclic};
+use plans::SESSION_KEY;
 use pn_alarms::{Abort, Header, Notice, PduType};
 use pn_values::Mac;
 use rpc_core::{Call, Response};
-
-/// SessionKey of the relation.
-const SESSION_KEY: u16 = 1;
 
 /// How many blocks the answer to a Connect may have: more than a frame holds.
 const MOST_BLOCKS: usize = 400;
@@ -175,6 +173,7 @@ impl Controller {
             Hearing::Answers(source, answer) => self.hear_answer(*source, answer, outbox),
             Hearing::Responds(response) => self.hear_response(response, outbox),
             Hearing::Calls(caller, call) => self.hear_call(caller, call, outbox),
+            // Not reached: `hear` takes a cyclic frame before a `Hearing` is made of it. It is what the contract says of any hearing.
             Hearing::Cyclic(source, frame_id, body) => self.hear_cyclic(*source, *frame_id, body),
             Hearing::Alarms(source, header, notice) => {
                 self.hear_alarm(*source, header, notice, outbox)
@@ -313,6 +312,7 @@ impl Controller {
         ensures frames { boxed outbox.new ≡ map (bytes_of self.old.setup) (done self.old.setup self.old.live blocks.now request).sent }
     {
         match request {
+            // Not reached: no response answers a request of DCP (`is_answer`). Nothing happens, as the definition says.
             Request::Identify | Request::Address => {}
             Request::Connect => self.connect(blocks, outbox),
             Request::Write(number) => {
@@ -323,6 +323,7 @@ impl Controller {
                 self.phase = State::Waiting;
                 self.asked = None;
             }
+            // Not reached: `decide` has taken the answer to a Release, whatever its status.
             Request::Release(_) => self.asked = None,
         }
     }
@@ -540,7 +541,7 @@ impl Controller {
     {
         match tick.ending() {
             Some(reason) => self.end_by(reason, outbox),
-            None => self.send_due(tick.is_alarm(), is_request, tick.is_cyclic(), outbox),
+            None => self.send_due(tick, is_request, outbox),
         }
     }
 
@@ -556,15 +557,16 @@ impl Controller {
         self.end(cause_of(reason));
     }
 
-    // What is due with a unit is sent.
-    fn send_due(&self, is_ack: bool, is_request: bool, is_cyclic: bool, outbox: &mut Outbox)
+    // What is due with a unit is sent: what it brings of the relation, and the request again if that is due.
+    fn send_due(&self, tick: &Tick, is_request: bool, outbox: &mut Outbox)
         requires empty { outbox.old.items ≡ [] }
-        ensures frames { boxed outbox.new ≡ map (bytes_of self.now.setup) (due_frames self.now.live is_ack is_request is_cyclic) }
+        ensures frames { boxed outbox.new
+            ≡ map (bytes_of self.now.setup) (due_frames self.now.live tick.now.is_alarm is_request tick.now.is_cyclic) }
     {
         // In this order, so that what a step sends is one list for every reader of it.
-        self.send_ack_again(is_ack, outbox);
+        self.send_ack_again(tick.is_alarm(), outbox);
         self.send_request_again(is_request, outbox);
-        self.send_outputs_due(is_cyclic, outbox);
+        self.send_outputs_due(tick.is_cyclic(), outbox);
     }
 
     // The AlarmAck again, if it is due and there is one.

@@ -5,6 +5,7 @@ use Rattle.pn_values.specs.declared.mac.Mac.{Mac}
 use Rattle.frame_codec.specs.declared.fault.FrameFault.{FrameFault}
 use Rattle.frame_codec.specs.declared.udp.Caller.{Caller}
 use Rattle.frame_codec.specs.declared.udp.Endpoint.{Endpoint}
+use Rattle.frame_codec.specs.Calls.{call_port}
 use Rattle.frame_codec.specs.FrameId.{is_alarm, is_cyclic}
 use Rattle.frame_codec.specs.Meaning.{Meaning, Content, IsOther, RealTime, ArpPacket, UdpDatagram}
 use Rattle.frame_codec.specs.Frame.{frame_of}
@@ -67,7 +68,7 @@ heard_real_time source frame_id body =
 
 -- whether a datagram goes to this address, and to the port of calls
 abbrev pub is_to : List ℕ → Endpoint → Bool
-is_to address to = pointwise nat_eq to.address address && to.port == 34964
+is_to address to = pointwise nat_eq to.address address && to.port == call_port
 
 -- a packet of ARP is dropped, and a datagram to another address or another port
 abbrev pub heard_content : List ℕ → Mac → Content → Heard

@@ -18,6 +18,7 @@ use Rattle.plans.specs.declared.parts.Parts.{Parts}
 use Rattle.plans.specs.declared.parts.Station.{Station}
 use Rattle.plans.specs.declared.parts.PlanRecord.{PlanRecord}
 use Rattle.plans.specs.Connect.{connect_of}
+use Rattle.plans.specs.Numbers.{session_number}
 use Rattle.controller_frames.specs.declared.setup.Setup.{Setup}
 use Rattle.controller_frames.specs.declared.request.Request.{Request}
 use Rattle.controller_frames.specs.declared.request.Request.TheVariants.{Identify, Address, Connect, Write, PrmEnd, Release}
@@ -74,9 +75,9 @@ header_of setup request = record {
   operation = operation_of request;
 }
 
--- the block of a control: of the relation, whose SessionKey is 1
+-- the block of a control: of the relation
 abbrev pub control_of : Setup → ℕ → ControlBlock
-control_of setup command = record { ar_uuid = setup.ar; session_key = 1; control_command = command; control_block_properties = 0 }
+control_of setup command = record { ar_uuid = setup.ar; session_key = session_number; control_command = command; control_block_properties = 0 }
 
 -- what stands in front of a record that is written: its SeqNumber is that of its call
 abbrev pub write_of : Setup → ℕ → PlanRecord → IodWriteReq

@@ -2,7 +2,7 @@
 use Rattle.std.specs.Prelude.{ℕ, List, [], ◌∷◌}
 use Rattle.pn_values.specs.declared.mac.Mac.{Mac}
 use Rattle.frame_codec.specs.declared.udp.Caller.{Caller}
-use Rattle.frame_codec.specs.declared.udp.Endpoint.{Endpoint}
+pub use Rattle.frame_codec.specs.Calls.{calls_at}
 use Rattle.frame_codec.specs.Meaning.{RealTime, UdpDatagram}
 use Rattle.dcp_core.specs.Writing.{request_bytes}
 use Rattle.rpc_core.specs.declared.interface.Interface.TheVariants.{Device}
@@ -43,10 +43,6 @@ pub data Sent : Type 0 where
 -- the address of all stations for Identify requests (IEC 61158-6-10, 4.3.1.3.1)
 unfoldable pub identify_multicast : Mac
 identify_multicast = record { octets = 0x01 ∷ 0x0E ∷ 0xCF ∷ 0x00 ∷ 0x00 ∷ 0x00 ∷ [] }
-
--- the port of calls, at this address
-abbrev pub calls_at : List ℕ → Endpoint
-calls_at address = record { address = address; port = 34964 }
 
 -- a call, to the address that the plan gives the device
 abbrev pub call_frame : Setup → Mac → Call → List ℕ

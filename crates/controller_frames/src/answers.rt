@@ -10,7 +10,7 @@ use crate::Setup;
 use arrayvec::ArrayVec;
 use block_codec::{Block, ControlBlock, write_block};
 use connect_blocks::control_len;
-use frame_codec::{Caller, Endpoint, Layered, Outbox, Payload, RPC_PORT, Udp};
+use frame_codec::{Caller, Endpoint, Layered, Outbox, Payload, Udp};
 use rpc_core::{Call, Datagram, Status, write_response};
 
 /// ControlCommand of what is done.
@@ -33,6 +33,7 @@ fn done_block(block: &ControlBlock) -> ArrayVec<u8, 32>
         control_command: DONE,
         ..*block
     };
+    // What counts its octets says that there is room for them.
     let _size = control_len(&done);
     let mut octets = ArrayVec::new();
     write_block(&mut octets, &Block::ApplicationReadyRes(done));
@@ -62,10 +63,7 @@ pub fn send_ready_answer(
         source: setup.plan.controller().mac,
         tag: None,
         payload: Payload::Udp(Udp {
-            source: Endpoint {
-                address: setup.plan.controller().address,
-                port: RPC_PORT,
-            },
+            source: Endpoint::of_calls(setup.plan.controller().address),
             destination: caller.endpoint,
             body: datagram.as_slice(),
         }),

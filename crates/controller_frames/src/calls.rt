@@ -11,8 +11,8 @@ use crate::{Request, Setup};
 use arrayvec::ArrayVec;
 use block_codec::{Block, ControlBlock, IodWriteReq, RecordHeader, write_block};
 use connect_blocks::control_len;
-use frame_codec::{Endpoint, Layered, Outbox, Payload, RPC_PORT, Udp};
-use plans::{PlanRecord, Station};
+use frame_codec::{Endpoint, Layered, Outbox, Payload, Udp};
+use plans::{PlanRecord, SESSION_KEY, Station};
 use pn_values::Mac;
 use record_blocks::iod_write_req_len;
 use rpc_core::{Call, CallHeader, Datagram, Interface, Uuid, write_request};
@@ -59,7 +59,7 @@ fn control_of(setup: &Setup, command: u16) -> ControlBlock
 {
     ControlBlock {
         ar_uuid: setup.ar,
-        session_key: 1,
+        session_key: SESSION_KEY,
         control_command: command,
         control_block_properties: 0,
     }
@@ -85,6 +85,7 @@ fn put_record(setup: &Setup, number: u16, entry: &PlanRecord, blocks: &mut Array
             record_data_length: octets.len() as u32,
         },
     };
+    // What counts its octets says that there is room for them.
     let _size = iod_write_req_len(&block);
     write_block(blocks, &Block::IodWriteReq(block));
     append(blocks, octets);
@@ -107,6 +108,7 @@ fn put_prm_end(setup: &Setup, blocks: &mut ArrayVec<u8, 1372>)
     ensures { blocks.new.items ≡ block_bytes (Block.PrmEnd (control_of setup.now 1)) }
 {
     let block = control_of(setup, PRM_END);
+    // What counts its octets says that there is room for them.
     let _size = control_len(&block);
     write_block(blocks, &Block::PrmEnd(block));
 }
@@ -118,6 +120,7 @@ fn put_release(setup: &Setup, blocks: &mut ArrayVec<u8, 1372>)
     ensures { blocks.new.items ≡ block_bytes (Block.Release (control_of setup.now 4)) }
 {
     let block = control_of(setup, RELEASE);
+    // What counts its octets says that there is room for them.
     let _size = control_len(&block);
     write_block(blocks, &Block::Release(block));
 }
@@ -159,14 +162,8 @@ pub(crate) fn send_call(setup: &Setup, device: Mac, request: Request, outbox: &m
         source: setup.plan.controller().mac,
         tag: None,
         payload: Payload::Udp(Udp {
-            source: Endpoint {
-                address: setup.plan.controller().address,
-                port: RPC_PORT,
-            },
-            destination: Endpoint {
-                address: setup.plan.station().suite.address(),
-                port: RPC_PORT,
-            },
+            source: Endpoint::of_calls(setup.plan.controller().address),
+            destination: Endpoint::of_calls(setup.plan.station().suite.address()),
             body: datagram.as_slice(),
         }),
     });

@@ -57,6 +57,7 @@ fn send_pdu(source: Mac, destination: Mac, tag: u16, pdu: &Pdu<'_>, outbox: &mut
 fn ack_octets(ack: &AlarmAck) -> ArrayVec<u8, 28>
     ensures { result.items ≡ block_bytes (Block.AlarmAck ack.now) }
 {
+    // What counts its octets says that there is room for them.
     let _size = alarm_ack_len(ack);
     let mut octets = ArrayVec::new();
     write_block(&mut octets, &Block::AlarmAck(*ack));

@@ -5,7 +5,7 @@ ghost use Rattle.flash_model.specs.Image.{erased};
 ghost use Rattle.pn_values.specs.Settings.{factory_settings};
 ghost use Rattle.pn_values.specs.declared.settings.Settings.{Settings};
 ghost use Rattle.settings_journal.specs.Commit.{HasBootCause};
-ghost use Rattle.settings_journal.specs.Image.{StartsWith, IsAmple, capacity, IsForeign, LeftByDevice};
+ghost use Rattle.settings_journal.specs.Image.{StartsWith, IsAmple, capacity, commits_left, IsForeign, LeftByDevice};
 ghost use Rattle.relations.specs.Exchanged.{output_in};
 ghost use Rattle.relations.specs.Link.{phase_of, taken_of, uuid_of};
 ghost use Rattle.relations.specs.Outputs.{output_of};
@@ -107,6 +107,17 @@ impl<F: Flash<S>, const S: usize> Device<F, S> {
             StartsWith (F.image self.now.flash) self.now.live.values.stored self.now.live.values.room }
     {
         self.store.stored()
+    }
+
+    /// How many commits are left: that many further ones are accepted while no flash call fails, each with a value that is to be
+    /// kept or a reset. 0 after a commit that failed, until the next start, and before a start.
+    pub fn left(&self) -> u32
+        ensures value { result ≡ commits_left self.now.live.values.has_failed self.now.live.values.room }
+        // Where no commit failed, a start on the flash reads as many.
+        ensures read { self.now.live.values.has_failed ≡ false →
+            StartsWith (F.image self.now.flash) self.now.live.values.stored result }
+    {
+        self.store.left()
     }
 
     /// For how many units the lamp still flashes.

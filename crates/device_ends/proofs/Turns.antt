@@ -1,5 +1,5 @@
 -- Each turn of a device, as far as a start-up goes.
-use Rattle.std.proofs.Common.{◌≡◌, ◌⊎◌, inl, inr, ◌+◌, ◌-◌, ◌<◌, ◌≤◌, ◌==◌, ◌&&◌, ℕ, zero, suc, Bool, true, false, not, cond, ltb, eqb, List, [], ◌∷◌, ◌++◌, map, length, take, Option, Some, None, option_map, Result, Ok, Err, refl, sym, ap, subst, ◌∙◌, arith}
+use Rattle.std.proofs.Common.{◌≡◌, ◌⊎◌, inl, inr, ◌+◌, ◌-◌, ◌<◌, ◌==◌, ◌&&◌, ℕ, Bool, true, false, not, cond, List, [], ◌∷◌, ◌++◌, map, length, take, Option, Some, None, option_map, Result, Ok, Err, refl, sym, ap, subst, ◌∙◌, arith}
 use Rattle.std.specs.Prelude.{◌%◌, is_some, nat_lt, nat_eq, slice_get}
 use Rattle.std.specs.List.{AllByRecursion}
 use Rattle.std.specs.Cmp.Lexicographic.{pointwise, same_text, other_text}
@@ -14,7 +14,7 @@ use Rattle.dcp_core.specs.declared.request.Service.TheVariants as service
 use Rattle.dcp_core.specs.Request.{Asked}
 use Rattle.dcp_core.specs.Identify.{matches}
 use Rattle.dcp_core.specs.Set.{plan_of}
-use Rattle.rpc_core.specs.Cache.{Kept as Answer, Told as Looked, new, again, old, is_of, kept_of, told_by, looked, without, kept_more}
+use Rattle.rpc_core.specs.Cache.{Kept as Answer, Told as Looked, new, again, old, kept_of, told_by, looked, without, kept_more}
 use Rattle.rpc_core.specs.Call.{Asked as Call}
 use Rattle.rpc_core.specs.Response.{Answered as Response, is_done}
 use Rattle.connect_blocks.specs.declared.control.ControlBlock.{ControlBlock}
@@ -27,7 +27,6 @@ use Rattle.pnio_status.specs.declared.operation.Operation.{Operation}
 use Rattle.pnio_status.specs.declared.operation.Operation.TheVariants as operation
 use Rattle.pnio_status.specs.Operation.{operation_of}
 use Rattle.pnio_status.specs.Status.{status_of}
-use Rattle.call_blocks.specs.Judged.{judged as in_order}
 use Rattle.connect_requests.specs.Request.{Request}
 use Rattle.connect_requests.specs.Judged.{request_of}
 use Rattle.record_blocks.specs.declared.write_record.IodWriteReq.{IodWriteReq}
@@ -41,7 +40,6 @@ use Rattle.pn_alarms.specs.declared.abort.Abort.{Abort}
 use Rattle.pn_alarms.specs.declared.abort.Abort.TheVariants.{Other}
 use Rattle.pn_alarms.specs.declared.device.PduFate.{PduFate}
 use Rattle.pn_alarms.specs.declared.device.PduFate.TheVariants as fate
-use Rattle.pn_alarms.specs.declared.pdu.Header.{Header}
 use Rattle.pn_alarms.specs.declared.receiver.Taken.{Taken}
 use Rattle.pn_alarms.specs.Message.{ToDevice as Message}
 use Rattle.pn_alarms.specs.Device.{heard_as as pdu_heard}
@@ -60,24 +58,24 @@ use Rattle.relations.specs.declared.phase.Phase.{Phase}
 use Rattle.relations.specs.declared.phase.Phase.TheVariants.{Started, Awaiting, Exchanging}
 use Rattle.relations.specs.Link.{Link, phase_of, uuid_of, flow_of, is_started, is_awaiting, is_alarm_of}
 use Rattle.relations.specs.Phases.{Judged as Moving, Made, Parameterized, Confirmed, Named, Took, Exchanged, Passed, Ended, Unmoved, moved, passing, passing_by, answered, keeping, taking, awaiting_from}
-use Rattle.relations.specs.Calls.{control_block, named_of, in_started, done_of, prm_end_of, prm_end_answer, release_of, release_answer}
-use Rattle.relations.specs.Connect.{connect_of, connect_answer, connect_blocks, differing_of, making}
-use Rattle.relations.specs.Ready.{answer_of, answer_in, is_wanted, is_answer_to, confirmed_block, confirmed_by, judged_by}
+use Rattle.relations.specs.Calls.{control_block, named_of, in_started, done_of, prm_end_of, release_of}
+use Rattle.relations.specs.Connect.{connect_of, connect_blocks, differing_of, making}
+use Rattle.relations.specs.Ready.{answer_of, is_wanted, is_answer_to, confirmed_block, confirmed_by}
 use Rattle.relations.specs.Timers.{ending_of, due_by, due_of, is_again, unit_later}
 use Rattle.relations.specs.Exchanged.{received_by, receiving, receiving_as, given_to, raised_to, heard_by, hearing, hearing_as}
 use Rattle.device_frames.specs.Heard.{Heard, Ticks, Unreadable, Elsewhere, Asks, Resolves, Told, Cyclic, Alarms, Given, Raised, Said, Calls, Responds, Garbled}
-use Rattle.device_frames.specs.Relation.{alarms_of, due_frames, farewells_in, frames_in, inputs_of, ready_calls, replies_of, where_due}
+use Rattle.device_frames.specs.Relation.{alarms_of, farewells_in, frames_in, inputs_of, ready_calls, replies_of, where_due}
 use Rattle.device_frames.specs.Sent.{Sent, IdentifyAnswer, GetAnswer, SetAnswer, ArpReply, CallAnswer, Again, ReadyCall, Ends, Exchanges, bytes_of}
 use Rattle.device_frames.specs.declared.note.Note.{Note}
 use Rattle.device_frames.specs.declared.note.Note.TheVariants.{Filter, NotMine, NoRelation}
 use Rattle.device_core.specs.State.{Station, Rest, Live}
 use Rattle.settings_store.specs.Machine.{Outcome, carried}
-use Rattle.device_core.specs.Judged.{Judged, Refuses, Sets, Writes, Moves, is_running, is_request, outcome_of, answer_from, kept_for, kept_behind, served, ready_behind, partner_of, kept_answer, judged_effect, judged_write, judged_new, judged_looked, judged_blocks, judged_call, judged_answer, judged_said, judged_datagram, judged_received, judged_input, judged_notice, judged_pdu, judged_message, judged_alarm, judged_request, judged_arp, ticked, judged}
+use Rattle.device_core.specs.Judged.{Judged, Refuses, Sets, Moves, is_running, is_request, outcome_of, answer_from, kept_for, kept_behind, served, ready_behind, partner_of, kept_answer, judged_effect, judged_write, judged_new, judged_looked, judged_blocks, judged_call, judged_answer, judged_said, judged_received, judged_input, judged_notice, judged_pdu, judged_message, judged_request, ticked, judged}
 use Rattle.device_core.specs.Machine.{resets, link_after, farewells_at, finished, items_in, judged_step, heard_step}
 use Rattle.both_ends.specs.Small as small
 use Rattle.both_ends.specs.Small.{Rules, ToDevice, ToController}
-use Rattle.both_ends.specs.Steps.{IsNew, TakesRecord, IsParameterized, Comes, SaysAtMost, IsReady, IsDull, IsAnswered, IsAgain, Rests, IsConfirmed, GoesBy, DeviceSteps}
-use Rattle.device_ends.specs.Small.{phase_in, link_of, kept_in, small_of, asked_by, names_own, confirms, said_to, heard_as, IsPlannedWrite, IsPlannedAs, IsPlannedCall, IsPlannedIn, IsPlanned, said_by, IsHeardBy, IsHeardAs}
+use Rattle.both_ends.specs.Steps.{IsNew, Comes, SaysAtMost, IsReady, IsDull, DeviceSteps}
+use Rattle.device_ends.specs.Small.{phase_in, link_of, kept_in, small_of, asked_by, names_own, confirms, said_to, heard_as, IsPlannedWrite, IsPlannedAs, IsPlannedIn, IsPlanned, IsHeardBy, IsHeardAs}
 
 -- ---- tests
 

@@ -1,2 +1,3 @@
 pub mod Small
 pub mod Owed
+pub mod Turn

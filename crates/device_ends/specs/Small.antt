@@ -1,16 +1,13 @@
 -- What a device is of a start-up, and what it says and hears of it.
-use Rattle.std.specs.Prelude.{◌≡◌, ◌+◌, ◌-◌, ◌==◌, ◌&&◌, ℕ, Bool, false, nat_eq, List, Option, Some, None, option_map, slice_get, if◌then◌else◌, Result, Ok}
-use Rattle.std.specs.List.{AllByRecursion}
+use Rattle.std.specs.Prelude.{◌≡◌, ◌+◌, ◌-◌, ◌==◌, ◌&&◌, ℕ, Bool, false, nat_eq, List, Option, Some, None, option_map, slice_get, if◌then◌else◌, Ok}
 use Rattle.std.specs.Cmp.Lexicographic.{pointwise}
 use Rattle.pn_values.specs.declared.identity.Identity.{Identity}
 use Rattle.pn_values.specs.declared.real.Real.{Real}
-use Rattle.frame_codec.specs.declared.udp.Caller.{Caller}
 use Rattle.rpc_core.specs.Cache.{Kept as Answer, kept_of}
 use Rattle.rpc_core.specs.Call.{Asked as Call}
 use Rattle.rpc_core.specs.Response.{Answered as Response, is_done}
 use Rattle.connect_blocks.specs.declared.control.ControlBlock.{ControlBlock}
 use Rattle.block_codec.specs.Block.{block_of}
-use Rattle.pnio_status.specs.declared.call_fault.CallFault.{CallFault}
 use Rattle.pnio_status.specs.declared.operation.Operation.{Operation}
 use Rattle.pnio_status.specs.declared.operation.Operation.TheVariants as operation
 use Rattle.pnio_status.specs.Operation.{operation_of}

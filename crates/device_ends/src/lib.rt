@@ -3,6 +3,8 @@
 
 mod goes_on;
 mod owed;
+mod turn;
 
 pub use goes_on::device_goes_on;
 pub use owed::device_sends_what_it_owes;
+pub use turn::device_turns;

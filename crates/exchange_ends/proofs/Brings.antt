@@ -98,17 +98,17 @@ octets_length : (shown : Image) → length (octets_of shown) ≡ shown.data_leng
 unfolding octets_of
 octets_length shown = length-map-range_with_len (octet_at shown.cells) 0 shown.data_length
 
--- a message that is no answer again
-abbrev pub IsFresh : Sent → Type 0
-IsFresh (IdentifyAnswer asker running xid) = Unit {0}
-IsFresh (GetAnswer asker running request) = Unit {0}
-IsFresh (SetAnswer asker request answers) = Unit {0}
-IsFresh (ArpReply asker address target) = Unit {0}
-IsFresh (CallAnswer caller address answer) = Unit {0}
-IsFresh (Again frame) = ⊥
-IsFresh (ReadyCall address ready) = Unit {0}
-IsFresh (Ends farewell) = Unit {0}
-IsFresh (Exchanges route frame) = Unit {0}
+-- a message that is no answer again, or one of which nothing is brought
+abbrev pub IsKnown : Outputs Image Image → Sent → Type 0
+IsKnown rules (IdentifyAnswer asker running xid) = Unit {0}
+IsKnown rules (GetAnswer asker running request) = Unit {0}
+IsKnown rules (SetAnswer asker request answers) = Unit {0}
+IsKnown rules (ArpReply asker address target) = Unit {0}
+IsKnown rules (CallAnswer caller address answer) = Unit {0}
+IsKnown rules (Again frame) = BringsNone rules frame
+IsKnown rules (ReadyCall address ready) = Unit {0}
+IsKnown rules (Ends farewell) = Unit {0}
+IsKnown rules (Exchanges route frame) = Unit {0}
 
 and_false : (a b : Bool) → b ≡ false → (a && b) ≡ false
 and_false true b e = e
@@ -290,16 +290,16 @@ module _ (setup : Setup) (identity : Identity) where
     own_silent destination tag (UdpDatagram from to body) can = datagram_silent sound destination identity.mac tag from to body can.destination can.source can.tag
 
     -- no message brings outputs
-    pub message_silent : (message : Sent) → IsSendable identity message → IsFresh message → BringsNone rules (bytes_of identity message)
-    message_silent (IdentifyAnswer asker running xid) can fresh = own_silent asker None (RealTime 65279 (identify_bytes identity running xid)) can
-    message_silent (GetAnswer asker running request) can fresh = own_silent asker None (RealTime 65277 (get_bytes identity running request)) can
-    message_silent (SetAnswer asker request answers) can fresh = own_silent asker None (RealTime 65277 (set_bytes request answers)) can
-    message_silent (ArpReply asker address target) can fresh = own_silent asker None (reply_content identity address target) can
-    message_silent (CallAnswer caller address answer) can fresh = own_silent caller.mac None (response_content caller address answer) can
-    message_silent (Again frame) can fresh = absurd fresh
-    message_silent (ReadyCall address ready) can fresh = own_silent ready.partner.mac None (ready_content address ready) can
-    message_silent (Ends farewell) can fresh = own_silent farewell.initiator (Some farewell.tag) (farewell_content farewell) can
-    message_silent (Exchanges route frame) can fresh = own_silent route.partner (Some (tag_of route frame)) (exchange_content route frame) can
+    pub message_silent : (message : Sent) → IsSendable identity message → IsKnown rules message → BringsNone rules (bytes_of identity message)
+    message_silent (IdentifyAnswer asker running xid) can known = own_silent asker None (RealTime 65279 (identify_bytes identity running xid)) can
+    message_silent (GetAnswer asker running request) can known = own_silent asker None (RealTime 65277 (get_bytes identity running request)) can
+    message_silent (SetAnswer asker request answers) can known = own_silent asker None (RealTime 65277 (set_bytes request answers)) can
+    message_silent (ArpReply asker address target) can known = own_silent asker None (reply_content identity address target) can
+    message_silent (CallAnswer caller address answer) can known = own_silent caller.mac None (response_content caller address answer) can
+    message_silent (Again frame) can known = known
+    message_silent (ReadyCall address ready) can known = own_silent ready.partner.mac None (ready_content address ready) can
+    message_silent (Ends farewell) can known = own_silent farewell.initiator (Some farewell.tag) (farewell_content farewell) can
+    message_silent (Exchanges route frame) can known = own_silent route.partner (Some (tag_of route frame)) (exchange_content route frame) can
 
   -- a frame brings nothing, or the octets of this image
   abbrev pub BringsNow : Image → List ℕ → Type 0

@@ -1,6 +1,6 @@
 -- All outputs that are shown come from one frame, which brings what was given until then.
 use Rattle.std.proofs.Common.{◌≡◌, ◌++◌, ℕ, Bool, true, false, List, [], ◌∷◌, map, Option, Some, None, refl, sym, ap, subst, ◌∙◌}
-use Rattle.std.specs.Prelude.{nat_eq, option_map}
+use Rattle.std.specs.Prelude.{nat_eq, option_map, slice_get}
 use Rattle.std.specs.Cmp.Lexicographic.{pointwise, same_text}
 use Rattle.wire.specs.Codec.{IsSound, IsSoundWhole}
 use Rattle.flash_model.specs.declared.flash.Flash.{Ghosts as Flash}
@@ -13,8 +13,10 @@ use Rattle.cyclic_data.specs.Image.{Shown as Image, cell_at, octets_of, output_o
 use Rattle.relations.specs.Exchanged.{output_in}
 use Rattle.relations.specs.Link.{Link}
 use Rattle.controller_frames.specs.declared.setup.Setup.{Setup}
+use Rattle.network_world.specs.declared.moves.End.TheVariants.{Device, Controller}
 use Rattle.network_world.specs.declared.moves.Move.{Move}
-use Rattle.network_world.specs.World.{World}
+use Rattle.network_world.specs.declared.moves.Move.TheVariants as move
+use Rattle.network_world.specs.World.{World, end_at}
 use Rattle.both_ends.specs.Small as small
 use Rattle.both_ends.specs.Outputs.{AreAsGiven, ComesFromOne, IsShownRun, Outputs, Shown, ShowsNone, shown_last}
 use Rattle.world_ends.specs.Played.{AreMade, AreMeant, Begins, last_world, moves_of}
@@ -23,24 +25,25 @@ use Rattle.exchange_ends.specs.Shown.{accepted_in, has_accepted, image_in, outpu
 use Rattle.exchange_ends.specs.Given.{AreOfOneFrame, image_given, last_given, places_for, zero_for}
 use Rattle.exchange_ends.proofs.Moves.{ArePlaced, image_shown}
 use Rattle.exchange_ends.proofs.Values.{outputs_shown, zeros_are_shown}
-use Rattle.exchange_ends.proofs.Worlds.{first_same, given_in_run, last_shown, rest_same, shown_runs, shows_none}
+use Rattle.exchange_ends.proofs.Worlds.{TurnsSo, first_same, given_in_run, last_shown, rest_same, shown_runs, shows_none}
 
 -- ---- lists
 
 module _ {A B : Type 0} (f : A → B) where
   -- where what is made of each item of a list is divided, the list is
-  pub record Divides (run : List A) (before : List B) (x : B) : Type 0 where
+  pub record Divides (run : List A) (before : List B) (x : B) (later : List B) : Type 0 where
     pub front : List A
     pub one : A
     pub rest : List A
     pub all : run ≡ front ++ one ∷ rest
     pub front_is : map f front ≡ before
     pub one_is : f one ≡ x
+    pub rest_is : map f rest ≡ later
 
-  divides : (run : List A) (before : List B) (x : B) (later : List B) → map f run ≡ before ++ x ∷ later → Divides run before x
+  divides : (run : List A) (before : List B) (x : B) (later : List B) → map f run ≡ before ++ x ∷ later → Divides run before x later
   divides [] [] x later e = absurd cc
   divides [] (b ∷ before) x later e = absurd cc
-  divides (a ∷ run) [] x later e = record { front = []; one = a; rest = run; all = refl; front_is = refl; one_is = first_same (f a) x (map f run) later e }
+  divides (a ∷ run) [] x later e = record { front = []; one = a; rest = run; all = refl; front_is = refl; one_is = first_same (f a) x (map f run) later e; rest_is = rest_same (f a) x (map f run) later e }
   divides (a ∷ run) (b ∷ before) x later e =
       let behind = divides run before x later (rest_same (f a) b (map f run) (before ++ x ∷ later) e) in
       record {
@@ -50,7 +53,37 @@ module _ {A B : Type 0} (f : A → B) where
         all = ap (λ (xs : List A). a ∷ xs) behind.all;
         front_is = ap (λ (ys : List B). f a ∷ ys) behind.front_is ∙ ap (λ (y : B). y ∷ before) (first_same (f a) b (map f run) (before ++ x ∷ later) e);
         one_is = behind.one_is;
+        rest_is = behind.rest_is;
       }
+
+-- ---- moves
+
+-- as a small machine sees them
+abbrev seen : {F : Type 0} → Move × World F → small.Move × Shown Image Image
+seen one = (move_of one.0, shown_of one.1)
+
+by_controller : (one : Move) → small.IsByController (move_of one) → end_at one ≡ Controller
+by_controller (move.Deliver Device number) by = absurd by
+by_controller (move.Deliver Controller number) by = refl
+by_controller (move.Tick Device) by = absurd by
+by_controller (move.Tick Controller) by = refl
+by_controller (move.Input slot subslot value) by = absurd by
+by_controller (move.Alarm slot subslot octets) by = absurd by
+by_controller (move.Give slot subslot value) by = refl
+by_controller move.Stop by = refl
+
+came_to : (one : Move) (number : ℕ) → move_of one ≡ small.ComesToDevice number → one ≡ move.Deliver Device number
+came_to (move.Deliver Device other) number is = same other number is
+  where
+    same : (n m : ℕ) → small.ComesToDevice n ≡ small.ComesToDevice m → move.Deliver Device n ≡ move.Deliver Device m
+    same n m e = cc
+came_to (move.Deliver Controller other) number is = absurd cc
+came_to (move.Tick Device) number is = absurd cc
+came_to (move.Tick Controller) number is = absurd cc
+came_to (move.Input slot subslot value) number is = absurd cc
+came_to (move.Alarm slot subslot octets) number is = absurd cc
+came_to (move.Give slot subslot value) number is = absurd cc
+came_to move.Stop number is = absurd cc
 
 pub other_mac : (one other : Mac) → (one ≡ other → ⊥) → pointwise nat_eq one.octets other.octets ≡ false
 other_mac one other apart = by_test (pointwise nat_eq one.octets other.octets) refl
@@ -61,7 +94,7 @@ other_mac one other apart = by_test (pointwise nat_eq one.octets other.octets) r
 
 -- ---- runs
 
-module _ (sound : IsSound ethernet) (whole : IsSoundWhole layers) {F : Type 0} (setup : Setup) (identity : Identity) (apart : pointwise nat_eq identity.mac.octets setup.plan.controller.mac.octets ≡ false)
+module _ (turns : TurnsSo) (sound : IsSound ethernet) (whole : IsSoundWhole layers) {F : Type 0} (setup : Setup) (identity : Identity) (apart : pointwise nat_eq identity.mac.octets setup.plan.controller.mac.octets ≡ false)
     (six : IsMac setup.plan.controller.mac) (there : ArePlaced setup) (first : World F) (begins : Begins setup identity first)
     {S : ℕ} (as_flash : Flash F S) (run : List (Move × World F)) (made : AreMade as_flash first run) (meant : AreMeant first run) where
   abbrev rules : Outputs Image Image
@@ -69,22 +102,35 @@ module _ (sound : IsSound ethernet) (whole : IsSoundWhole layers) {F : Type 0} (
 
   one_frame : (link : Link) → ComesFromOne rules (shown_of first) (shown_run run) (taken_in link) → AreOfOneFrame setup identity first run link
   one_frame link came =
-      let cut : Divides (λ (one : Move × World F). (move_of one.0, shown_of one.1)) run came.before (came.move, came.point) =
-      divides (λ (one : Move × World F). (move_of one.0, shown_of one.1)) run came.before (came.move, came.point) came.later came.all in
+      let cut : Divides seen run came.before (came.move, came.point) came.later =
+      divides seen run came.before (came.move, came.point) came.later came.all in
       let point_is : shown_of cut.one.1 ≡ came.point = ap (λ (x : small.Move × Shown Image Image). x.1) cut.one_is in
       let before_is : shown_last (shown_of first) came.before ≡ shown_of (last_world first cut.front) =
       ap (λ (xs : List (small.Move × Shown Image Image)). shown_last (shown_of first) xs) (sym cut.front_is) ∙ last_shown first cut.front in
       let moves = moves_of (cut.front ++ cut.one ∷ []) in
       let given_is : came.point.given ≡ image_given setup moves =
       ap (λ (s : Shown Image Image). s.given) (sym point_is)
-      ∙ given_in_run sound whole setup identity apart six first begins there.once as_flash run made meant cut.front cut.one cut.rest cut.all in
+      ∙ given_in_run turns sound whole setup identity apart six first begins there.once as_flash run made meant cut.front cut.one cut.rest cut.all in
       let taken : taken_in link ≡ image_given setup moves =
       came.shown ∙ (ap (λ (i : Image). with_frame (octets_of i) (zeros_for setup)) given_is ∙ image_shown setup there moves) in
+      let then : Divides seen cut.rest came.between (small.ComesToDevice came.came, came.next) came.others =
+      divides seen cut.rest came.between (small.ComesToDevice came.came, came.next) came.others (cut.rest_is ∙ came.since) in
+      let since : then.one.0 ≡ move.Deliver Device came.came = came_to then.one.0 came.came (ap (λ (x : small.Move × Shown Image Image). x.0) then.one_is) in
       record {
         before = cut.front;
         one = cut.one;
         later = cut.rest;
         all = cut.all;
+        by_controller = by_controller cut.one.0 (subst (λ (m : small.Move). small.IsByController m) (sym (ap (λ (x : small.Move × Shown Image Image). x.0) cut.one_is)) came.by_controller);
+        between = then.front;
+        came = came.came;
+        next = then.one.1;
+        others = then.rest;
+        since = then.all ∙ ap (λ (m : Move). then.front ++ (m, then.one.1) ∷ then.rest) since;
+        there = ap (λ (s : Shown Image Image). slice_get s.sent came.came)
+            (sym (last_shown cut.one.1 then.front)
+            ∙ (ap (λ (xs : List (small.Move × Shown Image Image)). shown_last (shown_of cut.one.1) xs) then.front_is
+            ∙ ap (λ (s : Shown Image Image). shown_last s came.between) point_is)) ∙ came.there;
         frame = came.frame;
         frames = came.frames;
         behind = ap (λ (s : Shown Image Image). s.sent) point_is ∙ (came.behind ∙ ap (λ (s : Shown Image Image). s.sent ++ came.frames) before_is);
@@ -101,8 +147,8 @@ module _ (sound : IsSound ethernet) (whole : IsSoundWhole layers) {F : Type 0} (
       → AreAsGiven rules (shown_of first) (shown_run run) (shown_of (last_world first run)).accepted (shown_of (last_world first run)).outputs
   as_given law =
       subst (λ (s : Shown Image Image). AreAsGiven rules (shown_of first) (shown_run run) s.accepted s.outputs) (last_shown first run)
-      (law rules (shown_of first) (shown_run run) (shows_none sound whole setup identity apart six first begins)
-      (shown_runs sound whole setup identity apart six first begins as_flash run made meant))
+      (law rules (shown_of first) (shown_run run) (shows_none turns sound whole setup identity apart six first begins)
+      (shown_runs turns sound whole setup identity apart six first begins as_flash run made meant))
 
   zeros_if : (accepted : Bool) (outputs : Image) → AreAsGiven rules (shown_of first) (shown_run run) accepted outputs → accepted ≡ false → outputs ≡ zeros_for setup
   zeros_if false outputs so e = so

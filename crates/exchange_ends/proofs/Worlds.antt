@@ -29,14 +29,20 @@ use Rattle.network_world.specs.World.{World, AtDevice, Comes, Delivers, Happens,
 use Rattle.both_ends.specs.Small as small
 use Rattle.both_ends.specs.Outputs.{BringsNone, GivesAtController, IsShownRun, Outputs, Shown, Shows, ShowsAtDevice, ShowsBehind, ShowsNone, shown_last}
 use Rattle.world_ends.specs.Played.{AreMade, AreMeant, Begins, last_world, moves_of}
-use Rattle.world_ends.specs.View.{IsMeant, IsMeantAtDevice, move_of}
+use Rattle.world_ends.specs.View.{IsMeant, IsMeantAtDevice, move_of, rules_of}
+use Rattle.both_ends.specs.Small.{Rules}
+use Rattle.settings_store.specs.Machine.{Outcome}
+use Rattle.connect_requests.specs.Request.{Request}
+use Rattle.record_writes.specs.declared.taken.TakenRecord.{TakenRecord}
+use Rattle.device_ends.specs.Small.{IsPlanned}
+use Rattle.device_ends.specs.Turn.{Turn}
 use Rattle.exchange_ends.specs.Shown.{accepted_in, brought_in, image_in, outputs_of, shown_of, shown_run, zeros_for}
 use Rattle.exchange_ends.specs.Given.{image_given}
 use Rattle.exchange_ends.proofs.Moves.{ArePlacedOnce, first_image, given_more, shown_with}
 use Rattle.exchange_ends.proofs.Brings.{IsAddressed, IsNow, all_bring, request_silent}
 use Rattle.exchange_ends.proofs.Turns.{IsKept, IsSaid, shown_behind, turn_tells}
 use Rattle.exchange_ends.proofs.Six.{six_event}
-use Rattle.exchange_ends.proofs.Shows.{AreKeptSilent, IsOursIn, ShowsIn, frames_silent, step_shows}
+use Rattle.exchange_ends.proofs.Shows.{AreKeptSilent, IsOursIn, ShowsIn, frames_silent, turn_shows}
 
 controller_is : (old : Controlling) (event : Event) → (step_of old event).controller ≡ with_live old (turn_of old.setup old.live event).live
 unfolding step_of
@@ -83,7 +89,12 @@ all_addressed : (shown : Image) (sent : List Sent) → AllByRecursion (IsSaid sh
 all_addressed shown [] all = tt
 all_addressed shown (message ∷ sent) all = (all.0.1, all_addressed shown sent all.1)
 
-module _ (sound : IsSound ethernet) (whole : IsSoundWhole layers) {F : Type 0} where
+-- the law of a device's turns
+abbrev pub TurnsSo : Type 0
+TurnsSo = (rules : Rules TakenRecord Request) (activity : List ℕ) (outcomes : List Outcome) (station : Station) (live : Live) (heard : Heard) → IsPlanned rules activity station.real heard
+    → Turn station live heard (heard_step outcomes station live heard).live.rest (heard_step outcomes station live heard).sent
+
+module _ (turns : TurnsSo) (sound : IsSound ethernet) (whole : IsSoundWhole layers) {F : Type 0} where
   abbrev rules_at : World F → Outputs Image Image
   rules_at w = outputs_of w.controller.setup w.device.station.identity
 
@@ -140,7 +151,8 @@ module _ (sound : IsSound ethernet) (whole : IsSoundWhole layers) {F : Type 0} w
         let step = heard_step outcomes station live heard in
         let rules = rules_at before in
         let brought = brought_in setup heard in
-        let goes = step_shows setup station sound holds.apart outcomes live heard holds.ours holds.calls_silent meant.planned in
+        let goes = turn_shows setup station sound holds.apart live heard holds.ours holds.calls_silent meant.planned step.live.rest step.sent
+        (turns (rules_of setup station) setup.activity outcomes station live heard meant.planned) in
         let shows : Shows rules brought (shown_of before) (shown_of after) =
         subst (λ (c : Controlling). Shows rules brought (shown_of before) (seen c.setup after.device.live.rest.link after.controller.live.cyclic.shown after.sent)) (sym made.controller)
         (subst (λ (l : Live). Shows rules brought (shown_of before) (seen setup l.rest.link after.controller.live.cyclic.shown after.sent)) (sym hears.steps.live)

@@ -10,9 +10,10 @@ use Rattle.plan_connect.specs.Request.{iocr_for}
 use Rattle.relations.specs.Exchanged.{output_in}
 use Rattle.relations.specs.Link.{Link}
 use Rattle.controller_frames.specs.declared.setup.Setup.{Setup}
+use Rattle.network_world.specs.declared.moves.End.TheVariants.{Device, Controller}
 use Rattle.network_world.specs.declared.moves.Move.{Move}
 use Rattle.network_world.specs.declared.moves.Move.TheVariants as move
-use Rattle.network_world.specs.World.{World}
+use Rattle.network_world.specs.World.{World, end_at}
 use Rattle.world_ends.specs.Played.{last_world, moves_of}
 use Rattle.exchange_ends.specs.Shown.{outputs_of, taken_in, zeros_for}
 
@@ -64,19 +65,27 @@ zero_for setup slot subslot = option_map zeros_at (place_at Data slot subslot (p
 abbrev pub given_for : Setup → List Move → ℕ → ℕ → Option (List ℕ)
 given_for setup moves slot subslot = option_map (λ place. value_or_zeros place (last_given place None moves)) (place_at Data slot subslot (places_for setup))
 
--- All outputs that a device shows of this relation come from one frame: the controller sent it with a move, and it brings of each submodule
--- the value that was given last then, or zeros where none was.
+-- All outputs that a device shows of this relation come from one frame. The controller sent it with a move of its own; it brings of each
+-- submodule the value that was given last then, or zeros if none was; and it came to the device with a later move.
 pub record AreOfOneFrame {F : Type 0} (setup : Setup) (identity : Identity) (first : World F) (run : List (Move × World F)) (link : Link) : Type 0 where
   pub before : List (Move × World F)
   pub one : Move × World F
   pub later : List (Move × World F)
   pub all : run ≡ before ++ one ∷ later
+  pub by_controller : end_at one.0 ≡ Controller
   -- it is one of the frames that were sent then
   pub frame : List ℕ
   pub frames : List (List ℕ)
   pub behind : one.1.sent ≡ (last_world first before).sent ++ frames
   pub number : ℕ
   pub sent : slice_get frames number ≡ Some frame
+  -- it came to the device later
+  pub between : List (Move × World F)
+  pub came : ℕ
+  pub next : World F
+  pub others : List (Move × World F)
+  pub since : later ≡ between ++ (move.Deliver Device came, next) ∷ others
+  pub there : slice_get (last_world one.1 between).sent came ≡ Some frame
   -- it brings these outputs, and they are what is shown
   pub brings : (outputs_of setup identity).brought_by frame ≡ Some ((outputs_of setup identity).octets_of (image_given setup (moves_of (before ++ one ∷ []))))
   pub taken : taken_in link ≡ image_given setup (moves_of (before ++ one ∷ []))

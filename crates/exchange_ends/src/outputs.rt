@@ -11,6 +11,7 @@ ghost use Rattle.exchange_ends.specs.Shown.{has_accepted};
 use both_ends::outputs_are_given;
 use controller_frames::Setup;
 use cyclic_data::Image;
+use device_ends::device_turns;
 use flash_model::Flash;
 use frame_codec::formats_are_sound;
 use hearing_laws::stations_are_real;
@@ -20,14 +21,14 @@ use world_ends::worlds_start_up;
 
 /// Outputs of this set-up at this device, over the worlds of any moves, whatever the flash of the device does.
 pub fn worlds_show_what_is_given<F: Flash<S>, const S: usize>(setup: &Setup, identity: &Identity)
-    // All outputs that the device shows are zeros while it has accepted no cyclic frame in its relation.
+    // While the device has accepted no cyclic frame in its relation, all outputs that it shows are zeros.
     ensures zeros { CanMeet setup.now identity.now →
         (first : World F) (run : List (Move × World F)) → Begins setup.now identity.now first
         → AreMade F.Flash first run
         → (link : Link) → (last_world first run).device.live.rest.link ≡ Some link → has_accepted link ≡ false
         → (slot subslot : ℕ) → output_in slot subslot (Some link) ≡ zero_for setup.now slot subslot }
-    // From then on all of them come from one frame, which the controller sent with an earlier move, and each is the value that was
-    // given last for its submodule then, or zeros where none was.
+    // From then on all of them come from one frame, which the controller sent with a move of its own and which came to the device with a
+    // later move. Each is the value that was given last for its submodule when the frame was sent, or zeros if none was.
     ensures values { CanMeet setup.now identity.now →
         (first : World F) (run : List (Move × World F)) → Begins setup.now identity.now first
         → AreMade F.Flash first run
@@ -37,6 +38,7 @@ pub fn worlds_show_what_is_given<F: Flash<S>, const S: usize>(setup: &Setup, ide
     packed_places_are_asked();
     stations_are_real(setup, identity);
     formats_are_sound();
+    device_turns();
     worlds_start_up::<F, S>(setup, identity);
     outputs_are_given::<Image, Image>();
 }

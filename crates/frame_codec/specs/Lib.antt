@@ -6,3 +6,4 @@ pub mod Frame
 pub mod FrameFault
 pub mod FrameId
 pub mod Outbox
+pub mod Calls

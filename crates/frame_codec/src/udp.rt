@@ -3,6 +3,7 @@ ghost use Rattle.std.specs.Prelude.{◌≡◌, ◌+◌, ◌≤◌, [], ◌++◌,
 ghost use Rattle.arrayvec.specs.ArrayVec.{array_vec_len};
 ghost use Rattle.wire.specs.Codec.{Gives};
 ghost use Rattle.wire.specs.Whole.{loose};
+ghost use Rattle.frame_codec.specs.Calls.{calls_at};
 ghost use Rattle.frame_codec.specs.Sum.{ones_sum_of};
 ghost use Rattle.frame_codec.specs.Internet.{udp_header, udp, pseudo, passes as passes_by, segment, udp_sealed};
 
@@ -35,6 +36,18 @@ pub struct Endpoint {
     pub address: [u8; 4],
     /// The port.
     pub port: u16,
+}
+
+impl Endpoint {
+    /// Where calls are received at this address.
+    pub fn of_calls(address: [u8; 4]) -> Endpoint
+        ensures { result ≡ calls_at address }
+    {
+        Endpoint {
+            address,
+            port: RPC_PORT,
+        }
+    }
 }
 
 /// Who sent a datagram.

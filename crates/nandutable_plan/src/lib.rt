@@ -2,16 +2,17 @@
 //! from the C library, and gives all of it back before it answers.
 #![tactic(auto)]
 
-ghost use Rattle.std.specs.Prelude.{◌≡◌, ◌≢◌, length};
+ghost use Rattle.std.specs.Prelude.{◌≡◌, ◌≢◌, ◌≤◌, length};
 ghost use Rattle.configurator.specs.Planned.{IsPlanOf};
 ghost use Rattle.controller_operations.specs.Plans.{parts_of};
-ghost use Rattle.plan_operations.specs.Readings.{IsFault, IsNothing, IsTyped};
+ghost use Rattle.plan_operations.specs.Places.{IsTold};
+ghost use Rattle.plan_operations.specs.Readings.{IsBlank, IsFault, IsWritten};
 
 use controller_operations::WrittenPlan;
 use plan_operations::{read, show};
 use std::alloc::Global;
 
-/// Reads a catalogue. 0, or the number of its first fault; then the plan is one of nothing.
+/// Reads a catalogue. 0, or the number of its first fault; then all of the plan is zero.
 #[unsafe(no_mangle)]
 pub extern "C" fn pn_plan_make(
     text: &[u8],
@@ -20,9 +21,9 @@ pub extern "C" fn pn_plan_make(
     alloc: Global,
 ) -> u32
     ensures planned { result ≡ 0 → IsPlanOf text.now (parts_of plan.new) }
-    ensures typed { result ≡ 0 → IsTyped text.now plan.new }
+    ensures written { result ≡ 0 → IsWritten text.now plan.new }
     ensures refused { result ≢ 0 → result ≢ 12 → IsFault text.now result }
-    ensures nothing { result ≢ 0 → result ≢ 12 → IsNothing plan.new }
+    ensures nothing { result ≢ 0 → result ≢ 12 → IsBlank plan.new }
     ensures kept { result ≡ 12 → plan.new ≡ plan.old }
     ensures fits { size ≡ 4272 → result ≢ 12 }
     ensures other { size ≢ 4272 → result ≡ 12 }
@@ -30,11 +31,13 @@ pub extern "C" fn pn_plan_make(
     read(alloc, text, size, plan)
 }
 
-/// Writes at which key the first fault of a catalogue stands, with a zero behind it. Whether it found one: 1, else 0.
+/// Writes at which key the first fault of a catalogue is, with a zero behind it. 1 if it wrote a place, else 0.
 #[unsafe(no_mangle)]
 pub extern "C" fn pn_plan_show(text: &[u8], room: &mut [u8], alloc: Global) -> u32
     ensures length { length room.new ≡ length room.old }
     ensures kept { result ≡ 0 → room.new ≡ room.old }
+    ensures told { result ≢ 0 → IsTold text.now room.old room.new }
+    ensures one { result ≤ 1 }
 {
     show(alloc, text, room)
 }

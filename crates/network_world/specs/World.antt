@@ -109,6 +109,15 @@ abbrev pub Passes : {F : Type 0} {S : ℕ} → Flash F S → World F → End →
 Passes as_flash before Device after = AtDevice as_flash before Ticks after
 Passes as_flash before Controller after = after ≡ at_controller before controller.Tick
 
+-- the end whose move it is: it alone steps, and it alone sends
+abbrev pub end_at : Move → End
+end_at (move.Deliver end number) = end
+end_at (move.Tick end) = end
+end_at (move.Input slot subslot value) = Device
+end_at (move.Alarm slot subslot octets) = Device
+end_at (move.Give slot subslot value) = Controller
+end_at move.Stop = Controller
+
 -- a move is made
 abbrev pub Happens : {F : Type 0} {S : ℕ} → Flash F S → World F → Move → World F → Type 0
 Happens as_flash before (move.Deliver end number) after = Delivers as_flash (slice_get before.sent number) before end after

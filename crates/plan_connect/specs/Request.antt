@@ -15,7 +15,8 @@ use Rattle.connect_requests.specs.Request.{Request}
 use Rattle.plans.specs.declared.parts.Parts.{Parts}
 use Rattle.plans.specs.Packed.{layout_in}
 use Rattle.plans.specs.Parts.{data_of, module_of, submodule_of}
-use Rattle.plans.specs.Connect.{initiator_object}
+use Rattle.plans.specs.Connect.{asked_id, initiator_object, reference_of}
+use Rattle.plans.specs.Numbers.{activity_factor, alarm_endpoint, alarm_factor, alarm_retries, high_tag, low_tag, session_number}
 
 -- the submodules of modules, in their order
 abbrev pub submodules_in : List RealModule → List ExpectedSubmodule
@@ -26,18 +27,14 @@ submodules_in (entry ∷ modules) = map submodule_of entry.submodules.items ++ s
 abbrev pub expected_of : List RealModule → Expected
 expected_of modules = record { modules = record { items = map module_of modules }; submodules = record { items = submodules_in modules } }
 
--- the relation of this ARUUID, to the controller: it waits 60 s for what is to come next
+-- the relation of this ARUUID, to the controller
 abbrev pub ar_for : Parts → List ℕ → Ar
-ar_for parts ar = record { uuid = ar; session_key = 1; initiator = parts.controller.mac; object = initiator_object; timeout_factor = 600 }
+ar_for parts ar = record { uuid = ar; session_key = session_number; initiator = parts.controller.mac; object = initiator_object; timeout_factor = activity_factor }
 
 -- the FrameIDs: the controller chooses that of inputs, and the device that of outputs
 abbrev pub frame_id_of : IocrType → ℕ
-frame_id_of Input = 0xC001
+frame_id_of Input = asked_id Input
 frame_id_of Output = 0xC000
-
-abbrev pub reference_of : IocrType → ℕ
-reference_of Input = 1
-reference_of Output = 2
 
 -- the communication relation of a direction, with the plan's times and its layout
 abbrev pub iocr_for : Parts → IocrType → Iocr
@@ -47,13 +44,13 @@ iocr_for parts direction = record {
   send_clock_factor = parts.times.send_clock_factor;
   reduction_ratio = parts.times.reduction_ratio;
   data_hold_factor = parts.times.data_hold_factor;
-  tag = 0xC000;
+  tag = high_tag;
   layout = layout_in direction (data_of parts.real.modules.items);
 }
 
 -- that of alarms
 abbrev pub alarm_for : AlarmCr
-alarm_for = record { timeout_factor = 1; retries = 3; reference = 1; tag_high = 0xC000; tag_low = 0xA000 }
+alarm_for = record { timeout_factor = alarm_factor; retries = alarm_retries; reference = alarm_endpoint; tag_high = high_tag; tag_low = low_tag }
 
 -- the request of a plan
 abbrev pub request_for : Parts → List ℕ → Request

@@ -34,6 +34,7 @@ pub fn connect_is_taken(plan: &Plan, ar: &Uuid)
     ensures same { diff_of (request_for plan.now ar.now).expected plan.now.real.modules.items ≡ no_rows }
 {
     requests_are_read();
+    // Called for what they promise of the plan and of its Connect.
     let _modules = plan.real();
     let _octets = plan.connect(ar);
 }

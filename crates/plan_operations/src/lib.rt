@@ -1,13 +1,10 @@
-//! The plan of a station for a host: it is read from a catalogue and lies as the host's memory has it. Where a catalogue has a fault,
-//! it is told at which key.
+//! The plan of a station for a host: it is read from a catalogue and lies as the host's memory has it. If a catalogue has a fault, its
+//! key is told.
 #![tactic(auto)]
 
-mod lists;
-mod path;
 mod place;
-mod project;
 mod reading;
-mod tree;
+mod spelled;
 mod written;
 
 pub use place::show;

@@ -1,9 +1,10 @@
 //! A plan as it lies in the memory of the host.
-ghost use Rattle.std.specs.Prelude.{◌≡◌, ◌≤◌, ◌<◌, length, map, take};
+ghost use Rattle.std.specs.Prelude.{◌≡◌, ◌≤◌, ◌<◌, length, map, min, replicate, take};
 ghost use Rattle.plans.specs.Plan.{AreShort};
 ghost use Rattle.host_values.specs.Modules.{module_of, parameter_of, submodule_of};
 ghost use Rattle.controller_operations.specs.Plans.{parts_of, record_of};
-ghost use Rattle.plan_operations.specs.Readings.{IsNothing};
+ghost use Rattle.plan_operations.specs.Readings.{IsBlank, IsFilled, over, no_module, no_parameter, no_record, no_submodule, no_submodules, type_of};
+ghost use Rattle.plan_operations.specs.Readings.{written_module, written_parameter, written_record, written_submodule};
 
 use controller_operations::{WrittenPlan, WrittenRecord};
 use host_values::{Module, Parameter, Submodule};
@@ -12,7 +13,7 @@ use pn_values::{ParameterRecord, RealModule, RealSubmodule};
 
 /// Makes it a plan of nothing.
 pub fn clear(written: &mut WrittenPlan)
-    ensures { IsNothing written.new }
+    ensures { IsBlank written.new }
 {
     written.name = [0; 240];
     written.controller_name = [0; 240];
@@ -37,7 +38,8 @@ pub fn clear(written: &mut WrittenPlan)
 }
 
 fn clear_modules(places: &mut [Module])
-    ensures { length places.new ≡ length places.old }
+    ensures kept { length places.new ≡ length places.old }
+    ensures blank { places.new ≡ replicate (length places.old) no_module }
 {
     for index in 0..places.len() {
         places[index] = no_module();
@@ -45,16 +47,19 @@ fn clear_modules(places: &mut [Module])
 }
 
 fn clear_records(places: &mut [WrittenRecord])
-    ensures { length places.new ≡ length places.old }
+    ensures kept { length places.new ≡ length places.old }
+    ensures blank { places.new ≡ replicate (length places.old) no_record }
 {
     for index in 0..places.len() {
         places[index] = no_record();
     }
 }
 
-/// Fills it in with a plan.
-pub fn put(written: &mut WrittenPlan, plan: &Plan)
-    ensures { parts_of written.new ≡ plan.now }
+/// Fills a plan of nothing in with a plan and the type of a station: of one that is too long only its length.
+pub fn put(written: &mut WrittenPlan, plan: &Plan, station_type: &[u8])
+    requires { IsBlank written.old }
+    ensures whole { parts_of written.new ≡ plan.now }
+    ensures filled { IsFilled plan.now station_type.now written.new }
 {
     let name = plan.station().name.as_bytes();
     let controller_name = plan.controller().name.as_bytes();
@@ -80,24 +85,25 @@ pub fn put(written: &mut WrittenPlan, plan: &Plan)
     written.record_count = records.len() as u32;
     put_modules(&mut written.modules, modules);
     put_records(&mut written.records, records);
+    written.station_type_length = length_of(station_type);
+    put_octets(&mut written.station_type, type_of(station_type));
 }
 
-/// Fills in the type of a station: one that is too long has its length and no octets.
-pub fn put_type(written: &mut WrittenPlan, station_type: &[u8])
-    ensures kept { parts_of written.new ≡ parts_of written.old }
-    ensures octets { length station_type.now ≤ 28 → take written.new.station_type_length written.new.station_type ≡ station_type.now }
-    ensures long { 28 < length station_type.now → 28 < written.new.station_type_length }
+// The octets of a type of station: none of one that is too long.
+fn type_of(station_type: &[u8]) -> &[u8]
+    ensures value { result.now ≡ type_of station_type.now }
+    ensures short { length result.now ≤ 28 }
 {
-    written.station_type_length = length_of(station_type);
     if station_type.len() <= 28 {
-        put_octets(&mut written.station_type, station_type);
+        station_type
+    } else {
+        &[]
     }
 }
 
 // How long a type of station is: one that is too long for 32 bits stays too long.
 fn length_of(station_type: &[u8]) -> u32
-    ensures short { length station_type.now ≤ 28 → result ≡ length station_type.now }
-    ensures long { 28 < length station_type.now → 28 < result }
+    ensures { result ≡ min (length station_type.now) 4294967295 }
 {
     if station_type.len() <= 0xFFFF_FFFF {
         station_type.len() as u32
@@ -106,9 +112,11 @@ fn length_of(station_type: &[u8]) -> u32
     }
 }
 
+#[tactic(auto, using(crate::proofs::Laid::front))]
 fn put_octets(place: &mut [u8], octets: &[u8])
     requires { length octets.now ≤ length place.old }
     ensures kept { length place.new ≡ length place.old }
+    ensures laid { place.new ≡ over place.old octets.now }
     ensures value { take (length octets.now) place.new ≡ octets.now }
 {
     place[..octets.len()].copy_from_slice(octets);
@@ -118,7 +126,7 @@ fn put_octets(place: &mut [u8], octets: &[u8])
 
 fn record_in(entry: &PlanRecord) -> WrittenRecord
     requires { length entry.now.data.items ≤ 64 }
-    ensures { record_of result ≡ entry.now }
+    ensures { result ≡ written_record entry.now }
 {
     let data = entry.data.as_slice();
     let mut octets = [0u8; 64];
@@ -132,7 +140,9 @@ fn record_in(entry: &PlanRecord) -> WrittenRecord
     }
 }
 
-fn no_record() -> WrittenRecord {
+fn no_record() -> WrittenRecord
+    ensures { result ≡ no_record }
+{
     WrittenRecord {
         slot: 0,
         subslot: 0,
@@ -146,6 +156,7 @@ fn put_records(places: &mut [WrittenRecord], given: &[PlanRecord])
     requires few { length given.now ≤ length places.old }
     requires short { AreShort given.now }
     ensures kept { length places.new ≡ length places.old }
+    ensures laid { places.new ≡ over places.old (map written_record given.now) }
     ensures value { map record_of (take (length given.now) places.new) ≡ given.now }
 {
     for index in 0..given.len() {
@@ -156,7 +167,7 @@ fn put_records(places: &mut [WrittenRecord], given: &[PlanRecord])
 // ---- what is plugged in
 
 fn parameter_in(entry: &ParameterRecord) -> Parameter
-    ensures { parameter_of result ≡ entry.now }
+    ensures { result ≡ written_parameter entry.now }
 {
     Parameter {
         index: entry.index,
@@ -164,7 +175,9 @@ fn parameter_in(entry: &ParameterRecord) -> Parameter
     }
 }
 
-fn no_parameter() -> Parameter {
+fn no_parameter() -> Parameter
+    ensures { result ≡ no_parameter }
+{
     Parameter {
         index: 0,
         length: 0,
@@ -174,6 +187,7 @@ fn no_parameter() -> Parameter {
 fn put_parameters(places: &mut [Parameter], given: &[ParameterRecord])
     requires { length given.now ≤ length places.old }
     ensures kept { length places.new ≡ length places.old }
+    ensures laid { places.new ≡ over places.old (map written_parameter given.now) }
     ensures value { map parameter_of (take (length given.now) places.new) ≡ given.now }
 {
     for index in 0..given.len() {
@@ -182,7 +196,7 @@ fn put_parameters(places: &mut [Parameter], given: &[ParameterRecord])
 }
 
 fn submodule_in(entry: &RealSubmodule) -> Submodule
-    ensures { submodule_of result ≡ entry.now }
+    ensures { result ≡ written_submodule entry.now }
 {
     let given = entry.parameters.as_slice();
     let mut parameters = [no_parameter(), no_parameter()];
@@ -197,7 +211,9 @@ fn submodule_in(entry: &RealSubmodule) -> Submodule
     }
 }
 
-fn no_submodule() -> Submodule {
+fn no_submodule() -> Submodule
+    ensures { result ≡ no_submodule }
+{
     Submodule {
         ident: 0,
         subslot: 0,
@@ -211,6 +227,7 @@ fn no_submodule() -> Submodule {
 fn put_submodules(places: &mut [Submodule], given: &[RealSubmodule])
     requires { length given.now ≤ length places.old }
     ensures kept { length places.new ≡ length places.old }
+    ensures laid { places.new ≡ over places.old (map written_submodule given.now) }
     ensures value { map submodule_of (take (length given.now) places.new) ≡ given.now }
 {
     for index in 0..given.len() {
@@ -218,7 +235,9 @@ fn put_submodules(places: &mut [Submodule], given: &[RealSubmodule])
     }
 }
 
-fn no_submodules() -> [Submodule; 4] {
+fn no_submodules() -> [Submodule; 4]
+    ensures { result ≡ no_submodules }
+{
     [
         no_submodule(),
         no_submodule(),
@@ -228,7 +247,7 @@ fn no_submodules() -> [Submodule; 4] {
 }
 
 fn module_in(entry: &RealModule) -> Module
-    ensures { module_of result ≡ entry.now }
+    ensures { result ≡ written_module entry.now }
 {
     let given = entry.submodules.as_slice();
     let mut submodules = no_submodules();
@@ -241,7 +260,9 @@ fn module_in(entry: &RealModule) -> Module
     }
 }
 
-fn no_module() -> Module {
+fn no_module() -> Module
+    ensures { result ≡ no_module }
+{
     Module {
         ident: 0,
         slot: 0,
@@ -253,6 +274,7 @@ fn no_module() -> Module {
 fn put_modules(places: &mut [Module], given: &[RealModule])
     requires { length given.now ≤ length places.old }
     ensures kept { length places.new ≡ length places.old }
+    ensures laid { places.new ≡ over places.old (map written_module given.now) }
     ensures value { map module_of (take (length given.now) places.new) ≡ given.now }
 {
     for index in 0..given.len() {

@@ -13,6 +13,7 @@ use Rattle.block_codec.specs.declared.block.Block.TheVariants as is
 use Rattle.block_codec.specs.Block.{block_bytes, block_of, block_size, front}
 use Rattle.cyclic_data.specs.declared.place.PlaceKind.TheVariants.{Data, Iocs}
 use Rattle.plans.specs.declared.parts.Parts.{Parts}
+use Rattle.plans.specs.Numbers.{activity_factor, alarm_endpoint, alarm_factor, alarm_retries, high_tag, input_frame_id, low_tag, session_number}
 use Rattle.plans.specs.Packed.{layout_in, object_of, octets_of, packed}
 use Rattle.plans.specs.Parts.{data_of, module_of, submodule_of}
 
@@ -24,11 +25,11 @@ initiator_object = 0xDE ∷ 0xA0 ∷ 0x00 ∷ 0x00 ∷ 0x6C ∷ 0x97 ∷ 0x11 �
 abbrev pub ar_block : Parts → List ℕ → ArBlockReq
 ar_block parts ar = record {
   ar_uuid = ar;
-  session_key = 1;
+  session_key = session_number;
   cm_initiator_mac_add = parts.controller.mac;
   cm_initiator_object_uuid = initiator_object;
   ar_properties = 0x11;
-  cm_initiator_activity_timeout_factor = 600;
+  cm_initiator_activity_timeout_factor = activity_factor;
   cm_initiator_udp_rt_port = 0x8892;
   cm_initiator_station_name = record { items = parts.controller.name };
 }
@@ -39,10 +40,10 @@ reference_of Input = 1
 reference_of Output = 2
 
 abbrev pub asked_id : IocrType → ℕ
-asked_id Input = 0xC001
+asked_id Input = input_frame_id
 asked_id Output = 0xFFFF
 
--- the communication relation of a direction: of class 1, phase 1, any time in its phase, VLAN priority 6
+-- the communication relation of a direction: of class 1, phase 1, any time in its phase
 abbrev pub iocr_block : Parts → IocrType → IocrBlockReq
 iocr_block parts direction = record {
   iocr_type = direction;
@@ -57,22 +58,22 @@ iocr_block parts direction = record {
   frame_send_offset = 0xFFFFFFFF;
   watchdog_factor = parts.times.data_hold_factor;
   data_hold_factor = parts.times.data_hold_factor;
-  iocr_tag_header = 0xC000;
+  iocr_tag_header = high_tag;
   iocr_multicast_mac_add = record { octets = replicate 6 0 };
   io_data_objects = map object_of (packed direction Data 0 (data_of parts.real.modules.items));
   iocs = map object_of (packed direction Iocs (octets_of direction Data (data_of parts.real.modules.items)) (data_of parts.real.modules.items));
 }
 
--- the communication relation of alarms: sent again after 100 ms, three times
+-- the communication relation of alarms
 abbrev pub alarm_block : AlarmCrBlockReq
 alarm_block = record {
   alarm_cr_properties = 0;
-  rta_timeout_factor = 1;
-  rta_retries = 3;
-  local_alarm_reference = 1;
+  rta_timeout_factor = alarm_factor;
+  rta_retries = alarm_retries;
+  local_alarm_reference = alarm_endpoint;
   max_alarm_data_length = 200;
-  tag_header_high = 0xC000;
-  tag_header_low = 0xA000;
+  tag_header_high = high_tag;
+  tag_header_low = low_tag;
 }
 
 -- what is expected in a slot

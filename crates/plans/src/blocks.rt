@@ -14,6 +14,10 @@ ghost use Rattle.plans.specs.Connect.{iocr_block, left_behind, less, reference_o
 ghost use Rattle.plans.specs.Parts.{data_of};
 
 use crate::data::{data_of, module_of, submodules_of};
+use crate::numbers::{
+    ACTIVITY_TIMEOUT_FACTOR, ALARM_REFERENCE, INPUT_FRAME_ID, RTA_RETRIES, RTA_TIMEOUT_FACTOR,
+    SESSION_KEY, TAG_HIGH, TAG_LOW,
+};
 use crate::parts::Parts;
 use crate::places::{Places, data_length};
 use arrayvec::ArrayVec;
@@ -45,11 +49,11 @@ pub(crate) fn ar_block(parts: &Parts, ar: &Uuid) -> ArBlockReq
 {
     ArBlockReq {
         ar_uuid: *ar,
-        session_key: 1,
+        session_key: SESSION_KEY,
         cm_initiator_mac_add: parts.controller.mac,
         cm_initiator_object_uuid: Uuid::from_bytes(INITIATOR_OBJECT),
         ar_properties: 0x11,
-        cm_initiator_activity_timeout_factor: 600,
+        cm_initiator_activity_timeout_factor: ACTIVITY_TIMEOUT_FACTOR,
         cm_initiator_udp_rt_port: 0x8892,
         cm_initiator_station_name: text_of(&parts.controller.name),
     }
@@ -70,7 +74,7 @@ fn asked_id(direction: IocrType) -> u16
     ensures { result ≡ asked_id direction }
 {
     match direction {
-        IocrType::Input => 0xC001,
+        IocrType::Input => INPUT_FRAME_ID,
         IocrType::Output => 0xFFFF,
     }
 }
@@ -102,7 +106,7 @@ pub(crate) fn iocr_block<'a>(
         frame_send_offset: 0xFFFF_FFFF,
         watchdog_factor: parts.times.data_hold_factor,
         data_hold_factor: parts.times.data_hold_factor,
-        iocr_tag_header: 0xC000,
+        iocr_tag_header: TAG_HIGH,
         iocr_multicast_mac_add: Mac { octets: [0; 6] },
         io_data_objects: IoObjects::lent(&places.io_data_objects),
         iocs: IoObjects::lent(&places.iocs),
@@ -115,12 +119,12 @@ pub(crate) fn alarm_block() -> AlarmCrBlockReq
 {
     AlarmCrBlockReq {
         alarm_cr_properties: 0,
-        rta_timeout_factor: 1,
-        rta_retries: 3,
-        local_alarm_reference: 1,
+        rta_timeout_factor: RTA_TIMEOUT_FACTOR,
+        rta_retries: RTA_RETRIES,
+        local_alarm_reference: ALARM_REFERENCE,
         max_alarm_data_length: 200,
-        tag_header_high: 0xC000,
-        tag_header_low: 0xA000,
+        tag_header_high: TAG_HIGH,
+        tag_header_low: TAG_LOW,
     }
 }
 

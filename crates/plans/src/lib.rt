@@ -5,10 +5,14 @@
 mod blocks;
 mod data;
 mod laws;
+mod numbers;
 mod parts;
 mod places;
 mod plan;
 
 pub use laws::packed_places_are_asked;
+pub use numbers::{
+    ALARM_REFERENCE, INPUT_FRAME_ID, RTA_RETRIES, RTA_TIMEOUT_FACTOR, SESSION_KEY, TAG_HIGH,
+};
 pub use parts::{Controller, Parts, PlanRecord, Station, Times};
 pub use plan::{Layouts, Plan, TooLong};

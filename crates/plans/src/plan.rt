@@ -72,6 +72,7 @@ fn are_short(records: &[PlanRecord])
     ensures { AreShort records.now }
 {
     for entry in records {
+        // A list has no more octets than it has room for, which its slice says.
         let _octets = entry.data.as_slice();
     }
 }
@@ -103,6 +104,7 @@ impl Plan {
         requires { AreParts parts }
         ensures { Gives (λ plan. plan) result (plan_of parts) }
     {
+        // The same of the list of modules: at most 16.
         let _modules = parts.real.modules.as_slice();
         are_short(parts.records.as_slice());
         if !do_frames_fit(&parts) {
@@ -180,6 +182,7 @@ impl Plan {
         // Each block is read as it, whatever is behind it, where the ARUUID is not zero.
         ensures read { is_some_uuid ar.now ≡ true → AllByRecursion IsRead (blocks_of self.now ar.now) }
     {
+        // That it has 16 octets, which the sizes of the blocks count.
         let _octets = ar.into_bytes();
         let mut out = ArrayVec::new();
         write_ar(&mut out, &self.parts, ar);

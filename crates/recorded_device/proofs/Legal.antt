@@ -83,6 +83,24 @@ pub record Ends (chip : Image) (accepted : List Accepted) (stored : Settings) : 
   pub some_of : AcceptedOf accepted some
   pub left : LeftByDevice chip
   pub legal : LegalEnd chip some stored
+  pub kept : List Accepted
+  pub later : List Accepted
+  pub parts : accepted ≡ kept ++ later
+  pub boots : BootsTo chip (made_of kept stored)
+
+-- some first ones of the commands are stored
+pub record Keeps (chip : Image) (accepted : List Accepted) (stored : Settings) : Type 0 where
+  pub kept : List Accepted
+  pub later : List Accepted
+  pub parts : accepted ≡ kept ++ later
+  pub boots : BootsTo chip (made_of kept stored)
+
+-- none of them, or the first
+keeps_here : (chip : Image) (one : Accepted) (more : List Accepted) (stored : Settings) → IsKept chip stored (apply one.command stored) → Keeps chip (one ∷ more) stored
+keeps_here chip one more stored kept = elim kept.boots [
+  | inl before ↦ record { kept = []; later = one ∷ more; parts = refl; boots = before }
+  | inr now ↦ record { kept = one ∷ []; later = more; parts = refl; boots = now }
+]
 
 -- the commit of the first command was cut off
 ends_here : (chip : Image) (one : Accepted) (more : List Accepted) (stored : Settings) → IsKept chip stored (apply one.command stored) → Ends chip (one ∷ more) stored
@@ -94,6 +112,10 @@ ends_here chip one more stored kept = record {
     | inl before ↦ inr (record { front = []; last = unanswered one; parts = refl; not_done = refl; boots = before })
     | inr now ↦ inl now
   ];
+  kept = (keeps_here chip one more stored kept).kept;
+  later = (keeps_here chip one more stored kept).later;
+  parts = (keeps_here chip one more stored kept).parts;
+  boots = (keeps_here chip one more stored kept).boots;
 }
 
 ends_later : (chip : Image) (one : Accepted) (more : List Accepted) (stored : Settings) → Ends chip more (apply one.command stored) → Ends chip (one ∷ more) stored
@@ -102,13 +124,18 @@ ends_later chip one more stored ends = record {
   some_of = inr (ends.some, refl, ends.some_of);
   left = ends.left;
   legal = behind_one chip one ends.some stored ends.legal;
+  kept = one ∷ ends.kept;
+  later = ends.later;
+  parts = ap (λ l. one ∷ l) ends.parts;
+  boots = ends.boots;
 }
 
 ends : (size : ℕ) (image chip : Image) (stored : Settings) (room : ℕ) (accepted : List Accepted) (calls : List Call) → length image.first ≡ size → IsImage size chip → CallsOf image stored room accepted calls
     → CutOff image calls chip → LeftByDevice image → Ends chip accepted stored
 ends size image chip stored room [] calls long now of cut left =
     let is : chip ≡ image = subst (λ c. CutOff image c chip) of.0 cut in
-    record { some = []; some_of = refl; left = subst LeftByDevice (sym is) left; legal = inl (subst (λ i. BootsTo i stored) (sym is) (room, of.1)) }
+    let boots = subst (λ i. BootsTo i stored) (sym is) (room, of.1) in
+    record { some = []; some_of = refl; left = subst LeftByDevice (sym is) left; legal = inl boots; kept = []; later = []; parts = refl; boots = boots }
 ends size image chip stored room (one ∷ more) calls long now of cut left =
     let parts = subst (λ c. CutOff image c chip) of.5 cut in
     elim (cut_split image chip of.0 of.1 parts) [
@@ -122,4 +149,13 @@ ends size image chip stored room (one ∷ more) calls long now of cut left =
 pub are_legal : (size : ℕ) (image : Image) (stored : Settings) (room : ℕ) (accepted : List Accepted) (calls : List Call) → length image.first ≡ size → CallsOf image stored room accepted calls → AreLegal size image stored accepted calls
 are_legal size image stored room accepted calls long of chip now cut left first earlier made =
     let e = ends size image chip stored room accepted calls long now of cut left in
-    record { some = e.some; some_of = e.some_of; left = e.left; legal = behind_earlier chip earlier e.some first stored made e.legal }
+    record {
+      some = e.some;
+      some_of = e.some_of;
+      left = e.left;
+      legal = behind_earlier chip earlier e.some first stored made e.legal;
+      stored = e.kept;
+      unstored = e.later;
+      parts = e.parts;
+      boots = subst (BootsTo chip) (ap (made_of e.kept) made ∙ sym (made_append earlier e.kept first)) e.boots;
+    }

@@ -4,7 +4,7 @@ use Rattle.device_core.specs.Machine.{items_of, judged_step, heard_step, step_of
 use Rattle.device_core.specs.State.{State, store_of}
 use Rattle.device_frames.specs.Heard.{heard_of}
 use Rattle.device_frames.specs.declared.event.Event.{Event}
-use Rattle.settings_store.specs.Carries.{OneByOne, Holds}
+use Rattle.settings_store.specs.Carries.{OneByOne, Holds, Stretch}
 use Rattle.recorded_flash.specs.Record.{image_of, record_of}
 use Rattle.recorded_flash.specs.Laws.{IsImage-of}
 use Rattle.recorded_flash.specs.declared.flash.RecordedFlash.{RecordedFlash}
@@ -12,12 +12,13 @@ use Rattle.recorded_device.specs.Recorded.{Records}
 use Rattle.recorded_device.proofs.Asked.{few_items}
 use Rattle.recorded_device.proofs.Few.{few_of_commands, few_of_items}
 use Rattle.recorded_device.proofs.Legal.{are_legal}
-use Rattle.recorded_device.proofs.Placed.{as_recorded, items_calls, last_calls}
+use Rattle.recorded_device.proofs.Placed.{after_image, as_recorded, items_calls, last_calls}
 
 pub step_records : {S : ℕ} (old new : State (RecordedFlash S)) (event : Event) → Holds (image_of old.flash) old.live.values → old.live.values.has_failed ≡ false
-    → OneByOne as_recorded [] (store_of old) (items_of old.station old.live (heard_of old.station.identity event)) (store_of new) → Records old (step_of [] old.station old.live event).accepted new
+    → OneByOne as_recorded [] (store_of old) (items_of old.station old.live (heard_of old.station.identity event)) (store_of new)
+    → Stretch as_recorded (store_of old) (step_of [] old.station old.live event).accepted (store_of new) → new.live.values.has_failed ≡ false → Records old (step_of [] old.station old.live event).accepted new
 unfolding heard_step judged_step
-step_records old new event holds going placed =
+step_records old new event holds going placed stretch goes =
     let all = items_calls (store_of old) (store_of new) (items_of old.station old.live (heard_of old.station.identity event)) placed going holds in
     let is = all.asked all.writes in
     let asks = few_items old.station old.live event in
@@ -31,5 +32,9 @@ step_records old new event holds going placed =
       record_is = is;
       few = few;
       last = (kept.0, ap (λ r. r.recent) is ∙ kept.1);
+      image = ap (λ r. r.image) is ∙ after_image (record_of old.flash) all.calls;
+      made = stretch.made goes;
+      starts = stretch.holds goes;
+      left = stretch.safe.left;
       legal = are_legal _ (image_of old.flash) old.live.values.stored old.live.values.room _ all.calls (IsImage-of old.flash).first_size all.of_commands;
     }

@@ -44,7 +44,7 @@ one_case values (Answer answer) going = inl (refl, refl)
 
 -- ---- the record
 
-after_image : (before : Record) (calls : List Call) → (after_all before calls).image ≡ all_carried_out before.image calls
+pub after_image : (before : Record) (calls : List Call) → (after_all before calls).image ≡ all_carried_out before.image calls
 after_image before [] = refl
 after_image before (call ∷ calls) = after_image (after_one before call) calls
 

@@ -6,7 +6,7 @@ use Rattle.flash_model.specs.Calls.{Call}
 use Rattle.flash_model.specs.Image.{Image, IsImage}
 use Rattle.settings_journal.specs.Calls.{CommitCalls}
 use Rattle.settings_journal.specs.Cut.{CutOff, all_carried_out}
-use Rattle.settings_journal.specs.Image.{LeftByDevice, StartsWith}
+use Rattle.settings_journal.specs.Image.{BootsTo, LeftByDevice, StartsWith}
 use Rattle.settings_store.specs.Legal.{LegalEnd, made_of}
 use Rattle.settings_store.specs.Machine.{Accepted}
 
@@ -29,12 +29,17 @@ abbrev pub AcceptedOf : List Accepted → List Accepted → Type 0
 AcceptedOf [] some = some ≡ []
 AcceptedOf (one ∷ more) some = (some ≡ unanswered one ∷ []) ⊎ ((rest : List Accepted) × (some ≡ one ∷ rest) × AcceptedOf more rest)
 
--- The chip is left by this device, and a legal end of commands of which it had accepted some, behind those of earlier steps.
+-- The chip is left by this device, and a legal end of commands of which it had accepted some, behind those of earlier steps: a
+-- start gives what the commands of earlier steps, and some first ones of these, make of the first settings.
 pub record EndsLegally (chip : Image) (earlier accepted : List Accepted) (first : Settings) : Type 0 where
   pub some : List Accepted
   pub some_of : AcceptedOf accepted some
   pub left : LeftByDevice chip
   pub legal : LegalEnd chip (earlier ++ some) first
+  pub stored : List Accepted
+  pub unstored : List Accepted
+  pub parts : accepted ≡ stored ++ unstored
+  pub boots : BootsTo chip (made_of (earlier ++ stored) first)
 
 -- Wherever the calls of these commands are cut off, and whatever commands of earlier steps made of the first settings what is
 -- stored: the chip ends legally.

@@ -1,16 +1,18 @@
 -- What a line does to both ends.
 use Rattle.std.proofs.Common.{◌≡◌, inl, ℕ, List, [], ◌∷◌, ◌++◌, length, arith, Bool, true, false, Option, None, Result, Ok, Err, OnOk, IfOk, IsErr, MatchResult, is_ok, if◌then◌else◌, refl, sym, subst, append-nil}
+use Rattle.flash_model.specs.declared.flash.Order.{Order}
 use Rattle.flash_model.specs.declared.memory.MemoryFlash.{MemoryFlash}
 use Rattle.plans.specs.declared.parts.Parts.{Parts}
 use Rattle.configurator.specs.declared.fault.PlanFault.{PlanFault}
 use Rattle.configurator.specs.declared.fault.PlanFault.TheVariants.{OutOfMemory}
 use Rattle.device_core.specs.State.{State}
-use Rattle.script_lines.specs.Line.{Line, Skipped, meaning_of}
+use Rattle.script_lines.specs.Line.{Command, Frame, Restart, Tick, Show, Arm, Input, Alarm, Config, Start, Give, Stop, Deliver, Line, Unfit, Skipped, Asks, Unknown, meaning_of}
 use Rattle.script_session.specs.declared.power.Power.{Power}
 use Rattle.script_session.specs.declared.power.Power.TheVariants.{On, Off, Away}
 use Rattle.script_session.specs.Ends.{Network, Station, Other}
 use Rattle.script_session.specs.Power.{Held, IsRunning, is_off, refusal_of}
 use Rattle.script_session.specs.Said.{Answer, Answers, Outcome, outcome_of, unchanged}
+use Rattle.script_session.specs.Off.{Orders, TakesOrder}
 use Rattle.script_session.specs.Session.{Are, Comes, IsDone, IsObeyed, Obeys}
 
 -- a device that runs was not refused its start
@@ -71,3 +73,39 @@ pub if_there_tells : {E : Type 0} (A : Type 0) (is : Result Bool E) (result : Re
     → MatchResult result (λ there. is ≡ Ok there) (λ fault. (fault ≡ OutOfMemory) × IsErr is) → OnOk result A
 if_there_tells A is (Ok there) told given = subst (λ i. OnOk i A) given told
 if_there_tells A is (Err fault) told given = tt
+
+-- ---- orders to the flash
+
+-- a line for which memory was refused did nothing
+pub untaken : (line : Line) (held : Held) (before : List ℕ) → TakesOrder line held held before before (Err OutOfMemory)
+untaken Unfit held before = tt
+untaken Skipped held before = tt
+untaken Unknown held before = tt
+untaken (Asks (Arm order)) held before = (refl, refl, refl)
+untaken (Asks (Frame bytes)) held before = tt
+untaken (Asks Restart) held before = tt
+untaken (Asks (Tick units)) held before = tt
+untaken (Asks Show) held before = tt
+untaken (Asks (Input slot subslot bytes)) held before = tt
+untaken (Asks (Alarm slot subslot bytes)) held before = tt
+untaken (Asks (Config catalogue)) held before = tt
+untaken (Asks (Start ar activity)) held before = tt
+untaken (Asks (Give slot subslot bytes)) held before = tt
+untaken (Asks Stop) held before = tt
+untaken (Asks Deliver) held before = tt
+
+-- what is true of an order is what taking it does
+pub order_taken : (command : Command) (old new : Held) (before now : List ℕ) (result : Result Bool PlanFault)
+    → ((order : Order) → command ≡ Arm order → Orders order old new before now result) → TakesOrder (Asks command) old new before now result
+order_taken (Arm order) old new before now result orders = orders order refl
+order_taken (Frame bytes) old new before now result orders = tt
+order_taken Restart old new before now result orders = tt
+order_taken (Tick units) old new before now result orders = tt
+order_taken Show old new before now result orders = tt
+order_taken (Input slot subslot bytes) old new before now result orders = tt
+order_taken (Alarm slot subslot bytes) old new before now result orders = tt
+order_taken (Config catalogue) old new before now result orders = tt
+order_taken (Start ar activity) old new before now result orders = tt
+order_taken (Give slot subslot bytes) old new before now result orders = tt
+order_taken Stop old new before now result orders = tt
+order_taken Deliver old new before now result orders = tt

@@ -9,8 +9,8 @@ use Rattle.plans.specs.declared.parts.Parts.{Parts}
 use Rattle.plans.specs.declared.plan.TooLong.{TooLong}
 use Rattle.plans.specs.declared.plan.TooLong.TheVariants as long
 use Rattle.plans.specs.Plan.{plan_of}
-use Rattle.catalogue.specs.declared.fault.CatalogueFault.{CatalogueFault}
 use Rattle.catalogue.specs.declared.fault.CatalogueFault.TheVariants as reading
+use Rattle.catalogue.specs.declared.fault.PlacedFault.{PlacedFault}
 use Rattle.catalogue.specs.Catalogues.{Catalogue, Found, Refuses, catalogue}
 use Rattle.catalogue.specs.Projects.{Project}
 use Rattle.configurator.specs.declared.fault.PlanFault.{PlanFault}
@@ -71,12 +71,12 @@ one_plan text a b one other =
 -- ---- and no refusal
 
 -- a text that is a catalogue is refused as it is read for want of memory alone
-read_refused : (text : List ℕ) (found : Catalogue) (fault : CatalogueFault) → Found text found → Refuses text fault → fault ≡ reading.OutOfMemory
+read_refused : (text : List ℕ) (found : Catalogue) (fault : PlacedFault) → Found text found → Refuses text fault → fault.fault ≡ reading.OutOfMemory
 read_refused text found fault is (inl memory) = memory
 read_refused text found fault is (inr (inl json)) = absurd (json.1 is.0 is.1)
 read_refused text found fault is (inr (inr bad)) =
-    let tree = some_same is.0 bad.0 (read text) is.1.1 bad.2.1 in
-    absurd (ok_not found bad.1 (catalogue is.0) is.2 (subst (λ t. catalogue t ≡ Err bad.1) (sym tree) bad.3))
+    let tree = some_same is.0 bad.0 (read text) is.1.1 bad.1.1 in
+    absurd (ok_not found fault (catalogue is.0) is.2 (subst (λ t. catalogue t ≡ Err fault) (sym tree) bad.2))
 
 too_long : (found : Catalogue) (parts other : Parts) (fault : TooLong) → ArePartsOf found parts → plan_of parts ≡ Ok parts → ArePartsOf found other → plan_of other ≡ Err fault → ⊥
 too_long found parts other fault are plan have long =

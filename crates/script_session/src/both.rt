@@ -6,6 +6,7 @@ ghost use Rattle.device_core.specs.Machine.{step_of};
 ghost use Rattle.script_lines.specs.Text.{lost_line};
 ghost use Rattle.script_session.specs.Ends.{Network, Station, device_run};
 ghost use Rattle.script_session.specs.Said.{deliver_answer, event_answer};
+ghost use Rattle.script_session.specs.Off.{Delivers};
 ghost use Rattle.script_session.specs.Power.{Runs};
 ghost use Rattle.script_session.specs.Session.{IsDone, IsRunOf, IsTurned};
 
@@ -29,7 +30,8 @@ pub(crate) fn respond(
 ) -> Result<(), AllocError>
     ensures done { (network : Network) → Runs network.station device.old → other.old ≡ network.other →
         OnOk result (IsDone (event_answer network event.now) device.new other.new text.old.items text.new.items) }
-    ensures lost { is_powerless device.new.flash ≡ true → OnOk result (text.new.items ≡ text.old.items ++ lost_line) }
+    ensures lost { is_powerless device.new.flash ≡ true →
+        OnOk result ((text.new.items ≡ text.old.items ++ lost_line) × (other.new ≡ other.old)) }
     ensures same { device.new.station ≡ device.old.station }
 {
     let note = step(device, event, outbox);
@@ -93,7 +95,8 @@ pub(crate) fn exchange(
 ) -> Result<(), AllocError>
     ensures done { (network : Network) → Runs network.station device.old → other.old ≡ network.other →
         OnOk result (IsDone (deliver_answer network) device.new other.new text.old.items text.new.items) }
-    ensures lost { is_powerless device.new.flash ≡ true → OnOk result (text.new.items ≡ text.old.items ++ lost_line) }
+    ensures lost { is_powerless device.new.flash ≡ true →
+        OnOk result ((text.new.items ≡ text.old.items ++ lost_line) × Delivers other.old other.new) }
     ensures same { device.new.station ≡ device.old.station }
 {
     let to_device = other.hand_over(device, outbox)?;

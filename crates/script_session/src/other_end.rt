@@ -4,6 +4,7 @@ ghost use Rattle.controller_core.specs.Machine.{step_of};
 ghost use Rattle.controller_core.specs.declared.event.Event.TheVariants as event;
 ghost use Rattle.script_session.specs.Ends.{IsRun, Station, controller_run, device_run, frames_for_controller, frames_for_device};
 ghost use Rattle.script_session.specs.Ends.{octets_of};
+ghost use Rattle.script_session.specs.Off.{Delivers};
 ghost use Rattle.script_session.specs.Power.{Runs};
 ghost use Rattle.script_session.specs.Session.{IsHandedOver};
 
@@ -144,6 +145,7 @@ impl OtherEnd {
         ensures handed { (station : Station) → Runs station device.old →
             IfOk result (λ moved. IsHandedOver (device_run station (frames_for_device self.old.to_device)) device.new self.old self.new
             moved) }
+        ensures left { IfOk result (λ _. Delivers self.old self.new) }
         ensures same { device.new.station ≡ device.old.station }
     {
         let moved = self.to_device.len();

@@ -59,7 +59,7 @@ impl<'a> Session<'a> {
     ghost use Rattle.script_session.specs.Said.{tick_answer};
     ghost use Rattle.script_session.specs.Power.{IsArmed, IsBack, is_off, refusal_of};
     ghost use Rattle.script_session.specs.Session.{Are, AreRightFor, Comes, Obeys};
-    ghost use Rattle.script_session.specs.Off.{GivesBack, TakesOff, hands, is_handed};
+    ghost use Rattle.script_session.specs.Off.{Delivers, GivesBack, Leaves, LeavesBy, Orders, TakesOff, TakesOrder, hands, is_handed};
 
     /// The demo device over this flash, as it starts, and nobody at the other end.
     pub fn new(alloc: Global, flash: &'a mut MemoryFlash<4096>) -> Session<'a>
@@ -89,9 +89,13 @@ impl<'a> Session<'a> {
             Obeys (outcome_of plans network (meaning_of line.now)) self.new text.old.items text.new.items result }
         // While there is no power a line does nothing but a restart.
         ensures off { is_off self.old.power ≡ true → TakesOff (meaning_of line.now) self.old self.new text.old.items text.new.items result }
-        // Where power is lost as something is handed to the device, that alone is printed.
+        // Where power is lost as something is handed to the device, that alone is printed, and no time goes by at the other end.
         ensures lost { is_handed (meaning_of line.now) ≡ true →
-            TellsLoss self.old.power self.new.power text.old.items text.new.items result }
+            TellsLoss (LeavesBy (meaning_of line.now) self.old.other self.new.other) self.old.power self.new.power text.old.items
+            text.new.items result }
+        // An order to the flash stands there, and changes nothing else; it prints nothing.
+        ensures ordered { is_off self.old.power ≡ false →
+            TakesOrder (meaning_of line.now) self.old self.new text.old.items text.new.items result }
         ensures demo { IsDemo self.old.power → IsDemo self.new.power }
     {
         // An empty line asks for nothing, and nothing is made for it.
@@ -123,9 +127,11 @@ impl<'a> Session<'a> {
             Are network self.old → arms (command_read command.entry) ≡ false →
             Obeys (said plans network (command_read command.entry)) self.new text.old.items text.new.items result }
         ensures back { command_read command.entry ≡ Restart → GivesBack self.old self.new text.old.items text.new.items result }
-        ensures armed { (order : Order) → command_read command.entry ≡ Arm order → IsArmed order self.old.power self.new.power }
+        ensures armed { (order : Order) → command_read command.entry ≡ Arm order →
+            Orders order self.old self.new text.old.items text.new.items result }
         ensures lost { hands (command_read command.entry) ≡ true →
-            TellsLoss self.old.power self.new.power text.old.items text.new.items result }
+            TellsLoss (Leaves (command_read command.entry) self.old.other self.new.other) self.old.power self.new.power text.old.items
+            text.new.items result }
         ensures demo { IsDemo self.old.power → IsDemo self.new.power }
     {
         match command {
@@ -154,7 +160,7 @@ impl<'a> Session<'a> {
         ensures obeys { (network : Network) → Are network self.old →
             OnOk result (IsObeyed (event_answer network (event.Frame (handed bytes.now))) self.new text.old.items text.new.items) }
         ensures demo { IsDemo self.old.power → IsDemo self.new.power }
-        ensures lost { TellsLoss self.old.power self.new.power text.old.items text.new.items result }
+        ensures lost { TellsLoss (self.new.other ≡ self.old.other) self.old.power self.new.power text.old.items text.new.items result }
     {
         receive(&mut self.received, bytes);
         answered(
@@ -178,7 +184,7 @@ impl<'a> Session<'a> {
             OnOk result (IsObeyed (event_answer network (event.Input slot subslot (handed bytes.now))) self.new text.old.items
             text.new.items) }
         ensures demo { IsDemo self.old.power → IsDemo self.new.power }
-        ensures lost { TellsLoss self.old.power self.new.power text.old.items text.new.items result }
+        ensures lost { TellsLoss (self.new.other ≡ self.old.other) self.old.power self.new.power text.old.items text.new.items result }
     {
         let event = Event::Input(slot, subslot, handed(bytes));
         answered(
@@ -202,7 +208,7 @@ impl<'a> Session<'a> {
             OnOk result (IsObeyed (event_answer network (event.Alarm slot subslot (handed bytes.now))) self.new text.old.items
             text.new.items) }
         ensures demo { IsDemo self.old.power → IsDemo self.new.power }
-        ensures lost { TellsLoss self.old.power self.new.power text.old.items text.new.items result }
+        ensures lost { TellsLoss (self.new.other ≡ self.old.other) self.old.power self.new.power text.old.items text.new.items result }
     {
         let event = Event::Alarm(slot, subslot, handed(bytes));
         answered(
@@ -341,7 +347,7 @@ impl<'a> Session<'a> {
         ensures obeys { (network : Network) → Are network self.old →
             IfOk result (Comes (deliver_outcome network network.other.controller) self.new text.old.items text.new.items) }
         ensures demo { IsDemo self.old.power → IsDemo self.new.power }
-        ensures lost { TellsLoss self.old.power self.new.power text.old.items text.new.items result }
+        ensures lost { TellsLoss (Delivers self.old.other self.new.other) self.old.power self.new.power text.old.items text.new.items result }
     {
         if !self.other.is_started() {
             return Ok(false);
@@ -355,7 +361,7 @@ impl<'a> Session<'a> {
         ensures obeys { (network : Network) → Are network self.old →
             OnOk result (IsObeyed (deliver_answer network) self.new text.old.items text.new.items) }
         ensures demo { IsDemo self.old.power → IsDemo self.new.power }
-        ensures lost { TellsLoss self.old.power self.new.power text.old.items text.new.items result }
+        ensures lost { TellsLoss (Delivers self.old.other self.new.other) self.old.power self.new.power text.old.items text.new.items result }
     {
         match &mut self.power {
             Power::On(device) => exchange(device, &mut self.outbox, &mut self.other, text),
@@ -376,7 +382,7 @@ fn answered(
         OnOk result (IsObeyed (event_answer network event.now) (record { power = power.new; other = other.new }) text.old.items
         text.new.items) }
     ensures demo { IsDemo power.old → IsDemo power.new }
-    ensures lost { TellsLoss power.old power.new text.old.items text.new.items result }
+    ensures lost { TellsLoss (other.new ≡ other.old) power.old power.new text.old.items text.new.items result }
 {
     match power {
         Power::On(device) => respond(device, event, outbox, other, text),

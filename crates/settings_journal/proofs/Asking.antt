@@ -1,5 +1,5 @@
 -- What the calls of a commit ask of the flash.
-use Rattle.std.proofs.Common.{ℕ, zero, suc, None, subst, ◌≡◌, ◌≢◌, ◌+◌, ◌-◌, ◌∙◌, List, [], ◌∷◌, ◌++◌, Option, Some, refl, sym, ap, false, true}
+use Rattle.std.proofs.Common.{ℕ, zero, suc, None, subst, ◌≡◌, ◌≢◌, ◌+◌, ◌-◌, ◌∙◌, List, [], ◌∷◌, ◌++◌, Option, Some, refl, sym, ap}
 use Rattle.std.specs.Prelude.{Result, Ok, Err, OnErr}
 use Rattle.std.proofs.lemmas.List.{append-nil}
 use Rattle.pn_values.specs.Command.{apply}

@@ -6,6 +6,7 @@ pub mod Cut
 pub mod Parts
 pub mod Reading
 pub mod Rising
+pub mod Room
 pub mod Slots
 pub mod Starting
 pub mod Storing

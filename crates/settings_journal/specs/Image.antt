@@ -1,5 +1,5 @@
 -- What an image of two sectors is to the journal: which sector is active, and what a start makes of it.
-use Rattle.std.specs.Prelude.{◌≡◌, ◌≢◌, ◌⊎◌, ◌+◌, ◌-◌, ◌*◌, ◌≤◌, ℕ, List, length, Option, Some, None}
+use Rattle.std.specs.Prelude.{◌≡◌, ◌≢◌, ◌⊎◌, ◌+◌, ◌-◌, ◌*◌, ◌≤◌, ℕ, Bool, true, false, List, length, Option, Some, None}
 use Rattle.pn_values.specs.Settings.{factory_settings}
 use Rattle.pn_values.specs.declared.settings.Settings.{Settings}
 use Rattle.flash_model.specs.Image.{Image, sector_of, other, slots_in}
@@ -52,6 +52,12 @@ StartsAt image None settings generation free = IsClosed image × (settings ≡ f
 -- that is left one for a base and one for each slot behind it.
 abbrev pub room_of : ℕ → ℕ → ℕ → ℕ
 room_of slots generation free = (65535 - generation) * (slots + 1) + free
+
+-- How many commits are left, of so much room: that many further ones are accepted while no flash call fails. After a commit
+-- that failed none is, until the next start.
+abbrev pub commits_left : Bool → ℕ → ℕ
+commits_left true room = 0
+commits_left false room = room
 
 -- How many commits a blank flash with sectors of this size has room for.
 unfoldable pub capacity : ℕ → ℕ

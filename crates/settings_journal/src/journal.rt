@@ -8,11 +8,12 @@ ghost use Rattle.flash_model.specs.Calls.{Call, Arms};
 ghost use Rattle.flash_model.specs.Image.{erased};
 ghost use Rattle.settings_journal.specs.Apart.{StandsApart};
 ghost use Rattle.settings_journal.specs.Calls.{HasCommitCalls};
-ghost use Rattle.settings_journal.specs.Image.{StartsWith, IsAmple, capacity, IsForeign, LeftByDevice, IsGeneration};
+ghost use Rattle.settings_journal.specs.Image.{StartsWith, IsAmple, capacity, commits_left, IsForeign, LeftByDevice, IsGeneration};
 ghost use Rattle.settings_journal.specs.Commit.{IsKept, HasBootCause, HasCommitCause};
 ghost use Rattle.settings_journal.specs.Faults.{boot_number, commit_number};
 
 use crate::Fill;
+use crate::access::slots_of;
 use crate::start::{Position, read_start};
 use crate::store::store;
 use flash_model::{Flash, Order};
@@ -223,6 +224,22 @@ impl<F: Flash<S>, const S: usize> Journal<F, S> {
         self.position.generation == u16::MAX && self.position.free == 0
     }
 
+    /// How many commits are left: that many further ones are accepted while no flash call fails. 0 after a commit that failed,
+    /// until the next start, and before a start.
+    pub fn left(&self) -> u32
+        ensures value { result ≡ commits_left self.now.has_failed self.now.room }
+        // Where no commit failed: none is left where it is exhausted, and only there; and a start on the flash reads as many.
+        ensures exhausted { self.now.has_failed ≡ false → (result ≡ 0) ↔ (self.now.room ≡ 0) }
+        ensures read { self.now.has_failed ≡ false → StartsWith (F.image self.now.flash) self.now.settings result }
+    {
+        if self.has_failed {
+            return 0;
+        }
+        // Each generation that is left has a base, and the slots of its sector.
+        let generations = u32::from(u16::MAX - self.position.generation);
+        generations * (slots_of(S) as u32 + 1) + self.position.free as u32
+    }
+
     /// Whether a commit failed since the start, so that none is carried out any more.
     pub fn has_failed(&self) -> bool
         ensures { result ≡ self.now.has_failed }
@@ -262,6 +279,7 @@ impl<F: Flash<S>, const S: usize> Journal<F, S> {
         // It is stored when it is answered.
         ensures settings { OnOk result (self.new.settings ≡ apply command.now self.old.settings) }
         ensures room { OnOk result (self.new.room + 1 ≡ self.old.room) }
+        ensures counts { OnOk result (commits_left self.new.has_failed self.new.room + 1 ≡ commits_left self.old.has_failed self.old.room) }
         ensures stored { self.new.has_failed ≡ false → StartsWith (F.image self.new.flash) self.new.settings self.new.room }
         ensures generation { (before : ℕ) → IsGeneration (F.image self.old.flash) before →
             OnOk result ((now : ℕ) × IsGeneration (F.image self.new.flash) now × (now ≤ before + 1)) }
@@ -271,6 +289,8 @@ impl<F: Flash<S>, const S: usize> Journal<F, S> {
         // When each refusal comes, and what it leaves.
         ensures failed { IsErrOf result CommitFault.Failed ↔ (self.old.has_failed ≡ true) }
         ensures exhausted { IsErrOf result CommitFault.Exhausted ↔ ((self.old.has_failed ≡ false) × (self.old.room ≡ 0)) }
+        ensures none_left { (commits_left self.old.has_failed self.old.room ≡ 0) ↔
+            (IsErrOf result CommitFault.Failed ⊎ IsErrOf result CommitFault.Exhausted) }
         ensures untouched { IsErrOf result CommitFault.Failed ⊎ IsErrOf result CommitFault.Exhausted → self.new ≡ self.old }
         ensures cause { HasCommitCause result (F.failures self.old.flash) (F.failures self.new.flash) }
         ensures lost { OnOk result (F.is_lost self.new.flash ≡ false) }

@@ -5,7 +5,7 @@ ghost use Rattle.flash_model.specs.Image.{Image, erased};
 ghost use Rattle.pn_values.specs.Settings.{factory_settings};
 ghost use Rattle.pn_values.specs.declared.settings.Settings.{Settings};
 ghost use Rattle.settings_journal.specs.Commit.{HasBootCause};
-ghost use Rattle.settings_journal.specs.Image.{StartsWith, IsAmple, capacity, IsForeign, LeftByDevice};
+ghost use Rattle.settings_journal.specs.Image.{StartsWith, IsAmple, capacity, commits_left, IsForeign, LeftByDevice};
 ghost use Rattle.settings_store.specs.Carries.{Carries, CarriesItem};
 
 use arrayvec::ArrayVec;
@@ -149,6 +149,16 @@ impl<F: Flash<S>, const S: usize> Store<F, S> {
             StartsWith (F.image self.now.flash) self.now.values.stored self.now.values.room }
     {
         self.journal.settings()
+    }
+
+    /// How many commits are left: that many further ones are accepted while no flash call fails. 0 after a commit that failed,
+    /// until the next start, and before a start.
+    pub fn left(&self) -> u32
+        ensures value { result ≡ commits_left self.now.values.has_failed self.now.values.room }
+        // Where no commit failed, a start on the flash reads as many.
+        ensures read { self.now.values.has_failed ≡ false → StartsWith (F.image self.now.flash) self.now.values.stored result }
+    {
+        self.journal.left()
     }
 
     /// Whether power was lost.

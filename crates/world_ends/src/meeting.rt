@@ -48,7 +48,9 @@ pub fn begin_world<F: Flash<S>, const S: usize>(
 ) -> World<F, S>
     requires uncalled { device.live.rest.calls ≡ [] }
     requires unrelated { device.live.rest.link ≡ None }
-    ensures { Begins setup device.station.identity result }
+    ensures begins { Begins setup device.station.identity result }
+    // Its device is this one.
+    ensures device { result.device ≡ device }
 {
     World::new(
         alloc,

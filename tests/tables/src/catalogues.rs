@@ -8,11 +8,14 @@
 //! ```
 //!
 //! Layouts and faults of the first 160 lines come from a reference model that was written from the rules of the catalogue alone
-//! and shares no line with this repository; the two after them are those of `examples/catalogue`, and the others are the demo
-//! station with one thing changed. The Connects and the records are computed by `bench/gate/catalogues.py`.
+//! and shares no line with this repository; the two after them are those of `examples/catalogue`, and the next 42 are the demo
+//! station with one thing changed. The Connects and the records are computed by `bench/gate/catalogues.py`. The last lines are at
+//! each bound of the rules and one past it; they, their faults and the keys of `places`, a line for each of them, are written by
+//! `bench/gate/catalogue_bounds.py` from the rules alone.
 
 use crate::{hex, is_same};
 use configurator::plan_from_json;
+use plan_operations::show;
 use plans::Plan;
 use rattle_std::alloc::Global;
 use script_runner::plan_text;
@@ -46,6 +49,27 @@ fn row(catalogue: &str) -> String {
         }
         Err(fault) => format!("{fault}\n"),
     }
+}
+
+/// At which key the fault of a catalogue is told, if it is that of one key.
+fn place(catalogue: &str) -> String {
+    let mut room = [0xFF; 128];
+    match show(Global, catalogue.as_bytes(), &mut room) {
+        0 => String::new(),
+        _ => {
+            let end = room.iter().position(|octet| *octet == 0).expect("a zero");
+            String::from_utf8(room[..end].to_vec()).expect("text")
+        }
+    }
+}
+
+#[test]
+fn each_fault_is_told_at_its_key() {
+    let catalogues: Vec<&str> = include_str!("../catalogues/stdin").lines().collect();
+    let places = include_str!("../catalogues/places");
+    let bounds = &catalogues[catalogues.len() - places.lines().count()..];
+    let told: String = bounds.iter().map(|catalogue| place(catalogue) + "\n").collect();
+    is_same(&told, places);
 }
 
 #[test]

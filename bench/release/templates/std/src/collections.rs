@@ -1,41 +1,86 @@
-//! Maps and sets in order, whose growth can fail. Rust's own have no call that answers when there is no memory; here the entries stand
-//! in one list, in the order of their keys.
+//! Maps and sets in order, whose growth can fail. Rust's own have no call that answers when there is no memory; here the entries are in
+//! short lists, one behind another, all in the order of their keys. So a new entry moves few others, however many there are.
 
 use crate::alloc::{AllocFailed, Global};
 use core::borrow::Borrow;
+use memory::vec::Vec;
+
+/// The most entries of one list. A full one is parted in two.
+const MOST: usize = 64;
 
 /// A map in the order of its keys.
 pub struct BTreeMap<K, V> {
-    entries: memory::vec::Vec<(K, V)>,
+    /// None of them is empty.
+    lists: Vec<Vec<(K, V)>>,
 }
 
 impl<K: Ord, V> BTreeMap<K, V> {
     /// The empty map, and no memory taken.
     pub const fn new(_: Global) -> BTreeMap<K, V> {
-        BTreeMap {
-            entries: memory::vec::Vec::new(),
-        }
+        BTreeMap { lists: Vec::new() }
     }
 
-    /// Where a key stands, or would stand.
-    fn place<Q: Ord + ?Sized>(&self, key: &Q) -> Result<usize, usize>
+    /// The list that has a key, or in which it would be: the last that begins with no greater key, or the first.
+    fn list<Q: Ord + ?Sized>(&self, key: &Q) -> usize
     where
         K: Borrow<Q>,
     {
-        self.entries.binary_search_by(|entry| entry.0.borrow().cmp(key))
+        self.lists
+            .partition_point(|list| list[0].0.borrow() <= key)
+            .saturating_sub(1)
+    }
+
+    /// Where a key is, or would be.
+    fn place<Q: Ord + ?Sized>(&self, list: usize, key: &Q) -> Result<usize, usize>
+    where
+        K: Borrow<Q>,
+    {
+        match self.lists.get(list) {
+            Some(entries) => entries.binary_search_by(|entry| entry.0.borrow().cmp(key)),
+            None => Err(0),
+        }
+    }
+
+    /// Makes room for one entry at a place of a list. Gives the list and the place where it goes then, or `None` without memory.
+    fn room(&mut self, list: usize, place: usize) -> Option<(usize, usize)> {
+        if self.lists.is_empty() {
+            self.lists.try_reserve(1).ok()?;
+            self.lists.push(Vec::new());
+        }
+        if self.lists[list].len() < MOST {
+            self.lists[list].try_reserve(1).ok()?;
+            return Some((list, place));
+        }
+        // Keys that come in their order fill one list after another.
+        let kept = if list + 1 == self.lists.len() && place == MOST { MOST } else { MOST / 2 };
+        let mut behind = Vec::new();
+        behind.try_reserve(MOST - kept + 1).ok()?;
+        self.lists.try_reserve(1).ok()?;
+        behind.extend(self.lists[list].drain(kept..));
+        self.lists.insert(list + 1, behind);
+        if place < kept || (place == kept && kept < MOST) {
+            Some((list, place))
+        } else {
+            Some((list + 1, place - kept))
+        }
     }
 
     /// Gives a key a value, and answers the one before.
     pub fn insert(&mut self, key: K, value: V) -> Result<Option<V>, AllocFailed<(K, V)>> {
-        match self.place(&key) {
-            Ok(place) => Ok(Some(core::mem::replace(&mut self.entries[place].1, value))),
-            Err(place) => {
-                if self.entries.try_reserve(1).is_err() {
-                    return Err(AllocFailed((key, value)));
+        let list = self.list(&key);
+        match self.place(list, &key) {
+            Ok(place) => Ok(Some(core::mem::replace(&mut self.lists[list][place].1, value))),
+            Err(place) => match self.room(list, place) {
+                Some((list, place)) => {
+                    self.lists[list].insert(place, (key, value));
+                    Ok(None)
                 }
-                self.entries.insert(place, (key, value));
-                Ok(None)
-            }
+                None => {
+                    // An empty list that was made for it alone is taken away.
+                    self.lists.retain(|entries| !entries.is_empty());
+                    Err(AllocFailed((key, value)))
+                }
+            },
         }
     }
 
@@ -44,8 +89,9 @@ impl<K: Ord, V> BTreeMap<K, V> {
     where
         K: Borrow<Q>,
     {
-        let place = self.place(key).ok()?;
-        Some(&self.entries[place].1)
+        let list = self.list(key);
+        let place = self.place(list, key).ok()?;
+        Some(&self.lists[list][place].1)
     }
 
     /// Whether a key has a value.
@@ -53,7 +99,7 @@ impl<K: Ord, V> BTreeMap<K, V> {
     where
         K: Borrow<Q>,
     {
-        self.place(key).is_ok()
+        self.place(self.list(key), key).is_ok()
     }
 }
 

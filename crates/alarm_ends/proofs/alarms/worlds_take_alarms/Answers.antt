@@ -5,7 +5,7 @@ use Rattle.world_ends.specs.Played.{last_world}
 use Rattle.alarm_ends.proofs.alarms.worlds_take_alarms.Goals as goal
 
 device_so : (g : _) → goal.After-alarms_are_taken_in_order g → DeviceSo
-device_so g c = record { begins_sized = c.messages_can_be_sent.ensures.first; goes_sized = c.messages_can_be_sent.ensures.next; goes_on = c.device_goes_on.ensures; owed = c.device_sends_what_it_owes.ensures }
+device_so g c = record { begins_sized = c.messages_can_be_sent.ensures.first; goes_sized = c.messages_can_be_sent.ensures.next; goes_on = c.device_goes_on.ensures; turns = c.device_turns.ensures.turn; raises = c.device_turns.ensures.raises }
 
 hears_so : (g : _) → goal.After-alarms_are_taken_in_order g → HearsSo
 hears_so g c = record {

@@ -1,5 +1,7 @@
-use Rattle.std.proofs.Common.{◌≡◌, ◌∙◌, refl, sym, false}
+use Rattle.std.proofs.Common.{◌≡◌, ◌∙◌, refl, sym, ap, false, cond, Some, length, string_bytes}
+use Rattle.std.specs.Str.{bytes_eq}
 use Rattle.std.proofs.lemmas.Bool.{not-true}
+use Rattle.catalogue.proofs.Ids.{place_behind}
 use Rattle.catalogue.specs.Modules.{has_id, module_item}
 use Rattle.catalogue.proofs.module.module_of.Goals as goal
 
@@ -7,5 +9,14 @@ use Rattle.catalogue.proofs.module.module_of.Goals as goal
 pub returns-clause-read : goal.returns-clause-read
 unfolding module_item
 returns-clause-read c =
-    let new : has_id c.as_str.result.now c.args.before.now ≡ false = sym (c.requires c.as_str.result.now) ∙ not-true _ (sym c.in_ok-is_new.ensures.new ∙ c.if-not-is_new.false) in
+    let new : has_id c.as_str.result.now c.args.before.now ≡ false = not-true _ (sym c.is_new-is_new.ensures ∙ c.if-not-is_new.false) in
     rw c.in_ok-id.ensures (rw (sym c.as_str.ensures.value) (rw new (rw c.in_ok-ident.ensures (rw c.in_ok-submodules.ensures refl))))
+
+-- and its module is at the place behind theirs
+pub returns-clause-places : goal.returns-clause-places
+returns-clause-places c = λ id.
+    let new : has_id (string_bytes c.in_ok-id.id) c.args.before.now ≡ false = rw (sym c.as_str.ensures.value) (not-true _ (sym c.is_new-is_new.ensures ∙ c.if-not-is_new.false)) in
+    let put = c.in_ok-put_place.ensures id in
+    (rw c.as_str-2.ensures.value at put)
+    ∙ ap (cond (bytes_eq (string_bytes c.in_ok-id.id) id) (Some (length c.args.before.now))) (c.requires id)
+    ∙ sym (place_behind c.args.before.now _ id new)

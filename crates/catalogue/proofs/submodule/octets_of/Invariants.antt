@@ -4,5 +4,5 @@ use Rattle.catalogue.specs.Submodules.{octets_in}
 use Rattle.catalogue.proofs.submodule.octets_of.Given as goal
 
 -- all are counted as what is left is behind those counted
-abbrev pub invariant-loop-tree : goal.invariant-loop-tree
-invariant-loop-tree l = octets_in 0 (items_view l.trees) ≡ octets_in l.octets (items_view (drop l.tree-index l.trees))
+abbrev pub invariant-loop-index : goal.invariant-loop-index
+invariant-loop-index l = octets_in 0 0 (items_view l.trees) ≡ octets_in l.index l.octets (items_view (drop l.index l.trees))

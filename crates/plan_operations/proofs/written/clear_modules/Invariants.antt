@@ -1,6 +1,10 @@
--- no place is lost
-use Rattle.std.proofs.Common.{◌≡◌, length}
+-- the places so far are empty, and none is lost
+use Rattle.std.proofs.Common.{◌≡◌, length, take, replicate}
+use Rattle.plan_operations.specs.Readings.{no_module}
 use Rattle.plan_operations.proofs.written.clear_modules.Given as goal
 
 abbrev pub invariant-loop-index : goal.invariant-loop-index
-invariant-loop-index l = length l.places ≡ length l.initial.places
+invariant-loop-index l = record {
+  items : take l.index l.places ≡ replicate l.index no_module;
+  len : length l.places ≡ length l.initial.places;
+}

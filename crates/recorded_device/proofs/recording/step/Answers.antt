@@ -1,9 +1,9 @@
 -- What a step records.
 use Rattle.std.proofs.Common.{◌∙◌, subst, sym}
-use Rattle.device_core.specs.Machine.{items_of}
+use Rattle.device_core.specs.Machine.{items_of, step_of}
 use Rattle.device_core.specs.State.{store_of}
 use Rattle.device_frames.specs.Heard.{heard_of}
-use Rattle.settings_store.specs.Carries.{OneByOne}
+use Rattle.settings_store.specs.Carries.{OneByOne, Stretch}
 use Rattle.recorded_device.proofs.OneStep.{step_records}
 use Rattle.recorded_device.proofs.Placed.{as_recorded}
 use Rattle.recorded_device.proofs.recording.step.Goals as goal
@@ -15,4 +15,5 @@ returns-clause-records g c =
     let going = (c.step.ensures.reliable tt c.requires).1 in
     let quiet = s.quiet (going ∙ sym c.requires) in
     let placed = subst (λ o. OneByOne as_recorded o (store_of old) (items_of old.station old.live (heard_of old.station.identity c.args.event.now)) (store_of c.step.new.self)) quiet s.placed in
-    step_records old c.step.new.self c.args.event.now c.stored.ensures.holds c.requires placed
+    let stretch = subst (λ o. Stretch as_recorded (store_of old) (step_of o old.station old.live c.args.event.now).accepted (store_of c.step.new.self)) quiet s.stretch in
+    step_records old c.step.new.self c.args.event.now c.stored.ensures.holds c.requires placed stretch going

@@ -35,13 +35,13 @@ unfolding said
 returns-in-Give-clause-obeys c plans network right are plain = rw c.in-Give.is (if_there_obeys _ _ _ _ _ _ (c.give_output.ensures.obeys network are) c.if_there-in-Give.ensures)
 
 pub returns-in-Frame-clause-lost : goal.returns-in-Frame-clause-lost
-returns-in-Frame-clause-lost c handed there gone = always_tells _ _ _ (c.hand_in.ensures.lost there gone) c.always.ensures
+returns-in-Frame-clause-lost c handed there gone = rw c.in-Frame.is (always_tells _ _ _ (c.hand_in.ensures.lost there gone) c.always.ensures)
 
 pub returns-in-Input-clause-lost : goal.returns-in-Input-clause-lost
-returns-in-Input-clause-lost c handed there gone = always_tells _ _ _ (c.give.ensures.lost there gone) c.always-in-Input.ensures
+returns-in-Input-clause-lost c handed there gone = rw c.in-Input.is (always_tells _ _ _ (c.give.ensures.lost there gone) c.always-in-Input.ensures)
 
 pub returns-in-Alarm-clause-lost : goal.returns-in-Alarm-clause-lost
-returns-in-Alarm-clause-lost c handed there gone = always_tells _ _ _ (c.alarm.ensures.lost there gone) c.always-in-Alarm.ensures
+returns-in-Alarm-clause-lost c handed there gone = rw c.in-Alarm.is (always_tells _ _ _ (c.alarm.ensures.lost there gone) c.always-in-Alarm.ensures)
 
 pub returns-in-Deliver-clause-lost : goal.returns-in-Deliver-clause-lost
-returns-in-Deliver-clause-lost c handed there gone = if_there_tells _ _ _ (c.deliver.ensures.lost there gone) c.if_there-in-Deliver.ensures
+returns-in-Deliver-clause-lost c handed there gone = rw c.in-Deliver.is (if_there_tells _ _ _ (c.deliver.ensures.lost there gone) c.if_there-in-Deliver.ensures)

@@ -4,7 +4,7 @@ use Rattle.script_lines.specs.Read.{line_read}
 use Rattle.script_session.specs.Said.{is_order}
 use Rattle.script_session.specs.Off.{is_handed}
 use Rattle.script_session.specs.Session.{AreRightFor}
-use Rattle.script_session.proofs.Obeying.{empty_is_skipped, skipped_obeys}
+use Rattle.script_session.proofs.Obeying.{empty_is_skipped, order_taken, skipped_obeys, untaken}
 use Rattle.script_session.proofs.session.Session.take.Goals as goal
 
 pub returns-then-is_empty-clause-takes : goal.returns-then-is_empty-clause-takes
@@ -30,4 +30,15 @@ returns-in-Asks-clause-takes c plans network right are plain =
 pub returns-in-Asks-clause-lost : goal.returns-in-Asks-clause-lost
 returns-in-Asks-clause-lost c handed there gone =
     let meant = sym c.in-Ok.ensures ∙ ap line_read c.in-Asks.is in
-    c.answer.ensures.lost (subst (λ line. is_handed line ≡ true) meant handed) there gone
+    let over = subst (λ line. is_handed line ≡ true) meant handed in
+    rw meant (c.answer.ensures.lost over there gone)
+
+pub returns-then-is_empty-clause-ordered : goal.returns-then-is_empty-clause-ordered
+returns-then-is_empty-clause-ordered c there =
+    let none : length c.args.line.now ≡ 0 = grind (arith, nat_tests) in
+    rw (empty_is_skipped c.args.line.now none) tt
+
+pub returns-in-Asks-clause-ordered : goal.returns-in-Asks-clause-ordered
+returns-in-Asks-clause-ordered c there =
+    let meant = sym c.in-Ok.ensures ∙ ap line_read c.in-Asks.is in
+    rw meant (order_taken _ _ _ _ _ _ c.answer.ensures.armed)

@@ -4,6 +4,7 @@ use Rattle.settings_journal.specs.Commit.{IsKept}
 use Rattle.settings_journal.proofs.Active.{starts_with}
 use Rattle.settings_journal.proofs.Apart.{apart_same, apart_at}
 use Rattle.settings_journal.proofs.Cut.{safe_as}
+use Rattle.settings_journal.proofs.Room.{one_fewer}
 use Rattle.settings_journal.proofs.Storing.{still_kept, before, commit_calls}
 use Rattle.settings_journal.proofs.journal.Journal.commit.Goals as goal
 
@@ -18,6 +19,12 @@ returns-in-Ok-clause-stored g c = λ going.
     let b = before _ c.self.inside.position _ _ _ _ (c.self.invariant c.if-self.false) c.apply-next.ensures c.copy.ensures in
     let s = c.in-Ok.ensures.stored _ b in
     starts_with _ _ _ _ _ _ (g.met.F.Flash.sized c.store.new.flash) s.starts
+
+pub returns-in-Ok-clause-counts : goal.returns-in-Ok-clause-counts
+returns-in-Ok-clause-counts g c =
+    let b = before _ c.self.inside.position _ _ _ _ (c.self.invariant c.if-self.false) c.apply-next.ensures c.copy.ensures in
+    let s = c.in-Ok.ensures.stored _ b in
+    rw (← c.self.view_is) (one_fewer _ _ _ c.if-self.false s.room)
 
 pub returns-in-Ok-clause-generation : goal.returns-in-Ok-clause-generation
 returns-in-Ok-clause-generation g c =

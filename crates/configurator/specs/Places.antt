@@ -1,0 +1,20 @@
+-- The places of faults that are judged over the whole.
+use Rattle.std.specs.Prelude.{List, [], ◌∷◌, if◌then◌else◌}
+use Rattle.station_names.specs.Valid.{is_station_name}
+use Rattle.catalogue.specs.declared.fault.Step.{Step}
+use Rattle.catalogue.specs.declared.fault.Step.TheVariants.{At}
+use Rattle.catalogue.specs.declared.key.Key.TheVariants as key
+use Rattle.catalogue.specs.Projects.{Project}
+use Rattle.catalogue.specs.Catalogues.{Catalogue}
+use Rattle.configurator.specs.declared.fault.PlanFault.{PlanFault}
+use Rattle.configurator.specs.declared.fault.PlanFault.TheVariants.{Name}
+
+-- the place of the first name that is not valid: the controller's, if the station's is
+abbrev pub name_place : Project → List Step
+name_place project =
+    At key.Project ∷ (if is_station_name project.station.name then At key.Controller ∷ At key.NameOfStation ∷ [] else At key.NameOfStation ∷ [])
+
+-- the place of a fault over the whole: only a name is at one key
+abbrev pub place_of : Catalogue → PlanFault → List Step
+place_of found Name = name_place found.project
+place_of found fault = []

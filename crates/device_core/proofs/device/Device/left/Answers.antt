@@ -1,0 +1,5 @@
+-- How many commits are left.
+use Rattle.device_core.proofs.device.Device.left.Goals as goal
+
+pub returns-clause-read : goal.returns-clause-read
+returns-clause-read g c = rw (← c.self.view_is) c.left.ensures.read

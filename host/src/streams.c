@@ -1,0 +1,44 @@
+#define _GNU_SOURCE
+#include "streams.h"
+#include "say.h"
+#include <errno.h>
+#include <fcntl.h>
+#include <string.h>
+#include <unistd.h>
+
+static int open_null(void)
+{
+    return open("/dev/null", O_RDWR | O_NOCTTY);
+}
+
+void streams_secure(void)
+{
+    /* A new descriptor is the lowest one that is free, and those below are open by then. */
+    for (int fd = STDIN_FILENO; fd <= STDERR_FILENO; fd++)
+        if (fcntl(fd, F_GETFD) < 0 && open_null() != fd)
+            fail(STATUS_SYSTEM, "stream %d is closed, and /dev/null cannot be opened for it: %s", fd, strerror(errno));
+}
+
+/* Without /dev/null it is closed: a message is lost then, and the next file that is opened may have its number; the program ends. */
+static void silence(void)
+{
+    int fd = open_null();
+    if (fd < 0 || dup2(fd, STDERR_FILENO) < 0)
+        close(STDERR_FILENO);
+    if (fd >= 0)
+        close(fd);
+}
+
+int streams_lead_to(const struct stat *file)
+{
+    struct stat stream;
+    int is_one = 0;
+    for (int fd = STDIN_FILENO; fd <= STDERR_FILENO; fd++) {
+        if (fstat(fd, &stream) != 0 || stream.st_dev != file->st_dev || stream.st_ino != file->st_ino)
+            continue;
+        is_one = 1;
+        if (fd == STDERR_FILENO)
+            silence();
+    }
+    return is_one;
+}

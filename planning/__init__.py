@@ -1,0 +1,1 @@
+"""What ./pnscript does beside the program, before and after a plan: catalogues from GSDML files, and pictures of plans."""
