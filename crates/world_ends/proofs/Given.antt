@@ -1,5 +1,5 @@
 -- The laws below.
-use Rattle.std.specs.Prelude.{◌≡◌, ◌<◌, ◌++◌, ℕ, List, length, Option, Some}
+use Rattle.std.specs.Prelude.{◌≡◌, ◌<◌, ◌++◌, ℕ, List, length, map, Option, Some}
 use Rattle.std.specs.List.{AllByRecursion}
 use Rattle.pn_values.specs.declared.identity.Identity.{Identity}
 use Rattle.pn_values.specs.declared.mac.Mac.{Mac}
@@ -31,10 +31,10 @@ use Rattle.controller_frames.specs.declared.request.Request.{Request as Asking}
 use Rattle.controller_frames.specs.declared.setup.Setup.{Setup}
 use Rattle.controller_frames.specs.Heard.{Calls as Called, Nothing, Responds as Responded, heard_of as controller_hears}
 use Rattle.controller_frames.specs.Requests.{call_for}
-use Rattle.controller_frames.specs.Sent.{answer_frame, call_frame, calls_at}
+use Rattle.controller_frames.specs.Sent.{answer_frame, call_frame, calls_at, bytes_of as controller_bytes}
 use Rattle.controller_core.specs.declared.event.Event.{Event}
-use Rattle.controller_core.specs.Machine.{first, turn_of}
-use Rattle.controller_core.specs.State.{Live as ControllerLive}
+use Rattle.controller_core.specs.Machine.{first, step_of, turn_of}
+use Rattle.controller_core.specs.State.{Controlling, Live as ControllerLive}
 use Rattle.frame_laws.specs.Sendable.{IsHolder, IsMac, IsTag, carrying}
 use Rattle.hearing_laws.specs.Hearing.{IsUncalled, IsUntold, all_hears, comes, mine_told, own_told}
 use Rattle.hearing_laws.specs.Stations.{IsAddress, IsCalled, IsCaller, IsDevice, IsNumbered, IsSetup, ready_call}
@@ -104,6 +104,7 @@ pub record GoesSo : Type 0 where
   pub begins : (plan : Parts) → IsInStep plan (first plan).phase (first plan).asked × (small_controller plan (first plan) ≡ small.Seeking)
   pub controller_on : (setup : Setup) (live : ControllerLive) (event : Event) → IsInStep setup.plan live.phase live.asked
       → GoesOn setup.plan (said_in setup (controller_hears setup.plan.controller) event) live (turn_of setup live event)
+  pub frames_are : (old : Controlling) (event : Event) → (step_of old event).frames ≡ map (controller_bytes old.setup) (turn_of old.setup old.live event).sent
   pub device_on : (rules : Rules TakenRecord Request) (activity : List ℕ) (outcomes : List Outcome) (station : Station) (live : Live) (heard : Heard)
       → IsPlanned rules activity station.real heard
       → AllByRecursion (IsHeardAs rules station.identity) (heard_step outcomes station live heard).sent

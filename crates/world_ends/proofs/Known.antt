@@ -1,6 +1,6 @@
 -- What holds of a world at each point of a run from its beginning: each frame that ever was sent is known, and so is each message that is
 -- sent next.
-use Rattle.std.proofs.Common.{◌≡◌, ◌⊎◌, inl, inr, ℕ, Bool, true, false, List, [], ◌∷◌, ◌++◌, map, Option, Some, None, option_map, Ok, refl, sym, ap, subst, ◌∙◌, append-nil, append_assoc}
+use Rattle.std.proofs.Common.{◌≡◌, ◌⊎◌, inl, inr, ℕ, List, [], ◌∷◌, ◌++◌, map, Option, Some, None, option_map, Ok, refl, sym, ap, subst, ◌∙◌, append-nil, append_assoc}
 use Rattle.std.specs.Prelude.{slice_get}
 use Rattle.std.specs.List.{AllByRecursion}
 use Rattle.flash_model.specs.declared.flash.Flash.{Ghosts as Flash}
@@ -29,7 +29,7 @@ use Rattle.controller_core.specs.Machine.{first as first_live, opening_of, step_
 use Rattle.network_world.specs.declared.moves.End.TheVariants.{Device, Controller}
 use Rattle.network_world.specs.declared.moves.Move.{Move}
 use Rattle.network_world.specs.declared.moves.Move.TheVariants as move
-use Rattle.network_world.specs.World.{World, AtDevice, Comes, Delivers, Happens, at_controller, is_skipped}
+use Rattle.network_world.specs.World.{World, AtDevice, Happens, at_controller}
 use Rattle.hearing_laws.specs.Stations.{IsDevice, IsSetup}
 use Rattle.sending_laws.specs.Addressed.{IsAimed, IsEventFrom}
 use Rattle.both_ends.specs.Small as small
@@ -46,7 +46,7 @@ use Rattle.world_ends.proofs.Each.{each_at, each_behind, some_is}
 use Rattle.world_ends.proofs.Given.{GoesSo, HeardSo}
 use Rattle.world_ends.proofs.Heard.{IsKnown, IsKnownHeard, IsMetAs, IsOwnCall, IsPlans, IsTold, all_heard, all_met, all_said, all_told, opening_told}
 use Rattle.world_ends.proofs.Planned.{IsGood, heard_planned}
-use Rattle.world_ends.proofs.Runs.{InStep, controller_is, frames_are, happens_steps, last_viewed, rules_at}
+use Rattle.world_ends.proofs.Runs.{InStep, controller_is, delivered, happens_steps, last_viewed, rules_at}
 
 -- what is asked of both ends
 pub record CanStart (setup : Setup) (station : Station) : Type 0 where
@@ -181,7 +181,7 @@ module _ (so : HeardSo) (goes : GoesSo) where
           let now : World F = record { device = before.device; controller = with_live before.controller turn.live; sent = before.sent ++ map (said.bytes_of setup) turn.sent } in
           let there : after ≡ now =
           is ∙ (ap (λ (c : Controlling). record { device = before.device; controller = c; sent = before.sent ++ (step_of before.controller event).frames }) (controller_is before.controller event)
-          ∙ ap (λ (frames : List (List ℕ)). record { device = before.device; controller = with_live before.controller turn.live; sent = before.sent ++ frames }) (frames_are before.controller event)) in
+          ∙ ap (λ (frames : List (List ℕ)). record { device = before.device; controller = with_live before.controller turn.live; sent = before.sent ++ frames }) (goes.frames_are before.controller event)) in
           let all : HoldsAt now = record {
             known = each_behind (IsKnown setup station.identity) before.sent (map (said.bytes_of setup) turn.sent) holds.known (told_known turn.sent told);
             again = holds.again;
@@ -209,27 +209,13 @@ module _ (so : HeardSo) (goes : GoesSo) where
         same_holds : after ≡ before → HoldsAt after
         same_holds same = subst (λ (w : World F). HoldsAt w) (sym same) holds
 
-        comes_to_device : (octets : List ℕ) (skipped : Bool) → IsKnown setup station.identity octets → Comes as_flash skipped before Device octets after → HoldsAt after
-        comes_to_device octets true known comes = same_holds comes
-        comes_to_device octets false known comes = holds_behind_device plans (heard_of station.identity (Frame (record { items = octets }))) known.at_device as_flash after comes
-
-        comes_to_controller : (octets : List ℕ) (skipped : Bool) → IsKnown setup station.identity octets → Comes as_flash skipped before Controller octets after → HoldsAt after
-        comes_to_controller octets true known comes = same_holds comes
-        comes_to_controller octets false known comes = holds_behind_controller (controller.Frame (record { items = octets })) known.at_controller after comes
-
-        delivered_to_device : (octets : Option (List ℕ)) → ((frame : List ℕ) → octets ≡ Some frame → IsKnown setup station.identity frame)
-            → Delivers as_flash octets before Device after → HoldsAt after
-        delivered_to_device None known comes = same_holds comes
-        delivered_to_device (Some octets) known comes = comes_to_device octets (is_skipped before.device before.controller Device octets) (known octets refl) comes
-
-        delivered_to_controller : (octets : Option (List ℕ)) → ((frame : List ℕ) → octets ≡ Some frame → IsKnown setup station.identity frame)
-            → Delivers as_flash octets before Controller after → HoldsAt after
-        delivered_to_controller None known comes = same_holds comes
-        delivered_to_controller (Some octets) known comes = comes_to_controller octets (is_skipped before.device before.controller Controller octets) (known octets refl) comes
-
         pub holds_behind : (one : Move) → Happens as_flash before one after → HoldsAt after
-        holds_behind (move.Deliver Device number) happens = delivered_to_device (slice_get before.sent number) (λ frame there. known_at number frame there) happens
-        holds_behind (move.Deliver Controller number) happens = delivered_to_controller (slice_get before.sent number) (λ frame there. known_at number frame there) happens
+        holds_behind (move.Deliver Device number) happens =
+            delivered as_flash before after Device _ (slice_get before.sent number) happens same_holds
+            (λ frame there comes. holds_behind_device plans (heard_of station.identity (Frame (record { items = frame }))) (known_at number frame there).at_device as_flash after comes)
+        holds_behind (move.Deliver Controller number) happens =
+            delivered as_flash before after Controller _ (slice_get before.sent number) happens same_holds
+            (λ frame there comes. holds_behind_controller (controller.Frame (record { items = frame })) (known_at number frame there).at_controller after comes)
         holds_behind (move.Tick Device) happens = holds_behind_device plans Ticks tt as_flash after happens
         holds_behind (move.Tick Controller) happens = holds_behind_controller controller.Tick tt after happens
         holds_behind (move.Input slot subslot value) happens = holds_behind_device plans (Given slot subslot value.items) tt as_flash after happens
@@ -268,7 +254,7 @@ module _ (so : HeardSo) (goes : GoesSo) where
     on run now last same steps can holds in_step (one ∷ others) made =
         let plans = plans_at run now last same steps in
         let meant = all_meant now can holds in_step plans one.0 in
-        let step = happens_steps as_flash goes.device_on goes.controller_on now one.1 in_step one.0 meant made.0 in
+        let step = happens_steps as_flash goes.device_on goes.controller_on goes.frames_are now one.1 in_step one.0 meant made.0 in
         let still : rules_at one.1 ≡ rules_at now =
         ap (λ (s : Setup). rules_of s one.1.device.station) step.setup ∙ ap (λ (s : Station). rules_of now.controller.setup s) step.station in
         let from : Steps rules (last_of (view_of first) (viewed run)) (move_of one.0) (view_of one.1) =

@@ -8,8 +8,7 @@ use Rattle.settings_store.specs.Machine.{Outcome}
 use Rattle.connect_requests.specs.Request.{Request}
 use Rattle.record_writes.specs.declared.taken.TakenRecord.{TakenRecord}
 use Rattle.relations.specs.Link.{Link}
-use Rattle.device_frames.specs.declared.event.Event.TheVariants.{Frame}
-use Rattle.device_frames.specs.Heard.{Heard, Ticks, Given, Raised, heard_of}
+use Rattle.device_frames.specs.Heard.{Heard, Ticks, Given, Raised}
 use Rattle.device_core.specs.State.{Station, Live}
 use Rattle.device_core.specs.Machine.{heard_step}
 use Rattle.controller_frames.specs.declared.setup.Setup.{Setup}
@@ -21,6 +20,7 @@ use Rattle.controller_core.specs.declared.event.Event.{Event}
 use Rattle.controller_core.specs.declared.event.Event.TheVariants as controller
 use Rattle.controller_core.specs.State.{Controlling, Live as ControllerLive, with_live}
 use Rattle.controller_core.specs.Machine.{step_of, turn_of}
+use Rattle.network_world.specs.declared.moves.End.{End}
 use Rattle.network_world.specs.declared.moves.End.TheVariants.{Device, Controller}
 use Rattle.network_world.specs.declared.moves.Move.{Move}
 use Rattle.network_world.specs.declared.moves.Move.TheVariants as move
@@ -47,6 +47,9 @@ abbrev pub ControllerGoesOn : Type 0
 ControllerGoesOn = (setup : Setup) (live : ControllerLive) (event : Event) → IsInStep setup.plan live.phase live.asked
     → GoesOn setup.plan (said_in setup (heard_by setup.plan.controller) event) live (turn_of setup live event)
 
+abbrev pub FramesAre : Type 0
+FramesAre = (old : Controlling) (event : Event) → (step_of old event).frames ≡ map (bytes_of old.setup) (turn_of old.setup old.live event).sent
+
 -- ---- runs
 
 module _ {F : Type 0} {S : ℕ} (as_flash : Flash F S) where
@@ -61,15 +64,24 @@ module _ {F : Type 0} {S : ℕ} (as_flash : Flash F S) where
         last = more.last;
       }
 
+-- ---- a frame that comes
+
+module _ {F : Type 0} {S : ℕ} (as_flash : Flash F S) (before after : World F) (end : End) (P : Type 0) where
+  come_so : (frame : List ℕ) (skipped : Bool) → Comes as_flash skipped before end frame after → (after ≡ before → P) → (Comes as_flash false before end frame after → P) → P
+  come_so frame true comes rests hears = rests comes
+  come_so frame false comes rests hears = hears comes
+
+  -- it is skipped, or there is none, and nothing changes; or it is heard
+  pub delivered : (octets : Option (List ℕ)) → Delivers as_flash octets before end after → (after ≡ before → P)
+      → ((frame : List ℕ) → octets ≡ Some frame → Comes as_flash false before end frame after → P) → P
+  delivered None comes rests hears = rests comes
+  delivered (Some frame) comes rests hears = come_so frame (is_skipped before.device before.controller end frame) comes rests (hears frame refl)
+
 -- ---- a step of the controller
 
 pub controller_is : (old : Controlling) (event : Event) → (step_of old event).controller ≡ with_live old (turn_of old.setup old.live event).live
 unfolding step_of
 controller_is old event = refl
-
-pub frames_are : (old : Controlling) (event : Event) → (step_of old event).frames ≡ map (bytes_of old.setup) (turn_of old.setup old.live event).sent
-unfolding step_of
-frames_are old event = refl
 
 module _ {F : Type 0} where
   abbrev pub rules_at : World F → Rules TakenRecord Request
@@ -106,7 +118,7 @@ module _ {F : Type 0} where
   all_said w now [] heard says = tt
   all_said w now (message ∷ sent) heard says = (said_is w now message heard.0 says.0, all_said w now sent heard.1 says.1)
 
-  module _ (goes : ControllerGoesOn) where
+  module _ (goes : ControllerGoesOn) (frames_are : FramesAre) where
     controller_steps : (w : World F) (event : Event) → InStep w → IsMeantAtController w event
         → ControllerSteps (rules_at w) (said_in w.controller.setup (heard_by w.controller.setup.plan.controller) event) (small_of w.controller.setup.plan w.controller.live)
         (small_of w.controller.setup.plan (turn_of w.controller.setup w.controller.live event).live) (map (bytes_of w.controller.setup) (turn_of w.controller.setup w.controller.live event).sent)
@@ -181,51 +193,24 @@ module _ {F : Type 0} where
     does : (before after : World F) (Same Does More : Type 0) → (Does → More) → Refines before after Does → Refines before after (Same ⊎ More)
     does before after Same Does More more refines = record { is = inr (more refines.is); setup = refines.setup; station = refines.station; in_step = refines.in_step }
 
-    module _ (on : ControllerGoesOn) (before after : World F) (in_step : InStep before) where
-      comes_to_device : (number : ℕ) (octets : List ℕ) (skipped : Bool) → slice_get before.sent number ≡ Some octets
-          → IsMeantAtDevice before (heard_of before.device.station.identity (Frame (record { items = octets })))
-          → Comes as_flash skipped before Device octets after
-          → Refines before after (Steps (rules_at before) (view_of before) (small.ComesToDevice number) (view_of after))
-      comes_to_device number octets true there meant comes = rests before after _ in_step comes
-      comes_to_device number octets false there meant comes =
-          does before after _ _ _ (λ steps. record { frame = octets; there = there; steps = steps }) (at_device_steps before after _ in_step meant comes)
-
-      comes_to_controller : (number : ℕ) (octets : List ℕ) (skipped : Bool) → slice_get before.sent number ≡ Some octets
-          → IsMeantAtController before (controller.Frame (record { items = octets }))
-          → Comes as_flash skipped before Controller octets after
-          → Refines before after (Steps (rules_at before) (view_of before) (small.ComesToController number) (view_of after))
-      comes_to_controller number octets true there meant comes = rests before after _ in_step comes
-      comes_to_controller number octets false there meant comes =
-          does before after _ _ _ (λ steps. record { frame = octets; there = there; steps = steps })
-          (at_controller_steps on before after (controller.Frame (record { items = octets })) in_step meant comes)
-
-      delivered_to_device : (number : ℕ) (octets : Option (List ℕ)) → slice_get before.sent number ≡ octets
-          → ((frame : List ℕ) → octets ≡ Some frame → IsMeantAtDevice before (heard_of before.device.station.identity (Frame (record { items = frame }))))
-          → Delivers as_flash octets before Device after
-          → Refines before after (Steps (rules_at before) (view_of before) (small.ComesToDevice number) (view_of after))
-      delivered_to_device number None there meant comes = rests before after _ in_step comes
-      delivered_to_device number (Some octets) there meant comes =
-          comes_to_device number octets (is_skipped before.device before.controller Device octets) there (meant octets refl) comes
-
-      delivered_to_controller : (number : ℕ) (octets : Option (List ℕ)) → slice_get before.sent number ≡ octets
-          → ((frame : List ℕ) → octets ≡ Some frame → IsMeantAtController before (controller.Frame (record { items = frame })))
-          → Delivers as_flash octets before Controller after
-          → Refines before after (Steps (rules_at before) (view_of before) (small.ComesToController number) (view_of after))
-      delivered_to_controller number None there meant comes = rests before after _ in_step comes
-      delivered_to_controller number (Some octets) there meant comes =
-          comes_to_controller number octets (is_skipped before.device before.controller Controller octets) there (meant octets refl) comes
-
+    module _ (on : ControllerGoesOn) (frames_are : FramesAre) (before after : World F) (in_step : InStep before) where
       pub happens_steps : (one : Move) → IsMeant before one → Happens as_flash before one after
           → Refines before after (Steps (rules_at before) (view_of before) (move_of one) (view_of after))
-      happens_steps (move.Deliver Device number) meant happens = delivered_to_device number (slice_get before.sent number) refl meant happens
-      happens_steps (move.Deliver Controller number) meant happens = delivered_to_controller number (slice_get before.sent number) refl meant happens
+      happens_steps (move.Deliver Device number) meant happens =
+          delivered as_flash before after Device _ (slice_get before.sent number) happens (λ same. rests before after _ in_step same)
+          (λ frame there comes. does before after _ _ _ (λ steps. record { frame = frame; there = there; steps = steps })
+          (at_device_steps before after _ in_step (meant frame there) comes))
+      happens_steps (move.Deliver Controller number) meant happens =
+          delivered as_flash before after Controller _ (slice_get before.sent number) happens (λ same. rests before after _ in_step same)
+          (λ frame there comes. does before after _ _ _ (λ steps. record { frame = frame; there = there; steps = steps })
+          (at_controller_steps on frames_are before after (controller.Frame (record { items = frame })) in_step (meant frame there) comes))
       happens_steps (move.Tick Device) meant happens = does before after _ _ _ (λ steps. steps) (at_device_steps before after Ticks in_step meant happens)
-      happens_steps (move.Tick Controller) meant happens = does before after _ _ _ (λ steps. steps) (at_controller_steps on before after controller.Tick in_step meant happens)
+      happens_steps (move.Tick Controller) meant happens = does before after _ _ _ (λ steps. steps) (at_controller_steps on frames_are before after controller.Tick in_step meant happens)
       happens_steps (move.Input slot subslot value) meant happens = does before after _ _ _ (λ steps. steps) (at_device_steps before after (Given slot subslot value.items) in_step meant happens)
       happens_steps (move.Alarm slot subslot octets) meant happens = does before after _ _ _ (λ steps. steps) (at_device_steps before after (Raised slot subslot octets.items) in_step meant happens)
       happens_steps (move.Give slot subslot value) meant happens =
-          does before after _ _ _ (λ steps. steps) (at_controller_steps on before after (controller.Give slot subslot value) in_step meant happens)
-      happens_steps move.Stop meant happens = does before after _ _ _ (λ steps. steps) (at_controller_steps on before after controller.Stop in_step meant happens)
+          does before after _ _ _ (λ steps. steps) (at_controller_steps on frames_are before after (controller.Give slot subslot value) in_step meant happens)
+      happens_steps move.Stop meant happens = does before after _ _ _ (λ steps. steps) (at_controller_steps on frames_are before after controller.Stop in_step meant happens)
 
 -- ---- the law
 

@@ -26,7 +26,7 @@ use plan_connect::connect_is_taken;
 use plans::{Plan, PlanRecord};
 use pn_values::Identity;
 use record_writes::TakenRecord;
-use sending_laws::messages_are_addressed;
+use sending_laws::{frames_are_messages, messages_are_addressed};
 
 /// A number of 16 bits is one.
 fn has_16_bits(number: u16)
@@ -94,6 +94,7 @@ pub fn worlds_start_up<F: Flash<S>, const S: usize>(setup: &Setup, identity: &Id
     ready_answers_are_heard();
     blocks_are_read();
     messages_are_addressed();
+    frames_are_messages();
     controller_goes_on();
     device_goes_on();
     device_sends_what_it_owes();

@@ -39,6 +39,7 @@ goes_so g c = record {
   aimed = c.messages_are_addressed.ensures.next;
   begins = c.controller_goes_on.ensures.begins;
   controller_on = c.controller_goes_on.ensures.goes_on;
+  frames_are = c.frames_are_messages.ensures;
   device_on = c.device_goes_on.ensures;
   owed = c.device_sends_what_it_owes.ensures;
   relation = c.start_up_is_kept.ensures.relation;
