@@ -23,7 +23,7 @@ use Rattle.controller_frames.specs.Requests.{sequence_of, writing_from}
 use Rattle.controller_frames.specs.Sent.{Sent}
 use Rattle.controller_core.specs.declared.state.Cause.{Cause}
 use Rattle.controller_core.specs.declared.state.State.{State}
-use Rattle.controller_core.specs.declared.state.State.TheVariants.{Looking, Addressing, Connecting, Writing, Ending, Waiting, Exchanging, Ended}
+use Rattle.controller_core.specs.declared.state.State.TheVariants.{Looking, Addressing, Connecting, Writing, Ending, Ended}
 use Rattle.controller_core.specs.declared.event.Event.{Event}
 use Rattle.controller_core.specs.declared.event.Event.TheVariants.{Frame, Tick, Give, Stop}
 use Rattle.controller_core.specs.State.{Live}
@@ -98,10 +98,9 @@ module _ (setup : Setup) where
       tells_so Writing asked (asks.Write in_step.0) request in_step.2 (in_step.1, ap (λ (a : Option Request). asking_of setup.plan a) in_step.2) stands
   tells Ending asked in_step request stands =
       tells_so Ending asked asks.PrmEnd request in_step (ap (λ (a : Option Request). asking_of setup.plan a) in_step) stands
-  tells Waiting asked in_step request stands = absurd (none_stands request (sym in_step ∙ stands))
-  tells Exchanging asked in_step request stands = absurd (none_stands request (sym in_step ∙ stands))
   tells (Ended reason) asked (inl none) request stands = absurd (none_stands request (sym none ∙ stands))
   tells (Ended reason) asked (inr there) request stands = tells_so (Ended reason) asked (asks.Release there.0) request there.1 (inl refl, refl) stands
+  tells phase asked in_step request stands = absurd (none_stands request (sym in_step ∙ stands))
 
   -- what is asked next is asked by the next call
   module _ (live after : Live) (number : ℕ) (heard : ToController) (before : small_of setup.plan live ≡ small.Asking number) (answers : heard ≡ small.Answers number true)

@@ -34,9 +34,8 @@ use Rattle.alarm_laws.specs.Line.{Line, empty, more_taken, with_come, with_sent}
 use Rattle.alarm_laws.specs.World.{IsPrefixOf, World, acks_after, after_ack_to_controller, after_ack_to_device, after_alarm, after_confirm, after_confirms, after_nack_to_device, after_raise, behind_all, happens, line_after, nacks_after}
 use Rattle.alarm_laws.specs.World.{start as nothing_happened}
 use Rattle.controller_frames.specs.declared.setup.Setup.{Setup}
-use Rattle.controller_frames.specs.Heard.{Heard, Nothing, Answers, Responds, Calls, Alarms}
-use Rattle.controller_frames.specs.Heard.{Cyclic as Comes}
-use Rattle.controller_frames.specs.Sent.{Sent, Requests, Agrees, Cycles, Confirms, Replies, Ends}
+use Rattle.controller_frames.specs.Heard.{Heard, Alarms}
+use Rattle.controller_frames.specs.Sent.{Sent, Confirms, Replies}
 use Rattle.controller_core.specs.Alarms.{ack_of, kept_alarm}
 use Rattle.controller_core.specs.Machine.{Turn, acks_in, brought, due_frames, flow_later, flowed, given, is_again, later, noticed, outputs_of, requests_of, stays, stopped, taken, turned, where_due}
 use Rattle.controller_core.specs.State.{Live}
@@ -85,16 +84,12 @@ module _ (pdus more_pdus : List (ℕ × AlarmAck)) (acks more_acks nacks more_na
   reply_stays : (header : Header) (kind : PduType) → IsReply acks nacks header kind → IsReply more_acks more_nacks header kind
   reply_stays header pdu.Ack there = (there.0, a there.0 header.ack_number there.1)
   reply_stays header pdu.Nack there = (there.0, there.1, n there.0 there.1 there.2)
-  reply_stays header pdu.Data there = tt
-  reply_stays header pdu.Error there = tt
+  reply_stays header kind there = tt
 
   stays_there : (message : Sent) → IsThere pdus acks nacks message → IsThere more_pdus more_acks more_nacks message
   stays_there (Confirms route header ack) there = (there.0, p there.0 (header.send_number, ack) there.1)
   stays_there (Replies route header) there = reply_stays header header.kind there
-  stays_there (Requests device request) there = tt
-  stays_there (Agrees caller answer) there = tt
-  stays_there (Cycles route shown counter) there = tt
-  stays_there (Ends route header reason) there = tt
+  stays_there message there = tt
 
   all_stay : (messages : List Sent) → AllByRecursion (IsThere pdus acks nacks) messages → AllByRecursion (IsThere more_pdus more_acks more_nacks) messages
   all_stay [] all = tt
@@ -211,8 +206,7 @@ replies_on r p header pdu.Ack there =
 replies_on r p header pdu.Nack there =
     goes_on r p (happening.NackComesToDevice there.0 ∷ []) (replied_by r header pdu.Nack) p.rest
     (ap (after_nack_to_device (world_of r p.rest)) there.2) p.told p.same p.shown
-replies_on r p header pdu.Data there = p
-replies_on r p header pdu.Error there = p
+replies_on r p header kind there = p
 
 confirms_on : (r : Relation) (p : IsPlayed r) (route : Route) (header : Header) (ack : AlarmAck)
     → IsThere p.rest.confirms.pdus p.rest.acks p.rest.nacks (Confirms route header ack) → IsPlayed (comes_to_device r (Some (Confirms route header ack)))
@@ -227,10 +221,7 @@ confirms_on r p route header ack there =
 message_on : (r : Relation) (p : IsPlayed r) (message : Sent) → IsThere p.rest.confirms.pdus p.rest.acks p.rest.nacks message → IsPlayed (comes_to_device r (Some message))
 message_on r p (Confirms route header ack) there = confirms_on r p route header ack there
 message_on r p (Replies route header) there = replies_on r p header header.kind there
-message_on r p (Requests device request) there = p
-message_on r p (Agrees caller answer) there = p
-message_on r p (Cycles route shown counter) there = p
-message_on r p (Ends route header reason) there = p
+message_on r p message there = p
 
 comes_on : (r : Relation) (p : IsPlayed r) (place : ℕ) (message : Option Sent) → slice_get r.told place ≡ message → IsPlayed (comes_to_device r message)
 comes_on r p place None e = p
@@ -353,18 +344,9 @@ ack_on r p source header place None there = p
 ack_on r p source header place (Some number) there = acks_on r p place number (is_looked_at r source header) there
 
 hears_on : (setup : Setup) (r : Relation) (p : IsPlayed r) (heard : Heard) → IsPlayed (hears setup r heard)
-hears_on setup r p Nothing = quiet_on r (stays r.live) p (quiet_stays r.live)
-hears_on setup r p (Answers source answer) = quiet_on r (turned setup r.live (Answers source answer)) p (turn_quiet setup r.live (came.Hears (Answers source answer)) tt)
-hears_on setup r p (Responds response) = quiet_on r (turned setup r.live (Responds response)) p (turn_quiet setup r.live (came.Hears (Responds response)) tt)
-hears_on setup r p (Calls caller call) = quiet_on r (turned setup r.live (Calls caller call)) p (turn_quiet setup r.live (came.Hears (Calls caller call)) tt)
-hears_on setup r p (Comes source frame_id body) =
-    quiet_on r (turned setup r.live (Comes source frame_id body)) p (turn_quiet setup r.live (came.Hears (Comes source frame_id body)) tt)
 hears_on setup r p (Alarms source header (notice.Data number alarm)) = p
 hears_on setup r p (Alarms source header (notice.Ack number)) = p
-hears_on setup r p (Alarms source header notice.Nack) =
-    quiet_on r (turned setup r.live (Alarms source header notice.Nack)) p (turn_quiet setup r.live (came.Hears (Alarms source header notice.Nack)) tt)
-hears_on setup r p (Alarms source header notice.Abort) =
-    quiet_on r (turned setup r.live (Alarms source header notice.Abort)) p (turn_quiet setup r.live (came.Hears (Alarms source header notice.Abort)) tt)
+hears_on setup r p heard = quiet_on r (turned setup r.live heard) p (turn_quiet setup r.live (came.Hears heard) tt)
 
 -- ---- a unit passes at the controller
 

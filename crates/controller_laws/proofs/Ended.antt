@@ -112,13 +112,9 @@ unit_frames : (setup : Setup) (device : Mac) (asked : Option Request) (is : Bool
     → map (bytes_of setup) (sent_where_due is (requests_of device asked)) ≡ where_due is (release_in setup device asked)
 unit_frames setup device None true cause told = refl
 unit_frames setup device None false cause told = refl
-unit_frames setup device (Some asks.Identify) is cause told = absurd told
-unit_frames setup device (Some asks.Address) is cause told = absurd told
-unit_frames setup device (Some asks.Connect) is cause told = absurd told
-unit_frames setup device (Some (asks.Write number)) is cause told = absurd told
-unit_frames setup device (Some asks.PrmEnd) is cause told = absurd told
 unit_frames setup device (Some (asks.Release sequence)) true cause told = refl
 unit_frames setup device (Some (asks.Release sequence)) false cause told = refl
+unit_frames setup device (Some request) is cause told = absurd told
 
 unit_frames_of : (setup : Setup) (live : Live) (cause : Cause) → IsEnd cause live
     → map (bytes_of setup) (ticked live).sent ≡ where_due (is_again live) (release_in setup live.device live.asked)
@@ -249,13 +245,8 @@ all_sent (event ∷ events) controller cause h =
     (all_sent events next cause (ended_on controller cause event h)))
 
 none_stands : (setup : Setup) (device : Mac) (asked : Option Request) (cause : Cause) → may_release cause ≡ false → IsTold cause asked → release_in setup device asked ≡ None
-none_stands setup device None cause other told = refl
-none_stands setup device (Some asks.Identify) cause other told = refl
-none_stands setup device (Some asks.Address) cause other told = refl
-none_stands setup device (Some asks.Connect) cause other told = refl
-none_stands setup device (Some (asks.Write number)) cause other told = refl
-none_stands setup device (Some asks.PrmEnd) cause other told = refl
 none_stands setup device (Some (asks.Release sequence)) cause other told = absurd (no_unit (sym told ∙ other))
+none_stands setup device asked cause other told = refl
 
 none_sent : (release : Option (List ℕ)) (frames : List (List ℕ)) → release ≡ None → AllByRecursion (λ frame. Some frame ≡ release) frames → frames ≡ []
 none_sent release [] e all = refl

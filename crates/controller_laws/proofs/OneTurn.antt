@@ -24,7 +24,7 @@ use Rattle.controller_core.specs.declared.event.Event.TheVariants.{Frame, Tick, 
 use Rattle.controller_core.specs.declared.state.Cause.{Cause}
 use Rattle.controller_core.specs.declared.state.Cause.TheVariants as why
 use Rattle.controller_core.specs.declared.state.State.{State}
-use Rattle.controller_core.specs.declared.state.State.TheVariants.{Looking, Addressing, Connecting, Writing, Ending, Waiting, Exchanging, Ended}
+use Rattle.controller_core.specs.declared.state.State.TheVariants.{Looking, Addressing, Ending, Waiting, Exchanging, Ended}
 use Rattle.controller_core.specs.State.{Live}
 use Rattle.controller_core.specs.Alarms.{is_alarm}
 use Rattle.controller_core.specs.Answers.{is_addressed, is_answer, is_found, is_ready, is_right, is_set_answer}
@@ -35,13 +35,7 @@ use Rattle.controller_laws.specs.Turns.{Came, Hears, Passes, Gets, Halts, Found,
 -- no other phase is an end
 abbrev pub is_over : State → Bool
 is_over (Ended cause) = true
-is_over Looking = false
-is_over Addressing = false
-is_over Connecting = false
-is_over Writing = false
-is_over Ending = false
-is_over Waiting = false
-is_over Exchanging = false
+is_over phase = false
 
 pub not_over : (phase : State) (cause : Cause) → is_over phase ≡ false → phase ≡ Ended cause → ⊥
 not_over phase cause stands e = absurd (false≢true (sym stands ∙ ap (λ (p : State). is_over p) e))
@@ -49,19 +43,11 @@ not_over phase cause stands e = absurd (false≢true (sym stands ∙ ap (λ (p :
 -- of a whole end no request stands but a Release
 abbrev pub is_release : Request → Bool
 is_release (asks.Release sequence) = true
-is_release asks.Identify = false
-is_release asks.Address = false
-is_release asks.Connect = false
-is_release (asks.Write number) = false
-is_release asks.PrmEnd = false
+is_release request = false
 
 pub untold : (request : Request) (cause : Cause) → is_release request ≡ false → IsTold cause (Some request) → ⊥
 untold (asks.Release sequence) cause other told = false≢true (sym other)
-untold asks.Identify cause other told = told
-untold asks.Address cause other told = told
-untold asks.Connect cause other told = told
-untold (asks.Write number) cause other told = told
-untold asks.PrmEnd cause other told = told
+untold request cause other told = told
 
 module _ (setup : Setup) (live : Live) where
   going : (phase : State) → live.phase ≡ phase → is_over phase ≡ false → IsGoing live
@@ -106,12 +92,7 @@ module _ (setup : Setup) (live : Live) where
       (as_kind came (Connects live.device) (record { seeking = inr is; known = inl refl }))
       (as_kind came (Ends why.Refused) (going Addressing is refl)))
       (rests came)
-  answered_is source answer Connecting is = rests (Hears (Answers source answer))
-  answered_is source answer Writing is = rests (Hears (Answers source answer))
-  answered_is source answer Ending is = rests (Hears (Answers source answer))
-  answered_is source answer Waiting is = rests (Hears (Answers source answer))
-  answered_is source answer Exchanging is = rests (Hears (Answers source answer))
-  answered_is source answer (Ended cause) is = rests (Hears (Answers source answer))
+  answered_is source answer phase is = rests (Hears (Answers source answer))
 
   -- ---- responses
 
@@ -158,12 +139,8 @@ module _ (setup : Setup) (live : Live) where
 
     decided_is : (request : Request) → live.asked ≡ Some request → is_answer setup request response.header ≡ true
         → IsTurn setup live heard_now (decided setup live response request)
-    decided_is asks.Identify stood right = judged_is asks.Identify stood right refl
-    decided_is asks.Address stood right = judged_is asks.Address stood right refl
-    decided_is asks.Connect stood right = judged_is asks.Connect stood right refl
-    decided_is (asks.Write number) stood right = judged_is (asks.Write number) stood right refl
-    decided_is asks.PrmEnd stood right = judged_is asks.PrmEnd stood right refl
     decided_is (asks.Release sequence) stood right = forgets sequence stood right
+    decided_is request stood right = judged_is request stood right refl
 
     responded_is : (asked : Option Request) → live.asked ≡ asked → IsTurn setup live heard_now (responded setup live response asked)
     responded_is (Some request) stood = if_so (is_answer setup request response.header) (λ right. decided_is request stood right) (rests heard_now)
@@ -173,14 +150,10 @@ module _ (setup : Setup) (live : Live) where
 
   readied_is : (caller : Caller) (call : Call) (block : ControlBlock) (phase : State) → live.phase ≡ phase → IsReadied setup (Hears (Calls caller call)) caller call block
       → IsTurn setup live (Hears (Calls caller call)) (readied live caller call block phase)
-  readied_is caller call block Looking is ready = rests (Hears (Calls caller call))
-  readied_is caller call block Addressing is ready = rests (Hears (Calls caller call))
-  readied_is caller call block Connecting is ready = rests (Hears (Calls caller call))
-  readied_is caller call block Writing is ready = rests (Hears (Calls caller call))
   readied_is caller call block Ending is ready = as_kind (Hears (Calls caller call)) (Begins caller call block) (inl is, ready)
   readied_is caller call block Waiting is ready = as_kind (Hears (Calls caller call)) (Begins caller call block) (inr is, ready)
   readied_is caller call block Exchanging is ready = as_kind (Hears (Calls caller call)) (Repeats caller call block) (is, ready)
-  readied_is caller call block (Ended cause) is ready = rests (Hears (Calls caller call))
+  readied_is caller call block phase is ready = rests (Hears (Calls caller call))
 
   called_is : (caller : Caller) (call : Call) (block : Option ControlBlock) → ready_in call ≡ block
       → IsTurn setup live (Hears (Calls caller call)) (called setup live caller call block)
@@ -228,12 +201,8 @@ module _ (setup : Setup) (live : Live) where
   stopped_is : (phase : State) → live.phase ≡ phase → IsTurn setup live Halts (stopped setup live phase)
   stopped_is Looking is = as_kind Halts (Ends why.Stopped) (going Looking is refl)
   stopped_is Addressing is = as_kind Halts (Ends why.Stopped) (going Addressing is refl)
-  stopped_is Connecting is = as_kind Halts (Releases why.Stopped) (going Connecting is refl, refl)
-  stopped_is Writing is = as_kind Halts (Releases why.Stopped) (going Writing is refl, refl)
-  stopped_is Ending is = as_kind Halts (Releases why.Stopped) (going Ending is refl, refl)
-  stopped_is Waiting is = as_kind Halts (Releases why.Stopped) (going Waiting is refl, refl)
-  stopped_is Exchanging is = as_kind Halts (Releases why.Stopped) (going Exchanging is refl, refl)
   stopped_is (Ended cause) is = rests Halts
+  stopped_is phase is = as_kind Halts (Releases why.Stopped) (going phase is refl, refl)
 
   pub turn_is : (came : Came) → IsTurn setup live came (turn_for setup live came)
   turn_is (Hears heard) = turned_is heard

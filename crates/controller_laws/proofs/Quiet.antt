@@ -11,7 +11,7 @@ use Rattle.pn_alarms.specs.declared.pdu.PduType.TheVariants as pdu
 use Rattle.controller_frames.specs.declared.setup.Setup.{Setup}
 use Rattle.controller_frames.specs.declared.request.Request.{Request}
 use Rattle.controller_frames.specs.Heard.{Alarms}
-use Rattle.controller_frames.specs.Sent.{Sent, Requests, Agrees, Cycles, Confirms, Replies, Ends as Errs}
+use Rattle.controller_frames.specs.Sent.{Sent, Confirms, Replies}
 use Rattle.controller_core.specs.State.{Live}
 use Rattle.controller_core.specs.Machine.{Turn, requests_of, stays, where_due}
 use Rattle.controller_laws.specs.Turns.{Came, Hears, Passes, IsKind, Kind, Rests, Connects, Addresses, Ends, Releases, Relates, Writes, Waits, Forgets, Begins, Repeats, Follows, Takes, IsAcked, Gives, Flows, Breaks, Idles, turn_by, turn_for}
@@ -22,17 +22,13 @@ use Rattle.controller_laws.proofs.OneTurn.{turn_is}
 abbrev pub IsReply : List ℕ → List ℕ → Header → PduType → Type 0
 IsReply acks nacks header pdu.Ack = (k : ℕ) × (slice_get acks k ≡ Some header.ack_number)
 IsReply acks nacks header pdu.Nack = (k : ℕ) × (number : ℕ) × (slice_get nacks k ≡ Some number)
-IsReply acks nacks header pdu.Data = Unit {0}
-IsReply acks nacks header pdu.Error = Unit {0}
+IsReply acks nacks header kind = Unit {0}
 
 -- an AlarmAck is among these PDUs, an ACK and a NACK among these; anything else is no alarm's
 abbrev pub IsThere : List (ℕ × AlarmAck) → List ℕ → List ℕ → Sent → Type 0
 IsThere pdus acks nacks (Confirms route header ack) = (k : ℕ) × (slice_get pdus k ≡ Some (header.send_number, ack))
 IsThere pdus acks nacks (Replies route header) = IsReply acks nacks header header.kind
-IsThere pdus acks nacks (Requests device request) = Unit {0}
-IsThere pdus acks nacks (Agrees caller answer) = Unit {0}
-IsThere pdus acks nacks (Cycles route shown counter) = Unit {0}
-IsThere pdus acks nacks (Errs route header reason) = Unit {0}
+IsThere pdus acks nacks message = Unit {0}
 
 -- ---- a turn
 

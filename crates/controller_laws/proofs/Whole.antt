@@ -55,12 +55,8 @@ releases setup mine live told = record {
 -- ---- each kind
 
 goes_by : (request : Request) → is_over (phase_for request) ≡ false
-goes_by asks.Identify = refl
-goes_by asks.Address = refl
-goes_by asks.Connect = refl
 goes_by (asks.Write number) = refl
-goes_by asks.PrmEnd = refl
-goes_by (asks.Release sequence) = refl
+goes_by request = refl
 
 writing_kept : (request : Request) (live : Live) → Kept (writing request live)
 writing_kept request live = goes_on (writing request live).live (writing request live).sent (goes_by request)

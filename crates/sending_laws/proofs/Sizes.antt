@@ -84,12 +84,9 @@ named_so block ar session e sixteen =
 -- ---- requests
 
 pub numbered : (request : Request) → IsFew request → IsNumbered request
-numbered asks.Identify is = tt
-numbered asks.Address is = tt
-numbered asks.Connect is = tt
 numbered (asks.Write number) is = omega (arith, is)
-numbered asks.PrmEnd is = tt
 numbered (asks.Release sequence) is = is
+numbered request is = tt
 
 picked_few : (number : ℕ) (test : Bool) → (test ≡ true → number < 32) → IsFew (if test then asks.Write number else asks.PrmEnd)
 picked_few number true few = few refl
@@ -100,13 +97,9 @@ writing_few plan number is =
     picked_few number (nat_lt number (length plan.records.items)) (λ e. let below = ltb-true number (length plan.records.items) e in omega (arith, below, is.few_records))
 
 pub sequence_few : (plan : Parts) (asked : Option Request) → IsPlan plan → AreFew asked → next_sequence plan asked < 4294967296
-sequence_few plan None is few = omega (arith, is.few_records)
-sequence_few plan (Some asks.Identify) is few = omega (arith, is.few_records)
-sequence_few plan (Some asks.Address) is few = omega (arith, is.few_records)
 sequence_few plan (Some asks.Connect) is few = omega arith
 sequence_few plan (Some (asks.Write number)) is few = omega (arith, few)
-sequence_few plan (Some asks.PrmEnd) is few = omega (arith, is.few_records)
-sequence_few plan (Some (asks.Release sequence)) is few = omega (arith, is.few_records)
+sequence_few plan asked is few = omega (arith, is.few_records)
 
 -- ---- messages
 

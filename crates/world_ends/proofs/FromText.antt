@@ -1,12 +1,11 @@
 -- The index of each record of a plan that is made of a text is read within its range.
-use Rattle.std.proofs.Common.{◌≡◌, ◌≤◌, ◌<◌, ◌++◌, ◌&&◌, ℕ, Bool, true, false, cond, List, [], ◌∷◌, map, Result, Ok, Err, nat_le, codes, refl, sym, subst, arith}
-use Rattle.std.specs.List.{AllByRecursion, flat_map}
+use Rattle.std.proofs.Common.{◌≡◌, ◌≤◌, ◌++◌, ◌&&◌, ℕ, Bool, true, false, cond, List, [], ◌∷◌, map, Ok, Err, nat_le, codes, refl, sym, subst, arith}
+use Rattle.std.specs.List.{AllByRecursion}
 use Rattle.std.specs.Option.{ok_or}
 use Rattle.std.proofs.lemmas.Bool.{and_parts, leb-true}
 use Rattle.serde_json.specs.Data.{Data, Items, no_items, item}
 use Rattle.wire.proofs.Fields.{bind_ok, ok_is}
 use Rattle.plans.specs.declared.parts.Parts.{Parts}
-use Rattle.plans.specs.declared.parts.PlanRecord.{PlanRecord}
 use Rattle.catalogue.specs.declared.fault.TreeFault.{TreeFault}
 use Rattle.catalogue.specs.declared.fault.TreeFault.TheVariants.{Number}
 use Rattle.catalogue.specs.Reader.{◌>>=◌, Reader, each, items_of, list_at, member, number, number_at, text_at, whole, whole_at, within}
@@ -18,6 +17,7 @@ use Rattle.catalogue.specs.Projects.{Project, controller, project, reduction, st
 use Rattle.catalogue.specs.Catalogues.{Catalogue, catalogue, identity}
 use Rattle.configurator.specs.Planned.{IsPlanOf, record_at, records_of as planned_of}
 use Rattle.world_ends.specs.Played.{IsParameter}
+use Rattle.world_ends.proofs.Each.{each_behind}
 
 -- ---- a number in its range
 
@@ -37,16 +37,12 @@ number_within key least greatest tree n e =
 
 -- ---- what each entry of a list is, all are
 
-all_behind : {A : Type 0} (P : A → Type 0) (xs more : List A) → AllByRecursion P xs → AllByRecursion P more → AllByRecursion P (xs ++ more)
-all_behind P [] more all others = others
-all_behind P (x ∷ xs) more all others = (all.0, all_behind P xs more all.1 others)
-
 module _ {A : Type 0} (reader : List A → Reader A) (P : A → Type 0) (step : (before : List A) (value : A) (tree : Data) → reader before tree ≡ Ok value → P value) where
   each_is : (before : List A) (trees : Items) (found : List A) → AllByRecursion P before → each reader before trees ≡ Ok found → AllByRecursion P found
   each_is before no_items found all e = subst (λ (xs : List A). AllByRecursion P xs) (ok_is {F = TreeFault} before found e) all
   each_is before (item tree trees) found all e =
       let a = bind_ok (reader before tree) (λ value. each reader (before ++ value ∷ []) trees) found e in
-      each_is (before ++ a.0 ∷ []) trees found (all_behind P before (a.0 ∷ []) all (step before a.0 tree a.1, tt)) a.2
+      each_is (before ++ a.0 ∷ []) trees found (each_behind P before (a.0 ∷ []) all (step before a.0 tree a.1, tt)) a.2
 
   list_is : (key : List ℕ) (tree : Data) (found : List A) → list_at key reader tree ≡ Ok found → AllByRecursion P found
   unfolding list_at
@@ -114,7 +110,7 @@ of_slot slot (value ∷ records) below = (omega (arith, below.0), of_slot slot r
 of_slots : (slots : List Slot) → AllByRecursion AreBelow slots → AllByRecursion IsParameter (planned_of slots)
 of_slots [] below = tt
 of_slots (entry ∷ slots) below =
-    all_behind IsParameter (map (record_at entry.slot) entry.records) (planned_of slots) (of_slot entry.slot entry.records below.0) (of_slots slots below.1)
+    each_behind IsParameter (map (record_at entry.slot) entry.records) (planned_of slots) (of_slot entry.slot entry.records below.0) (of_slots slots below.1)
 
 pub text_parameters : (text : List ℕ) (plan : Parts) → IsPlanOf text plan → AllByRecursion IsParameter plan.records.items
 text_parameters text plan of_text =

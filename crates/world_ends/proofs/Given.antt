@@ -1,5 +1,5 @@
 -- The laws below.
-use Rattle.std.specs.Prelude.{◌≡◌, ◌<◌, ◌≤◌, ◌++◌, ℕ, List, length, Option, Some, None, Ok}
+use Rattle.std.specs.Prelude.{◌≡◌, ◌<◌, ◌++◌, ℕ, List, length, Option, Some}
 use Rattle.std.specs.List.{AllByRecursion}
 use Rattle.pn_values.specs.declared.identity.Identity.{Identity}
 use Rattle.pn_values.specs.declared.mac.Mac.{Mac}
@@ -41,7 +41,7 @@ use Rattle.hearing_laws.specs.Stations.{IsAddress, IsCalled, IsCaller, IsDevice,
 use Rattle.sending_laws.specs.Addressed.{IsAimed, IsAimedAt, IsEventFrom}
 use Rattle.both_ends.specs.Small as small
 use Rattle.both_ends.specs.Small.{Exchanges, Exchanging, Link, Move, Rules, World}
-use Rattle.both_ends.specs.StartUp.{Begins, IsRun, WasExchanging, WasHanded, last_of}
+use Rattle.both_ends.specs.StartUp.{Begins, IsRun, last_of}
 use Rattle.both_ends.specs.Steps.{DeviceSteps}
 use Rattle.controller_ends.specs.Small.{GoesOn, IsInStep, said_in, small_of as small_controller}
 use Rattle.device_ends.specs.Owed.{IsOwed}

@@ -1,10 +1,10 @@
 -- What either end hears of each message of the other.
-use Rattle.std.proofs.Common.{◌≡◌, ◌⊎◌, inl, inr, ◌<◌, ◌≤◌, ◌+◌, ◌-◌, ◌==◌, ◌&&◌, ◌||◌, ℕ, Bool, true, false, cond, List, [], ◌∷◌, length, Option, Some, None, Result, Ok, Err, refl, sym, ap, subst, ◌∙◌, arith}
+use Rattle.std.proofs.Common.{◌≡◌, ◌⊎◌, inl, inr, ◌<◌, ◌+◌, ◌-◌, ◌==◌, ◌&&◌, ◌||◌, ℕ, Bool, true, false, cond, List, [], ◌∷◌, length, Option, Some, None, Result, Ok, Err, refl, sym, ap, subst, ◌∙◌, arith}
 use Rattle.std.specs.Prelude.{nat_eq, nat_le, nat_lt}
 use Rattle.std.specs.List.{AllByRecursion}
 use Rattle.std.specs.Cmp.Lexicographic.{pointwise, same_text}
 use Rattle.std.proofs.lemmas.Bool.{leb-true, leb-false}
-use Rattle.wire.specs.Codec.{IsSoundWhole, ◌>>=◌}
+use Rattle.wire.specs.Codec.{IsSoundWhole}
 use Rattle.pn_values.specs.declared.identity.Identity.{Identity}
 use Rattle.pn_values.specs.declared.mac.Mac.{Mac}
 use Rattle.frame_codec.specs.declared.fault.FrameFault.{FrameFault}
@@ -24,7 +24,6 @@ use Rattle.rpc_core.specs.declared.fault.RpcFault.{RpcFault}
 use Rattle.rpc_core.specs.declared.interface.Interface.TheVariants.{Controller as controllers, Device as devices}
 use Rattle.rpc_core.specs.declared.header.CallHeader.{CallHeader}
 use Rattle.rpc_core.specs.Call.{Asked as Call, call_of}
-use Rattle.rpc_core.specs.Interface.{interface_uuid}
 use Rattle.rpc_core.specs.Response.{Answered as Response, is_done, response_of}
 use Rattle.rpc_core.specs.Sendable.{CanBeAnswered, CanBeCalled, IsHeader, IsStatus, IsUuid}
 use Rattle.connect_blocks.specs.declared.control.ControlBlock.{ControlBlock}
@@ -43,30 +42,31 @@ use Rattle.relations.specs.Ready.{ready_of}
 use Rattle.device_frames.specs.Heard as device
 use Rattle.device_frames.specs.Heard.{Heard, is_own}
 use Rattle.device_frames.specs.Sendable.{IsSendable}
-use Rattle.device_frames.specs.Sent.{Sent, IdentifyAnswer, GetAnswer, SetAnswer, ArpReply, CallAnswer, Again, ReadyCall, Ends, Exchanges, bytes_of, ready_frame, response_frame}
+use Rattle.device_frames.specs.Sent.{Sent, IdentifyAnswer, GetAnswer, SetAnswer, ArpReply, CallAnswer, Again, ReadyCall, Ends, Exchanges, bytes_of}
 use Rattle.device_core.specs.State.{Live, Station}
 use Rattle.controller_frames.specs.declared.request.Request.{Request}
 use Rattle.controller_frames.specs.declared.request.Request.TheVariants as asks
 use Rattle.controller_frames.specs.declared.setup.Setup.{Setup}
 use Rattle.controller_frames.specs.Heard as controller
 use Rattle.controller_frames.specs.Heard.{heard_alarm, heard_answer, heard_body, heard_call, heard_content, heard_first, heard_frame, heard_read, heard_real_time, heard_response, is_to}
-use Rattle.controller_frames.specs.Requests.{blocks_of, call_for, sequence_of}
+use Rattle.controller_frames.specs.Requests.{call_for, sequence_of}
 use Rattle.controller_frames.specs.Sent as said
 use Rattle.controller_frames.specs.Sent.{answer_frame, call_frame, calls_at, identify_multicast}
 use Rattle.controller_core.specs.Answers.{is_ready}
 use Rattle.controller_core.specs.Machine.{ready_in}
-use Rattle.frame_laws.specs.Sendable.{CanBeSent, IsHolder, IsMac, IsTag, carrying}
+use Rattle.frame_laws.specs.Sendable.{IsHolder, IsMac, IsTag, carrying}
 use Rattle.hearing_laws.specs.Hearing.{IsUncalled, IsUntold, all_hears, comes, mine_told, own_told}
 use Rattle.hearing_laws.specs.Stations.{IsAddress, IsCalled, IsCaller, IsDevice, IsNumbered, IsSetup, ready_call}
 use Rattle.sending_laws.specs.Addressed.{IsAimedAt, IsHeardFrom}
 use Rattle.both_ends.specs.Small as small
 use Rattle.both_ends.specs.Small.{ToController, ToDevice}
-use Rattle.both_ends.specs.Steps.{CallsWhile, SaysAtMost, SaysToDevice}
+use Rattle.both_ends.specs.Steps.{CallsWhile, SaysToDevice}
 use Rattle.controller_ends.specs.Small.{asked_by, readied_by, said_by, said_to}
-use Rattle.device_ends.specs.Owed.{IsAnswering, IsOfRelation, IsOwed}
+use Rattle.device_ends.specs.Owed.{IsAnswering, IsOwed}
 use Rattle.device_ends.specs.Small as ends
 use Rattle.device_ends.specs.Small.{IsHeardAs, IsHeardBy, confirms, heard_as}
 use Rattle.world_ends.specs.View.{IsSaidAs, rules_of}
+use Rattle.wire.proofs.Fields.{bind_ok}
 use Rattle.world_ends.proofs.Given.{HeardSo}
 
 -- ---- choices
@@ -74,10 +74,6 @@ use Rattle.world_ends.proofs.Given.{HeardSo}
 holds_if : {A : Type 0} (P : A → Type 0) (b : Bool) (x y : A) → P x → P y → P (cond b x y)
 holds_if P true x y one other = one
 holds_if P false x y one other = other
-
-bind_ok : {A B F : Type 0} (r : Result A F) (next : A → Result B F) (y : B) → (r >>= next) ≡ Ok y → (x : A) × (r ≡ Ok x) × (next x ≡ Ok y)
-bind_ok (Ok x) next y e = (x, refl, e)
-bind_ok (Err fault) next y e = absurd cc
 
 same_mac : (one other : Mac) → one.octets ≡ other.octets → one ≡ other
 same_mac one other e = ap (λ (octets : List ℕ). record { octets = octets }) e
@@ -119,11 +115,7 @@ source_six sound bytes meaning e =
 -- a station that answers has such an address
 abbrev IsSix : controller.Heard → Type 0
 IsSix (controller.Answers source answer) = IsMac source
-IsSix controller.Nothing = Unit {0}
-IsSix (controller.Responds response) = Unit {0}
-IsSix (controller.Calls caller call) = Unit {0}
-IsSix (controller.Cyclic source frame_id body) = Unit {0}
-IsSix (controller.Alarms source header told) = Unit {0}
+IsSix heard = Unit {0}
 
 six_answer : (source : Mac) (read : Result Answered DcpFault) → IsMac source → IsSix (heard_answer source read)
 six_answer source (Ok answer) six = six
@@ -177,11 +169,7 @@ six_heard sound mine octets = six_read sound mine octets (frame_of octets) refl
 -- a call that a device hears is one that the controller makes
 abbrev pub IsListed : Parts → Request → Type 0
 IsListed plan (asks.Write number) = number < length plan.records.items
-IsListed plan asks.Identify = Unit {0}
-IsListed plan asks.Address = Unit {0}
-IsListed plan asks.Connect = Unit {0}
-IsListed plan asks.PrmEnd = Unit {0}
-IsListed plan (asks.Release sequence) = Unit {0}
+IsListed plan request = Unit {0}
 
 pub record IsOwnCall (setup : Setup) (caller : Caller) (call : Call) : Type 0 where
   pub request : Request
@@ -193,20 +181,11 @@ pub record IsOwnCall (setup : Setup) (caller : Caller) (call : Call) : Type 0 wh
 
 abbrev pub IsKnownSaid : Setup → Caller → device.Said → Type 0
 IsKnownSaid setup caller (device.Calls call) = IsOwnCall setup caller call
-IsKnownSaid setup caller (device.Responds response) = Unit {0}
-IsKnownSaid setup caller device.Garbled = Unit {0}
+IsKnownSaid setup caller told = Unit {0}
 
 abbrev pub IsKnownHeard : Setup → Heard → Type 0
 IsKnownHeard setup (device.Told caller address told) = IsKnownSaid setup caller told
-IsKnownHeard setup device.Ticks = Unit {0}
-IsKnownHeard setup device.Unreadable = Unit {0}
-IsKnownHeard setup device.Elsewhere = Unit {0}
-IsKnownHeard setup (device.Asks source request) = Unit {0}
-IsKnownHeard setup (device.Resolves asker packet) = Unit {0}
-IsKnownHeard setup (device.Cyclic source frame_id body) = Unit {0}
-IsKnownHeard setup (device.Alarms source header told) = Unit {0}
-IsKnownHeard setup (device.Given slot subslot value) = Unit {0}
-IsKnownHeard setup (device.Raised slot subslot octets) = Unit {0}
+IsKnownHeard setup heard = Unit {0}
 
 -- so are the calls and answers that the controller hears
 pub record IsKnown (setup : Setup) (identity : Identity) (frame : List ℕ) : Type 0 where
@@ -217,43 +196,21 @@ pub record IsKnown (setup : Setup) (identity : Identity) (frame : List ℕ) : Ty
 
 untold_known : (setup : Setup) (heard : Heard) → IsUntold heard → IsKnownHeard setup heard
 untold_known setup (device.Told caller address told) un = absurd un
-untold_known setup device.Ticks un = tt
-untold_known setup device.Unreadable un = tt
-untold_known setup device.Elsewhere un = tt
-untold_known setup (device.Asks source request) un = tt
-untold_known setup (device.Resolves asker packet) un = tt
-untold_known setup (device.Cyclic source frame_id body) un = tt
-untold_known setup (device.Alarms source header told) un = tt
-untold_known setup (device.Given slot subslot value) un = tt
-untold_known setup (device.Raised slot subslot octets) un = tt
+untold_known setup heard un = tt
 
 untold_idle : (heard : Heard) → IsUntold heard → heard_as heard ≡ small.Idle
 untold_idle (device.Told caller address told) un = absurd un
-untold_idle device.Ticks un = refl
-untold_idle device.Unreadable un = refl
-untold_idle device.Elsewhere un = refl
-untold_idle (device.Asks source request) un = refl
-untold_idle (device.Resolves asker packet) un = refl
-untold_idle (device.Cyclic source frame_id body) un = refl
-untold_idle (device.Alarms source header told) un = refl
-untold_idle (device.Given slot subslot value) un = refl
-untold_idle (device.Raised slot subslot octets) un = refl
+untold_idle heard un = refl
 
 uncalled_from : (own : Mac) (heard : controller.Heard) → IsSix heard → IsUncalled heard → IsHeardFrom own heard
 uncalled_from own (controller.Answers source answer) six un = six
-uncalled_from own controller.Nothing six un = tt
-uncalled_from own (controller.Responds response) six un = tt
 uncalled_from own (controller.Calls caller call) six un = absurd un
-uncalled_from own (controller.Cyclic source frame_id body) six un = tt
-uncalled_from own (controller.Alarms source header told) six un = tt
+uncalled_from own heard six un = tt
 
 uncalled_nothing : (setup : Setup) (heard : controller.Heard) → IsUncalled heard → said_to setup heard ≡ small.Nothing
-uncalled_nothing setup (controller.Answers source answer) un = refl
-uncalled_nothing setup controller.Nothing un = refl
 uncalled_nothing setup (controller.Responds response) un = absurd un
 uncalled_nothing setup (controller.Calls caller call) un = absurd un
-uncalled_nothing setup (controller.Cyclic source frame_id body) un = refl
-uncalled_nothing setup (controller.Alarms source header told) un = refl
+uncalled_nothing setup heard un = refl
 
 -- ---- messages
 
@@ -439,17 +396,16 @@ module _ (so : HeardSo) (setup : Setup) (station : Station) (good : IsSetup setu
   abbrev pub IsPlans : Option Link → Type 0
   IsPlans relation = (l : Link) → relation ≡ Some l → l.request ≡ request_for setup.plan setup.ar
 
+  -- what the controller may hear of a message
+  abbrev pub says_of : Sent → ToController
+  says_of (CallAnswer caller address answer) = small.Answers answer.header.sequence (is_done answer.status)
+  says_of (ReadyCall address ready) = small.Readies
+  says_of message = small.Nothing
+
   -- a message that was not sent before
   abbrev pub IsMetAs : Sent → Type 0
   IsMetAs (Again frame) = Unit {0}
-  IsMetAs (IdentifyAnswer asker running xid) = IsMet (bytes_of identity (IdentifyAnswer asker running xid)) small.Nothing
-  IsMetAs (GetAnswer asker running request) = IsMet (bytes_of identity (GetAnswer asker running request)) small.Nothing
-  IsMetAs (SetAnswer asker request answers) = IsMet (bytes_of identity (SetAnswer asker request answers)) small.Nothing
-  IsMetAs (ArpReply asker address target) = IsMet (bytes_of identity (ArpReply asker address target)) small.Nothing
-  IsMetAs (CallAnswer caller address answer) = IsMet (bytes_of identity (CallAnswer caller address answer)) (small.Answers answer.header.sequence (is_done answer.status))
-  IsMetAs (ReadyCall address ready) = IsMet (bytes_of identity (ReadyCall address ready)) small.Readies
-  IsMetAs (Ends farewell) = IsMet (bytes_of identity (Ends farewell)) small.Nothing
-  IsMetAs (Exchanges route frame) = IsMet (bytes_of identity (Exchanges route frame)) small.Nothing
+  IsMetAs message = IsMet (bytes_of identity message) (says_of message)
 
   message_met : (heard : Heard) (live : Live) (message : Sent) → IsKnownHeard setup heard → IsPlans live.rest.link → IsOwed heard live message → IsSendable identity message → IsMetAs message
   message_met heard live (Again frame) known plans owed can = tt
@@ -463,19 +419,9 @@ module _ (so : HeardSo) (setup : Setup) (station : Station) (good : IsSetup setu
   message_met heard live (Ends farewell) known plans owed can = data_met farewell.initiator (Some farewell.tag) _ _ can.destination can.tag
   message_met heard live (Exchanges route frame) known plans owed can = data_met route.partner (Some _) _ _ can.destination can.tag
 
-  by_met : (frame : List ℕ) (says : ToController) → IsMet frame says → IsHeardBy (rules_of setup station) frame says
-  by_met frame says met = (met.idle, met.says_at_most)
-
   heard_met : (message : Sent) → IsMetAs message → IsHeardAs (rules_of setup station) identity message
   heard_met (Again frame) met = tt
-  heard_met (IdentifyAnswer asker running xid) met = by_met _ small.Nothing met
-  heard_met (GetAnswer asker running request) met = by_met _ small.Nothing met
-  heard_met (SetAnswer asker request answers) met = by_met _ small.Nothing met
-  heard_met (ArpReply asker address target) met = by_met _ small.Nothing met
-  heard_met (CallAnswer caller address answer) met = by_met _ (small.Answers answer.header.sequence (is_done answer.status)) met
-  heard_met (ReadyCall address ready) met = by_met _ small.Readies met
-  heard_met (Ends farewell) met = by_met _ small.Nothing met
-  heard_met (Exchanges route frame) met = by_met _ small.Nothing met
+  heard_met message met = (met.idle, met.says_at_most)
 
   pub all_met : (heard : Heard) (live : Live) (messages : List Sent) → IsKnownHeard setup heard → IsPlans live.rest.link → AllByRecursion (IsOwed heard live) messages
       → AllByRecursion (IsSendable identity) messages → AllByRecursion IsMetAs messages

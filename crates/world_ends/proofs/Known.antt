@@ -1,6 +1,6 @@
 -- What holds of a world at each point of a run from its beginning: each frame that ever was sent is known, and so is each message that is
 -- sent next.
-use Rattle.std.proofs.Common.{◌≡◌, ◌⊎◌, inl, inr, ℕ, zero, suc, Bool, true, false, List, [], ◌∷◌, ◌++◌, map, length, Option, Some, None, option_map, Ok, refl, sym, ap, subst, ◌∙◌, append-nil, append_assoc}
+use Rattle.std.proofs.Common.{◌≡◌, ◌⊎◌, inl, inr, ℕ, Bool, true, false, List, [], ◌∷◌, ◌++◌, map, Option, Some, None, option_map, Ok, refl, sym, ap, subst, ◌∙◌, append-nil, append_assoc}
 use Rattle.std.specs.Prelude.{slice_get}
 use Rattle.std.specs.List.{AllByRecursion}
 use Rattle.flash_model.specs.declared.flash.Flash.{Ghosts as Flash}
@@ -16,7 +16,7 @@ use Rattle.relations.specs.Link.{Link}
 use Rattle.plan_connect.specs.Request.{request_for}
 use Rattle.device_frames.specs.declared.event.Event.TheVariants.{Frame}
 use Rattle.device_frames.specs.Heard.{Heard, Ticks, Given, Raised, heard_of}
-use Rattle.device_frames.specs.Sent.{Sent, IdentifyAnswer, GetAnswer, SetAnswer, ArpReply, CallAnswer, Again, ReadyCall, Ends, Exchanges, bytes_of}
+use Rattle.device_frames.specs.Sent.{Sent, Again, bytes_of}
 use Rattle.device_core.specs.State.{Station, Live}
 use Rattle.device_core.specs.Machine.{heard_step, judged_step}
 use Rattle.controller_frames.specs.declared.request.Request.TheVariants as asks
@@ -34,7 +34,6 @@ use Rattle.hearing_laws.specs.Stations.{IsDevice, IsSetup}
 use Rattle.sending_laws.specs.Addressed.{IsAimed, IsEventFrom}
 use Rattle.both_ends.specs.Small as small
 use Rattle.both_ends.specs.Small.{Rules, ToDevice}
-use Rattle.both_ends.specs.Runs.{AreSteps, end_of}
 use Rattle.both_ends.specs.StartUp.{Begins as BeginsSmall, IsRun, last_of}
 use Rattle.both_ends.specs.Steps.{DeviceSteps, IsDull, Steps}
 use Rattle.controller_ends.specs.Small.{IsInStep, said_by, small_of}
@@ -43,22 +42,11 @@ use Rattle.device_ends.specs.Small.{heard_as, kept_in, link_of}
 use Rattle.device_ends.specs.Small as device
 use Rattle.world_ends.specs.View.{IsMeant, IsMeantAtController, IsMeantAtDevice, move_of, rules_of, view_of}
 use Rattle.world_ends.specs.Played.{AreMade, AreMeant, ArePlaced, Begins, CanMeet, last_world, viewed}
+use Rattle.world_ends.proofs.Each.{each_at, each_behind, some_is}
 use Rattle.world_ends.proofs.Given.{GoesSo, HeardSo}
 use Rattle.world_ends.proofs.Heard.{IsKnown, IsKnownHeard, IsMetAs, IsOwnCall, IsPlans, IsTold, all_heard, all_met, all_said, all_told, opening_told}
 use Rattle.world_ends.proofs.Planned.{IsGood, heard_planned}
-use Rattle.world_ends.proofs.Runs.{InStep, Refines, controller_is, frames_are, happens_steps, last_viewed, rules_at}
-
-some_is : {A : Type 0} (x y : A) → Some x ≡ Some y → x ≡ y
-some_is x y e = cc
-
-each_behind : {A : Type 0} (P : A → Type 0) (xs more : List A) → AllByRecursion P xs → AllByRecursion P more → AllByRecursion P (xs ++ more)
-each_behind P [] more all others = others
-each_behind P (x ∷ xs) more all others = (all.0, each_behind P xs more all.1 others)
-
-each_at : {A : Type 0} (P : A → Type 0) (xs : List A) (number : ℕ) (x : A) → AllByRecursion P xs → slice_get xs number ≡ Some x → P x
-each_at P [] number x all there = absurd cc
-each_at P (first ∷ xs) zero x all there = subst (λ y. P y) (some_is first x there) all.0
-each_at P (first ∷ xs) (suc number) x all there = each_at P xs number x all.1 there
+use Rattle.world_ends.proofs.Runs.{InStep, controller_is, frames_are, happens_steps, last_viewed, rules_at}
 
 -- what is asked of both ends
 pub record CanStart (setup : Setup) (station : Station) : Type 0 where
@@ -135,14 +123,7 @@ module _ (so : HeardSo) (goes : GoesSo) where
       message_known : (message : Sent) → IsOwed heard before.device.live message → IsMetAs so setup station can.setup_is can.device_is can.apart message
           → IsKnown setup station.identity (bytes_of station.identity message)
       message_known (Again frame) owed met = again_known frame owed
-      message_known (IdentifyAnswer asker running xid) owed met = met.known
-      message_known (GetAnswer asker running request) owed met = met.known
-      message_known (SetAnswer asker request answers) owed met = met.known
-      message_known (ArpReply asker address target) owed met = met.known
-      message_known (CallAnswer caller address answer) owed met = met.known
-      message_known (ReadyCall address ready) owed met = met.known
-      message_known (Ends farewell) owed met = met.known
-      message_known (Exchanges route frame) owed met = met.known
+      message_known message owed met = met.known
 
       messages_known : (messages : List Sent) → AllByRecursion (IsOwed heard before.device.live) messages → AllByRecursion (IsMetAs so setup station can.setup_is can.device_is can.apart) messages
           → AllByRecursion (IsKnown setup station.identity) (map (bytes_of station.identity) messages)

@@ -1,6 +1,6 @@
 -- Each call that a device hears is one of the start-up.
-use Rattle.std.proofs.Common.{◌≡◌, ◌<◌, ◌≤◌, ◌+◌, ◌&&◌, ◌||◌, ◌==◌, ℕ, zero, suc, Bool, true, false, not, cond, List, [], ◌∷◌, ◌++◌, map, length, take, Option, Some, None, option_map, Result, Ok, Err, refl, sym, ap, subst, ◌∙◌, arith}
-use Rattle.std.specs.Prelude.{nat_eq, nat_lt, slice_get}
+use Rattle.std.proofs.Common.{◌≡◌, ◌<◌, ◌≤◌, ◌+◌, ◌&&◌, ◌==◌, ℕ, zero, suc, Bool, true, false, not, cond, List, [], ◌∷◌, ◌++◌, length, take, Option, Some, None, option_map, Result, Ok, Err, refl, sym, ap, subst, ◌∙◌, arith}
+use Rattle.std.specs.Prelude.{nat_lt, slice_get}
 use Rattle.std.specs.List.{AllByRecursion}
 use Rattle.std.proofs.lemmas.Bool.{ne_eqb}
 use Rattle.std.proofs.lemmas.Option.{slice_get-map}
@@ -19,7 +19,6 @@ use Rattle.block_codec.specs.Kinds.{number_of}
 use Rattle.block_codec.specs.Block.{block_bytes, block_of, front, in_iod_write_req}
 use Rattle.pnio_status.specs.declared.call_fault.CallFault.{CallFault}
 use Rattle.pnio_status.specs.declared.call_fault.CallFault.TheVariants as fault
-use Rattle.pnio_status.specs.declared.operation.Operation.{Operation}
 use Rattle.pnio_status.specs.Operation.{operation_of}
 use Rattle.call_blocks.specs.Judged.{judged as in_order}
 use Rattle.call_blocks.specs.Single.{formed, single_of}
@@ -48,22 +47,14 @@ use Rattle.controller_frames.specs.declared.request.Request.TheVariants as asks
 use Rattle.controller_frames.specs.declared.setup.Setup.{Setup}
 use Rattle.controller_frames.specs.Requests.{blocks_of, call_for, write_blocks, write_of as write_asked}
 use Rattle.block_laws.specs.Writable.{CanBeWritten}
-use Rattle.hearing_laws.specs.Stations.{IsCalled, IsSetup}
+use Rattle.hearing_laws.specs.Stations.{IsCalled}
 use Rattle.both_ends.specs.Small.{Rules}
 use Rattle.device_ends.specs.Small.{IsPlanned, IsPlannedAs, IsPlannedCall, IsPlannedIn, IsPlannedWrite}
 use Rattle.world_ends.specs.Played.{ArePlaced, IsParameter, IsPlaced}
 use Rattle.world_ends.specs.View.{rules_of, taken_for}
+use Rattle.wire.proofs.Fields.{bind_ok, ok_is}
+use Rattle.world_ends.proofs.Each.{each_at, some_is}
 use Rattle.world_ends.proofs.Heard.{IsKnownHeard, IsKnownSaid, IsListed, IsOwnCall}
-
-some_is : {A : Type 0} (x y : A) → Some x ≡ Some y → x ≡ y
-some_is x y e = cc
-
-ok_is : {A F : Type 0} (x y : A) → ◌≡◌ {A = Result A F} (Ok x) (Ok y) → x ≡ y
-ok_is x y e = cc
-
-bind_ok : {A B F : Type 0} (r : Result A F) (next : A → Result B F) (y : B) → (r >>= next) ≡ Ok y → (x : A) × (r ≡ Ok x) × (next x ≡ Ok y)
-bind_ok (Ok x) next y e = (x, refl, e)
-bind_ok (Err why) next y e = absurd cc
 
 -- where no judgement strikes, the rest decides
 judged_ok : {A : Type 0} (judgements : List (Bool × CallFault)) (otherwise : Result A CallFault) (value : A) → in_order judgements otherwise ≡ Ok value → otherwise ≡ Ok value
@@ -170,11 +161,6 @@ there_is [] number below = absurd (omega (arith, below))
 there_is (x ∷ xs) zero below = (x, refl)
 there_is (x ∷ xs) (suc number) below = there_is xs number (omega (arith, below))
 
-holds_at : {A : Type 0} (P : A → Type 0) (xs : List A) (number : ℕ) (x : A) → AllByRecursion P xs → slice_get xs number ≡ Some x → P x
-holds_at P [] number x all there = absurd cc
-holds_at P (first ∷ xs) zero x all there = subst (λ y. P y) (some_is first x there) all.0
-holds_at P (first ∷ xs) (suc number) x all there = holds_at P xs number x all.1 there
-
 -- what holds of a set-up: its Connect is read as what it asks for, its records are written in blocks that are read, and are kept
 pub record IsGood (setup : Setup) : Type 0 where
   pub connect : request_of None (connect_of setup.plan setup.ar) ≡ Ok (request_for setup.plan setup.ar)
@@ -192,9 +178,9 @@ module _ (read : (block : Block) (rest : List ℕ) → CanBeWritten block → bl
   write_planned number listed =
       let there = there_is setup.plan.records.items number listed in
       let entry = there.0 in
-      let below : IsParameter entry = holds_at IsParameter setup.plan.records.items number entry good.records there.1 in
-      let fits : IsPlaced entry = holds_at IsPlaced setup.plan.records.items number entry good.placed there.1 in
-      let short : length entry.data.items ≤ 64 = holds_at (λ (e : PlanRecord). length e.data.items ≤ 64) setup.plan.records.items number entry good.short there.1 in
+      let below : IsParameter entry = each_at IsParameter setup.plan.records.items number entry good.records there.1 in
+      let fits : IsPlaced entry = each_at IsPlaced setup.plan.records.items number entry good.placed there.1 in
+      let short : length entry.data.items ≤ 64 = each_at (λ (e : PlanRecord). length e.data.items ≤ 64) setup.plan.records.items number entry good.short there.1 in
       record {
         number = number;
         value = taken_for entry;
@@ -236,17 +222,8 @@ module _ (read : (block : Block) (rest : List ℕ) → CanBeWritten block → bl
 
   said_planned : (caller : Caller) (told : device.Said) → IsKnownSaid setup caller told → IsPlannedIn rules setup.activity station.real told
   said_planned caller (device.Calls call) known = call_planned caller call known
-  said_planned caller (device.Responds response) known = tt
-  said_planned caller device.Garbled known = tt
+  said_planned caller told known = tt
 
   pub heard_planned : (heard : Heard) → IsKnownHeard setup heard → IsPlanned rules setup.activity station.real heard
   heard_planned (device.Told caller address told) known = said_planned caller told known
-  heard_planned device.Ticks known = tt
-  heard_planned device.Unreadable known = tt
-  heard_planned device.Elsewhere known = tt
-  heard_planned (device.Asks source request) known = tt
-  heard_planned (device.Resolves asker packet) known = tt
-  heard_planned (device.Cyclic source frame_id body) known = tt
-  heard_planned (device.Alarms source header message) known = tt
-  heard_planned (device.Given slot subslot value) known = tt
-  heard_planned (device.Raised slot subslot octets) known = tt
+  heard_planned heard known = tt

@@ -1,19 +1,16 @@
 -- Each move of the world is a step of the small machines.
-use Rattle.std.proofs.Common.{◌≡◌, ◌⊎◌, inl, inr, ◌+◌, ℕ, Bool, true, false, List, [], ◌∷◌, ◌++◌, map, length, Option, Some, None, option_map, refl, sym, ap, subst, ◌∙◌}
+use Rattle.std.proofs.Common.{◌≡◌, ◌⊎◌, inl, inr, ℕ, Bool, true, false, List, [], ◌∷◌, ◌++◌, map, length, Option, Some, None, option_map, refl, sym, ap, subst, ◌∙◌}
 use Rattle.std.specs.Prelude.{slice_get}
 use Rattle.std.specs.List.{AllByRecursion}
 use Rattle.std.proofs.lemmas.List.{length-map}
 use Rattle.flash_model.specs.declared.flash.Flash.{Ghosts as Flash}
 use Rattle.settings_store.specs.Machine.{Outcome}
 use Rattle.connect_requests.specs.Request.{Request}
-use Rattle.rpc_core.specs.Cache.{Kept as Answer, kept_of}
 use Rattle.record_writes.specs.declared.taken.TakenRecord.{TakenRecord}
-use Rattle.relations.specs.declared.phase.Phase.TheVariants.{Exchanging as in_exchange}
 use Rattle.relations.specs.Link.{Link}
-use Rattle.plans.specs.declared.parts.Parts.{Parts}
 use Rattle.device_frames.specs.declared.event.Event.TheVariants.{Frame}
 use Rattle.device_frames.specs.Heard.{Heard, Ticks, Given, Raised, heard_of}
-use Rattle.device_core.specs.State.{Station, State, Live}
+use Rattle.device_core.specs.State.{Station, Live}
 use Rattle.device_core.specs.Machine.{heard_step}
 use Rattle.controller_frames.specs.declared.setup.Setup.{Setup}
 use Rattle.controller_frames.specs.Heard.{heard_of as heard_by}
@@ -23,16 +20,16 @@ use Rattle.controller_core.specs.declared.state.State.TheVariants.{Exchanging}
 use Rattle.controller_core.specs.declared.event.Event.{Event}
 use Rattle.controller_core.specs.declared.event.Event.TheVariants as controller
 use Rattle.controller_core.specs.State.{Controlling, Live as ControllerLive, with_live}
-use Rattle.controller_core.specs.Machine.{first as first_live, step_of, turn_of}
+use Rattle.controller_core.specs.Machine.{step_of, turn_of}
 use Rattle.network_world.specs.declared.moves.End.TheVariants.{Device, Controller}
 use Rattle.network_world.specs.declared.moves.Move.{Move}
 use Rattle.network_world.specs.declared.moves.Move.TheVariants as move
-use Rattle.network_world.specs.World.{World, AtDevice, Comes, Delivers, Happens, IsHeard, Passes, Played, at_controller, is_skipped}
+use Rattle.network_world.specs.World.{World, AtDevice, Comes, Delivers, Happens, Played, at_controller, is_skipped}
 use Rattle.both_ends.specs.Small as small
 use Rattle.both_ends.specs.Small.{Rules, ToController, ToDevice}
 use Rattle.both_ends.specs.Steps.{DeviceSteps, ControllerSteps, IsSaid, Moves, SaysToDevice, Steps, StepsAtController, StepsAtDevice}
-use Rattle.both_ends.specs.StartUp.{Begins as BeginsSmall, IsRun, WasExchanging, WasHanded, last_of}
-use Rattle.controller_ends.specs.Small.{GoesOn, IsInStep, said_by, said_in, said_to, small_of, state_of}
+use Rattle.both_ends.specs.StartUp.{last_of}
+use Rattle.controller_ends.specs.Small.{GoesOn, IsInStep, said_by, said_in, small_of, state_of}
 use Rattle.device_ends.specs.Small.{IsHeardAs, IsPlanned, heard_as, kept_in, link_of, phase_in}
 use Rattle.device_ends.specs.Small as device
 use Rattle.world_ends.specs.View.{IsMeant, IsMeantAtController, IsMeantAtDevice, IsSaidAs, move_of, rules_of, taken_for, view_of}

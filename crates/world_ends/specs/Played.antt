@@ -1,5 +1,5 @@
 -- Moves that were played, with the world behind each of them.
-use Rattle.std.specs.Prelude.{◌≡◌, ◌<◌, ℕ, true, List, [], ◌∷◌, map, Option, None}
+use Rattle.std.specs.Prelude.{◌≡◌, ◌<◌, ℕ, true, List, [], ◌∷◌, map, None}
 use Rattle.std.specs.List.{AllByRecursion}
 use Rattle.pn_values.specs.declared.identity.Identity.{Identity}
 use Rattle.flash_model.specs.declared.flash.Flash.{Ghosts as Flash}
@@ -8,7 +8,7 @@ use Rattle.connect_blocks.specs.ArBlock.{is_some_uuid}
 use Rattle.plans.specs.declared.parts.PlanRecord.{PlanRecord}
 use Rattle.controller_frames.specs.declared.setup.Setup.{Setup}
 use Rattle.network_world.specs.declared.moves.Move.{Move}
-use Rattle.network_world.specs.World.{World, Happens, Played}
+use Rattle.network_world.specs.World.{World, Happens}
 use Rattle.both_ends.specs.Small as small
 use Rattle.connect_requests.specs.Request.{Request}
 use Rattle.record_writes.specs.declared.taken.TakenRecord.{TakenRecord}

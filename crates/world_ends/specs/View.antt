@@ -1,7 +1,6 @@
 -- What both ends of a network are of a start-up.
-use Rattle.std.specs.Prelude.{◌≡◌, ◌⊎◌, ℕ, List, map, slice_get, Option, Some}
+use Rattle.std.specs.Prelude.{◌≡◌, ◌⊎◌, ℕ, List, map, slice_get, Some}
 use Rattle.std.specs.List.{AllByRecursion}
-use Rattle.flash_model.specs.Calls.{Call}
 use Rattle.settings_store.specs.Machine.{Outcome}
 use Rattle.connect_requests.specs.Request.{Request}
 use Rattle.record_writes.specs.declared.taken.TakenRecord.{TakenRecord}
@@ -17,7 +16,6 @@ use Rattle.controller_frames.specs.Heard.{heard_of as heard_by}
 use Rattle.controller_frames.specs.Sent.{Sent, bytes_of}
 use Rattle.controller_core.specs.declared.event.Event.{Event}
 use Rattle.controller_core.specs.declared.event.Event.TheVariants as controller
-use Rattle.controller_core.specs.State.{Controlling}
 use Rattle.controller_core.specs.Machine.{turn_of}
 use Rattle.network_world.specs.declared.moves.End.TheVariants.{Device, Controller}
 use Rattle.network_world.specs.declared.moves.Move.{Move}

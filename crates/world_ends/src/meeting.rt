@@ -1,5 +1,5 @@
 //! How a world begins as the law of a start-up asks.
-ghost use Rattle.std.specs.Prelude.{◌≡◌, true, [], None};
+ghost use Rattle.std.specs.Prelude.{◌≡◌, ◌↔◌, IsTrue, [], None};
 ghost use Rattle.std.specs.List.{AllByRecursion};
 ghost use Rattle.connect_blocks.specs.ArBlock.{is_some_uuid};
 ghost use Rattle.world_ends.specs.Played.{Begins, CanMeet, IsParameter};
@@ -16,27 +16,23 @@ use uuid::Uuid;
 
 /// Whether an ARUUID is not zero (IEC 61158-6-10, 5.2.4.1).
 fn is_named(ar: &Uuid) -> bool
-    ensures { result ≡ true → is_some_uuid ar.now ≡ true }
+    ensures { result ≡ is_some_uuid ar.now }
 {
     *ar.as_bytes() != [0; 16]
 }
 
 /// Whether the index of each record is one of a manufacturer's.
 fn are_parameters(records: &[PlanRecord]) -> bool
-    ensures { result ≡ true → AllByRecursion IsParameter records.now }
+    ensures { IsTrue result ↔ AllByRecursion IsParameter records.now }
 {
-    for entry in records {
-        if entry.index >= 0x8000 {
-            return false;
-        }
-    }
-    true
+    records.iter().all(|entry| entry.index < 0x8000)
 }
 
 /// Whether the law of a start-up speaks of this set-up with a device of this identity: their addresses of Ethernet differ, the ARUUID is
 /// not zero, and the records of the plan are parameter records.
 pub fn can_meet(setup: &Setup, identity: &Identity) -> bool
-    ensures { result ≡ true → CanMeet setup.now identity.now }
+    // True exactly of those of which the law speaks.
+    ensures { IsTrue result ↔ CanMeet setup.now identity.now }
 {
     identity.mac != setup.plan.controller().mac
         && is_named(&setup.ar)
