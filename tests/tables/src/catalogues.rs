@@ -68,7 +68,10 @@ fn each_fault_is_told_at_its_key() {
     let catalogues: Vec<&str> = include_str!("../catalogues/stdin").lines().collect();
     let places = include_str!("../catalogues/places");
     let bounds = &catalogues[catalogues.len() - places.lines().count()..];
-    let told: String = bounds.iter().map(|catalogue| place(catalogue) + "\n").collect();
+    let told: String = bounds
+        .iter()
+        .map(|catalogue| place(catalogue) + "\n")
+        .collect();
     is_same(&told, places);
 }
 

@@ -52,7 +52,11 @@ impl<K: Ord, V> BTreeMap<K, V> {
             return Some((list, place));
         }
         // Keys that come in their order fill one list after another.
-        let kept = if list + 1 == self.lists.len() && place == MOST { MOST } else { MOST / 2 };
+        let kept = if list + 1 == self.lists.len() && place == MOST {
+            MOST
+        } else {
+            MOST / 2
+        };
         let mut behind = Vec::new();
         behind.try_reserve(MOST - kept + 1).ok()?;
         self.lists.try_reserve(1).ok()?;
@@ -69,7 +73,10 @@ impl<K: Ord, V> BTreeMap<K, V> {
     pub fn insert(&mut self, key: K, value: V) -> Result<Option<V>, AllocFailed<(K, V)>> {
         let list = self.list(&key);
         match self.place(list, &key) {
-            Ok(place) => Ok(Some(core::mem::replace(&mut self.lists[list][place].1, value))),
+            Ok(place) => Ok(Some(core::mem::replace(
+                &mut self.lists[list][place].1,
+                value,
+            ))),
             Err(place) => match self.room(list, place) {
                 Some((list, place)) => {
                     self.lists[list].insert(place, (key, value));
