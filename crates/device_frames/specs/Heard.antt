@@ -6,6 +6,7 @@ use Rattle.pn_values.specs.declared.identity.Identity.{Identity}
 use Rattle.frame_codec.specs.declared.arp.Arp.{Arp}
 use Rattle.frame_codec.specs.declared.fault.FrameFault.{FrameFault}
 use Rattle.frame_codec.specs.declared.udp.Caller.{Caller}
+use Rattle.frame_codec.specs.Calls.{call_port}
 use Rattle.frame_codec.specs.FrameId.{is_alarm, is_cyclic}
 use Rattle.frame_codec.specs.Meaning.{Meaning, Content, RealTime, ArpPacket, UdpDatagram}
 use Rattle.frame_codec.specs.Frame.{frame_of}
@@ -84,7 +85,7 @@ said_first (Err fault) response = said_else response
 unfoldable pub said_by : List ℕ → Said
 said_by body = said_first (call_of Device body) (response_of body)
 
--- a packet of ARP is taken that goes to this device or to all stations, and a datagram to port 34964 of this device
+-- a packet of ARP is taken that goes to this device or to all stations, and a datagram to this device and its port of calls
 abbrev pub heard_content : Identity → Mac → Mac → Content → Heard
 heard_content identity destination source (RealTime frame_id body) =
     if is_taken identity destination frame_id then heard_request source (request_of frame_id body)
@@ -94,7 +95,7 @@ heard_content identity destination source (RealTime frame_id body) =
 heard_content identity destination source (ArpPacket arp) =
     if is_own identity destination || pointwise nat_eq destination.octets broadcast then Resolves source arp else Elsewhere
 heard_content identity destination source (UdpDatagram from to body) =
-    if is_own identity destination && to.port == 34964 then Told (record { mac = source; endpoint = from }) to.address (said_by body) else Elsewhere
+    if is_own identity destination && to.port == call_port then Told (record { mac = source; endpoint = from }) to.address (said_by body) else Elsewhere
 
 -- the content of a frame between these stations, or one that cannot be read
 abbrev pub heard_by : Identity → Mac → Mac → Result Content FrameFault → Heard

@@ -6,6 +6,7 @@ use Rattle.pn_values.specs.declared.settings.Settings.{Settings}
 use Rattle.pn_values.specs.declared.set_item.BlockError.{BlockError}
 use Rattle.frame_codec.specs.declared.arp.ArpOperation.TheVariants.{Reply}
 use Rattle.frame_codec.specs.declared.arp.Holder.{Holder}
+use Rattle.frame_codec.specs.Calls.{calls_at}
 use Rattle.frame_codec.specs.Meaning.{Content, RealTime, ArpPacket, UdpDatagram}
 use Rattle.cyclic_exchange.specs.Frames.{plain_frame, tagged_frame}
 use Rattle.dcp_core.specs.Request.{Asked}
@@ -62,7 +63,7 @@ reply_frame identity asker address target = own_frame identity asker (reply_cont
 
 -- a response to whom called, to the port that the call came from
 abbrev pub response_content : Caller → List ℕ → Answered → Content
-response_content caller address answer = UdpDatagram (record { address = address; port = 34964 }) caller.endpoint (response_bytes answer)
+response_content caller address answer = UdpDatagram (calls_at address) caller.endpoint (response_bytes answer)
 
 abbrev pub response_frame : Identity → Caller → List ℕ → Answered → List ℕ
 response_frame identity caller address answer = own_frame identity caller.mac (response_content caller address answer)
@@ -70,7 +71,7 @@ response_frame identity caller address answer = own_frame identity caller.mac (r
 -- ApplicationReady, to the station that asked for the relation: its response may have 1,372 octets of blocks
 abbrev pub ready_content : List ℕ → Ready → Content
 ready_content address ready =
-    UdpDatagram (record { address = address; port = 34964 }) (record { address = ready.partner.address; port = 34964 })
+    UdpDatagram (calls_at address) (calls_at ready.partner.address)
     (call_bytes Controller (record { header = ready.header; args_maximum = 1372; blocks = Some (block_bytes (is.ApplicationReady ready.block)) }))
 
 abbrev pub ready_frame : Identity → List ℕ → Ready → List ℕ

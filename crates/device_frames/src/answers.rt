@@ -11,7 +11,7 @@ ghost use Rattle.frame_codec.specs.Outbox.{boxed};
 use crate::Caller;
 use crate::sizes::can_be_sent;
 use dcp_core::Answer;
-use frame_codec::{Arp, ArpOperation, Endpoint, Holder, Layered, Outbox, Payload, RPC_PORT, Udp};
+use frame_codec::{Arp, ArpOperation, Endpoint, Holder, Layered, Outbox, Payload, Udp};
 use pn_values::{Identity, Mac};
 use rpc_core::{Datagram, Response, write_response};
 
@@ -93,10 +93,7 @@ pub fn send_response(
         source: identity.mac,
         tag: None,
         payload: Payload::Udp(Udp {
-            source: Endpoint {
-                address,
-                port: RPC_PORT,
-            },
+            source: Endpoint::of_calls(address),
             destination: caller.endpoint,
             body: datagram.as_slice(),
         }),

@@ -4,6 +4,7 @@ ghost use Rattle.std.specs.Cmp.Lexicographic.{pointwise};
 ghost use Rattle.device_frames.specs.Heard.{Unreadable, broadcast, heard_content, heard_of, is_own as is_own_by, is_taken as is_taken_by};
 ghost use Rattle.device_frames.specs.Hearing.{heard_as, heard_in};
 ghost use Rattle.device_frames.specs.declared.event.Event.TheVariants.{Frame};
+ghost use Rattle.frame_codec.specs.Calls.{call_port};
 ghost use Rattle.frame_codec.specs.Frame.{frame_of};
 ghost use Rattle.frame_codec.specs.Meaning.{IsNoRealTime, RealTime};
 ghost use Rattle.frame_codec.specs.declared.ethernet.ContentKind.TheVariants as kind;
@@ -94,7 +95,7 @@ pub fn is_asked(identity: &Identity, destination: Mac) -> bool
 
 /// Whether a datagram with this destination and port is for the device: to it, and to the port of calls.
 pub fn is_called(identity: &Identity, destination: Mac, port: u16) -> bool
-    ensures { result ≡ (is_own_by identity.now destination && port == 34964) }
+    ensures { result ≡ (is_own_by identity.now destination && port == call_port) }
 {
     is_own(identity, destination) && port == RPC_PORT
 }

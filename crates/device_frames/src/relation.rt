@@ -8,7 +8,7 @@ ghost use Rattle.frame_codec.specs.Outbox.{boxed};
 
 use crate::sizes::{can_be_sent, can_be_sent_in};
 use arrayvec::ArrayVec;
-use frame_codec::{Endpoint, Layered, Outbox, Payload, Pieces, RPC_PORT, Udp};
+use frame_codec::{Endpoint, Layered, Outbox, Payload, Pieces, Udp};
 use pn_alarms::pdu_front;
 use pn_values::Identity;
 use relations::{Farewell, Relation};
@@ -65,14 +65,8 @@ pub fn send_ready(identity: &Identity, address: [u8; 4], relation: &Relation, ou
         source: identity.mac,
         tag: None,
         payload: Payload::Udp(Udp {
-            source: Endpoint {
-                address,
-                port: RPC_PORT,
-            },
-            destination: Endpoint {
-                address: ready.partner.address,
-                port: RPC_PORT,
-            },
+            source: Endpoint::of_calls(address),
+            destination: Endpoint::of_calls(ready.partner.address),
             body: datagram.as_slice(),
         }),
     };

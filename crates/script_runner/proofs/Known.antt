@@ -1,7 +1,7 @@
 -- What a writer has got, and what a reader has given, where those are known.
-use Rattle.std.proofs.Common.{◌≡◌, ℕ, ◌+◌, ◌<◌, List, [], ◌++◌, Option, Some, None, IfSome, length, append_assoc, append-nil, arith, refl, ap, sym, ◌∙◌, length-append}
+use Rattle.std.proofs.Common.{◌≡◌, ◌≢◌, ℕ, ◌+◌, ◌<◌, List, [], ◌∷◌, ◌++◌, take, subst, Option, Some, None, IfSome, length, append_assoc, append-nil, arith, refl, ap, sym, ◌∙◌, length-append}
 use Rattle.std.specs.Io.KnownBytes.{Appends, Keeps, Consumes, IsAtEnd}
-use Rattle.script_runner.specs.Output.{AppendsFront}
+use Rattle.script_runner.specs.Output.{AppendsFront, AppendsLess}
 
 -- the writer got a front of the whole text, and this is the rest of it
 pub record IsSoFar (old new : Option (List ℕ)) (rest whole : List ℕ) : Type 0 where
@@ -75,6 +75,37 @@ front_longer old new text more f = record {
   parts = ap (λ t. t ++ more) f.parts ∙ append_assoc f.front f.behind more;
   appended = f.appended;
 }
+
+-- ---- less than a text
+
+not_nil : (octets more : List ℕ) → octets ≢ [] → octets ++ more ≢ []
+not_nil [] more some e = some refl
+not_nil (octet ∷ octets) more some e = cc
+
+pub some_left : (octets : List ℕ) → 0 < length octets → octets ≢ []
+some_left [] less e = absurd (omega (arith, less))
+some_left (octet ∷ octets) less e = cc
+
+-- so far less than the whole was written, and a write failed
+pub so_far_less : (old mid new : Option (List ℕ)) (rest whole : List ℕ) → IsSoFar old mid rest whole → Keeps mid new → 0 < length rest → AppendsLess old new whole
+unfolding keeps_front so_far_front
+so_far_less old mid new rest whole so k some = (so_far_front old mid new rest whole so (keeps_front mid new rest k), some_left rest some)
+
+-- or it took nothing
+pub so_far_still : (old mid new : Option (List ℕ)) (rest whole : List ℕ) (taken : ℕ) → IsSoFar old mid rest whole → Appends mid new (take taken rest) → taken ≡ 0 → 0 < length rest → AppendsLess old new whole
+unfolding so_far_front
+so_far_still old mid new rest whole taken so f none some =
+    (so_far_front old mid new rest whole so (record { front = []; behind = rest; parts = refl; appended = subst (λ n. Appends mid new (take n rest)) none f }), some_left rest some)
+
+-- less than the rest is less than the whole
+pub so_far_lacking : (old mid new : Option (List ℕ)) (rest whole : List ℕ) → IsSoFar old mid rest whole → AppendsLess mid new rest → AppendsLess old new whole
+unfolding so_far_front
+so_far_lacking old mid new rest whole so less = (so_far_front old mid new rest whole so less.0, less.1)
+
+-- less than a text is less than a longer one
+pub lacking_longer : (old new : Option (List ℕ)) (text more : List ℕ) → AppendsLess old new text → AppendsLess old new (text ++ more)
+unfolding front_longer
+lacking_longer old new text more less = (front_longer old new text more less.0, not_nil less.0.behind more less.1)
 
 -- ---- readers
 

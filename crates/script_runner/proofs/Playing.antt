@@ -15,10 +15,10 @@ use Rattle.script_session.specs.Session.{Are, AreRightFor, Comes, IsObeyed, IsWi
 use Rattle.script_runner.specs.declared.fault.RunFault.{RunFault}
 use Rattle.script_runner.specs.declared.fault.RunFault.TheVariants.{Write, OutOfMemory, Config}
 use Rattle.script_runner.specs.Fault.{fault_of}
-use Rattle.script_runner.specs.Output.{AppendsFront, Grows}
+use Rattle.script_runner.specs.Output.{AppendsFront, AppendsLess, Grows}
 use Rattle.script_runner.specs.Script.{AllRight, Refused, Unplanned, then_told, told, then_ended, ended, has_order, before_order, output_of, end_of}
 use Rattle.script_runner.specs.Told.{PlaysOn, IsPlayed, IsPlayFault}
-use Rattle.script_runner.proofs.Known.{IsSoFar, so_far_on, so_far_all, so_far_front, front_longer, none_front, appends_on}
+use Rattle.script_runner.proofs.Known.{IsSoFar, so_far_on, so_far_all, so_far_front, so_far_lacking, lacking_longer, none_front, appends_on}
 
 -- Between two lines, none of which was an order to the flash: both ends are as this says, a front of the output was written, and the
 -- rest of it, how it ends, whether an order comes and what is known of catalogues are those of the lines that are left.
@@ -98,13 +98,13 @@ playing_on plans network old mid new before after number rest line later input c
       },
     )
 
--- at a line whose text was written in part: a front of the output was
-pub playing_broken : (plans : List ℕ → Option Parts) (network : Network) (old mid new : Option (List ℕ)) (before after : Held) (number : ℕ) (rest line later input cleared text shown : List ℕ) (is : Bool) → IsPlaying plans network old mid before number rest input → lines rest ≡ line ∷ lines later → is_order (meaning_of line) ≡ false → cleared ≡ [] → is ≡ true → Comes (outcome_of plans network (meaning_of line)) after cleared text is → shown ≡ text → AppendsFront mid new shown → AppendsFront old new (output_of plans input)
+-- at a line whose text was written in part: less than the output was
+pub playing_broken : (plans : List ℕ → Option Parts) (network : Network) (old mid new : Option (List ℕ)) (before after : Held) (number : ℕ) (rest line later input cleared text shown : List ℕ) (is : Bool) → IsPlaying plans network old mid before number rest input → lines rest ≡ line ∷ lines later → is_order (meaning_of line) ≡ false → cleared ≡ [] → is ≡ true → Comes (outcome_of plans network (meaning_of line)) after cleared text is → shown ≡ text → AppendsLess mid new shown → AppendsLess old new (output_of plans input)
 playing_broken plans network old mid new before after number rest line later input cleared text shown is playing e plain none may comes same written =
     let came = came_answered (outcome_of plans network (meaning_of line)) after cleared text is none may comes in
-    so_far_front old mid new (told plans network (before_order (lines rest))) (output_of plans input) playing.so_far
-    (subst (AppendsFront mid new) (sym (told_at plans network rest line later (Answers came.0) e plain came.1))
-    (front_longer mid new came.0.text (told plans came.0.network (before_order (lines later))) (subst (AppendsFront mid new) (same ∙ came.2.text) written)))
+    so_far_lacking old mid new (told plans network (before_order (lines rest))) (output_of plans input) playing.so_far
+    (subst (AppendsLess mid new) (sym (told_at plans network rest line later (Answers came.0) e plain came.1))
+    (lacking_longer mid new came.0.text (told plans came.0.network (before_order (lines later))) (subst (AppendsLess mid new) (same ∙ came.2.text) written)))
 
 -- at a line that is refused: all that the lines before it print was written
 pub played_refused : (plans : List ℕ → Option Parts) (network : Network) (old new : Option (List ℕ)) (before after : Held) (number : ℕ) (rest line later input cleared text : List ℕ) (is : Bool) → IsPlaying plans network old new before number rest input → lines rest ≡ line ∷ lines later → is_order (meaning_of line) ≡ false → is ≡ false → Comes (outcome_of plans network (meaning_of line)) after cleared text is → Appends old new (output_of plans input) × (end_of plans input ≡ Refused (number + 1))
@@ -162,8 +162,8 @@ played_all plans old new held number rest input (inr more) e = inr more
 pub write_plays : (fault : RunFault) → fault ≡ Write → IsPlayFault fault
 write_plays fault write = rw write tt
 
-pub played_write : (plans : List ℕ → Option Parts) (old new : Option (List ℕ)) (input : List ℕ) (fault : RunFault) → fault ≡ Write → AppendsFront old new (output_of plans input) → IsPlayed plans old new input (Err fault)
-played_write plans old new input fault write front = rw write (inl front)
+pub played_write : (plans : List ℕ → Option Parts) (old new : Option (List ℕ)) (input : List ℕ) (fault : RunFault) → fault ≡ Write → AppendsLess old new (output_of plans input) → IsPlayed plans old new input (Err fault)
+played_write plans old new input fault write less = rw write (inl less)
 
 pub no_bytes : (bytes : List ℕ) → length bytes ≡ 0 → bytes ≡ []
 no_bytes [] e = refl

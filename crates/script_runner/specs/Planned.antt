@@ -14,7 +14,7 @@ use Rattle.configurator.specs.Planned.{IsPlanOf, IsRefused}
 use Rattle.script_runner.specs.declared.fault.RunFault.{RunFault}
 use Rattle.script_runner.specs.declared.fault.RunFault.TheVariants.{Read, Write, Line, OutOfMemory, Config, EndlessInput}
 use Rattle.script_runner.specs.Fault.{fault_of}
-use Rattle.script_runner.specs.Output.{AppendsFront}
+use Rattle.script_runner.specs.Output.{AppendsLess}
 use Rattle.script_lines.specs.Text.{printed}
 
 -- ---- the lines
@@ -55,11 +55,11 @@ pub record HasText (input text : List ℕ) : Type 0 where
 abbrev pub HasNoText : List ℕ → RunFault → Type 0
 HasNoText input fault = (fault ≡ OutOfMemory) ⊎ ((plan : PlanFault) × IsRefused input plan × (fault ≡ fault_of plan))
 
--- What is written of a catalogue: the lines of its plan, a front of them where a write failed, and nothing where memory was
+-- What is written of a catalogue: the lines of its plan, less than they where a write failed, and nothing where memory was
 -- refused or there is no plan.
 abbrev pub IsPlanned : Option (List ℕ) → Option (List ℕ) → List ℕ → Result (Unit {0}) RunFault → Type 0
 IsPlanned old new input (Ok done) = (text : List ℕ) × HasText input text × Appends old new text
-IsPlanned old new input (Err Write) = (text : List ℕ) × HasText input text × AppendsFront old new text
+IsPlanned old new input (Err Write) = (text : List ℕ) × HasText input text × AppendsLess old new text
 IsPlanned old new input (Err (Config n)) = HasNoText input (Config n) × Keeps old new
 IsPlanned old new input (Err OutOfMemory) = Keeps old new
 IsPlanned old new input (Err Read) = Keeps old new

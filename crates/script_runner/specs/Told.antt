@@ -4,7 +4,7 @@ use Rattle.std.specs.Io.KnownBytes.{Appends, Keeps}
 use Rattle.std.specs.Str.Lines.{lines}
 use Rattle.script_runner.specs.declared.fault.RunFault.{RunFault}
 use Rattle.script_runner.specs.declared.fault.RunFault.TheVariants.{Read, Write, Line, OutOfMemory, Config, EndlessInput}
-use Rattle.script_runner.specs.Output.{AppendsFront}
+use Rattle.script_runner.specs.Output.{AppendsFront, AppendsLess}
 use Rattle.configurator.specs.declared.fault.PlanFault.{PlanFault}
 use Rattle.plans.specs.declared.parts.Parts.{Parts}
 use Rattle.configurator.specs.Planned.{IsRefused}
@@ -22,13 +22,13 @@ pub record EndsWithoutPlan (plans : List ℕ → Option Parts) (input : List ℕ
   pub unplanned : IsUnplanned catalogue (Config n)
 
 -- What comes of a script up to its first line that orders a failure of the flash: at the end, where there is no such line, all of
--- its output was written, at a line that is refused or a catalogue that has no plan the output of the lines before it, and where a
--- write failed or memory was refused a front of the output.
+-- its output was written, at a line that is refused or a catalogue that has no plan the output of the lines before it, where a write
+-- failed less than the output, and where memory was refused a front of it.
 abbrev pub Plays : (List ℕ → Option Parts) → Option (List ℕ) → Option (List ℕ) → List ℕ → Result (Unit {0}) RunFault → Type 0
 Plays plans old new input (Ok done) = Appends old new (output_of plans input) × (end_of plans input ≡ AllDone) × (has_order (lines input) ≡ false)
 Plays plans old new input (Err (Line n)) = Appends old new (output_of plans input) × (end_of plans input ≡ Refused n)
 Plays plans old new input (Err (Config n)) = Appends old new (output_of plans input) × EndsWithoutPlan plans input n
-Plays plans old new input (Err Write) = AppendsFront old new (output_of plans input)
+Plays plans old new input (Err Write) = AppendsLess old new (output_of plans input)
 Plays plans old new input (Err OutOfMemory) = AppendsFront old new (output_of plans input)
 Plays plans old new input (Err Read) = ⊥
 Plays plans old new input (Err EndlessInput) = ⊥

@@ -3,7 +3,7 @@ use Rattle.std.proofs.lemmas.Bool.Decides.{nat_tests}
 use Rattle.std.proofs.lemmas.Result.{err_from_is_err_and}
 use Rattle.script_session.specs.Said.{alone}
 use Rattle.script_runner.specs.Script.{output_of, end_of}
-use Rattle.script_runner.proofs.Known.{so_far_on, so_far_none, front_longer}
+use Rattle.script_runner.proofs.Known.{so_far_on, so_far_none, lacking_longer}
 use Rattle.script_runner.proofs.Playing.{at_line, right_at, plays_on, playing_on, playing_broken, played_all, played_refused, played_failed, played_write, write_plays, fault_plays, front_grows, no_bytes}
 use Rattle.script_runner.proofs.play.play.Goals as goal
 
@@ -13,7 +13,7 @@ returns-in_err-put g c =
     let p = err_from_is_err_and c.from_residual.result c.from_residual.ensures.1 in
     rw (p.1, p.2) (record {
       faults = write_plays _ c.in_err-put.ensures.0;
-      played = λ plans are. played_write plans _ _ c.args.input.now _ c.in_err-put.ensures.0 (front_longer _ _ _ _ c.in_err-put.ensures.1);
+      played = λ plans are. played_write plans _ _ c.args.input.now _ c.in_err-put.ensures.0 (lacking_longer _ _ _ _ c.in_err-put.ensures.1);
     })
 
 pub loop-rest-init : goal.loop-rest-init
@@ -66,7 +66,7 @@ returns-in_err-put-2 g c =
             played_write plans _ _ c.args.input.now _ c.in_err-put-2.ensures.0
             (playing_broken plans playing.0 _ _ _ _ c.take.new.self _ _ _ c.first_line.result.1.now c.args.input.now c.clear.new.self.items c.take.new.text.items c.as_slice.result.now _ playing.1 c.first_line.ensures.lines playing.2 c.clear.ensures.items c.if-not-branch.false
             (c.in_ok-take.ensures.takes plans playing.0 right.0 playing.1.ends playing.2) c.as_slice.ensures.value c.in_err-put-2.ensures.1)
-        | inr more ↦ inr (plays_on plans _ _ _ c.args.input.now more (front_grows _ _ _ c.in_err-put-2.ensures.1))
+        | inr more ↦ inr (plays_on plans _ _ _ c.args.input.now more (front_grows _ _ _ c.in_err-put-2.ensures.1.0))
       ];
     })
 
