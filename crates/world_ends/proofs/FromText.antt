@@ -1,12 +1,11 @@
 -- The index of each record of a plan that is made of a text is read within its range.
-use Rattle.std.proofs.Common.{◌≡◌, ◌≤◌, ◌<◌, ◌++◌, ◌&&◌, ℕ, Bool, true, false, cond, List, [], ◌∷◌, map, Result, Ok, Err, nat_le, refl, sym, subst, ap, arith, length}
-use Rattle.std.specs.List.{AllByRecursion, flat_map}
+use Rattle.std.proofs.Common.{◌≡◌, ◌≤◌, ◌++◌, ◌&&◌, ℕ, Bool, true, false, cond, List, [], ◌∷◌, map, Result, Ok, Err, nat_le, refl, sym, subst, ap, arith, length}
+use Rattle.std.specs.List.{AllByRecursion}
 use Rattle.std.specs.Option.{ok_or}
 use Rattle.std.proofs.lemmas.Bool.{and_parts, leb-true}
 use Rattle.serde_json.specs.Data.{Data, Items, no_items, item}
 use Rattle.wire.proofs.Fields.{bind_ok, ok_is}
 use Rattle.plans.specs.declared.parts.Parts.{Parts}
-use Rattle.plans.specs.declared.parts.PlanRecord.{PlanRecord}
 use Rattle.catalogue.specs.declared.key.Key.{Key}
 use Rattle.catalogue.specs.declared.key.Key.TheVariants as key
 use Rattle.catalogue.specs.declared.fault.CatalogueFault.{CatalogueFault}
