@@ -1,11 +1,11 @@
 -- The frames that are left behind a place.
-use Rattle.std.proofs.Common.{◌≡◌, ◌+◌, ◌<◌, ◌≤◌, ℕ, suc, Bool, true, false, List, [], ◌∷◌, length, map, drop, take, get_or, sym, ap, subst, refl, ◌∙◌, inl, inr, arith}
-use Rattle.std.specs.Prelude.{◌||◌, nat_lt}
+use Rattle.std.proofs.Common.{◌≡◌, ◌+◌, ◌<◌, ◌≤◌, ℕ, suc, Bool, true, false, List, [], ◌∷◌, length, map, drop, take, get_or, sym, ap, subst, ◌∙◌, inl, inr, arith}
+use Rattle.std.specs.Prelude.{nat_lt}
 use Rattle.std.proofs.lemmas.Bool.{cases_Bool, ltb-true, ltb-false}
 use Rattle.std.proofs.Math.ListN.{get_or-map}
 use Rattle.std.proofs.lemmas.List.{drop_more, drop_all, drop-drop, length-map, take_all}
 use Rattle.controller_core.specs.declared.event.Event.TheVariants.{Tick}
-use Rattle.controller_operations.specs.State.{State, after, has_frames}
+use Rattle.controller_operations.specs.State.{State, after, has_frames, is_stopped}
 use Rattle.controller_operations.specs.Steps.{Ticks}
 
 -- so few octets are all of them
@@ -40,13 +40,9 @@ taken n frames = sym (drop-drop 1 n frames)
 pub none_taken : (n : ℕ) (frames : List (List ℕ)) → length frames ≤ n → drop n frames ≡ drop 1 (drop n frames)
 none_taken n frames none = drop_all n frames none ∙ sym (ap (drop 1) (drop_all n frames none))
 
--- neither of two
-pub first_no : (a b : Bool) → (a || b) ≡ false → a ≡ false
-first_no true b neither = cc neither
-first_no false b neither = refl
-
 -- one more unit
-pub one_more : (units : ℕ) (old between new : State) → Ticks units old between → has_frames between.frames ≡ false → new ≡ after between Tick → Ticks (units + 1) old new
-one_more units old between new ticks free takes =
+pub one_more : (was_over : Bool) (units : ℕ) (old between new : State) → Ticks was_over units old between → is_stopped was_over between ≡ false → new ≡ after between Tick
+    → Ticks was_over (units + 1) old new
+one_more was_over units old between new ticks free takes =
     let more : suc units ≡ units + 1 = omega arith in
-    subst (λ n. Ticks n old new) more (between, ticks, free, takes)
+    subst (λ n. Ticks was_over n old new) more (between, ticks, free, takes)

@@ -1,10 +1,9 @@
 -- A plan that is judged to be one is in its ranges.
 use Rattle.std.proofs.Common.{◌≡◌, ◌≤◌, ◌<◌, ◌+◌, ◌%◌, ◌==◌, ℕ, Bool, true, false, List, [], ◌∷◌, length, map, refl, sym, ap, subst, arith}
-use Rattle.std.specs.Prelude.{◌&&◌, not, nat_le, slice_index, if◌then◌else◌, Ok, Err}
-use Rattle.std.specs.List.{AllByRecursion, list_all}
+use Rattle.std.specs.Prelude.{◌&&◌, not, nat_le, slice_index, if◌then◌else◌, Result, Ok, Err}
+use Rattle.std.specs.List.{AllByRecursion, list_all, list_any}
 use Rattle.std.proofs.lemmas.Bool.{and_parts, eqb-true, leb-true}
-use Rattle.std.proofs.lemmas.List.{length-map}
-use Rattle.pn_values.specs.IpSuite.{is_suite}
+use Rattle.pn_values.specs.IpSuite.{is_host, is_suite}
 use Rattle.pn_values.specs.declared.real.RealModule.{RealModule}
 use Rattle.pn_values.specs.declared.real.RealSubmodule.{RealSubmodule}
 use Rattle.station_names.specs.Valid.{is_station_name}
@@ -12,6 +11,7 @@ use Rattle.pn_values.specs.StationName.{IsStationName}
 use Rattle.plans.specs.Connect.{does_connect_fit}
 use Rattle.plans.specs.Plan.{do_frames_fit, plan_of}
 use Rattle.plans.specs.declared.parts.Parts.{Parts}
+use Rattle.plans.specs.declared.plan.TooLong.{TooLong}
 use Rattle.plans.specs.declared.plan.TooLong.TheVariants.{Frame, Connect}
 use Rattle.plans.specs.Parts.{AreOrdered, AreParts, IsRising, slots_of, subslots_of}
 use Rattle.host_values.specs.declared.plugged.Module.{Module}
@@ -19,8 +19,8 @@ use Rattle.host_values.specs.declared.plugged.Submodule.{Submodule}
 use Rattle.host_values.specs.Modules.{is_module, module_of, submodule_of, submodules_in}
 use Rattle.controller_operations.specs.declared.plan.WrittenPlan.{WrittenPlan}
 use Rattle.controller_operations.specs.declared.plan.WrittenRecord.{WrittenRecord}
-use Rattle.controller_operations.specs.Plans.{IsShort, IsWritten, are_addresses, are_ordered, are_plugged, are_records, are_times, is_name, is_ordered, is_record}
-use Rattle.controller_operations.specs.Plans.{is_rising, is_written, controller_name_in, modules_in, name_in, parts_of, records_in, suite_in}
+use Rattle.controller_operations.specs.Plans.{IsShort, IsWritten, are_addresses, are_low, are_named, are_numbers, are_ordered, are_placed, are_times, does_take, fault_of_length, has_room, is_name, is_part, is_plan}
+use Rattle.controller_operations.specs.Plans.{is_record, is_rising, is_sound, is_written, controller_name_in, modules_in, name_in, parts_of, records_in, suite_in}
 
 -- ---- numbers in order
 
@@ -46,22 +46,40 @@ subslots_same : (parts : List Submodule) → map (λ (part : RealSubmodule). par
 subslots_same [] = refl
 subslots_same (part ∷ parts) = ap (λ subslots. part.subslot ∷ subslots) (subslots_same parts)
 
-all_ordered : (modules : List Module) → list_all is_ordered modules ≡ true
-    → AllByRecursion (λ (entry : RealModule). entry.slot ≤ 15) (map module_of modules) × AllByRecursion (λ (entry : RealModule). IsRising (subslots_of entry)) (map module_of modules)
-all_ordered [] are = (tt, tt)
-all_ordered (entry ∷ modules) are =
-    let subslots = map (λ (part : Submodule). part.subslot) (submodules_in entry) in
-    let parts = and_parts (is_ordered entry) (list_all is_ordered modules) are in
-    let own = and_parts (nat_le entry.slot 15) (nat_le entry.submodule_count 4 && is_rising 0 subslots) parts.0 in
-    let up = and_parts (nat_le entry.submodule_count 4) (is_rising 0 subslots) own.1 in
-    let rest = all_ordered modules parts.1 in
-    ((leb-true entry.slot 15 own.0, rest.0), (subst IsRising (sym (subslots_same (submodules_in entry))) (rising_from 0 subslots up.1).1, rest.1))
+all_few : (modules : List Module) → list_all (λ entry. nat_le entry.slot 15) modules ≡ true
+    → AllByRecursion (λ (entry : RealModule). entry.slot ≤ 15) (map module_of modules)
+all_few [] are = tt
+all_few (entry ∷ modules) are =
+    let parts = and_parts (nat_le entry.slot 15) (list_all (λ (other : Module). nat_le other.slot 15) modules) are in
+    (leb-true entry.slot 15 parts.0, all_few modules parts.1)
 
-all_short : (records : List WrittenRecord) → list_all is_record records ≡ true → AllByRecursion IsShort records
-all_short [] are = tt
-all_short (entry ∷ records) are =
-    let parts = and_parts (is_record entry) (list_all is_record records) are in
-    (leb-true entry.length 64 parts.0, all_short records parts.1)
+all_rising : (modules : List Module) → list_all is_sound modules ≡ true
+    → AllByRecursion (λ (entry : RealModule). IsRising (subslots_of entry)) (map module_of modules)
+all_rising [] are = tt
+all_rising (entry ∷ modules) are =
+    let subslots = map (λ (part : Submodule). part.subslot) (submodules_in entry) in
+    let parts = and_parts (is_sound entry) (list_all is_sound modules) are in
+    let own = and_parts (nat_le 1 entry.ident) (is_rising 1 subslots && list_all is_part (submodules_in entry)) parts.0 in
+    let up = and_parts (is_rising 1 subslots) (list_all is_part (submodules_in entry)) own.1 in
+    (subst IsRising (sym (subslots_same (submodules_in entry))) (rising_from 1 subslots up.0).1, all_rising modules parts.1)
+
+-- the access point is in slot 0, and the others come after it
+all_ordered : (modules : List Module) → are_ordered modules ≡ true → (1 ≤ length (map module_of modules)) × IsRising (slots_of (map module_of modules))
+all_ordered [] are = cc are
+all_ordered (entry ∷ modules) are =
+    let slots = map (λ (other : Module). other.slot) modules in
+    let parts = and_parts (entry.slot == 0) (is_rising 1 slots) are in
+    let first : entry.slot ≡ 0 = eqb-true entry.slot 0 parts.0 in
+    let rest = rising_from 1 slots parts.1 in
+    let above = all_so (λ other. 1 ≤ other) (λ other. entry.slot < other) slots (λ other low. omega (arith, low, first)) rest.0 in
+    (omega arith, subst IsRising (sym (slots_same (entry ∷ modules))) (above, rest.1))
+
+all_short : (modules : List Module) (records : List WrittenRecord) → list_all (is_record modules) records ≡ true → AllByRecursion IsShort records
+all_short modules [] are = tt
+all_short modules (entry ∷ records) are =
+    let parts = and_parts (is_record modules entry) (list_all (is_record modules) records) are in
+    let own = and_parts (nat_le entry.length 64) (list_any (does_take entry) modules) parts.0 in
+    (leb-true entry.length 64 own.0, all_short modules records parts.1)
 
 -- ---- names and addresses
 
@@ -70,27 +88,32 @@ record AreNamed (written : WrittenPlan) : Type 0 where
   named : is_station_name (name_in written) ≡ true
   few_controller_octets : written.controller_name_length ≤ 240
   controlled : is_station_name (controller_name_in written) ≡ true
-  alone : slice_index written.controller_mac 0 % 2 ≡ 0
-  addressed : is_suite (suite_in written) ≡ true
 
-named_in : (written : WrittenPlan) → are_addresses written ≡ true → AreNamed written
+named_in : (written : WrittenPlan) → are_named written ≡ true → AreNamed written
 named_in written are =
-    let mac = slice_index written.controller_mac 0 % 2 == 0 in
     let own = is_name written.name_length written.name in
     let other = is_name written.controller_name_length written.controller_name in
-    let first = and_parts own (other && (mac && is_suite (suite_in written))) are in
-    let second = and_parts other (mac && is_suite (suite_in written)) first.1 in
-    let third = and_parts mac (is_suite (suite_in written)) second.1 in
-    let name = and_parts (nat_le written.name_length 240) (is_station_name (name_in written)) first.0 in
-    let controller = and_parts (nat_le written.controller_name_length 240) (is_station_name (controller_name_in written)) second.0 in
+    let both = and_parts own other are in
+    let name = and_parts (nat_le written.name_length 240) (is_station_name (name_in written)) both.0 in
+    let controller = and_parts (nat_le written.controller_name_length 240) (is_station_name (controller_name_in written)) both.1 in
     record {
       few_octets = leb-true written.name_length 240 name.0;
       named = name.1;
       few_controller_octets = leb-true written.controller_name_length 240 controller.0;
       controlled = controller.1;
-      alone = eqb-true (slice_index written.controller_mac 0 % 2) 0 third.0;
-      addressed = third.1;
     }
+
+record AreAddressed (written : WrittenPlan) : Type 0 where
+  alone : slice_index written.controller_mac 0 % 2 ≡ 0
+  addressed : is_suite (suite_in written) ≡ true
+
+addressed_in : (written : WrittenPlan) → are_addresses written ≡ true → AreAddressed written
+addressed_in written are =
+    let mac = slice_index written.controller_mac 0 % 2 == 0 in
+    let host = is_host (slice_index written.controller_address 0) in
+    let first = and_parts (is_suite (suite_in written)) (mac && host) are in
+    let second = and_parts mac host first.1 in
+    record { alone = eqb-true (slice_index written.controller_mac 0 % 2) 0 second.0; addressed = first.0 }
 
 -- ---- times
 
@@ -121,51 +144,71 @@ timed_in written are =
       hold_greatest = leb-true written.data_hold_factor 7680 holds.1;
     }
 
--- ---- what is plugged
-
-record ArePlugged (modules : List Module) : Type 0 where
-  some : 1 ≤ length (map module_of modules)
-  small : list_all is_module modules ≡ true
-  ordered : AreOrdered (map module_of modules)
-
-plugged_in : (modules : List Module) → are_ordered modules ≡ true → ArePlugged modules
-plugged_in modules are =
-    let slots = map (λ (entry : Module). entry.slot) modules in
-    let first = and_parts (nat_le 1 (length modules)) (list_all is_module modules && (is_rising 0 slots && list_all is_ordered modules)) are in
-    let second = and_parts (list_all is_module modules) (is_rising 0 slots && list_all is_ordered modules) first.1 in
-    let third = and_parts (is_rising 0 slots) (list_all is_ordered modules) second.1 in
-    let each = all_ordered modules third.1 in
-    record {
-      some = subst (λ n. 1 ≤ n) (sym (length-map modules module_of)) (leb-true 1 (length modules) first.0);
-      small = second.0;
-      ordered = record { slots = subst IsRising (sym (slots_same modules)) (rising_from 0 slots third.0).1; few = each.0; subslots = each.1 };
-    }
-
 -- ---- all of it
 
 record AllParts (written : WrittenPlan) : Type 0 where
   times : AreTimes written
   names : AreNamed written
+  addresses : AreAddressed written
   few_modules : written.module_count ≤ 16
-  plugged : ArePlugged (modules_in written)
+  small_modules : list_all is_module (modules_in written) ≡ true
+  some : 1 ≤ length (map module_of (modules_in written))
+  ordered : AreOrdered (map module_of (modules_in written))
   few_records : written.record_count ≤ 32
   short_records : AllByRecursion IsShort (records_in written)
 
 all_parts : (written : WrittenPlan) → is_written written ≡ true → AllParts written
 all_parts written is =
-    let first = and_parts (are_times written) (are_addresses written && (are_plugged written && are_records written)) is in
-    let second = and_parts (are_addresses written) (are_plugged written && are_records written) first.1 in
-    let third = and_parts (are_plugged written) (are_records written) second.1 in
-    let modules = and_parts (nat_le written.module_count 16) (are_ordered (modules_in written)) third.0 in
-    let records = and_parts (nat_le written.record_count 32) (list_all is_record (records_in written)) third.1 in
+    let modules = modules_in written in
+    let past = list_all (λ (entry : WrittenRecord). not (entry.slot == 0)) (records_in written) in
+    let records = list_all (is_record modules) (records_in written) in
+    let first = and_parts (has_room written) (are_numbers written && (are_named written && (are_addresses written && (are_placed written && are_low written)))) is in
+    let second = and_parts (are_numbers written) (are_named written && (are_addresses written && (are_placed written && are_low written))) first.1 in
+    let third = and_parts (are_named written) (are_addresses written && (are_placed written && are_low written)) second.1 in
+    let fourth = and_parts (are_addresses written) (are_placed written && are_low written) third.1 in
+    let fifth = and_parts (are_placed written) (are_low written) fourth.1 in
+    let room = and_parts (nat_le written.module_count 16) (list_all is_module modules && nat_le written.record_count 32) first.0 in
+    let lists = and_parts (list_all is_module modules) (nat_le written.record_count 32) room.1 in
+    let numbers = and_parts (are_times written) (list_all is_sound modules && records) second.0 in
+    let sound = and_parts (list_all is_sound modules) records numbers.1 in
+    let placed = and_parts (are_ordered modules) past fifth.0 in
+    let ordered = all_ordered modules placed.0 in
     record {
-      times = timed_in written first.0;
-      names = named_in written second.0;
-      few_modules = leb-true written.module_count 16 modules.0;
-      plugged = plugged_in (modules_in written) modules.1;
-      few_records = leb-true written.record_count 32 records.0;
-      short_records = all_short (records_in written) records.1;
+      times = timed_in written numbers.0;
+      names = named_in written third.0;
+      addresses = addressed_in written fourth.0;
+      few_modules = leb-true written.module_count 16 room.0;
+      small_modules = lists.0;
+      some = ordered.0;
+      ordered = record { slots = ordered.1; few = all_few modules fifth.1; subslots = all_rising modules sound.0 };
+      few_records = leb-true written.record_count 32 lists.1;
+      short_records = all_short modules (records_in written) sound.1;
     }
+
+-- what no fault is found in is in its ranges
+judged : (a b c d e f : Bool) (rest : ℕ)
+    → ((if not a then 6 else (if not b then 4 else (if not c then 9 else (if not d then 10 else (if not e then 5 else (if not f then 6 else rest)))))) == 0) ≡ true
+    → ((a && (b && (c && (d && (e && f))))) ≡ true) × ((rest == 0) ≡ true)
+judged true true true true true true rest is = (refl, is)
+judged true true true true true false rest is = cc
+judged true true true true false f rest is = cc
+judged true true true false e f rest is = cc
+judged true true false d e f rest is = cc
+judged true false c d e f rest is = cc
+judged false b c d e f rest is = cc
+
+pub planned_in : (written : WrittenPlan) → is_plan written ≡ true → (is_written written ≡ true) × ((fault_of_length (plan_of (parts_of written)) == 0) ≡ true)
+planned_in written is =
+    judged (has_room written) (are_numbers written) (are_named written) (are_addresses written) (are_placed written) (are_low written)
+    (fault_of_length (plan_of (parts_of written))) is
+
+-- nothing is too long then
+long_fault : (long : TooLong) → (fault_of_length {T = Parts} (Err long) == 0) ≡ true → ⊥
+long_fault Frame is = cc
+long_fault Connect is = cc
+
+pub not_long : (read : Result Parts TooLong) (long : TooLong) → (fault_of_length read == 0) ≡ true → read ≡ Err long → ⊥
+not_long read long none is = long_fault long (subst (λ (found : Result Parts TooLong). (fault_of_length found == 0) ≡ true) is none)
 
 -- what its parts are made by
 pub written_in : (written : WrittenPlan) → is_written written ≡ true → IsWritten written
@@ -176,9 +219,9 @@ written_in written is =
       named = all.names.named;
       few_controller_octets = all.names.few_controller_octets;
       controlled = all.names.controlled;
-      addressed = all.names.addressed;
+      addressed = all.addresses.addressed;
       few_modules = all.few_modules;
-      small_modules = all.plugged.small;
+      small_modules = all.small_modules;
       few_records = all.few_records;
       short_records = all.short_records;
     }
@@ -190,15 +233,15 @@ good_in written is named controlled =
     record {
       named = named;
       controlled = controlled;
-      alone = all.names.alone;
+      alone = all.addresses.alone;
       clock_least = all.times.clock_least;
       clock_greatest = all.times.clock_greatest;
       ratio_least = all.times.ratio_least;
       ratio_greatest = all.times.ratio_greatest;
       hold_least = all.times.hold_least;
       hold_greatest = all.times.hold_greatest;
-      plugged = all.plugged.some;
-      ordered = all.plugged.ordered;
+      plugged = all.some;
+      ordered = all.ordered;
     }
 
 -- parts that are a plan are it

@@ -1,23 +1,26 @@
 //! The plan of a station, as it lies in the memory of the host.
-ghost use Rattle.std.specs.Prelude.{◌≡◌, ◌≤◌, true, is_ok, length, map};
-ghost use Rattle.std.specs.List.{AllByRecursion, list_all};
-ghost use Rattle.pn_values.specs.IpSuite.{is_suite};
+ghost use Rattle.std.specs.Prelude.{◌≡◌, ◌≤◌, ◌==◌, true, nat_le, not, length, map};
+ghost use Rattle.std.specs.List.{AllByRecursion, list_all, list_any};
+ghost use Rattle.pn_values.specs.IpSuite.{is_host, is_suite};
 ghost use Rattle.pn_values.specs.StationName.{IsStationName};
 ghost use Rattle.station_names.specs.Valid.{is_station_name};
 ghost use Rattle.wire.specs.Codec.{Gives};
 ghost use Rattle.plans.specs.Plan.{plan_of};
 ghost use Rattle.controller_core.specs.Machine.{fresh};
-ghost use Rattle.host_values.specs.Modules.{is_module, module_of};
+ghost use Rattle.host_values.specs.Modules.{is_module, is_submodule, module_of};
 ghost use Rattle.controller_operations.specs.State.{opened};
-ghost use Rattle.controller_operations.specs.Plans.{IsShort, IsWritten, are_addresses as is_addressed, are_ordered as is_in_order};
-ghost use Rattle.controller_operations.specs.Plans.{are_plugged as is_plugged, are_records as is_recorded, are_times as is_timed};
-ghost use Rattle.controller_operations.specs.Plans.{is_name as is_named, is_ordered as is_module_ordered, is_plan as is_planned};
-ghost use Rattle.controller_operations.specs.Plans.{is_record, is_rising, is_written as is_all_written, modules_in, name_in};
-ghost use Rattle.controller_operations.specs.Plans.{controller_name_in, parts_of, record_of, records_in, suite_in, why_not_made};
+ghost use Rattle.controller_operations.specs.Plans.{IsShort, IsWritten, are_addresses as is_addressed, are_low as is_low, are_named};
+ghost use Rattle.controller_operations.specs.Plans.{are_numbers as are_all_numbers, are_ordered as is_in_order, are_parameters};
+ghost use Rattle.controller_operations.specs.Plans.{are_placed as are_all_placed, are_times as is_timed, controller_name_in};
+ghost use Rattle.controller_operations.specs.Plans.{does_part_take, does_take, fault_of, fault_of_length as of_length, has_index};
+ghost use Rattle.controller_operations.specs.Plans.{has_room as has_all_room, is_item, is_name as is_named, is_parameter, is_part};
+ghost use Rattle.controller_operations.specs.Plans.{is_plan as is_planned, is_record, is_rising, is_sound as is_all_sound};
+ghost use Rattle.controller_operations.specs.Plans.{is_written as is_all_written, modules_in, name_in, parts_of, record_of, records_in};
+ghost use Rattle.controller_operations.specs.Plans.{suite_in, why_not_made};
 
 use crate::port::Port;
 use arrayvec::ArrayVec;
-use host_values::{Module, Submodule, are_modules, modules};
+use host_values::{Module, Parameter, Submodule, are_modules, modules};
 use plans::{Controller, Parts, Plan, PlanRecord, Station, Times, TooLong};
 use pn_values::{IpSuite, Mac, Real, StationName};
 use station_names::check;
@@ -31,6 +34,21 @@ const ROOM: usize = 40960;
 
 /// Octets of an operation.
 const OP_SIZE: usize = 1560;
+
+// The faults of a plan, with the numbers that they have where a catalogue has them.
+const NUMBER: u32 = 4;
+
+const NOT_ALLOWED: u32 = 5;
+
+const TOO_MANY: u32 = 6;
+
+const FRAME_LONG: u32 = 7;
+
+const CONNECT_LONG: u32 = 8;
+
+const NAME: u32 = 9;
+
+const ADDRESS: u32 = 10;
 
 /// A parameter record that the controller writes at start-up.
 #[repr(C)]
@@ -80,7 +98,7 @@ pub fn judge(size: usize, abi: u32, op_size: usize, written: &WrittenPlan, ar: &
     if size < ROOM {
         return 3;
     }
-    if !is_plan(written) || Uuid::from_bytes(*ar).is_nil() {
+    if fault_in(written) != 0 || Uuid::from_bytes(*ar).is_nil() {
         return 14;
     }
     0
@@ -100,29 +118,61 @@ pub fn port_of(written: &WrittenPlan, ar: &[u8; 16], activity: &[u8; 16]) -> Por
 
 // ---- whether it is a plan
 
-fn is_plan(written: &WrittenPlan) -> bool
-    ensures { result ≡ is_planned written.now }
+/// The first fault of a plan, with the number that a catalogue with this fault has, or 0: what a catalogue may not say a plan may not
+/// either.
+pub fn fault_in(written: &WrittenPlan) -> u32
+    ensures { result ≡ fault_of written.now }
 {
-    is_written(written) && is_short(written)
+    if !has_room(written) {
+        return TOO_MANY;
+    }
+    if !are_numbers(written) {
+        return NUMBER;
+    }
+    if !are_named(written) {
+        return NAME;
+    }
+    if !are_addresses(written) {
+        return ADDRESS;
+    }
+    if !are_placed(written) {
+        return NOT_ALLOWED;
+    }
+    if !are_low(written) {
+        return TOO_MANY;
+    }
+    fault_of_length(written)
 }
 
-// Whether neither the cyclic frames nor the Connect are too long.
+// Whether a cyclic frame or the Connect is too long.
 #[inline(never)]
-fn is_short(written: &WrittenPlan) -> bool
+fn fault_of_length(written: &WrittenPlan) -> u32
     requires { is_all_written written.now ≡ true }
-    ensures { result ≡ is_ok (plan_of (parts_of written.now)) }
+    ensures { result ≡ of_length (plan_of (parts_of written.now)) }
 {
     match planned(written) {
-        Ok(_) => true,
-        Err(_) => false,
+        Ok(_) => 0,
+        Err(TooLong::Frame) => FRAME_LONG,
+        Err(TooLong::Connect) => CONNECT_LONG,
     }
 }
 
-// Whether each part is in its range.
-fn is_written(written: &WrittenPlan) -> bool
-    ensures { result ≡ is_all_written written.now }
+// Whether no count is more than its list holds.
+fn has_room(written: &WrittenPlan) -> bool
+    ensures { result ≡ has_all_room written.now }
 {
-    are_times(written) && are_addresses(written) && are_plugged(written) && are_records(written)
+    written.module_count <= 16
+        && are_modules(&written.modules[..written.module_count as usize])
+        && written.record_count <= 32
+}
+
+fn are_numbers(written: &WrittenPlan) -> bool
+    requires { has_all_room written.now ≡ true }
+    ensures { result ≡ are_all_numbers written.now }
+{
+    let modules = &written.modules[..written.module_count as usize];
+    let records = &written.records[..written.record_count as usize];
+    are_times(written) && are_sound(modules) && are_records(records, modules)
 }
 
 fn are_times(written: &WrittenPlan) -> bool
@@ -136,13 +186,167 @@ fn are_times(written: &WrittenPlan) -> bool
         && written.data_hold_factor <= 7680
 }
 
-fn are_addresses(written: &WrittenPlan) -> bool
-    ensures { result ≡ is_addressed written.now }
+// Whether modules, their submodules and the parameter records of these are in their ranges.
+fn are_sound(modules: &[Module]) -> bool
+    requires { list_all is_module modules.now ≡ true }
+    ensures { result ≡ list_all is_all_sound modules.now }
+{
+    for entry in modules {
+        if !is_sound(entry) {
+            return false;
+        }
+    }
+    true
+}
+
+fn is_sound(entry: &Module) -> bool
+    requires { is_module entry.now ≡ true }
+    ensures { result ≡ is_all_sound entry.now }
+{
+    let submodules = &entry.submodules[..entry.submodule_count as usize];
+    entry.ident >= 1 && are_subslots_rising(submodules) && are_parts(submodules)
+}
+
+fn are_subslots_rising(submodules: &[Submodule]) -> bool
+    ensures { result ≡ is_rising 1 (map (λ part. part.subslot) submodules.now) }
+{
+    let mut next = 1u32;
+    for submodule in submodules {
+        if u32::from(submodule.subslot) < next {
+            return false;
+        }
+        next = u32::from(submodule.subslot) + 1;
+    }
+    true
+}
+
+fn are_parts(submodules: &[Submodule]) -> bool
+    requires { list_all is_submodule submodules.now ≡ true }
+    ensures { result ≡ list_all is_part submodules.now }
+{
+    for submodule in submodules {
+        if !is_part(submodule) {
+            return false;
+        }
+    }
+    true
+}
+
+fn is_part(submodule: &Submodule) -> bool
+    requires { is_submodule submodule.now ≡ true }
+    ensures { result ≡ is_part submodule.now }
+{
+    submodule.subslot <= 36863
+        && are_parameters(&submodule.parameters[..submodule.parameter_count as usize])
+}
+
+// Whether parameter records are in their ranges, each with an index of its own.
+fn are_parameters(items: &[Parameter]) -> bool
+    ensures { result ≡ are_parameters items.now }
+{
+    for i in 0..items.len() {
+        if !is_parameter(&items[i]) || has_index(&items[i + 1..], items[i].index) {
+            return false;
+        }
+    }
+    true
+}
+
+fn is_parameter(item: &Parameter) -> bool
+    ensures { result ≡ is_parameter item.now }
+{
+    item.index <= 32767 && item.length >= 1 && item.length <= 64
+}
+
+fn has_index(items: &[Parameter], index: u16) -> bool
+    ensures { result ≡ has_index index items.now }
+{
+    items.iter().any(|item| item.index == index)
+}
+
+// Whether each record is one that a submodule of these modules takes.
+fn are_records(records: &[WrittenRecord], modules: &[Module]) -> bool
+    requires { list_all is_module modules.now ≡ true }
+    ensures { result ≡ list_all (is_record modules.now) records.now }
+{
+    for entry in records {
+        if !is_record(entry, modules) {
+            return false;
+        }
+    }
+    true
+}
+
+fn is_record(entry: &WrittenRecord, modules: &[Module]) -> bool
+    requires { list_all is_module modules.now ≡ true }
+    ensures { result ≡ is_record modules.now entry.now }
+{
+    entry.length <= 64 && is_taken(entry, modules)
+}
+
+fn is_taken(entry: &WrittenRecord, modules: &[Module]) -> bool
+    requires { list_all is_module modules.now ≡ true }
+    ensures { result ≡ list_any (does_take entry.now) modules.now }
+{
+    for plugged in modules {
+        if does_take(plugged, entry) {
+            return true;
+        }
+    }
+    false
+}
+
+fn does_take(plugged: &Module, entry: &WrittenRecord) -> bool
+    requires { is_module plugged.now ≡ true }
+    ensures { result ≡ does_take entry.now plugged.now }
+{
+    plugged.slot == entry.slot
+        && do_parts_take(
+            &plugged.submodules[..plugged.submodule_count as usize],
+            entry,
+        )
+}
+
+fn do_parts_take(submodules: &[Submodule], entry: &WrittenRecord) -> bool
+    requires { list_all is_submodule submodules.now ≡ true }
+    ensures { result ≡ list_any (does_part_take entry.now) submodules.now }
+{
+    for submodule in submodules {
+        if does_part_take(submodule, entry) {
+            return true;
+        }
+    }
+    false
+}
+
+fn does_part_take(submodule: &Submodule, entry: &WrittenRecord) -> bool
+    requires { is_submodule submodule.now ≡ true }
+    ensures { result ≡ does_part_take entry.now submodule.now }
+{
+    submodule.subslot == entry.subslot
+        && is_item(
+            &submodule.parameters[..submodule.parameter_count as usize],
+            entry,
+        )
+}
+
+// Whether one of these parameter records has the index and the length of a record.
+fn is_item(items: &[Parameter], entry: &WrittenRecord) -> bool
+    ensures { result ≡ list_any (is_item entry.now) items.now }
+{
+    for item in items {
+        if item.index == entry.index && item.length == entry.length {
+            return true;
+        }
+    }
+    false
+}
+
+fn are_named(written: &WrittenPlan) -> bool
+    ensures { result ≡ are_named written.now }
 {
     is_name(&written.name, written.name_length)
         && is_name(&written.controller_name, written.controller_name_length)
-        && written.controller_mac[0] % 2 == 0
-        && is_suite_in(written)
 }
 
 fn is_name(octets: &[u8; 240], length: u32) -> bool
@@ -158,29 +362,50 @@ fn is_valid(text: &[u8]) -> bool
     check(text).is_ok()
 }
 
+fn are_addresses(written: &WrittenPlan) -> bool
+    ensures { result ≡ is_addressed written.now }
+{
+    is_suite_in(written)
+        && written.controller_mac[0] % 2 == 0
+        && is_host(written.controller_address[0])
+}
+
 fn is_suite_in(written: &WrittenPlan) -> bool
     ensures { result ≡ is_suite (suite_in written.now) }
 {
     IpSuite::new(written.address, written.mask, written.gateway).is_some()
 }
 
-fn are_plugged(written: &WrittenPlan) -> bool
-    ensures { result ≡ is_plugged written.now }
+// Whether an address that begins with this octet is one of a host.
+fn is_host(octet: u8) -> bool
+    ensures { result ≡ is_host octet }
 {
-    written.module_count <= 16 && are_in_order(&written.modules[..written.module_count as usize])
+    (1 <= octet && octet <= 126) || (128 <= octet && octet <= 223)
 }
 
-// Whether there is a module, they stand in the order of their slots, and no list of theirs is too long.
-fn are_in_order(modules: &[Module]) -> bool
+// Whether the modules are in order, and no record is one of the access point.
+fn are_placed(written: &WrittenPlan) -> bool
+    requires { has_all_room written.now ≡ true }
+    ensures { result ≡ are_all_placed written.now }
+{
+    are_ordered(&written.modules[..written.module_count as usize])
+        && are_past_point(&written.records[..written.record_count as usize])
+}
+
+// Whether the first module is the access point, in slot 0, and those after it are in the order of their slots.
+fn are_ordered(modules: &[Module]) -> bool
     ensures { result ≡ is_in_order modules.now }
 {
-    modules.len() >= 1 && are_modules(modules) && are_slots_rising(modules) && are_ordered(modules)
+    match modules.first() {
+        Some(first) => first.slot == 0 && are_slots_rising(&modules[1..]),
+        None => false,
+    }
 }
 
 fn are_slots_rising(modules: &[Module]) -> bool
-    ensures { result ≡ is_rising 0 (map (λ entry. entry.slot) modules.now) }
+    ensures { result ≡ is_rising 1 (map (λ entry. entry.slot) modules.now) }
 {
-    let mut least = 0u32;
+    let mut least = 1u32;
     for entry in modules {
         if u32::from(entry.slot) < least {
             return false;
@@ -190,49 +415,29 @@ fn are_slots_rising(modules: &[Module]) -> bool
     true
 }
 
-fn are_ordered(modules: &[Module]) -> bool
-    ensures { result ≡ list_all is_module_ordered modules.now }
-{
-    for entry in modules {
-        if !is_ordered(entry) {
-            return false;
-        }
-    }
-    true
-}
-
-fn is_ordered(entry: &Module) -> bool
-    ensures { result ≡ is_module_ordered entry.now }
-{
-    entry.slot <= 15
-        && entry.submodule_count <= 4
-        && are_subslots_rising(&entry.submodules[..entry.submodule_count as usize])
-}
-
-fn are_subslots_rising(submodules: &[Submodule]) -> bool
-    ensures { result ≡ is_rising 0 (map (λ part. part.subslot) submodules.now) }
-{
-    let mut least = 0u32;
-    for submodule in submodules {
-        if u32::from(submodule.subslot) < least {
-            return false;
-        }
-        least = u32::from(submodule.subslot) + 1;
-    }
-    true
-}
-
-fn are_records(written: &WrittenPlan) -> bool
-    ensures { result ≡ is_recorded written.now }
-{
-    written.record_count <= 32 && are_short(&written.records[..written.record_count as usize])
-}
-
-fn are_short(records: &[WrittenRecord]) -> bool
-    ensures { result ≡ list_all is_record records.now }
+fn are_past_point(records: &[WrittenRecord]) -> bool
+    ensures { result ≡ list_all (λ entry. not (entry.slot == 0)) records.now }
 {
     for entry in records {
-        if entry.length > 64 {
+        if entry.slot == 0 {
+            return false;
+        }
+    }
+    true
+}
+
+fn are_low(written: &WrittenPlan) -> bool
+    requires { has_all_room written.now ≡ true }
+    ensures { result ≡ is_low written.now }
+{
+    are_slots_low(&written.modules[..written.module_count as usize])
+}
+
+fn are_slots_low(modules: &[Module]) -> bool
+    ensures { result ≡ list_all (λ entry. nat_le entry.slot 15) modules.now }
+{
+    for entry in modules {
+        if entry.slot > 15 {
             return false;
         }
     }

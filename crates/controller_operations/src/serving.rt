@@ -1,11 +1,12 @@
 //! One operation of the host.
-ghost use Rattle.std.specs.Prelude.{◌≡◌, ◌≤◌, Some, length, take};
+ghost use Rattle.std.specs.Prelude.{◌≡◌, ◌≤◌, length, take};
 ghost use Rattle.cyclic_exchange.specs.Process.{value_at};
 ghost use Rattle.controller_core.specs.declared.event.Event.TheVariants.{Frame as Framed};
 ghost use Rattle.host_values.specs.Places.{place_in};
 ghost use Rattle.controller_operations.specs.State.{has_frames};
-ghost use Rattle.controller_operations.specs.Serves.{IsAlarm, IsEvent, IsGift, IsHandOut, IsHanded, IsInput, IsState, IsTick, IsValue};
-ghost use Rattle.controller_operations.specs.Serves.{Serves, cause_number, operation_of as operation_in, phase_number, why_no_place};
+ghost use Rattle.controller_operations.specs.Serves.{IsAlarm, IsEvent, IsGift, IsHandOut, IsInput, IsTick, IsValue, Serves, cause_number};
+ghost use Rattle.controller_operations.specs.Serves.{operation_of as operation_in, phase_number, why_no_place};
+ghost use Rattle.controller_operations.specs.Serves.{with_alarm, with_next, with_state};
 
 use crate::operation::{Operation, operation_of};
 use crate::port::Port;
@@ -87,7 +88,7 @@ fn no_place(port: &Port) -> u32
 }
 
 fn tick(port: &mut Port, op: &mut Op) -> u32
-    ensures { IsTick (has_frames port.old.frames) port.old op.old.units result port.new op.new }
+    ensures { IsTick (has_frames port.old.frames) port.old op.old result port.new op.new }
 {
     if port.has_work() {
         return HAS_WORK;
@@ -121,7 +122,7 @@ fn front_of(octets: &[u8], most: usize) -> &[u8]
 
 // The next frame, which is taken with that.
 fn next(port: &mut Port, op: &mut Op) -> u32
-    ensures { IsHandOut port.old result port.new op.new }
+    ensures { IsHandOut port.old op.old result port.new op.new }
 {
     hand_out(port, op);
     port.advance();
@@ -130,7 +131,7 @@ fn next(port: &mut Port, op: &mut Op) -> u32
 
 // What is handed out next.
 fn hand_out(port: &Port, op: &mut Op)
-    ensures { IsHanded port.now.frames op.new }
+    ensures { op.new ≡ with_next port.now.frames op.old }
 {
     match port.next() {
         Some(frame) => {
@@ -147,7 +148,7 @@ fn hand_out(port: &Port, op: &mut Op)
 // ---- what is told
 
 fn value(port: &Port, op: &mut Op) -> u32
-    ensures { IsInput (place_in op.old.slot op.old.subslot) port.now result op.new }
+    ensures { IsInput (place_in op.old.slot op.old.subslot) port.now op.old result op.new }
 {
     match place_of(op) {
         Some(place) => tell_value(port, place.0, place.1, op),
@@ -157,7 +158,7 @@ fn value(port: &Port, op: &mut Op) -> u32
 
 // The input of a submodule, or that there is none.
 fn tell_value(port: &Port, slot: u16, subslot: u16, op: &mut Op) -> u32
-    ensures { IsValue (value_at port.now.controller.live.cyclic slot subslot) result op.new }
+    ensures { IsValue (value_at port.now.controller.live.cyclic slot subslot) op.old result op.new }
 {
     match port.controller().value(slot, subslot) {
         Some(value) => {
@@ -169,7 +170,8 @@ fn tell_value(port: &Port, slot: u16, subslot: u16, op: &mut Op) -> u32
 }
 
 fn state(port: &Port, op: &mut Op) -> u32
-    ensures { IsState port.now.controller.live.phase result op.new }
+    ensures answer { result ≡ 0 }
+    ensures told { op.new ≡ with_state port.now.controller.live.phase op.old }
 {
     let reached = port.controller().state();
     op.phase = number_of_phase(reached);
@@ -203,22 +205,24 @@ fn number_of_cause(reached: State) -> u32
 
 // The last alarm that was taken.
 fn alarm(port: &Port, op: &mut Op) -> u32
-    ensures { IsAlarm port.now.controller.live.alarm result op.new }
+    ensures { IsAlarm port.now.controller.live.alarm op.old result op.new }
 {
     match port.controller().alarm() {
-        Some(alarm) => tell_alarm(&alarm, op),
+        Some(alarm) => {
+            tell_alarm(&alarm, op);
+            0
+        }
         None => NO_SLOT,
     }
 }
 
 // An alarm.
-fn tell_alarm(alarm: &AlarmNotification<'_>, op: &mut Op) -> u32
-    ensures { IsAlarm (Some alarm.now) result op.new }
+fn tell_alarm(alarm: &AlarmNotification<'_>, op: &mut Op)
+    ensures { op.new ≡ with_alarm alarm.now op.old }
 {
     op.note = u32::from(alarm.alarm_type);
     op.slot = u32::from(alarm.slot_number);
     op.subslot = u32::from(alarm.subslot_number);
     op.units = u32::from(alarm.alarm_specifier);
     put(op, front_of(alarm.alarm_data.octets(), 1520));
-    0
 }

@@ -1,2 +1,3 @@
 pub mod Modules
 pub mod Places
+pub mod Told

@@ -1,6 +1,7 @@
 //! One operation, as it lies in the memory of the host.
-ghost use Rattle.std.specs.Prelude.{◌≡◌, ◌+◌, ◌≤◌, ◌++◌, length, take};
+ghost use Rattle.std.specs.Prelude.{◌≡◌, ◌+◌, ◌≤◌, ◌++◌, ℕ, List, drop, length, take};
 ghost use Rattle.host_values.specs.Places.{place_in};
+ghost use Rattle.host_values.specs.Told.{with_octets};
 
 /// One operation: what is asked, and what is answered.
 #[repr(C)]
@@ -38,23 +39,19 @@ pub fn place_of(op: &Op) -> Option<(u16, u16)>
     }
 }
 
-/// Octets that an operation is answered with.
+/// Octets that an operation is answered with. Those after them are unchanged.
 pub fn put(op: &mut Op, octets: &[u8])
     requires { length octets.now ≤ 1520 }
-    ensures octets { take op.new.length op.new.octets ≡ octets.now }
-    ensures length { op.new.length ≡ length octets.now }
-    ensures same { op.new ≡ record op.old { length = op.new.length; octets = op.new.octets } }
+    ensures { op.new ≡ with_octets octets.now op.old }
 {
     op.length = 0;
     put_more(op, octets);
 }
 
-/// Octets behind those that an operation is answered with already.
+/// Octets after those that an operation is answered with already.
 pub fn put_more(op: &mut Op, octets: &[u8])
     requires { op.old.length + length octets.now ≤ 1520 }
-    ensures octets { take op.new.length op.new.octets ≡ take op.old.length op.old.octets ++ octets.now }
-    ensures length { op.new.length ≡ op.old.length + length octets.now }
-    ensures same { op.new ≡ record op.old { length = op.new.length; octets = op.new.octets } }
+    ensures { (before : List ℕ) (asked : Op) → op.old ≡ with_octets before asked → op.new ≡ with_octets (before ++ octets.now) asked }
 {
     let start = op.length as usize;
     let end = start + octets.len();
@@ -62,10 +59,10 @@ pub fn put_more(op: &mut Op, octets: &[u8])
     op.length = end as u32;
 }
 
-// Writes octets from a place on, and leaves those before it.
+// Writes octets from a place on, and leaves those before and after them.
 fn write_at(room: &mut [u8], start: usize, octets: &[u8])
     requires { start + length octets.now ≤ length room.old }
-    ensures { take (start + length octets.now) room.new ≡ take start room.old ++ octets.now }
+    ensures { room.new ≡ (take start room.old ++ octets.now) ++ drop (start + length octets.now) room.old }
 {
-    room[..start + octets.len()][start..].copy_from_slice(octets);
+    room[start..start + octets.len()].copy_from_slice(octets);
 }

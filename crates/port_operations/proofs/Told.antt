@@ -9,15 +9,16 @@ use Rattle.host_values.specs.declared.op.Op.{Op}
 use Rattle.port_operations.specs.Serves.{IsHanded, IsPiece, IsValue, IsValueOf}
 
 -- the piece that is next, as it is told, is what is handed out
-pub handed : (port : State) (work : Work) (told : Op) → IsNext port work → IsPiece work told → IsHanded port.calls port.frames told
-handed port Nothing told idle piece =
-    subst (λ calls. IsHanded calls port.frames told) (sym idle.0) (subst (λ frames. IsHanded [] frames told) (sym idle.1) piece)
-handed port (Carry call) told next piece = subst (λ calls. IsHanded calls port.frames told) (sym next.1) piece
-handed port (Send frame) told next piece =
-    subst (λ calls. IsHanded calls port.frames told) (sym next.0) (subst (λ frames. IsHanded [] frames told) (sym next.1.1) piece)
+pub handed : (port : State) (work : Work) (asked told : Op) → IsNext port work → IsPiece work asked told → IsHanded port.calls port.frames asked told
+handed port Nothing asked told idle piece =
+    subst (λ calls. IsHanded calls port.frames asked told) (sym idle.0) (subst (λ frames. IsHanded [] frames asked told) (sym idle.1) piece)
+handed port (Carry call) asked told next piece = subst (λ calls. IsHanded calls port.frames asked told) (sym next.1) piece
+handed port (Send frame) asked told next piece =
+    subst (λ calls. IsHanded calls port.frames asked told) (sym next.0) (subst (λ frames. IsHanded [] frames asked told) (sym next.1.1) piece)
 
 -- an output that is not told
-pub untold : (why : Option Refusal) (value : Option (List ℕ)) (refusal : Refusal) (answer : ℕ) (told : Op)
-    → IsUntold why value refusal → answer ≡ refusal_number refusal → IsValueOf why value answer told
-untold (Some late) value refusal answer told is at = at ∙ ap refusal_number is
-untold None value refusal answer told is at = subst (λ v. IsValue v answer told) (sym is.0) (at ∙ ap refusal_number is.1)
+pub untold : (why : Option Refusal) (value : Option (List ℕ)) (refusal : Refusal) (asked : Op) (answer : ℕ) (told : Op)
+    → IsUntold why value refusal → answer ≡ refusal_number refusal → told ≡ asked → IsValueOf why value asked answer told
+untold (Some late) value refusal asked answer told is at same = (at ∙ ap refusal_number is, same)
+untold None value refusal asked answer told is at same =
+    subst (λ v. IsValue v asked answer told) (sym is.0) (at ∙ ap refusal_number is.1, same)

@@ -18,6 +18,7 @@ pub enum Operation {
     Stored,
     Lose,
     Record,
+    Left,
 }
 
 // The operation of this number, if there is one.
@@ -38,6 +39,7 @@ pub(crate) fn operation_of(what: u32) -> Option<Operation>
         11 => Some(Operation::Stored),
         12 => Some(Operation::Lose),
         13 => Some(Operation::Record),
+        14 => Some(Operation::Left),
         _ => None,
     }
 }

@@ -1,13 +1,14 @@
 //! One operation of the host.
-ghost use Rattle.std.specs.Prelude.{◌≡◌, ◌+◌, ◌≤◌, ◌++◌, Some, length, slice_get, take};
+ghost use Rattle.std.specs.Prelude.{◌≡◌, ◌≤◌, Some, slice_get, take};
 ghost use Rattle.device_frames.specs.declared.event.Event.TheVariants.{Frame as Framed};
 ghost use Rattle.recorded_flash.specs.Entry.{call_of};
-ghost use Rattle.relations.specs.Link.{taken_of};
+ghost use Rattle.relations.specs.Link.{phase_of, taken_of};
 ghost use Rattle.device_port.specs.State.{closed};
 ghost use Rattle.host_values.specs.Places.{place_in};
-ghost use Rattle.port_operations.specs.Serves.{IsAlarm, IsBoot, IsCall, IsEvent, IsInput, IsLamp, IsLeft, IsLoss, IsNextOf, IsNoted};
-ghost use Rattle.port_operations.specs.Serves.{IsOutput, IsPiece, IsRecordAt, IsRecordOf, IsSector, IsSettings, IsState, IsTick};
-ghost use Rattle.port_operations.specs.Serves.{IsValueOf, Serves, answer_of, operation_of as operation_in, phase_number};
+ghost use Rattle.host_values.specs.Told.{with_octets};
+ghost use Rattle.port_operations.specs.Serves.{IsAlarm, IsBoot, IsCall, IsEvent, IsInput, IsLeft, IsLoss, IsNextOf, IsOutput, IsPiece};
+ghost use Rattle.port_operations.specs.Serves.{IsRecordAt, IsRecordOf, IsSector, IsSettings, IsState, IsTick, IsValueOf, Serves, answer_of};
+ghost use Rattle.port_operations.specs.Serves.{noted as is_noted, operation_of as operation_in, passed as is_passed, phase_number};
 ghost use Rattle.port_operations.specs.Serves.{sector_number as number_of, sector_of, settings_octets, value_of};
 
 use crate::operation::{Operation, operation_of};
@@ -60,6 +61,7 @@ fn perform(operation: Operation, port: &mut Port, op: &mut Op, given: &[u8]) -> 
         Operation::Stored => stored(port, op),
         Operation::Lose => lose(port),
         Operation::Record => tell_taken(port, op),
+        Operation::Left => left(port, op),
     }
 }
 
@@ -107,13 +109,13 @@ fn done(outcome: Result<(), Refusal>) -> u32
 // ---- events
 
 fn frame(port: &mut Port, op: &mut Op, given: &[u8]) -> u32
-    ensures { IsEvent port.old (Framed (record { items = take 1519 given.now })) result port.new op.new }
+    ensures { IsEvent port.old (Framed (record { items = take 1519 given.now })) op.old result port.new op.new }
 {
     noted(port.frame(given), op)
 }
 
 fn input(port: &mut Port, op: &mut Op, given: &[u8]) -> u32
-    ensures { IsInput (place_in op.old.slot op.old.subslot) port.old given.now result port.new op.new }
+    ensures { IsInput (place_in op.old.slot op.old.subslot) port.old given.now op.old result port.new op.new }
 {
     match place_of(op) {
         Some(place) => noted(port.input(place.0, place.1, given), op),
@@ -122,7 +124,7 @@ fn input(port: &mut Port, op: &mut Op, given: &[u8]) -> u32
 }
 
 fn alarm(port: &mut Port, op: &mut Op, given: &[u8]) -> u32
-    ensures { IsAlarm (place_in op.old.slot op.old.subslot) port.old given.now result port.new op.new }
+    ensures { IsAlarm (place_in op.old.slot op.old.subslot) port.old given.now op.old result port.new op.new }
 {
     match place_of(op) {
         Some(place) => noted(port.alarm(place.0, place.1, given), op),
@@ -133,7 +135,7 @@ fn alarm(port: &mut Port, op: &mut Op, given: &[u8]) -> u32
 // What became of an event, or why it was refused.
 fn noted(outcome: Result<Note, Refusal>, op: &mut Op) -> u32
     ensures answer { result ≡ answer_of outcome }
-    ensures note { IsNoted outcome op.new }
+    ensures told { op.new ≡ is_noted outcome op.old }
 {
     match outcome {
         Ok(note) => {
@@ -145,7 +147,7 @@ fn noted(outcome: Result<Note, Refusal>, op: &mut Op) -> u32
 }
 
 fn tick(port: &mut Port, op: &mut Op) -> u32
-    ensures { IsTick port.old op.old.units result port.new op.new }
+    ensures { IsTick port.old op.old result port.new op.new }
 {
     let units = op.units;
     passed(port.tick(units), op)
@@ -154,7 +156,7 @@ fn tick(port: &mut Port, op: &mut Op) -> u32
 // How many units are left, or why none went by.
 fn passed(outcome: Result<u32, Refusal>, op: &mut Op) -> u32
     ensures answer { result ≡ answer_of outcome }
-    ensures left { IsLeft outcome op.new }
+    ensures told { op.new ≡ is_passed outcome op.old }
 {
     match outcome {
         Ok(left) => {
@@ -177,7 +179,7 @@ fn lose(port: &mut Port) -> u32
 
 // The next piece of work, which is taken with that.
 fn next(port: &mut Port, op: &mut Op) -> u32
-    ensures { IsNextOf (closed port.old.stage) port.old result port.new op.new }
+    ensures { IsNextOf (closed port.old.stage) port.old op.old result port.new op.new }
 {
     match port.work() {
         Ok(work) => {
@@ -191,7 +193,7 @@ fn next(port: &mut Port, op: &mut Op) -> u32
 
 // What a piece of work is.
 fn tell(work: Work<'_>, op: &mut Op)
-    ensures { IsPiece work.entry op.new }
+    ensures { IsPiece work.entry op.old op.new }
 {
     match work {
         Work::Carry(call) => tell_call(call, op),
@@ -208,7 +210,7 @@ fn tell(work: Work<'_>, op: &mut Op)
 
 // A call of the flash.
 fn tell_call(call: &Recorded, op: &mut Op)
-    ensures { IsCall (call_of call.now) op.new }
+    ensures { IsCall (call_of call.now) op.old op.new }
 {
     match call {
         Recorded::Program {
@@ -241,7 +243,7 @@ fn sector_number(sector: Sector) -> u32
 // ---- what is told
 
 fn output(port: &Port, op: &mut Op) -> u32
-    ensures { IsOutput (place_in op.old.slot op.old.subslot) port.now result op.new }
+    ensures { IsOutput (place_in op.old.slot op.old.subslot) port.now op.old result op.new }
 {
     match place_of(op) {
         Some(place) => tell_output(port, place.0, place.1, op),
@@ -251,7 +253,7 @@ fn output(port: &Port, op: &mut Op) -> u32
 
 // The output of a submodule, or why there is none.
 fn tell_output(port: &Port, slot: u16, subslot: u16, op: &mut Op) -> u32
-    ensures { IsValueOf (closed port.now.stage) (value_of port.now slot subslot) result op.new }
+    ensures { IsValueOf (closed port.now.stage) (value_of port.now slot subslot) op.old result op.new }
 {
     match port.output(slot, subslot) {
         Ok(value) => {
@@ -263,24 +265,22 @@ fn tell_output(port: &Port, slot: u16, subslot: u16, op: &mut Op) -> u32
 }
 
 fn state(port: &Port, op: &mut Op) -> u32
-    ensures { IsState (closed port.now.stage) port.now result op.new }
+    ensures { IsState (closed port.now.stage) port.now op.old result op.new }
 {
     match port.phase() {
-        Ok(phase) => {
-            op.phase = number_of_phase(phase);
-            tell_lamp(port, op)
-        }
+        Ok(phase) => tell_state(phase, port, op),
         Err(refusal) => refusal.number(),
     }
 }
 
-// For how many units the lamp still flashes.
-fn tell_lamp(port: &Port, op: &mut Op) -> u32
-    ensures value { IsLamp (closed port.now.stage) port.now.device.live.rest.lamp result op.new }
-    ensures same { op.new ≡ record op.old { units = op.new.units } }
+// The phase, and for how many units the lamp still flashes.
+fn tell_state(phase: Option<Phase>, port: &Port, op: &mut Op) -> u32
+    requires { phase ≡ phase_of port.now.device.live.rest.link }
+    ensures { IsState (closed port.now.stage) port.now op.old result op.new }
 {
     match port.lamp() {
         Ok(lamp) => {
+            op.phase = number_of_phase(phase);
             op.units = lamp;
             0
         }
@@ -300,7 +300,7 @@ fn number_of_phase(phase: Option<Phase>) -> u32
 }
 
 fn running(port: &Port, op: &mut Op) -> u32
-    ensures { IsSettings (closed port.now.stage) port.now.device.live.values.running result op.new }
+    ensures { IsSettings (closed port.now.stage) port.now.device.live.values.running op.old result op.new }
 {
     match port.running() {
         Ok(settings) => {
@@ -312,7 +312,7 @@ fn running(port: &Port, op: &mut Op) -> u32
 }
 
 fn stored(port: &Port, op: &mut Op) -> u32
-    ensures { IsSettings (closed port.now.stage) port.now.device.live.values.stored result op.new }
+    ensures { IsSettings (closed port.now.stage) port.now.device.live.values.stored op.old result op.new }
 {
     match port.stored() {
         Ok(settings) => {
@@ -325,7 +325,7 @@ fn stored(port: &Port, op: &mut Op) -> u32
 
 // Settings: address, mask and gateway, the I&M texts, and the name.
 fn put_settings(settings: &Settings, op: &mut Op)
-    ensures { take op.new.length op.new.octets ≡ settings_octets settings.now }
+    ensures { op.new ≡ with_octets (settings_octets settings.now) op.old }
 {
     put(op, &settings.suite.address());
     put_more(op, &settings.suite.mask());
@@ -337,9 +337,22 @@ fn put_settings(settings: &Settings, op: &mut Op)
     put_more(op, settings.name.as_bytes());
 }
 
+// How many commits the flash still takes.
+fn left(port: &Port, op: &mut Op) -> u32
+    ensures { IsLeft (closed port.now.stage) port.now.device.live.values.room op.old result op.new }
+{
+    match port.left() {
+        Ok(left) => {
+            op.place = left;
+            0
+        }
+        Err(refusal) => refusal.number(),
+    }
+}
+
 // A parameter record that the relation took, by its number.
 fn tell_taken(port: &Port, op: &mut Op) -> u32
-    ensures { IsRecordOf (closed port.now.stage) (slice_get (taken_of port.now.device.live.rest.link) op.old.place) result op.new }
+    ensures { IsRecordOf (closed port.now.stage) (slice_get (taken_of port.now.device.live.rest.link) op.old.place) op.old result op.new }
 {
     match port.taken() {
         Ok(records) => tell_record(records, op),
@@ -349,7 +362,7 @@ fn tell_taken(port: &Port, op: &mut Op) -> u32
 
 // One of these records.
 fn tell_record(records: &[TakenRecord], op: &mut Op) -> u32
-    ensures { IsRecordAt (slice_get records.now op.old.place) result op.new }
+    ensures { IsRecordAt (slice_get records.now op.old.place) op.old result op.new }
 {
     match records.get(op.place as usize) {
         Some(entry) => {

@@ -1,10 +1,10 @@
--- what is judged of all is judged of what is left
+-- what is judged of all is judged of those that are left
 use Rattle.std.proofs.Common.{◌≡◌, ◌≤◌, drop, map}
 use Rattle.controller_operations.specs.Plans.{is_rising}
 use Rattle.controller_operations.proofs.plan.are_slots_rising.Given as goal
 
 abbrev pub invariant-loop-entry : goal.invariant-loop-entry
 invariant-loop-entry l = record {
-  left : is_rising 0 (map (λ entry. entry.slot) l.modules) ≡ is_rising l.least (map (λ entry. entry.slot) (drop l.entry-index l.modules));
+  left : is_rising 1 (map (λ entry. entry.slot) l.modules) ≡ is_rising l.least (map (λ entry. entry.slot) (drop l.entry-index l.modules));
   low : l.least ≤ 65536;
 }

@@ -3,8 +3,14 @@ use Rattle.std.proofs.Common.{◌∙◌}
 use Rattle.controller_core.specs.Machine.{fresh}
 use Rattle.controller_operations.specs.Plans.{parts_of}
 use Rattle.controller_operations.specs.State.{opened}
-use Rattle.controller_operations.proofs.Ranges.{plan_is}
+use Rattle.controller_operations.proofs.Ranges.{not_long, plan_is, planned_in}
 use Rattle.controller_operations.proofs.plan.port_of.Goals as goal
+
+pub planned-requires : goal.planned-requires
+planned-requires c = (planned_in c.args.written.now c.requires).0
+
+pub unreachable-requires : goal.unreachable-requires
+unreachable-requires c = not_long _ c.in-Err.field-0 (planned_in c.args.written.now c.requires).1 c.in-Err.ensures
 
 pub returns : goal.returns
 returns c =

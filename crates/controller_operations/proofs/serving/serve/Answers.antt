@@ -6,4 +6,4 @@ pub returns-in-Some : goal.returns-in-Some
 returns-in-Some c = rw (sym c.in-Some.ensures) c.perform.ensures
 
 pub returns-in-None : goal.returns-in-None
-returns-in-None c = rw (sym c.in-None.ensures) (refl, refl)
+returns-in-None c = rw (sym c.in-None.ensures) (refl, refl, refl)

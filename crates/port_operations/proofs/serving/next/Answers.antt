@@ -4,7 +4,7 @@ use Rattle.port_operations.proofs.Told.{handed}
 use Rattle.port_operations.proofs.serving.next.Goals as goal
 
 pub returns-in-Ok : goal.returns-in-Ok
-returns-in-Ok c = rw c.in-Ok.ensures.0 (refl, handed c.args.port.now c.in-Ok.work _ c.in-Ok.ensures.1 c.tell.ensures, c.advance.ensures)
+returns-in-Ok c = rw c.in-Ok.ensures.0 (refl, handed c.args.port.now c.in-Ok.work _ _ c.in-Ok.ensures.1 c.tell.ensures, c.advance.ensures)
 
 pub returns-in-Err : goal.returns-in-Err
-returns-in-Err c = rw c.in-Err.ensures (c.number.ensures, refl)
+returns-in-Err c = rw c.in-Err.ensures (c.number.ensures, refl, refl)

@@ -4,7 +4,7 @@ use Rattle.port_operations.proofs.Told.{untold}
 use Rattle.port_operations.proofs.serving.tell_output.Goals as goal
 
 pub returns-in-Ok : goal.returns-in-Ok
-returns-in-Ok c = rw c.in-Ok.ensures.value.0 (rw c.in-Ok.ensures.value.1 (refl, c.put.ensures.octets))
+returns-in-Ok c = rw c.in-Ok.ensures.value.0 (rw c.in-Ok.ensures.value.1 (refl, c.put.ensures))
 
 pub returns-in-Err : goal.returns-in-Err
-returns-in-Err c = untold _ _ c.in-Err.refusal _ _ c.in-Err.ensures.value c.number.ensures
+returns-in-Err c = untold _ _ c.in-Err.refusal _ _ _ c.in-Err.ensures.value c.number.ensures refl
