@@ -32,7 +32,7 @@ fn answer(port: &mut Port, what: u32) -> u32 {
 fn before_a_start_and_behind_a_loss() {
     let mut early = made();
     let mut late = lost();
-    for what in 3..14 {
+    for what in 3..15 {
         assert_eq!(answer(&mut early, what), 5);
         assert_eq!(answer(&mut late, what), 14);
     }
@@ -41,7 +41,7 @@ fn before_a_start_and_behind_a_loss() {
 #[test]
 fn no_such_operation_sector_or_slot() {
     let mut port = made();
-    for what in [0, 14, u32::MAX] {
+    for what in [0, 15, u32::MAX] {
         assert_eq!(answer(&mut port, what), 10);
     }
     let mut op = asked(1);
@@ -81,5 +81,15 @@ fn settings_are_told() {
         let name = &op.octets[190..196];
         assert!(name == b"pump-1".as_slice());
         assert!(op.octets[12..66].iter().all(|octet| *octet == b' '));
+    }
+}
+
+// A blank flash takes 65,535 bases with 14 slots each; a Set takes one of these commits.
+#[test]
+fn commits_that_are_left_are_told_at_the_place() {
+    for (mut port, left) in [(booted(), 983_025), (busy(), 983_024)] {
+        let mut op = asked(14);
+        assert_eq!(serve(&mut port, &mut op, &[]), 0);
+        assert_eq!((op.place, op.units, op.note), (left, 0, 0));
     }
 }
