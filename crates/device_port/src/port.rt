@@ -278,6 +278,18 @@ impl Port {
         }
     }
 
+    /// How many commits are left, once all work is taken and carried out: that many further ones are accepted. 0 is a chip that
+    /// keeps nothing more.
+    pub fn left(&self) -> Result<u32, Refusal>
+        ensures { MatchResult result (λ left. (closed self.now.stage ≡ None)
+            × (left ≡ self.now.device.live.values.room)) (λ refusal. closed self.now.stage ≡ Some refusal) }
+    {
+        match why_closed(self.stage) {
+            Some(refusal) => Err(refusal),
+            None => Ok(self.device.left()),
+        }
+    }
+
     /// What the application relation waits for, if there is one.
     pub fn phase(&self) -> Result<Option<Phase>, Refusal>
         ensures { MatchResult result (λ phase. (closed self.now.stage ≡ None)
