@@ -8,7 +8,7 @@ use Rattle.device_frames.specs.declared.event.Event.TheVariants.{Tick}
 use Rattle.device_port.specs.declared.refusal.Refusal.TheVariants as refusal
 use Rattle.device_port.specs.declared.stage.Stage.{Stage}
 use Rattle.device_port.specs.declared.stage.Stage.TheVariants.{Made, Booted, Lost}
-use Rattle.device_port.specs.State.{State, IsSteady, barred, barred_by, past_start}
+use Rattle.device_port.specs.State.{State, IsSteady, barred, barred_by, closed, past_start}
 use Rattle.device_port.specs.Steps.{Takes, Ticks}
 
 -- a port that takes events started, and no commit failed
@@ -54,3 +54,9 @@ pub one_more : (units : ℕ) (old between new : State) (note : Note) → Ticks u
 one_more units old between new note ticks free takes =
     let more : suc units ≡ units + 1 = omega arith in
     subst (λ n. Ticks n old new) more (between, note, ticks, free, takes)
+
+-- a port that tells what it knows started
+pub open_of : (stage : Stage) → closed stage ≡ None → stage ≡ Booted
+open_of Made open_now = cc open_now
+open_of Booted open_now = refl
+open_of Lost open_now = cc open_now

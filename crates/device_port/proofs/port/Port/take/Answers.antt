@@ -1,10 +1,10 @@
 -- An event is taken.
-use Rattle.std.proofs.Common.{◌≡◌, ◌+◌, ◌-◌, ◌<◌, ◌%◌, ◌^◌, None, length, sym, ap, subst, ◌∙◌}
+use Rattle.std.proofs.Common.{◌≡◌, ◌+◌, ◌-◌, ◌<◌, ◌≤◌, ◌%◌, ◌^◌, None, length, sym, ap, subst, ◌∙◌, arith}
 use Rattle.recorded_flash.specs.Record.{record_of}
 use Rattle.device_port.specs.State.{barred}
 use Rattle.device_port.specs.contracts.port.Port.{the_view}
 use Rattle.device_port.proofs.Counts.{count_after, new_ones, few_new}
-use Rattle.device_port.proofs.Stages.{booted_of}
+use Rattle.device_port.proofs.Stages.{booted_of, steady_of}
 use Rattle.device_port.proofs.port.Port.take.Goals as goal
 
 pub returns : goal.returns
@@ -26,3 +26,12 @@ returns c =
       calls = new_ones does.last.0 does.calls _ _ does.last.1 (past ∙ ap (λ r. length r.recent - length does.calls) same);
       stage = booted_of port.stage _ free;
     })
+
+pub invariant_of-self : goal.invariant_of-self
+invariant_of-self c =
+    let port = c.self.inside in
+    let free : barred (the_view port) ≡ None = subst (λ p. barred p ≡ None) (sym c.self.view_is) c.requires in (
+      subst (λ f. c.older-self-inside.result ≤ length (record_of f).recent) c.flash-2.ensures c.older-self-inside.ensures.most,
+      omega arith,
+      steady_of port.stage _ _ _ (booted_of port.stage _ free) c.step-note.ensures.going,
+    )
