@@ -19,7 +19,8 @@
  * start again with pn_make and pn_boot from what the chip holds.
  *
  * Every function answers a number: PN_OK, or why it did nothing. Whoever gets another number than PN_OK finds the device as it
- * was. Numbers of two or four octets are those of the machine; octets of frames and values are as they stand on the wire.
+ * was, and in the operation nothing but what was asked with. Numbers of two or four octets are those of the machine; octets of frames
+ * and values are as they stand on the wire.
  *
  * Under the MIT licence or the Apache License 2.0, as you choose. */
 #ifndef NANDUTABLE_H
@@ -111,7 +112,8 @@ enum {
     PN_OP_RUNNING = 10,
     PN_OP_STORED = 11,
     PN_OP_LOSE = 12,
-    PN_OP_RECORD = 13
+    PN_OP_RECORD = 13,
+    PN_OP_LEFT = 14
 };
 
 /* A parameter record that a submodule takes: its index, 0 to 32,767, and its exact length, 1 to 64 octets. */
@@ -157,8 +159,8 @@ typedef struct pn_station {
     pn_module modules[PN_MODULES];
 } pn_station;
 
-/* One operation. A host keeps one of them and uses it again; it needs no value at first. What a function does not name as set
- * is kept or set to 0. */
+/* One operation. A host keeps one of them and uses it again; it needs no value at first. A function writes what it is called with, and
+ * then only what it names as set: every other field keeps its value, and so do the octets after the first `length`. */
 typedef struct pn_op {
     uint32_t what;    /* PN_OP_SECTOR .. : set by the functions below */
     uint32_t slot;
@@ -168,7 +170,7 @@ typedef struct pn_op {
     uint32_t phase;   /* PN_NONE .. */
     uint32_t work;    /* PN_NOTHING .. */
     uint32_t sector;  /* 0 or 1 */
-    uint32_t place;   /* the first octet of a program call in its sector; pn_taken: a number, and then the record's index */
+    uint32_t place;   /* the first octet of a program call in its sector; pn_taken: a number, and then the record's index; pn_left */
     uint32_t length;  /* how many of `octets` count */
     uint8_t octets[PN_OP_SIZE];
 } pn_op;
@@ -280,8 +282,8 @@ static inline uint32_t pn_frame(pn_device *device, pn_op *op, const uint8_t *oct
     return pn_ask(device, op, PN_OP_FRAME, octets, length);
 }
 
-/* `units` units of time went by (PN_UNIT_NS each; 0 is none). It stops behind a unit that sends something: `units` of the
- * operation is how many are left then. Take the work, and give the rest again. */
+/* `units` units of time went by (PN_UNIT_NS each; 0 is none). It stops after a unit that sends something: `units` of the
+ * operation is how many are left then, and `note` is PN_DONE. Take the work, and give the rest again. */
 static inline uint32_t pn_tick(pn_device *device, pn_op *op, uint32_t units)
 {
     if (op == NULL)
@@ -315,7 +317,8 @@ static inline uint32_t pn_alarm(pn_device *device, pn_op *op, uint16_t slot, uin
 /* --- Work --- */
 
 /* Hands out the next piece of work of the last event, each once: the calls of the flash in their order, then the frames. Sets
- * `work`, and what belongs to it: `sector`, `place`, `length`, `octets`. PN_NULL, PN_NOT_BOOTED, PN_LOST. */
+ * `work`, and what belongs to it: `sector`, `place`, `length` and `octets` of PN_PROGRAM, `sector` of PN_ERASE, `length` and `octets` of
+ * PN_SEND; `length` is 0 with PN_ERASE and PN_NOTHING. PN_NULL, PN_NOT_BOOTED, PN_LOST. */
 static inline uint32_t pn_next(pn_device *device, pn_op *op)
 {
     return pn_ask(device, op, PN_OP_NEXT, NULL, 0);
@@ -376,8 +379,8 @@ static inline uint32_t pn_carry_out(pn_device *device, pn_op *op, const pn_host 
 
 /* --- What a device tells. Each wants a booted device; with or without work. PN_NULL, PN_NOT_BOOTED, PN_LOST, and what each names. --- */
 
-/* The output of a submodule, in `octets`: what the last cyclic frame that was taken holds for it; zeros where none was, where the
- * controller calls it bad, and without a relation. PN_NO_SLOT. */
+/* The output of a submodule, in `length` and `octets`: what the last cyclic frame that was taken holds for it; zeros where none was,
+ * where the controller calls it bad, and without a relation. PN_NO_SLOT. */
 static inline uint32_t pn_output(pn_device *device, pn_op *op, uint16_t slot, uint16_t subslot)
 {
     if (op == NULL)
@@ -394,7 +397,7 @@ static inline uint32_t pn_state(pn_device *device, pn_op *op)
 }
 
 /* A parameter record that the relation took, by its number from 0 on, in the order in which they came: `slot`, `subslot`, its index in
- * `place`, and its octets. PN_NO_RECORD. */
+ * `place`, and its octets in `length` and `octets`. PN_NO_RECORD. */
 static inline uint32_t pn_taken(pn_device *device, pn_op *op, uint32_t number)
 {
     if (op == NULL)
@@ -419,7 +422,7 @@ static inline void pn_settings_of(const pn_op *op, pn_settings *settings)
     memcpy(settings->name, from + 190, settings->name_length);
 }
 
-/* The settings that run. */
+/* The settings that run; they are in `length` and `octets` of the operation too. */
 static inline uint32_t pn_running(pn_device *device, pn_op *op, pn_settings *settings)
 {
     uint32_t answer;
@@ -440,6 +443,19 @@ static inline uint32_t pn_stored(pn_device *device, pn_op *op, pn_settings *sett
     answer = pn_ask(device, op, PN_OP_STORED, NULL, 0);
     if (answer == PN_OK)
         pn_settings_of(op, settings);
+    return answer;
+}
+
+/* How many commits the flash still takes once all work is taken and done (`place` of the operation): that many further commands that
+ * change settings are accepted. At 0 each is refused, and the device runs on with the settings that it has. */
+static inline uint32_t pn_left(pn_device *device, pn_op *op, uint32_t *left)
+{
+    uint32_t answer;
+    if (left == NULL)
+        return PN_NULL;
+    answer = pn_ask(device, op, PN_OP_LEFT, NULL, 0);
+    if (answer == PN_OK)
+        *left = op->place;
     return answer;
 }
 

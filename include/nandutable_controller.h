@@ -33,7 +33,7 @@ extern "C" {
 #define PN_RECORDS 32u
 
 /* What the functions below answer beside the numbers of nandutable.h. Behind it nothing has changed. */
-enum { PN_BAD_PLAN = 14 /* a part of the plan is out of its range or too long, or the ARUUID is zero */ };
+enum { PN_BAD_PLAN = 14 /* the plan is not valid: pn_plan_fault says why; or the ARUUID is zero */ };
 
 /* How far a controller is (pn_op.phase). */
 enum {
@@ -58,7 +58,8 @@ enum {
     PN_STOPPED = 7        /* pn_controller_stop */
 };
 
-/* Why a catalogue gives no plan, as pn_plan_read answers it: the first fault. */
+/* Why a catalogue gives no plan, as pn_plan_read answers it, and why a plan that a host wrote is not valid, as pn_plan_fault does: the
+ * first fault. The first three are of a catalogue alone. */
 enum {
     PN_PLAN_JSON = 1,          /* the text is no JSON */
     PN_PLAN_MISSING_KEY = 2,
@@ -74,7 +75,8 @@ enum {
     PN_PLAN_NULL = 12          /* a pointer is null, or the plan has another size than the library's */
 };
 
-/* A parameter record that the controller writes at start-up: at most 64 octets. */
+/* A parameter record that the controller writes at start-up: one of those that the submodule in this slot and subslot takes (its
+ * `parameters`), of the same index and exactly its length, 1 to 64 octets. The access point, in slot 0, is written none. */
 typedef struct pn_record {
     uint16_t slot;
     uint16_t subslot;
@@ -83,7 +85,16 @@ typedef struct pn_record {
     uint8_t octets[64];
 } pn_record;
 
-/* The plan of a station. */
+/* The plan of a station. pn_plan_read makes it from a catalogue; a host that writes it itself keeps to the same rules, which
+ * pn_controller_start judges. Beside those at the fields:
+ * - both names are station names, and not empty;
+ * - address, mask and gateway are all zeros, or the address is one of a host (its first octet 1 to 126 or 128 to 223) and the mask is ones
+ *   and then zeros; the controller's address is one of a host, and its MAC address one of a single station (its first octet is even);
+ * - the first module is the access point, in slot 0; the others follow in the order of their slots, at most 15, each slot once; the
+ *   ident of a module is not 0;
+ * - the submodules of a module are in the order of their subslots, 1 to 36,863, each once; their parameter records have an index of their
+ *   own each, 0 to 32,767, and a length from 1 to 64;
+ * - the data of all submodules fits a cyclic frame in each direction, and all modules fit a Connect. */
 typedef struct pn_plan {
     uint8_t name[240];            /* NameOfStation of the device */
     uint8_t controller_name[240]; /* and of the controller */
@@ -92,8 +103,8 @@ typedef struct pn_plan {
     uint8_t address[4]; /* the IP suite that the device is given */
     uint8_t mask[4];
     uint8_t gateway[4];
-    uint8_t controller_address[4];
-    uint8_t controller_mac[6];
+    uint8_t controller_address[4]; /* of a host */
+    uint8_t controller_mac[6];     /* the first octet is even */
     uint16_t vendor_id;
     uint16_t device_id;
     uint16_t send_clock_factor; /* 1 to 128, in units of PN_UNIT_NS */
@@ -101,7 +112,7 @@ typedef struct pn_plan {
     uint16_t data_hold_factor;  /* 1 to 7,680 intervals */
     uint32_t station_type_length; /* more than 25: too long for a device, and station_type has nothing */
     uint8_t station_type[28];     /* DeviceVendorValue */
-    uint32_t module_count;        /* 1 to PN_MODULES, in the order of the slots */
+    uint32_t module_count;        /* 1 to PN_MODULES, in the order of the slots, from slot 0 on */
     uint32_t record_count;        /* at most PN_RECORDS, in the order in which they are written */
     pn_module modules[PN_MODULES];
     pn_record records[PN_RECORDS];
@@ -125,7 +136,7 @@ _Static_assert(sizeof(pn_plan) == 4272, "another layout than the library's");
 /* --- The calls. Use the functions below them. ---
  *
  * pn_controller_judge answers why no controller can be made of a plan and the number of its relation in a room of `size` octets, and
- * PN_OK where one can.
+ * PN_OK where one can. pn_plan_judge answers the first fault of a plan, and PN_OK where it is valid.
  * pn_controller_put puts a controller into the room: what lay there is gone. It is only called with a plan that pn_controller_judge
  * answered PN_OK for, and a room of PN_CONTROLLER_SIZE octets on a multiple of 16.
  * pn_controller_step carries one operation out on a room into which pn_controller_put put a controller and that only these calls
@@ -135,6 +146,7 @@ _Static_assert(sizeof(pn_plan) == 4272, "another layout than the library's");
  * No pointer is null, with a length of 0 neither; the operation, what is given, the plan, the numbers and the room lie apart. */
 uint32_t pn_plan_make(const uint8_t *text, size_t length, size_t size, pn_plan *plan);
 uint32_t pn_plan_show(const uint8_t *text, size_t length, char *where, size_t size);
+uint32_t pn_plan_judge(const pn_plan *plan);
 uint32_t pn_controller_judge(size_t size, uint32_t abi, size_t op_size, const pn_plan *plan, const uint8_t ar[16]);
 void pn_controller_put(void *room, const pn_plan *plan, const uint8_t ar[16], const uint8_t activity[16]);
 uint32_t pn_controller_step(void *room, pn_op *op, const uint8_t *given, size_t length);
@@ -156,6 +168,15 @@ static inline uint32_t pn_plan_where(const uint8_t *text, size_t length, char *w
         return 0;
     memset(where, 0, size);
     return pn_plan_show(text, length, where, size);
+}
+
+/* The first fault of a plan that a host wrote, with the number that a catalogue with this fault has; PN_OK if it is valid. A count that is
+ * more than its list holds comes first (PN_PLAN_TOO_MANY), and then PN_PLAN_NUMBER (times, modules, submodules, parameter records, and
+ * records that no submodule takes), PN_PLAN_NAME, PN_PLAN_ADDRESS, PN_PLAN_NOT_ALLOWED (the order of the slots, a slot that is there
+ * twice, a record for slot 0), PN_PLAN_TOO_MANY (a slot past 15), PN_PLAN_FRAME_LONG, PN_PLAN_CONNECT_LONG. PN_PLAN_NULL. */
+static inline uint32_t pn_plan_fault(const pn_plan *plan)
+{
+    return plan == NULL ? (uint32_t)PN_PLAN_NULL : pn_plan_judge(plan);
 }
 
 /* The station that a plan expects, for a device that is to be it: what a catalogue does not say (the MAC address, texts of I&M0)
@@ -187,7 +208,8 @@ static inline uint32_t pn_controller_make(void *room, size_t size, uint32_t abi,
 }
 
 /* Makes the controller of a plan, and copies the plan. `ar` names its relation, `activity` its calls: numbers of 16 octets that
- * nobody else uses (UUIDs). Its first frame waits to be taken.
+ * nobody else uses (UUIDs). Its first frame waits to be taken. PN_BAD_PLAN of each plan that pn_plan_fault finds a fault in, and of an
+ * `ar` of zeros.
  * PN_NULL, PN_BAD_ABI, PN_SMALL_ROOM, PN_BAD_PLAN. */
 static inline uint32_t pn_controller_start(pn_controller *controller, const pn_plan *plan, const uint8_t ar[16], const uint8_t activity[16])
 {
@@ -206,7 +228,8 @@ static inline uint32_t pn_controller_ask(pn_controller *controller, pn_op *op, u
     return pn_controller_step(controller->room, op, given == NULL ? none : given, length);
 }
 
-/* --- Events. Each wants all frames of the one before to be taken, else PN_HAS_WORK. --- */
+/* --- Events. Each wants all frames of the one before to be taken, else PN_HAS_WORK. What a function does not name as set keeps its value
+ * in the operation. --- */
 
 /* A frame came in: its octets from the destination address on, without the check sequence. */
 static inline uint32_t pn_controller_frame(pn_controller *controller, pn_op *op, const uint8_t *octets, size_t length)
@@ -214,7 +237,7 @@ static inline uint32_t pn_controller_frame(pn_controller *controller, pn_op *op,
     return pn_controller_ask(controller, op, 3, octets, length);
 }
 
-/* `units` units of time went by (PN_UNIT_NS each). It stops behind a unit that sends something or ends the controller: `units` of
+/* `units` units of time went by (PN_UNIT_NS each). It stops after a unit that sends something or ends the controller: `units` of
  * the operation is how many are left then. Take the frames, and give the rest again. */
 static inline uint32_t pn_controller_tick(pn_controller *controller, pn_op *op, uint32_t units)
 {
@@ -242,7 +265,8 @@ static inline uint32_t pn_controller_stop(pn_controller *controller, pn_op *op)
     return pn_controller_ask(controller, op, 13, NULL, 0);
 }
 
-/* Hands out the next frame of the last event, each once: `work` is PN_SEND, or PN_NOTHING behind the last. */
+/* Hands out the next frame of the last event, each once: `work` is PN_SEND, with the frame in `length` and `octets`, or PN_NOTHING after
+ * the last, with a `length` of 0. */
 static inline uint32_t pn_controller_next(pn_controller *controller, pn_op *op)
 {
     return pn_controller_ask(controller, op, 7, NULL, 0);
@@ -267,8 +291,8 @@ static inline uint32_t pn_controller_send(pn_controller *controller, pn_op *op, 
 
 /* --- What a controller tells --- */
 
-/* The input of a submodule, in `octets`: what the last cyclic frame that was taken holds for it; zeros where none was, where the
- * device calls it bad, and once the controller is over. PN_NO_SLOT. */
+/* The input of a submodule, in `length` and `octets`: what the last cyclic frame that was taken holds for it; zeros where none was,
+ * where the device calls it bad, and once the controller is over. PN_NO_SLOT. */
 static inline uint32_t pn_controller_value(pn_controller *controller, pn_op *op, uint16_t slot, uint16_t subslot)
 {
     if (op == NULL)
@@ -284,7 +308,7 @@ static inline uint32_t pn_controller_state(pn_controller *controller, pn_op *op)
     return pn_controller_ask(controller, op, 9, NULL, 0);
 }
 
-/* The last alarm that was taken: `slot`, `subslot`, its type in `note`, its AlarmSpecifier in `units`, its data in `octets`.
+/* The last alarm that was taken: `slot`, `subslot`, its type in `note`, its AlarmSpecifier in `units`, its data in `length` and `octets`.
  * PN_NO_SLOT where none was. */
 static inline uint32_t pn_controller_alarm(pn_controller *controller, pn_op *op)
 {

@@ -7,6 +7,7 @@ static pn_device device, before;
 static pn_op op;
 static pn_station station, bent;
 static pn_settings settings;
+static uint32_t left;
 static uint8_t erased[PN_SECTOR_SIZE], foreign[PN_SECTOR_SIZE], octets[2000];
 static unsigned count;
 
@@ -27,6 +28,23 @@ static void keep(uint32_t answer)
         exit(1);
     }
     memcpy(&before, &device, sizeof device);
+}
+
+/* Each operation, and some that there are not, straight to the library: one that is refused leaves the whole operation as it was. */
+static void ask_all(const char *when)
+{
+    static pn_op asked, told;
+    for (uint32_t what = 0; what < 24; what++) {
+        memset(&asked, 0xA5, sizeof asked);
+        asked.what = what, asked.units = 5;
+        told = asked;
+        memcpy(&device, &before, sizeof device);
+        if (pn_step(device.room, &told, octets, 0) != PN_OK && memcmp(&asked, &told, sizeof asked) != 0) {
+            printf("%s: operation %u is refused and writes into the operation\n", when, (unsigned)what);
+            exit(1);
+        }
+    }
+    memcpy(&device, &before, sizeof device);
 }
 
 static const uint8_t set[] = {0x02, 0, 0, 0, 0, 1, 0x02, 0, 0, 0, 0, 2, 0x88, 0x92, 0xFE, 0xFD, 4, 0, 0, 0, 0, 1, 0, 0, 0, 12,
@@ -82,6 +100,7 @@ int main(void)
     wants("a long station type", pn_make(&device, &bent), PN_BAD_STATION);
     keep(pn_make(&device, &station));
 
+    ask_all("before the start");
     wants("a frame before the start", pn_frame(&device, &op, set, sizeof set), PN_NOT_BOOTED);
     wants("time before the start", pn_tick(&device, &op, 1), PN_NOT_BOOTED);
     wants("an input before the start", pn_input(&device, &op, 0, 1, octets, 1), PN_NOT_BOOTED);
@@ -92,6 +111,7 @@ int main(void)
     wants("settings before the start", pn_running(&device, &op, &settings), PN_NOT_BOOTED);
     wants("what is stored before the start", pn_stored(&device, &op, &settings), PN_NOT_BOOTED);
     wants("a record before the start", pn_taken(&device, &op, 0), PN_NOT_BOOTED);
+    wants("commits before the start", pn_left(&device, &op, &left), PN_NOT_BOOTED);
     wants("a loss before the start", pn_lose(&device, &op), PN_NOT_BOOTED);
     wants("no sector", pn_boot(&device, &op, NULL, erased), PN_NULL);
     op.sector = 0;
@@ -102,26 +122,36 @@ int main(void)
         return 1;
     keep(pn_boot(&device, &op, erased, erased));
 
+    ask_all("after the start");
+    /* A chip that was never written: 65,535 generations, each a base and 14 slots. */
+    keep(pn_left(&device, &op, &left));
+    if (left != 65535u * 15u || op.place != left)
+        return 1;
     wants("a second start", pn_boot(&device, &op, erased, erased), PN_IS_BOOTED);
     wants("no operation", pn_ask(&device, &op, 0, NULL, 0), PN_UNKNOWN);
-    wants("another operation", pn_ask(&device, &op, 14, NULL, 0), PN_UNKNOWN);
+    wants("another operation", pn_ask(&device, &op, 15, NULL, 0), PN_UNKNOWN);
     wants("no operation's room", pn_frame(&device, NULL, set, sizeof set), PN_NULL);
     wants("no octets", pn_frame(&device, &op, NULL, 1), PN_NULL);
     wants("no device for a frame", pn_frame(NULL, &op, set, sizeof set), PN_NULL);
     wants("an output that is not plugged", pn_output(&device, &op, 9, 9), PN_NO_SLOT);
     wants("no place for settings", pn_running(&device, &op, NULL), PN_NULL);
+    wants("no place for a number", pn_left(&device, &op, NULL), PN_NULL);
     wants("a record that was not taken", pn_taken(&device, &op, 0), PN_NO_RECORD);
     keep(pn_frame(&device, &op, octets, sizeof octets));
     keep(pn_frame(&device, &op, octets, 0));
     keep(pn_input(&device, &op, 0, 1, octets, sizeof octets));
 
     keep(pn_frame(&device, &op, set, sizeof set));
+    ask_all("in front of the work");
     wants("a frame in front of the work", pn_frame(&device, &op, set, sizeof set), PN_HAS_WORK);
     wants("time in front of the work", pn_tick(&device, &op, 1), PN_HAS_WORK);
     wants("an input in front of the work", pn_input(&device, &op, 0, 1, octets, 1), PN_HAS_WORK);
     wants("an alarm in front of the work", pn_alarm(&device, &op, 0, 1, octets, 1), PN_HAS_WORK);
     for (op.work = PN_ERASE; op.work != PN_NOTHING;)
         keep(pn_next(&device, &op));
+    keep(pn_left(&device, &op, &left));
+    if (left != 65535u * 15u - 1u)
+        return 1;
     keep(pn_tick(&device, &op, 1000));
 
     /* A step whose first call of the flash fails: nothing of it is handed out any more. */
@@ -140,6 +170,8 @@ int main(void)
     wants("settings after a loss", pn_running(&device, &op, &settings), PN_LOST);
     wants("what is stored after a loss", pn_stored(&device, &op, &settings), PN_LOST);
     wants("a record after a loss", pn_taken(&device, &op, 0), PN_LOST);
+    wants("commits after a loss", pn_left(&device, &op, &left), PN_LOST);
+    ask_all("after a loss");
     wants("a start after a loss", pn_boot(&device, &op, erased, erased), PN_LOST);
     wants("a second loss", pn_lose(&device, &op), PN_LOST);
     keep(pn_make(&device, &station));

@@ -1,7 +1,9 @@
 /* The edges to C of the controller and of the reading of plans: each misuse that the header names answers its number and changes nothing;
- * each catalogue that is read makes a controller; and catalogues with octets bent, cut out and put in answer a fault, the same one each
- * time, and no more (under the sanitizers). Words: a catalogue, and how many are bent. */
+ * each catalogue that is read makes a controller; a plan that a host writes has the fault of the catalogue that says the same, or is the
+ * same plan; and catalogues with octets bent, cut out and put in answer a fault, the same one each time, and no more (under the
+ * sanitizers). Words: a catalogue, and how many are bent. */
 #include "nandutable_controller.h"
+#include <stdarg.h>
 #include <stdio.h>
 #include <stdlib.h>
 
@@ -27,36 +29,160 @@ static void keep(const char *what, uint32_t answer)
     memcpy(&before, &controller, sizeof before);
 }
 
-static void refuses(const char *what)
+/* The plan again, with parameter records and records that are right. */
+static void bend_again(void)
+{
+    bent = plan;
+    bent.modules[1].submodules[0].parameter_count = 2;
+    bent.modules[1].submodules[0].parameters[0] = (pn_parameter){1, 4};
+    bent.modules[1].submodules[0].parameters[1] = (pn_parameter){32767, 64};
+    bent.record_count = 2;
+    bent.records[0] = (pn_record){1, 1, 1, 4, {0}};
+    bent.records[1] = (pn_record){1, 1, 32767, 64, {0}};
+}
+
+/* A bent plan: no controller is made of it, and its fault is told. */
+static void refuses(const char *what, uint32_t fault)
 {
     wants(what, pn_controller_start(&controller, &bent, ar, activity), PN_BAD_PLAN);
-    bent = plan;
+    if (pn_plan_fault(&bent) != fault) {
+        printf("%s: the fault is %u, and should be %u\n", what, (unsigned)pn_plan_fault(&bent), (unsigned)fault);
+        exit(1);
+    }
+    bend_again();
+}
+
+/* A plan that is as far from others as it may be makes a controller. */
+static void takes(const char *what)
+{
+    if (pn_plan_fault(&bent) != PN_OK || pn_controller_start(&controller, &bent, ar, activity) != PN_OK) {
+        printf("%s: the fault is %u, and there should be none\n", what, (unsigned)pn_plan_fault(&bent));
+        exit(1);
+    }
+    memcpy(&controller, &before, sizeof controller);
+    bend_again();
+}
+
+/* What a catalogue may not say in a number. */
+static void bend_numbers(void)
+{
+    pn_submodule *part = &bent.modules[1].submodules[0];
+    takes("records that are taken");
+    bent.send_clock_factor = 0, refuses("no clock", PN_PLAN_NUMBER);
+    bent.send_clock_factor = 129, refuses("a slow clock", PN_PLAN_NUMBER);
+    bent.reduction_ratio = 0, refuses("no ratio", PN_PLAN_NUMBER);
+    bent.reduction_ratio = 513, refuses("a large ratio", PN_PLAN_NUMBER);
+    bent.data_hold_factor = 0, refuses("no hold", PN_PLAN_NUMBER);
+    bent.data_hold_factor = 7681, refuses("a long hold", PN_PLAN_NUMBER);
+    bent.send_clock_factor = 128, bent.reduction_ratio = 512, bent.data_hold_factor = 7680, takes("the longest times");
+    bent.modules[0].ident = 0, refuses("an access point without a number", PN_PLAN_NUMBER);
+    bent.modules[2].ident = 0, refuses("a module without a number", PN_PLAN_NUMBER);
+    bent.modules[1].ident = 0xFFFFFFFF, part->ident = 0, takes("the greatest number");
+    bent.modules[0].submodules[0].subslot = 0, refuses("subslot 0", PN_PLAN_NUMBER);
+    bent.modules[0].submodules[1].subslot = 1, refuses("a subslot twice", PN_PLAN_NUMBER);
+    bent.modules[0].submodules[1].subslot = 32770, refuses("subslots out of order", PN_PLAN_NUMBER);
+    bent.modules[0].submodules[2].subslot = 36863, takes("the last subslot");
+    bent.modules[0].submodules[2].subslot = 36864, refuses("a subslot past the last", PN_PLAN_NUMBER);
+    part->parameters[1].index = 32768, bent.record_count = 1, refuses("an index past the last", PN_PLAN_NUMBER);
+    part->parameters[1].index = 0xFFFF, bent.records[1].index = 0xFFFF, refuses("index 0xFFFF", PN_PLAN_NUMBER);
+    part->parameters[1].index = 1, bent.record_count = 1, refuses("an index twice", PN_PLAN_NUMBER);
+    part->parameters[1].index = 0, bent.records[1].index = 0, takes("index 0");
+    part->parameters[0].length = 0, bent.records[0].length = 0, refuses("a parameter record of no octets", PN_PLAN_NUMBER);
+    part->parameters[1].length = 65, bent.record_count = 1, refuses("a parameter record of 65 octets", PN_PLAN_NUMBER);
+    part->parameters[1].length = 1, bent.records[1].length = 1, takes("a record of one octet");
+}
+
+/* Records that no submodule takes. */
+static void bend_records(void)
+{
+    bent.records[0].length = 0, refuses("a record of no octets", PN_PLAN_NUMBER);
+    bent.records[0].length = 3, refuses("a record that is too short", PN_PLAN_NUMBER);
+    bent.records[0].length = 5, refuses("a record that is too long", PN_PLAN_NUMBER);
+    bent.records[1].length = 65, refuses("a record of 65 octets", PN_PLAN_NUMBER);
+    bent.records[0].slot = 0, refuses("a record of a slot whose submodule takes none", PN_PLAN_NUMBER);
+    bent.records[0].slot = 2, refuses("a record of a module that takes none", PN_PLAN_NUMBER);
+    bent.records[1].slot = 3, refuses("a record of a slot where nothing is", PN_PLAN_NUMBER);
+    bent.records[1].slot = 0xFFFF, refuses("a record of a slot that there is not", PN_PLAN_NUMBER);
+    bent.records[1].subslot = 0, refuses("a record of subslot 0", PN_PLAN_NUMBER);
+    bent.records[1].subslot = 2, refuses("a record of a subslot where nothing is", PN_PLAN_NUMBER);
+    bent.records[1].index = 2, refuses("a record of another index", PN_PLAN_NUMBER);
+    bent.records[1].index = 0xFFFF, refuses("a record of index 0xFFFF", PN_PLAN_NUMBER);
+    bent.records[1].index = 1, refuses("a record with the length of the other", PN_PLAN_NUMBER);
+    bent.record_count = 33, refuses("33 records", PN_PLAN_TOO_MANY);
+    for (unsigned i = 2; i < 32; i++)
+        bent.records[i] = bent.records[0];
+    bent.record_count = 32, takes("32 records");
+    bent.modules[0].submodules[0].parameter_count = 1, bent.modules[0].submodules[0].parameters[0] = (pn_parameter){5, 1};
+    bent.records[0] = (pn_record){0, 1, 5, 1, {0}}, refuses("a record of the access point", PN_PLAN_NOT_ALLOWED);
+}
+
+static void bend_names_and_addresses(void)
+{
+    static const uint8_t hosts[] = {1, 126, 128, 223}, others[] = {0, 127, 224, 255};
+    bent.name_length = 241, refuses("a long name", PN_PLAN_NAME);
+    bent.name[0] = 'P', refuses("no station name", PN_PLAN_NAME);
+    bent.name_length = 0, refuses("a station without a name", PN_PLAN_NAME);
+    bent.controller_name_length = 0, refuses("a controller without a name", PN_PLAN_NAME);
+    bent.controller_name_length = 0xFFFFFFFF, refuses("a controller with a long name", PN_PLAN_NAME);
+    bent.mask[0] = 1, refuses("a mask with a hole", PN_PLAN_ADDRESS);
+    bent.controller_mac[0] = 1, refuses("a group's address", PN_PLAN_ADDRESS);
+    for (unsigned i = 0; i < 4; i++) {
+        bent.controller_address[0] = others[i], refuses("a controller that is no host", PN_PLAN_ADDRESS);
+        bent.address[0] = others[i], refuses("a station that is no host", PN_PLAN_ADDRESS);
+        bent.controller_address[0] = bent.address[0] = hosts[i], takes("two hosts");
+    }
+    memset(bent.address, 0, 4), memset(bent.mask, 0, 4), memset(bent.gateway, 0, 4), takes("a station without an address");
+}
+
+static void bend_places(void)
+{
+    bent.module_count = 0, bent.record_count = 0, refuses("no module", PN_PLAN_NOT_ALLOWED);
+    bent.module_count = 17, refuses("17 modules", PN_PLAN_TOO_MANY);
+    bent.module_count = 0xFFFFFFFF, refuses("far too many modules", PN_PLAN_TOO_MANY);
+    bent.modules[0].slot = 3, refuses("no access point", PN_PLAN_NOT_ALLOWED);
+    bent.modules[2].slot = 0, refuses("slot 0 twice", PN_PLAN_NOT_ALLOWED);
+    bent.modules[2].slot = 1, refuses("a slot twice", PN_PLAN_NOT_ALLOWED);
+    bent.modules[2].slot = 15, takes("the last slot");
+    bent.modules[2].slot = 16, refuses("slot 16", PN_PLAN_TOO_MANY);
+    bent.modules[0].submodule_count = 5, refuses("5 submodules", PN_PLAN_TOO_MANY);
+    bent.modules[1].submodules[0].parameter_count = 3, refuses("3 parameter records", PN_PLAN_TOO_MANY);
 }
 
 static void bend_plans(void)
 {
-    bent = plan;
-    bent.name_length = 241, refuses("a long name");
-    bent.name[0] = 'P', refuses("no station name");
-    bent.controller_name_length = 0, refuses("a controller without a name");
-    bent.mask[0] = 1, refuses("a mask with a hole");
-    bent.controller_mac[0] = 1, refuses("a group's address");
-    bent.send_clock_factor = 0, refuses("no clock");
-    bent.send_clock_factor = 129, refuses("a slow clock");
-    bent.reduction_ratio = 513, refuses("a large ratio");
-    bent.data_hold_factor = 7681, refuses("a long hold");
-    bent.module_count = 0, refuses("no module");
-    bent.module_count = 17, refuses("17 modules");
-    bent.modules[1].slot = 0, refuses("a slot twice");
-    bent.modules[2].slot = 16, refuses("slot 16");
-    bent.modules[0].submodule_count = 5, refuses("5 submodules");
-    bent.modules[0].submodules[1].subslot = 1, refuses("a subslot twice");
-    bent.modules[1].submodules[0].parameter_count = 3, refuses("3 parameter records");
-    bent.modules[1].submodules[0].input = 1440, refuses("a frame that is too long");
-    bent.modules[1].submodules[0].input = 65535, refuses("far too long");
-    bent.record_count = 33, refuses("33 records");
-    bent.record_count = 1, bent.records[0].length = 65, refuses("a record of 65 octets");
+    bend_numbers();
+    bend_records();
+    bend_names_and_addresses();
+    bend_places();
+    bent.modules[1].submodules[0].input = 1440, refuses("a frame that is too long", PN_PLAN_FRAME_LONG);
+    bent.modules[1].submodules[0].input = 65535, refuses("far too long", PN_PLAN_FRAME_LONG);
+    bent.module_count = 16;
+    for (unsigned i = 1; i < 16; i++) {
+        bent.modules[i] = (pn_module){1, (uint16_t)i, 4, {{0}}};
+        for (unsigned k = 0; k < 4; k++)
+            bent.modules[i].submodules[k] = (pn_submodule){1, (uint16_t)(k + 1), 1, 1, 0, {{0}}};
+    }
+    bent.record_count = 0, refuses("a Connect that is too long", PN_PLAN_CONNECT_LONG);
     wants("no ARUUID", pn_controller_start(&controller, &plan, zero, activity), PN_BAD_PLAN);
+    if (pn_plan_fault(&plan) != PN_OK || pn_plan_fault(NULL) != PN_PLAN_NULL)
+        exit(1);
+}
+
+/* Each operation, and some that there are not, straight to the library: one that is refused leaves the whole operation as it was. */
+static void ask_all(const char *when)
+{
+    static pn_op asked, told;
+    for (uint32_t what = 0; what < 24; what++) {
+        memset(&asked, 0xA5, sizeof asked);
+        asked.what = what, asked.units = 5;
+        told = asked;
+        memcpy(&controller, &before, sizeof controller);
+        if (pn_controller_step(controller.room, &told, octets, 0) != PN_OK && memcmp(&asked, &told, sizeof asked) != 0) {
+            printf("%s: operation %u is refused and writes into the operation\n", when, (unsigned)what);
+            exit(1);
+        }
+    }
+    memcpy(&controller, &before, sizeof controller);
 }
 
 static void misuse(void)
@@ -67,8 +193,10 @@ static void misuse(void)
     wants("another version", pn_controller_make(controller.room, sizeof controller.room, PN_ABI + 1, sizeof(pn_op), &plan, ar, activity), PN_BAD_ABI);
     wants("another operation", pn_controller_make(controller.room, sizeof controller.room, PN_ABI, sizeof(pn_op) - 4, &plan, ar, activity), PN_BAD_ABI);
     wants("a small room", pn_controller_make(controller.room, PN_CONTROLLER_SIZE - 1, PN_ABI, sizeof(pn_op), &plan, ar, activity), PN_SMALL_ROOM);
+    bend_again();
     bend_plans();
     keep("a plan", pn_controller_start(&controller, &plan, ar, activity));
+    ask_all("in front of the work");
     wants("a frame in front of the work", pn_controller_frame(&controller, &op, octets, 60), PN_HAS_WORK);
     wants("time in front of the work", pn_controller_tick(&controller, &op, 1), PN_HAS_WORK);
     wants("a value in front of the work", pn_controller_give(&controller, &op, 2, 1, octets, 2), PN_HAS_WORK);
@@ -79,6 +207,7 @@ static void misuse(void)
     keep("no more frames", pn_controller_next(&controller, &op));
     if (op.work != PN_NOTHING)
         exit(1);
+    ask_all("with no work");
     wants("no operation", pn_controller_ask(&controller, &op, 0, NULL, 0), PN_UNKNOWN);
     wants("another operation", pn_controller_ask(&controller, &op, 14, NULL, 0), PN_UNKNOWN);
     wants("no octets", pn_controller_frame(&controller, &op, NULL, 1), PN_NULL);
@@ -145,6 +274,178 @@ static void bend_catalogues(size_t length, unsigned long times)
     puts("");
 }
 
+/* --- A plan that a host writes beside a catalogue that says the same --- */
+
+static char said[65536];
+static size_t said_length;
+
+static void say(const char *form, ...)
+{
+    va_list rest;
+    va_start(rest, form);
+    said_length += (size_t)vsnprintf(said + said_length, sizeof said - said_length, form, rest);
+    va_end(rest);
+}
+
+static void say_data(const char *key, unsigned size)
+{
+    say("\"%s\":[", key);
+    for (unsigned left = size; left != 0;) {
+        unsigned some = left < 1440 ? left : 1440;
+        left -= some;
+        say("{\"DataType\":\"OctetString\",\"Length\":%u}%s", some, left != 0 ? "," : "");
+    }
+    say("]");
+}
+
+static void say_submodules(const pn_module *module)
+{
+    say("\"ModuleIdentNumber\":%u,\"VirtualSubmoduleItem\":[", (unsigned)module->ident);
+    for (unsigned i = 0; i < module->submodule_count; i++) {
+        const pn_submodule *part = &module->submodules[i];
+        say("%s{\"Subslot\":%u,\"SubmoduleIdentNumber\":%u,\"IOData\":{", i != 0 ? "," : "", part->subslot, (unsigned)part->ident);
+        say_data("Input", part->input), say(","), say_data("Output", part->output);
+        say("},\"ParameterRecordDataItem\":[");
+        for (unsigned k = 0; k < part->parameter_count; k++)
+            say("%s{\"Index\":%u,\"Length\":%u}", k != 0 ? "," : "", part->parameters[k].index, part->parameters[k].length);
+        say("]}");
+    }
+    say("]");
+}
+
+static void say_record(const pn_record *record, unsigned number)
+{
+    say("%s{\"Subslot\":%u,\"Index\":%u,\"Data\":\"", number != 0 ? "," : "", record->subslot, record->index);
+    for (unsigned i = 0; i < record->length && i < sizeof record->octets; i++)
+        say("%02x", record->octets[i]);
+    say("\"}");
+}
+
+/* How many of the first modules are in a slot. */
+static unsigned uses_of(const pn_plan *from, unsigned slot, unsigned modules)
+{
+    unsigned uses = 0;
+    for (unsigned i = 0; i < modules; i++)
+        uses += from->modules[i].slot == slot;
+    return uses;
+}
+
+/* A slot with its records, in their order; they are said once, where the slot is there twice. */
+static void say_slot(const pn_plan *from, unsigned slot, const char *target, unsigned uses)
+{
+    unsigned number = 0;
+    say("{\"Slot\":%u,\"ModuleItemTarget\":\"%s\",\"Records\":[", slot, target);
+    for (unsigned i = 0; i < from->record_count && uses == 0; i++)
+        if (from->records[i].slot == slot)
+            say_record(&from->records[i], number++);
+    say("]}");
+}
+
+static void say_modules(const pn_plan *from)
+{
+    say("\"ModuleItem\":[");
+    for (unsigned i = 1; i < from->module_count; i++)
+        say("%s{\"ID\":\"M%u\",", i != 1 ? "," : "", i), say_submodules(&from->modules[i]), say("}");
+    say("],");
+}
+
+static void say_point(const pn_plan *from)
+{
+    say("\"DeviceAccessPointItem\":{\"DNS_CompatibleName\":\"pn-demo\",\"MinDeviceInterval\":1,\"PhysicalSlots\":[0");
+    for (unsigned i = 1; i < from->module_count; i++)
+        say(",%u", from->modules[i].slot);
+    say("],"), say_submodules(&from->modules[0]), say(",\"ModuleItemRef\":[");
+    for (unsigned i = 1; i < from->module_count; i++)
+        say("%s{\"ModuleItemTarget\":\"M%u\",\"AllowedInSlots\":[%u]}", i != 1 ? "," : "", i, from->modules[i].slot);
+    say("]},");
+}
+
+static void say_address(const char *key, const uint8_t *at)
+{
+    say("\"%s\":\"%u.%u.%u.%u\",", key, at[0], at[1], at[2], at[3]);
+}
+
+static void say_plan(const pn_plan *from)
+{
+    char target[16];
+    const uint8_t *mac = from->controller_mac;
+    said_length = 0;
+    say("{\"DeviceIdentity\":{\"VendorID\":%u,\"DeviceID\":%u},", from->vendor_id, from->device_id);
+    say_point(from), say_modules(from);
+    say("\"Project\":{\"NameOfStation\":\"%.*s\",", (int)from->name_length, (const char *)from->name);
+    say_address("IPAddress", from->address), say_address("SubnetMask", from->mask), say_address("Gateway", from->gateway);
+    say("\"Controller\":{\"NameOfStation\":\"%.*s\",", (int)from->controller_name_length, (const char *)from->controller_name);
+    say_address("IPAddress", from->controller_address);
+    say("\"MAC\":\"%02X-%02X-%02X-%02X-%02X-%02X\"},", mac[0], mac[1], mac[2], mac[3], mac[4], mac[5]);
+    say("\"SendClockFactor\":%u,\"ReductionRatio\":%u,\"DataHoldFactor\":%u,\"Slots\":[", from->send_clock_factor,
+        from->reduction_ratio, from->data_hold_factor);
+    for (unsigned i = 1; i < from->module_count; i++) {
+        snprintf(target, sizeof target, "M%u", i);
+        say_slot(from, from->modules[i].slot, target, uses_of(from, from->modules[i].slot, i));
+        say(i + 1 < from->module_count ? "," : "");
+    }
+    /* A record of a slot in which there is no module. */
+    for (unsigned i = 0; i < from->record_count; i++)
+        if (uses_of(from, from->records[i].slot, from->module_count) == 0)
+            say(","), say_slot(from, from->records[i].slot, "none", 0);
+    say("]}}");
+}
+
+static unsigned one_of(unsigned a, unsigned b, unsigned c, unsigned d)
+{
+    const unsigned all[] = {a, b, c, d};
+    return all[drawn() % 4];
+}
+
+/* One number of a plan that is right becomes another, which is mostly at an end of a range. */
+static void bend_number(void)
+{
+    pn_module *module = &bent.modules[drawn() % 3];
+    pn_submodule *part = &module->submodules[0], *last = &bent.modules[0].submodules[2];
+    pn_record *record = &bent.records[drawn() % 2];
+    switch (drawn() % 18) {
+    case 0: bent.send_clock_factor = (uint16_t)one_of(0, 1, 128, 129); break;
+    case 1: bent.reduction_ratio = (uint16_t)one_of(0, 1, 512, 513); break;
+    case 2: bent.data_hold_factor = (uint16_t)one_of(0, 1, 7680, 7681); break;
+    case 3: module->ident = one_of(0, 1, 0xFFFF, 0xFFFFFFFF); break;
+    case 4: part->ident = one_of(0, 1, 0xFFFF, 0xFFFFFFFF); break;
+    case 5: bent.modules[1].submodules[0].subslot = (uint16_t)one_of(0, 1, 36863, 36864); break;
+    case 6: last->subslot = (uint16_t)one_of(36863, 36864, 32768, 65535); break;
+    case 7: bent.modules[1].submodules[0].parameters[1].index = (uint16_t)one_of(0, 1, 32767, 32768); break;
+    case 8: bent.modules[1].submodules[0].parameters[0].length = (uint16_t)one_of(0, 1, 64, 65); break;
+    case 9: record->index = (uint16_t)one_of(0, 1, 32767, 0xFFFF); break;
+    case 10: record->subslot = (uint16_t)one_of(0, 1, 2, 0xFFFF); break;
+    case 11: record->slot = (uint16_t)one_of(1, 2, 3, 15); break;
+    case 12: record->length = (uint16_t)one_of(0, 1, 4, 64); break;
+    case 13: bent.controller_address[0] = (uint8_t)one_of(0, 126, 127, 224); break;
+    case 14: bent.address[0] = (uint8_t)one_of(0, 128, 223, 255); break;
+    case 15: bent.controller_mac[0] = (uint8_t)one_of(0, 1, 2, 3); break;
+    case 16: bent.modules[2].slot = (uint16_t)one_of(1, 2, 15, 16); break;
+    default: part->input = (uint16_t)one_of(0, 1400, 1440, 65535); break;
+    }
+}
+
+/* Plans that a host writes have the fault of the catalogue that says the same, or both are the same plan. */
+static void bend_both(unsigned long times)
+{
+    static pn_plan other;
+    unsigned long taken = 0;
+    for (unsigned long i = 0; i < times; i++) {
+        uint32_t fault, found;
+        bend_again();
+        for (uint32_t bends = drawn() % 4; bends != 0; bends--)
+            bend_number();
+        say_plan(&bent);
+        fault = pn_plan_fault(&bent), found = pn_plan_read(&other, (const uint8_t *)said, said_length);
+        if (fault != found || (fault == PN_OK && memcmp(&bent, &other, sizeof bent) != 0)) {
+            printf("a plan has the fault %u, and its catalogue %u: %.*s\n", (unsigned)fault, (unsigned)found, (int)said_length, said);
+            exit(1);
+        }
+        taken += fault == PN_OK;
+    }
+    printf("%lu plans beside their catalogues, %lu without a fault\n", times, taken);
+}
+
 int main(int words_count, char *words[])
 {
     FILE *file = words_count == 3 ? fopen(words[1], "rb") : NULL;
@@ -159,6 +460,7 @@ int main(int words_count, char *words[])
     wants("another plan", pn_plan_make(text, length, sizeof plan - 4, &plan), PN_PLAN_NULL);
     wants("the catalogue", pn_plan_read(&plan, text, length), PN_OK);
     misuse();
+    bend_both(strtoul(words[2], NULL, 10));
     bend_catalogues(length, strtoul(words[2], NULL, 10));
     return 0;
 }

@@ -1,4 +1,4 @@
-//! The controller of a station behind three calls. `include/nandutable_controller.h` says how they are used.
+//! The controller of a station behind four calls. `include/nandutable_controller.h` says how they are used.
 //!
 //! Each call is proved down to its raw pointer: what lies in the room before it, and what lies there behind it.
 #![tactic(auto)]
@@ -11,11 +11,19 @@ ghost use denote.RawPtr.{lies_at, room_at};
 ghost use Rattle.controller_core.specs.Machine.{fresh};
 ghost use Rattle.controller_operations.specs.State.{State, opened};
 ghost use Rattle.controller_operations.specs.contracts.port.Port.{the_row as Row};
-ghost use Rattle.controller_operations.specs.Plans.{is_plan, parts_of, why_not_made};
+ghost use Rattle.controller_operations.specs.Plans.{fault_of, is_plan, parts_of, why_not_made};
 ghost use Rattle.controller_operations.specs.Serves.{Serves, operation_of};
 
-use controller_operations::{Port, WrittenPlan, judge, port_of, serve};
+use controller_operations::{Port, WrittenPlan, fault_in, judge, port_of, serve};
 use host_values::Op;
+
+/// The first fault of a plan, with the number that a catalogue with this fault has, or 0.
+#[unsafe(no_mangle)]
+pub extern "C" fn pn_plan_judge(plan: &WrittenPlan) -> u32
+    ensures { result ≡ fault_of plan.now }
+{
+    fault_in(plan)
+}
 
 /// Why no controller can be made of this plan and this number of its relation in a room of so many octets, or 0.
 #[unsafe(no_mangle)]
