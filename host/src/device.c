@@ -296,9 +296,11 @@ static void take_frames(struct device *device)
 static void show(struct device *device)
 {
     pn_settings running, stored;
+    uint32_t left;
     char text[2 * STATION_DATA + 320];
     must(pn_running(&device->room, &device->op, &running), "pn_running");
     must(pn_stored(&device->room, &device->op, &stored), "pn_stored");
+    must(pn_left(&device->room, &device->op, &left), "pn_left");
     must(pn_state(&device->room, &device->op), "pn_state");
     tell_name("name", &running, text, sizeof text);
     lines_answer(&device->lines, "%s", text);
@@ -308,6 +310,7 @@ static void show(struct device *device)
     lines_answer(&device->lines, "%s", text);
     tell_suite("stored-ip", &stored, text, sizeof text);
     lines_answer(&device->lines, "%s", text);
+    lines_answer(&device->lines, "commits-left %" PRIu32, left);
     lines_answer(&device->lines, "phase %s", phases[device->op.phase]);
     lines_answer(&device->lines, "lamp %u", (unsigned)device->op.units);
     for (unsigned i = 0; i < device->inputs.count; i++) {
@@ -326,13 +329,16 @@ static void statistics(struct device *device, void (*tell)(struct lines *, const
 {
     struct lines *lines = &device->lines;
     const struct histogram *intervals = &device->intervals;
+    uint32_t left;
+    must(pn_left(&device->room, &device->op, &left), "pn_left");
     tell(lines, "statistics seconds %" PRIu64, (ticker_now() - device->ticker.started) / SECOND);
     tell(lines, "frames received %" PRIu64 " sent %" PRIu64 " not-sent %" PRIu64 " missed %" PRIu64, device->wire.received, device->wire.sent,
          device->wire.not_sent, wire_missed(&device->wire));
     for (unsigned i = 0; i < sizeof notes / sizeof notes[0]; i++)
         tell(lines, "note %s %" PRIu64, notes[i], device->notes[i]);
     tell(lines, "sets dropped %" PRIu64, device->sets.dropped);
-    tell(lines, "flash programs %" PRIu64 " erases %" PRIu64 " faults %" PRIu64, device->chip.programs, device->chip.erases, device->chip.faults);
+    tell(lines, "flash programs %" PRIu64 " erases %" PRIu64 " faults %" PRIu64 " commits-left %" PRIu32, device->chip.programs, device->chip.erases,
+         device->chip.faults, left);
     tell(lines, "time units %" PRIu64 " forgotten %" PRIu64 " stalls %" PRIu64 " most-at-once %" PRIu64, device->ticker.given, device->ticker.forgotten,
          device->ticker.stalls, device->ticker.longest);
     tell(lines, "interval count %" PRIu64 " p50 %u p99 %u max %" PRIu64 " us", intervals->total, histogram_within(intervals, 500),
@@ -368,7 +374,7 @@ static void help(struct lines *lines)
 {
     lines_answer(lines, "input SLOT SUBSLOT HEX   gives the input of a submodule");
     lines_answer(lines, "alarm SLOT SUBSLOT HEX   raises a process alarm with these octets");
-    lines_answer(lines, "show                     name, address, phase, lamp, inputs and outputs");
+    lines_answer(lines, "show                     name, address, how many commits are left, phase, lamp, inputs and outputs");
     lines_answer(lines, "statistics               counts since the start");
     lines_answer(lines, "quit                     ends the program");
 }
