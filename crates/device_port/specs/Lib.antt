@@ -1,3 +1,4 @@
+pub mod Host
 pub mod Refusals
 pub mod State
 pub mod Steps

@@ -2,10 +2,12 @@
 //! calls out on a chip of its own.
 #![tactic(auto)]
 
+mod host;
 mod port;
 mod refusal;
 mod stage;
 
+pub use host::{Operation, play};
 pub use port::{Port, SECTOR_SIZE, Work};
 pub use refusal::Refusal;
 pub use stage::Stage;

@@ -355,7 +355,7 @@ impl Port {
     }
 
     // Takes an event, where none is barred.
-    fn offer(&mut self, event: &Event) -> Result<Note, Refusal>
+    pub(crate) fn offer(&mut self, event: &Event) -> Result<Note, Refusal>
         ensures { Answers self.old event.now result self.new }
     {
         match self.barred() {
