@@ -5,6 +5,7 @@
 
 mod calls;
 mod cycles;
+mod host;
 mod operations;
 mod refusals;
 mod stations;
