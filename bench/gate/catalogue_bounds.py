@@ -21,7 +21,7 @@ PART = "ModuleItem[2].VirtualSubmoduleItem[0]"
 PARAMETER = f"{PART}.ParameterRecordDataItem[0]"
 RECORD = "Project.Slots[2].Records[0]"
 
-# A module that the others stand beside: two submodules with data of both directions, two records of either.
+# A module beside the others: two submodules with data of both directions, two records of either.
 WIDE = {
     "ID": "WIDE", "ModuleIdentNumber": 48, "VirtualSubmoduleItem": [
         {"Subslot": 1, "SubmoduleIdentNumber": 49, "IOData": {"Input": [{"DataType": "Unsigned8"}], "Output": [{"DataType": "Unsigned8"}]},
@@ -101,7 +101,7 @@ def number_rows():
 
 
 def long_list_rows():
-    """Faults far behind in a list, and kinds before ranges."""
+    """Faults late in a list, and kinds before ranges."""
     numbers = [0, 1, 2, 3] * 400
     for index in (9, 10, 99, 100, 999, 1000, 1234):
         yield changed(lambda catalogue: point(catalogue).update(PhysicalSlots=numbers[:index] + [99_999] + numbers[index:])), NUMBER, \

@@ -161,7 +161,7 @@ def bounded(catalogues, faults):
 
 
 def write_bounds():
-    """Writes the rows at the bounds anew."""
+    """Writes the rows at the bounds again."""
     catalogues, printed = read(os.path.join(TABLE, "stdin")).splitlines(), read(os.path.join(TABLE, "stdout"))
     catalogues, faults, keys = bounded(catalogues, list(faults_in(printed.splitlines())))
     for name, text in (("stdin", "".join(line + "\n" for line in catalogues)), ("stdout", table(catalogues, faults)), ("places", keys)):
