@@ -1,16 +1,15 @@
 // The device: an access point, a module with an input in slot 1 and one with an output in slot 2.
 use arrayvec::ArrayVec;
-use demo_station::identity;
 use device_core::Device;
 use flash_model::MemoryFlash;
-use pn_values::{Real, RealModule, RealSubmodule};
+use pn_values::{Real, RealModule, RealSubmodule, demo_identity};
 
 /// A device over the smallest flash.
 pub(crate) type Station = Device<MemoryFlash<768>, 768>;
 
 /// A device that was never set.
 pub(crate) fn station() -> Option<Station> {
-    Device::boot(identity(), real(), MemoryFlash::blank()).ok()
+    Device::boot(demo_identity(), real(), MemoryFlash::blank()).ok()
 }
 
 // Slot and ident number of each module; its one submodule has the same ident number.

@@ -1,2 +1,4 @@
 pub mod Sound
 pub mod Left
+pub mod ModulesTaken
+pub mod ModulesWritten

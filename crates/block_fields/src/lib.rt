@@ -37,10 +37,12 @@
 
 mod fault;
 mod fields;
+mod modules;
 mod reading;
 mod writing;
 
 pub use fault::BlockFault;
+pub use modules::{Entry, Module, Modules, Put, modules_len, put_modules};
 pub use reading::{
     blank_at, ended, fixed_at, fixed_four_at, fixed_one_at, mac_at, octets_at, ranged_at, slice_at,
     u8_at, u16_at, u32_at, unchecked_at, version_at,

@@ -12,16 +12,16 @@ use Rattle.connect_blocks.specs.declared.iocr.IocrType.TheVariants.{Input, Outpu
 use Rattle.connect_blocks.specs.declared.iocr.IocrBlockReq.{IocrBlockReq}
 use Rattle.module_blocks.specs.declared.expected.ExpectedModule.{ExpectedModule}
 use Rattle.module_blocks.specs.declared.expected.ExpectedSubmodule.{ExpectedSubmodule}
-use Rattle.module_lists.specs.Lists.{Listed}
+use Rattle.block_fields.specs.modules.Lists.{Listed}
 use Rattle.block_codec.specs.declared.block.Block.{Block}
 use Rattle.block_codec.specs.declared.block.Block.TheVariants as is
 use Rattle.block_codec.specs.declared.block_type.BlockType.TheVariants as kind
 use Rattle.block_codec.specs.Kinds.{number_of}
 use Rattle.block_codec.specs.Block.{in_ar_block_req}
 use Rattle.module_diff.specs.declared.expected.Expected.{Expected}
-use Rattle.pnio_status.specs.declared.call_fault.CallFault.{CallFault}
-use Rattle.pnio_status.specs.declared.call_fault.CallFault.TheVariants as fault
-use Rattle.call_blocks.specs.Judged.{judged}
+use Rattle.records.specs.declared.status.call_fault.CallFault.{CallFault}
+use Rattle.records.specs.declared.status.call_fault.CallFault.TheVariants as fault
+use Rattle.records.specs.calls.Judged.{judged}
 use Rattle.connect_requests.specs.declared.parts.Ar.{Ar}
 use Rattle.connect_requests.specs.declared.parts.AlarmCr.{AlarmCr}
 use Rattle.connect_requests.specs.Pieces.{Piece, pieces_of}

@@ -16,9 +16,9 @@ use Rattle.cyclic_data.specs.declared.fault.LayoutFault.TheVariants as wrong
 use Rattle.cyclic_data.specs.Places.{asked}
 use Rattle.cyclic_data.specs.Layout.{Table, times_listed, times_required}
 use Rattle.wire.specs.Codec.{◌>>=◌}
-use Rattle.pnio_status.specs.declared.call_fault.CallFault.{CallFault}
-use Rattle.pnio_status.specs.declared.call_fault.CallFault.TheVariants as fault
-use Rattle.call_blocks.specs.Judged.{judged}
+use Rattle.records.specs.declared.status.call_fault.CallFault.{CallFault}
+use Rattle.records.specs.declared.status.call_fault.CallFault.TheVariants as fault
+use Rattle.records.specs.calls.Judged.{judged}
 
 -- ---- what submodules have in cyclic frames
 

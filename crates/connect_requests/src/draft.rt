@@ -14,7 +14,7 @@ use block_codec::{
     Block, BlockFault, BlockType, IocrBlockReq, IocrType, read_block, read_expected,
 };
 use module_diff::Expected;
-use pnio_status::CallFault;
+use records::CallFault;
 use wire::u16_at;
 
 /// What was read so far, but for what is expected to be plugged.

@@ -10,7 +10,7 @@ use arrayvec::ArrayVec;
 use block_codec::{ExpectedModule, ExpectedSubmodule, ExpectedSubmoduleBlockReq};
 use cyclic_data::ExpectedData;
 use module_diff::Expected;
-use pnio_status::CallFault;
+use records::CallFault;
 
 /// Room for the modules and submodules of one ExpectedSubmoduleBlockReq. It is large, and made once for all blocks of a Connect.
 #[derive(Drop)]

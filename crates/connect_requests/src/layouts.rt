@@ -5,7 +5,7 @@ ghost use Rattle.connect_requests.specs.Layouts.{fault_of, in_order, layout_of};
 
 use block_codec::IocrBlockReq;
 use cyclic_data::{ExpectedData, Layout, LayoutFault};
-use pnio_status::CallFault;
+use records::CallFault;
 
 /// The fault of a Connect whose places have this fault.
 fn fault_of(fault: LayoutFault) -> CallFault

@@ -15,7 +15,7 @@ use arrayvec::ArrayVec;
 use block_codec::{Block, BlockType};
 use block_fields::Uuid;
 use module_diff::Expected;
-use pnio_status::CallFault;
+use records::CallFault;
 use std::marker::Model;
 use wire::u16_at;
 

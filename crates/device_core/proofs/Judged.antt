@@ -9,7 +9,7 @@ use Rattle.pn_alarms.specs.declared.device.PduFate.{PduFate}
 use Rattle.pn_alarms.specs.declared.device.PduFate.TheVariants as fate
 use Rattle.cyclic_exchange.specs.declared.received.Received.{Received}
 use Rattle.cyclic_exchange.specs.declared.received.Received.TheVariants as received
-use Rattle.exchanges.specs.Flow.{Flow}
+use Rattle.relations.specs.exchange.Flow.{Flow}
 use Rattle.relations.specs.Link.{Link, is_alarm_of}
 use Rattle.relations.specs.Phases.{moved}
 use Rattle.relations.specs.Exchanged.{heard_by, hearing, received_by, receiving}

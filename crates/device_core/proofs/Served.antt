@@ -2,13 +2,13 @@
 use Rattle.std.proofs.Common.{◌≡◌, ℕ, false, List, map, Result, Ok, Err, IfErr, OnOk, IsOk, refl, ap, ◌∙◌}
 use Rattle.flash_model.specs.declared.flash.Flash.{Ghosts as Flash}
 use Rattle.settings_store.specs.Carries.{Holds}
-use Rattle.pnio_status.specs.declared.operation.Operation.{Operation}
-use Rattle.pnio_status.specs.declared.call_fault.CallFault.{CallFault}
+use Rattle.records.specs.declared.status.operation.Operation.{Operation}
+use Rattle.records.specs.declared.status.call_fault.CallFault.{CallFault}
 use Rattle.record_blocks.specs.declared.write_record.IodWriteReq.{IodWriteReq}
-use Rattle.record_writes.specs.declared.taken.TakenRecord.{TakenRecord}
-use Rattle.record_writes.specs.Answer.{answer_of}
-use Rattle.record_writes.specs.declared.write.Effect.{Effect}
-use Rattle.record_writes.specs.declared.write.Write.{Write}
+use Rattle.records.specs.declared.writes.taken.TakenRecord.{TakenRecord}
+use Rattle.records.specs.writes.Answer.{answer_of}
+use Rattle.records.specs.declared.writes.write.Effect.{Effect}
+use Rattle.records.specs.declared.writes.write.Write.{Write}
 use Rattle.rpc_core.specs.Call.{Asked as Call}
 use Rattle.relations.specs.Phases.{Judged as Moving, answered}
 use Rattle.frame_codec.specs.declared.udp.Caller.{Caller}

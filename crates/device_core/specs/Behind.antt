@@ -3,12 +3,12 @@ use Rattle.std.specs.Prelude.{ℕ, Bool, List, None, map, Result}
 use Rattle.rpc_core.specs.declared.response.Response.{Response}
 use Rattle.rpc_core.specs.Call.{Asked as Call, asked}
 use Rattle.rpc_core.specs.Response.{answered}
-use Rattle.pnio_status.specs.declared.call_fault.CallFault.{CallFault}
-use Rattle.pnio_status.specs.declared.operation.Operation.{Operation}
+use Rattle.records.specs.declared.status.call_fault.CallFault.{CallFault}
+use Rattle.records.specs.declared.status.operation.Operation.{Operation}
 use Rattle.record_blocks.specs.declared.write_record.IodWriteReq.{IodWriteReq}
-use Rattle.record_writes.specs.declared.taken.TakenRecord.{TakenRecord}
-use Rattle.record_writes.specs.declared.write.Effect.TheVariants.{Keeps}
-use Rattle.record_writes.specs.declared.write.Write.{Write as Asking}
+use Rattle.records.specs.declared.writes.taken.TakenRecord.{TakenRecord}
+use Rattle.records.specs.declared.writes.write.Effect.TheVariants.{Keeps}
+use Rattle.records.specs.declared.writes.write.Write.{Write as Asking}
 use Rattle.relations.specs.Ready.{answer_of}
 use Rattle.relations.specs.declared.time.Elapsed.{Elapsed}
 use Rattle.relations.specs.Timers.{due_behind, left_behind}

@@ -17,29 +17,29 @@ use Rattle.rpc_core.specs.declared.response.Status.{Status}
 use Rattle.rpc_core.specs.Call.{Asked as Call}
 use Rattle.rpc_core.specs.Response.{answer_to}
 use Rattle.rpc_core.specs.Cache.{Kept, Told as Looked, new, again, old, looked, kept_more}
-use Rattle.pnio_status.specs.declared.operation.Operation.{Operation}
-use Rattle.pnio_status.specs.declared.operation.Operation.TheVariants.{Connect, Release, Read, Write, Control, ReadImplicit}
-use Rattle.pnio_status.specs.declared.call_fault.CallFault.{CallFault}
-use Rattle.pnio_status.specs.declared.call_fault.CallFault.TheVariants.{Arguments}
-use Rattle.pnio_status.specs.Operation.{operation_of}
-use Rattle.pnio_status.specs.Status.{done, status_of}
+use Rattle.records.specs.declared.status.operation.Operation.{Operation}
+use Rattle.records.specs.declared.status.operation.Operation.TheVariants.{Connect, Release, Read, Write, Control, ReadImplicit}
+use Rattle.records.specs.declared.status.call_fault.CallFault.{CallFault}
+use Rattle.records.specs.declared.status.call_fault.CallFault.TheVariants.{Arguments}
+use Rattle.records.specs.status.Operation.{operation_of}
+use Rattle.records.specs.status.Status.{done, status_of}
 use Rattle.connect_blocks.specs.declared.control.ControlBlock.{ControlBlock}
 use Rattle.record_blocks.specs.declared.write_record.IodWriteReq.{IodWriteReq}
-use Rattle.record_reads.specs.Implicit.{implicit_read}
-use Rattle.record_reads.specs.Within.{relation_read, names_relation}
-use Rattle.record_writes.specs.declared.taken.TakenRecord.{TakenRecord}
-use Rattle.record_writes.specs.declared.write.Effect.{Effect}
-use Rattle.record_writes.specs.declared.write.Effect.TheVariants.{Stores, Keeps}
-use Rattle.record_writes.specs.declared.write.Write.{Write as Asking}
-use Rattle.record_writes.specs.Answer.{answer_of}
-use Rattle.record_writes.specs.Judged.{write_of}
+use Rattle.records.specs.reads.Implicit.{implicit_read}
+use Rattle.records.specs.reads.Within.{relation_read, names_relation}
+use Rattle.records.specs.declared.writes.taken.TakenRecord.{TakenRecord}
+use Rattle.records.specs.declared.writes.write.Effect.{Effect}
+use Rattle.records.specs.declared.writes.write.Effect.TheVariants.{Stores, Keeps}
+use Rattle.records.specs.declared.writes.write.Write.{Write as Asking}
+use Rattle.records.specs.writes.Answer.{answer_of}
+use Rattle.records.specs.writes.Judged.{write_of}
 use Rattle.pn_alarms.specs.Message.{ToDevice}
 use Rattle.pn_alarms.specs.declared.device.PduFate.{PduFate}
 use Rattle.pn_alarms.specs.declared.device.PduFate.TheVariants as fate
 use Rattle.pn_alarms.specs.declared.pdu.Header.{Header}
 use Rattle.cyclic_exchange.specs.declared.received.Received.{Received}
 use Rattle.cyclic_exchange.specs.declared.received.Received.TheVariants as received
-use Rattle.exchanges.specs.Flow.{Flow}
+use Rattle.relations.specs.exchange.Flow.{Flow}
 use Rattle.relations.specs.Exchanged.{given_to, heard_by, hearing, raised_to, received_by, receiving}
 use Rattle.relations.specs.declared.hearing.ReadyAnswer.{ReadyAnswer}
 use Rattle.relations.specs.declared.hearing.ReadyAnswer.TheVariants as to_ready

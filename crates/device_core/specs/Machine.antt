@@ -7,10 +7,10 @@ use Rattle.pn_values.specs.declared.set_item.BlockError.{BlockError}
 use Rattle.pn_values.specs.declared.set_item.BlockError.TheVariants as error
 use Rattle.pn_values.specs.declared.command.Command.TheVariants.{SetName, SetIp, SetIm, ResetApplication, ResetCommunication, ResetAll}
 use Rattle.record_blocks.specs.declared.write_record.IodWriteReq.{IodWriteReq}
-use Rattle.pnio_status.specs.declared.operation.Operation.TheVariants.{Write}
-use Rattle.pnio_status.specs.declared.call_fault.CallFault.{CallFault}
-use Rattle.pnio_status.specs.declared.call_fault.CallFault.TheVariants as fault
-use Rattle.record_writes.specs.Answer.{answer_of}
+use Rattle.records.specs.declared.status.operation.Operation.TheVariants.{Write}
+use Rattle.records.specs.declared.status.call_fault.CallFault.{CallFault}
+use Rattle.records.specs.declared.status.call_fault.CallFault.TheVariants as fault
+use Rattle.records.specs.writes.Answer.{answer_of}
 use Rattle.pn_alarms.specs.declared.abort.Abort.TheVariants.{Other}
 use Rattle.relations.specs.Link.{Link}
 use Rattle.relations.specs.Farewells.{farewell_of}

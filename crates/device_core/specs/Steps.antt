@@ -10,8 +10,8 @@ use Rattle.dcp_core.specs.declared.request.Service.TheVariants.{Identify}
 use Rattle.dcp_core.specs.Request.{Asked}
 use Rattle.rpc_core.specs.Call.{Asked as Called}
 use Rattle.rpc_core.specs.Cache.{Kept, behind_calls}
-use Rattle.pnio_status.specs.declared.operation.Operation.{Operation}
-use Rattle.pnio_status.specs.Operation.{operation_of}
+use Rattle.records.specs.declared.status.operation.Operation.{Operation}
+use Rattle.records.specs.status.Operation.{operation_of}
 use Rattle.dcp_core.specs.Identify.{matches, identify_bytes}
 use Rattle.device_frames.specs.declared.event.Event.{Event}
 use Rattle.device_frames.specs.declared.note.Note.{Note}

@@ -4,11 +4,11 @@ ghost use Rattle.arrayvec.specs.ArrayVec.{array_vec_len};
 ghost use Rattle.settings_store.specs.Carries.{Holds};
 ghost use Rattle.rpc_core.specs.Call.{asked};
 ghost use Rattle.rpc_core.specs.Cache.{kept_more};
-ghost use Rattle.pnio_status.specs.declared.call_fault.CallFault.TheVariants.{Arguments};
-ghost use Rattle.pnio_status.specs.declared.operation.Operation.TheVariants as operation;
+ghost use Rattle.records.specs.declared.status.call_fault.CallFault.TheVariants.{Arguments};
+ghost use Rattle.records.specs.declared.status.operation.Operation.TheVariants as operation;
 ghost use Rattle.record_blocks.specs.declared.write_record.IodWriteReq.{IodWriteReq as Header};
-ghost use Rattle.record_writes.specs.Answer.{answer_of};
-ghost use Rattle.pnio_status.specs.Operation.{operation_of};
+ghost use Rattle.records.specs.writes.Answer.{answer_of};
+ghost use Rattle.records.specs.status.Operation.{operation_of};
 ghost use Rattle.device_frames.specs.Heard.{Heard as Hears, Told, said_by};
 ghost use Rattle.device_frames.specs.Sendable.{IsSendable};
 ghost use Rattle.device_frames.specs.Sent.{bytes_of};
@@ -25,9 +25,10 @@ use device_frames::{Caller, send_farewell, send_ready, send_response};
 use flash_model::Flash;
 use frame_codec::Outbox;
 use pn_values::{BlockError, Command, Identity, ImValue, SetItem};
-use pnio_status::{CallFault, Operation, done};
-use record_reads::{Blocks, names_relation, read_implicit, read_within};
-use record_writes::{Effect, TakenRecord, Write, judge_write, put_write_answer};
+use records::{
+    Blocks, CallFault, Effect, Operation, TakenRecord, Write, done, judge_write, names_relation,
+    put_write_answer, read_implicit, read_within,
+};
 use relations::{Partner, ReadyAnswer};
 use rpc_core::{Call, CallCache, Interface, Looked, Response, Status, read_call, read_response};
 

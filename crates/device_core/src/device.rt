@@ -15,7 +15,7 @@ use crate::calls::Answering;
 use arrayvec::ArrayVec;
 use flash_model::{Flash, Order};
 use pn_values::{Identity, Real, SetItem, Settings};
-use record_writes::TakenRecord;
+use records::TakenRecord;
 use relations::{Phase, Relation};
 use rpc_core::Uuid;
 use settings_journal::BootFault;

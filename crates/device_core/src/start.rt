@@ -13,7 +13,7 @@ use arrayvec::ArrayVec;
 use flash_model::Flash;
 use pn_alarms::Abort;
 use pn_values::{Identity, Real};
-use record_reads::Blocks;
+use records::Blocks;
 use relations::Relation;
 use rpc_core::CallCache;
 use settings_journal::{BootFault, Fill};

@@ -31,12 +31,11 @@ use device_frames::{
     send_alarm_again, send_alarm_reply, send_farewell, send_inputs, send_inputs_of,
     send_ready_again,
 };
-use exchanges::DataExchange;
 use flash_model::Flash;
 use frame_codec::{Bytes, ContentKind, OpenFrame, Outbox, RealTimeFrame, datagram_at, packet_at};
 use pn_alarms::{Abort, Header, Message, PduFate, read_message};
 use pn_values::Mac;
-use relations::{Elapsed, Received};
+use relations::{DataExchange, Elapsed, Received};
 
 impl<F: Flash<S>, const S: usize> Device<F, S> {
     /// Takes an event, and puts the frames to be sent into the box, which holds nothing else then.

@@ -10,11 +10,10 @@ ghost use Rattle.frame_codec.specs.Outbox.{boxed};
 use crate::relation::send_ready;
 use crate::sizes::{can_be_sent_in, cyclic_can_be_sent};
 use cyclic_exchange::send_cyclic;
-use exchanges::DataExchange;
 use frame_codec::{Outbox, Pieces};
 use pn_alarms::{PduType, Taken};
 use pn_values::Identity;
-use relations::Relation;
+use relations::{DataExchange, Relation};
 
 /// Puts the inputs of what a relation exchanges at this CycleCounter into the box, behind what is in it.
 #[inline(always)]

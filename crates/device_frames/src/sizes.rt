@@ -2,7 +2,7 @@
 ghost use Rattle.std.specs.Prelude.{◌≤◌, ◌<◌, List, Some, length, ℕ};
 ghost use Rattle.frame_codec.specs.Frame.{FitsFrame, content_size};
 ghost use Rattle.frame_codec.specs.Meaning.{RealTime, content_of, meaning_in, meaning_of};
-ghost use Rattle.frame_laws.specs.Sendable.{CanBeSent, IsContent, IsEndpoint, IsHolder, IsMac, IsTag, carrying};
+ghost use Rattle.codec_laws.specs.frames.Sendable.{CanBeSent, IsContent, IsEndpoint, IsHolder, IsMac, IsTag, carrying};
 
 use cyclic_exchange::Route;
 use frame_codec::{Endpoint, Holder, Layered, Payload, Pieces};

@@ -9,7 +9,7 @@ use Rattle.std.proofs.lemmas.List.Folds.{list_any-append}
 use Rattle.std.proofs.lemmas.List.Sums.{sum_by-cons}
 use Rattle.wire.specs.Counted.{FitsEach}
 use Rattle.wire.specs.Nested.{FitsOuter, FitsNested}
-use Rattle.module_lists.specs.Lists.{Listed, next_entry, module_list, listed_modules}
+use Rattle.block_fields.specs.modules.Lists.{Listed, next_entry, module_list, listed_modules}
 use Rattle.module_blocks.specs.declared.submodule_data.SubmoduleData.{SubmoduleData}
 use Rattle.module_blocks.specs.declared.expected.ExpectedModule.{ExpectedModule}
 use Rattle.module_blocks.specs.declared.expected.ExpectedSubmodule.{ExpectedSubmodule}

@@ -8,8 +8,8 @@ use Rattle.std.proofs.lemmas.List.Folds.{list_any-append}
 use Rattle.wire.specs.Counted.{SpellEach}
 use Rattle.wire.specs.Nested.{SpellOuter}
 use Rattle.block_fields.specs.Fields.{body}
-use Rattle.module_lists.specs.Lists.{Listed, next_entry, module_list, listed_modules}
-use Rattle.module_lists.proofs.Taken.{listed_counted}
+use Rattle.block_fields.specs.modules.Lists.{Listed, next_entry, module_list, listed_modules}
+use Rattle.block_fields.proofs.ModulesTaken.{listed_counted}
 use Rattle.module_blocks.specs.declared.submodule_data.SubmoduleData.{SubmoduleData}
 use Rattle.module_blocks.specs.declared.expected.ExpectedModule.{ExpectedModule}
 use Rattle.module_blocks.specs.declared.expected.ExpectedSubmodule.{ExpectedSubmodule}

@@ -6,9 +6,9 @@ use Rattle.wire.proofs.Judged.{checked_sound}
 use Rattle.block_fields.specs.declared.fault.BlockFault.TheVariants.{Field}
 use Rattle.block_fields.specs.Fields.{two}
 use Rattle.block_fields.proofs.Sound.{numeral_sound, ranged_sound, fixed_one_sound, fixed_four_sound}
-use Rattle.module_lists.specs.Lists.{Listed}
-use Rattle.module_lists.proofs.Taken.{listed_sound}
-use Rattle.module_lists.proofs.Written.{modules_few as few}
+use Rattle.block_fields.specs.modules.Lists.{Listed}
+use Rattle.block_fields.proofs.ModulesTaken.{listed_sound}
+use Rattle.block_fields.proofs.ModulesWritten.{modules_few as few}
 use Rattle.module_blocks.specs.declared.submodule_data.SubmoduleData.{SubmoduleData}
 use Rattle.module_blocks.specs.declared.expected.ExpectedModule.{ExpectedModule}
 use Rattle.module_blocks.specs.declared.expected.ExpectedSubmodule.{ExpectedSubmodule}

@@ -8,7 +8,7 @@ use Rattle.wire.specs.Checks.{checked}
 use Rattle.block_fields.specs.declared.fault.BlockFault.{BlockFault}
 use Rattle.block_fields.specs.declared.fault.BlockFault.TheVariants.{Field}
 use Rattle.block_fields.specs.Fields.{two, four, ranged, fixed_one, fixed_four}
-use Rattle.module_lists.specs.Lists.{Listed, listed_modules, WritesAlike}
+use Rattle.block_fields.specs.modules.Lists.{Listed, listed_modules, WritesAlike}
 use Rattle.module_blocks.specs.declared.expected.ExpectedModule.{ExpectedModule}
 use Rattle.module_blocks.specs.declared.submodule_data.SubmoduleData.{SubmoduleData}
 use Rattle.module_blocks.specs.declared.expected.ExpectedSubmodule.{ExpectedSubmodule}

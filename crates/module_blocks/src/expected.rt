@@ -12,8 +12,10 @@ use crate::submodule_data::{
     SubmoduleData, put_submodule_data, submodule_data_at, submodule_data_len,
 };
 use arrayvec::ArrayVec;
-use block_fields::{BlockFault, ended, len_fields, put_fields, read_fields, u16_at, version_at};
-use module_lists::{Entry, Module, Modules, Put, modules_len, put_modules};
+use block_fields::{
+    BlockFault, Entry, Module, Modules, Put, ended, len_fields, modules_len, put_fields,
+    put_modules, read_fields, u16_at, version_at,
+};
 
 /// A module that is expected in a slot, with its API, 0.
 #[derive(Clone, Copy, Default)]

@@ -3,12 +3,14 @@ ghost use Rattle.std.specs.Prelude.{◌≡◌, ◌+◌, ◌*◌, ◌<◌, ◌≤
 ghost use Rattle.arrayvec.specs.ArrayVec.{array_vec_len};
 ghost use Rattle.wire.specs.Codec.{Gives};
 ghost use Rattle.block_fields.specs.Fields.{body};
-ghost use Rattle.module_lists.specs.Lists.{flat_alike};
+ghost use Rattle.block_fields.specs.modules.Lists.{flat_alike};
 ghost use Rattle.module_blocks.specs.ModuleDiff.{module_diff, diff_module, diff_modules, diff_submodule, own_of, IsCounted, IsModuleDiff};
 
 use arrayvec::ArrayVec;
-use block_fields::{BlockFault, len_fields, put_fields, read_body, read_fields};
-use module_lists::{Entry, Module, Modules, Put, modules_len, put_modules};
+use block_fields::{
+    BlockFault, Entry, Module, Modules, Put, len_fields, modules_len, put_fields, put_modules,
+    read_body, read_fields,
+};
 
 /// A module that differs.
 #[derive(Clone, Copy, Default)]

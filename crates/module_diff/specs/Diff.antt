@@ -2,7 +2,7 @@
 use Rattle.std.specs.Prelude.{◌==◌, ◌&&◌, ◌||◌, ◌++◌, ℕ, Bool, false, not, List, [], ◌∷◌, map, length, take, drop, Option, Some, None, if◌then◌else◌}
 use Rattle.std.specs.List.{filter, list_any}
 use Rattle.pn_values.specs.declared.real.RealModule.{RealModule}
-use Rattle.module_lists.specs.Lists.{Listed}
+use Rattle.block_fields.specs.modules.Lists.{Listed}
 use Rattle.module_blocks.specs.declared.expected.ExpectedModule.{ExpectedModule}
 use Rattle.module_blocks.specs.declared.expected.ExpectedSubmodule.{ExpectedSubmodule}
 use Rattle.module_blocks.specs.declared.module_diff.DiffModule.{DiffModule}

@@ -18,7 +18,7 @@ pub struct DiffRows {
 }
 
 impl Model for DiffRows {
-    ghost use Rattle.module_lists.specs.Lists.{Listed};
+    ghost use Rattle.block_fields.specs.modules.Lists.{Listed};
     ghost use Rattle.module_blocks.specs.declared.module_diff.DiffModule.{DiffModule};
     ghost use Rattle.module_blocks.specs.declared.module_diff.DiffSubmodule.{DiffSubmodule};
     ghost use Rattle.module_diff.specs.Rows.{AreRows};

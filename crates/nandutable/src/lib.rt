@@ -8,15 +8,14 @@ ghost use Rattle.std.specs.Borrow.{full_share};
 ghost use base.Logic.{ex};
 ghost use types.Logic.{sem};
 ghost use denote.RawPtr.{lies_at, room_at};
-ghost use Rattle.device_port.specs.State.{State};
-ghost use Rattle.device_port.specs.contracts.port.Port.{the_row as Row};
-ghost use Rattle.port_operations.specs.Made.{IsMade, why_not_made};
-ghost use Rattle.port_operations.specs.Serves.{Serves, operation_of};
-ghost use Rattle.port_operations.specs.Stations.{is_station};
+ghost use Rattle.device_abi.specs.port.State.{State};
+ghost use Rattle.device_abi.specs.contracts.port.device.Port.{the_row as Row};
+ghost use Rattle.device_abi.specs.operations.Made.{IsMade, why_not_made};
+ghost use Rattle.device_abi.specs.operations.Serves.{Serves, operation_of};
+ghost use Rattle.device_abi.specs.operations.Stations.{is_station};
 
-use device_port::Port;
-use host_values::Op;
-use port_operations::{Station, judge, port_of, serve};
+use c_layout::Op;
+use device_abi::{Port, Station, judge, port_of, serve};
 
 /// Why no device can be made of this station in a room of so many octets, or 0.
 #[unsafe(no_mangle)]

@@ -9,13 +9,13 @@ ghost use base.Logic.{ex};
 ghost use types.Logic.{sem};
 ghost use denote.RawPtr.{lies_at, room_at};
 ghost use Rattle.controller_core.specs.Machine.{fresh};
-ghost use Rattle.controller_operations.specs.State.{State, opened};
-ghost use Rattle.controller_operations.specs.contracts.port.Port.{the_row as Row};
-ghost use Rattle.controller_operations.specs.Plans.{fault_of, is_plan, parts_of, why_not_made};
-ghost use Rattle.controller_operations.specs.Serves.{Serves, operation_of};
+ghost use Rattle.controller_abi.specs.State.{State, opened};
+ghost use Rattle.controller_abi.specs.contracts.port.Port.{the_row as Row};
+ghost use Rattle.controller_abi.specs.Plans.{fault_of, is_plan, parts_of, why_not_made};
+ghost use Rattle.controller_abi.specs.Serves.{Serves, operation_of};
 
-use controller_operations::{Port, WrittenPlan, fault_in, judge, port_of, serve};
-use host_values::Op;
+use c_layout::Op;
+use controller_abi::{Port, WrittenPlan, fault_in, judge, port_of, serve};
 
 /// The first fault of a plan, with the number that a catalogue with this fault has, or 0.
 #[unsafe(no_mangle)]

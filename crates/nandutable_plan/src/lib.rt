@@ -4,12 +4,12 @@
 
 ghost use Rattle.std.specs.Prelude.{◌≡◌, ◌≢◌, ◌≤◌, length};
 ghost use Rattle.configurator.specs.Planned.{IsPlanOf};
-ghost use Rattle.controller_operations.specs.Plans.{parts_of};
-ghost use Rattle.plan_operations.specs.Places.{IsTold};
-ghost use Rattle.plan_operations.specs.Readings.{IsBlank, IsFault, IsWritten};
+ghost use Rattle.controller_abi.specs.Plans.{parts_of};
+ghost use Rattle.plan_abi.specs.Places.{IsTold};
+ghost use Rattle.plan_abi.specs.Readings.{IsBlank, IsFault, IsWritten};
 
-use controller_operations::WrittenPlan;
-use plan_operations::{read, show};
+use controller_abi::WrittenPlan;
+use plan_abi::{read, show};
 use std::alloc::Global;
 
 /// Reads a catalogue. 0, or the number of its first fault; then all of the plan is zero.

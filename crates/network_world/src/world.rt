@@ -7,11 +7,11 @@ ghost use Rattle.network_world.specs.World.{world_of};
 
 use crate::sent::SentFrames;
 use crate::{End, Move};
-use call_blocks::is_relation;
 use controller_core::{Controller, Event as ControllerEvent, State};
 use device_core::{Device, Event as DeviceEvent};
 use flash_model::Flash;
 use frame_codec::{Bytes, Frame, Outbox, is_cyclic, read_real_time};
+use records::is_relation;
 use std::alloc::{AllocError, Global};
 use std::marker::Model;
 

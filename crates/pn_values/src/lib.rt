@@ -3,6 +3,7 @@
 #![tactic(auto)]
 
 mod command;
+mod demo;
 mod identity;
 mod im_value;
 mod ip_suite;
@@ -13,6 +14,7 @@ mod settings;
 mod station_name;
 
 pub use command::Command;
+pub use demo::{demo_identity, demo_modules};
 pub use identity::Identity;
 pub use im_value::{ImValue, Padded};
 pub use ip_suite::IpSuite;

@@ -5,9 +5,9 @@ use Rattle.wire.specs.Nested.{FitsNested}
 use Rattle.wire.proofs.Joined.{then_by_sound, seen_sound}
 use Rattle.block_fields.specs.Fields.{body}
 use Rattle.block_fields.proofs.Sound.{numeral_sound, fixed_sound}
-use Rattle.module_lists.proofs.Taken.{listed_sound, listed_counted}
-use Rattle.module_lists.proofs.Written.{modules_few as few, modules_fit as fit}
-use Rattle.module_lists.specs.Lists.{Listed}
+use Rattle.block_fields.proofs.ModulesTaken.{listed_sound, listed_counted}
+use Rattle.block_fields.proofs.ModulesWritten.{modules_few as few, modules_fit as fit}
+use Rattle.block_fields.specs.modules.Lists.{Listed}
 use Rattle.record_blocks.specs.declared.filter_data.FilterModule.{FilterModule}
 use Rattle.record_blocks.specs.declared.filter_data.FilterSubmodule.{FilterSubmodule}
 use Rattle.record_blocks.specs.declared.filter_data.ImFilterData.{ImFilterData}

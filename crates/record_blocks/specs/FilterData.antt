@@ -5,7 +5,7 @@ use Rattle.wire.specs.Codec.{Codec}
 use Rattle.wire.specs.Formats.{◌⨾◌, seen}
 use Rattle.block_fields.specs.declared.fault.BlockFault.{BlockFault}
 use Rattle.block_fields.specs.Fields.{two, four, fixed}
-use Rattle.module_lists.specs.Lists.{Listed, listed_modules}
+use Rattle.block_fields.specs.modules.Lists.{Listed, listed_modules}
 use Rattle.record_blocks.specs.declared.filter_data.FilterModule.{FilterModule}
 use Rattle.record_blocks.specs.declared.filter_data.FilterSubmodule.{FilterSubmodule}
 use Rattle.record_blocks.specs.declared.filter_data.ImFilterData.{ImFilterData}

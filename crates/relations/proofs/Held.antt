@@ -6,12 +6,12 @@ use Rattle.std.proofs.lemmas.Bool.Decides.{nat_tests}
 use Rattle.pn_alarms.specs.declared.abort.Abort.{Abort}
 use Rattle.pn_alarms.specs.declared.abort.Abort.TheVariants.{DataHold, Other}
 use Rattle.pn_alarms.specs.Sending.{Sending, due_behind, waiting_behind}
-use Rattle.exchanges.specs.Flow.{Flow}
+use Rattle.relations.specs.exchange.Flow.{Flow}
 use Rattle.pn_alarms.specs.declared.repeats.Due.{Due}
 use Rattle.cyclic_exchange.specs.Cyclic.{Cyclic}
 use Rattle.cyclic_exchange.specs.Units.{ending_by, tick_by}
-use Rattle.exchanges.specs.Units.{alarm_due}
-use Rattle.exchanges.specs.Units.{ending_of as exchange_ending}
+use Rattle.relations.specs.exchange.Units.{alarm_due}
+use Rattle.relations.specs.exchange.Units.{ending_of as exchange_ending}
 use Rattle.relations.specs.declared.phase.Phase.TheVariants.{Exchanging}
 use Rattle.relations.specs.declared.farewell.Farewell.{Farewell}
 use Rattle.relations.specs.declared.phase.Phase.{Phase}

@@ -2,3 +2,5 @@ pub mod Kept
 mod Held
 mod Moves
 mod Waiting
+pub mod ExchangeKept
+pub mod ExchangeGiven

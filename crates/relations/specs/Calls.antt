@@ -8,10 +8,10 @@ use Rattle.block_codec.specs.declared.block_type.BlockType.{BlockType}
 use Rattle.block_codec.specs.declared.block_type.BlockType.TheVariants as kind
 use Rattle.block_codec.specs.Block.{block_bytes}
 use Rattle.connect_blocks.specs.declared.control.ControlBlock.{ControlBlock}
-use Rattle.pnio_status.specs.declared.call_fault.CallFault.{CallFault}
-use Rattle.pnio_status.specs.declared.call_fault.CallFault.TheVariants as fault
-use Rattle.call_blocks.specs.Judged.{judged}
-use Rattle.call_blocks.specs.Single.{single_of}
+use Rattle.records.specs.declared.status.call_fault.CallFault.{CallFault}
+use Rattle.records.specs.declared.status.call_fault.CallFault.TheVariants as fault
+use Rattle.records.specs.calls.Judged.{judged}
+use Rattle.records.specs.calls.Single.{single_of}
 use Rattle.relations.specs.Link.{Link, is_named, is_session, is_started, phase_of}
 
 -- the block that a call of this type consists of

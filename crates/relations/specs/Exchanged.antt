@@ -8,10 +8,10 @@ use Rattle.pn_alarms.specs.Message.{ToDevice}
 use Rattle.pn_alarms.specs.Device.{heard_as}
 use Rattle.cyclic_exchange.specs.declared.received.Received.{Received}
 use Rattle.cyclic_exchange.specs.declared.received.Received.TheVariants.{Foreign, Short, Stale, Taken}
-use Rattle.exchanges.specs.Flow.{Flow}
-use Rattle.exchanges.specs.Received.{behind_frame, received_as}
-use Rattle.exchanges.specs.Process.{given_at, output_at}
-use Rattle.exchanges.specs.Notices.{behind_message, raised_at}
+use Rattle.relations.specs.exchange.Flow.{Flow}
+use Rattle.relations.specs.exchange.Received.{behind_frame, received_as}
+use Rattle.relations.specs.exchange.Process.{given_at, output_at}
+use Rattle.relations.specs.exchange.Notices.{behind_message, raised_at}
 use Rattle.relations.specs.Link.{Link}
 use Rattle.relations.specs.Phases.{Judged, Ended, Exchanged, Unmoved}
 

@@ -8,3 +8,4 @@ pub mod Ready
 pub mod Runs
 pub mod Exchanged
 pub mod Outputs
+pub mod exchange

@@ -2,10 +2,10 @@
 use Rattle.std.specs.Prelude.{◌≡◌, ◌==◌, ◌&&◌, ℕ, Bool, true, false, nat_eq, List, [], Option, Some, None, option_map}
 use Rattle.std.specs.Cmp.Lexicographic.{pointwise}
 use Rattle.pn_values.specs.declared.mac.Mac.{Mac}
-use Rattle.call_blocks.specs.Naming.{is_relation}
+use Rattle.records.specs.calls.Naming.{is_relation}
 use Rattle.connect_requests.specs.Request.{Request}
-use Rattle.record_writes.specs.declared.taken.TakenRecord.{TakenRecord}
-use Rattle.exchanges.specs.Flow.{Flow}
+use Rattle.records.specs.declared.writes.taken.TakenRecord.{TakenRecord}
+use Rattle.relations.specs.exchange.Flow.{Flow}
 use Rattle.relations.specs.declared.phase.Phase.{Phase}
 use Rattle.relations.specs.declared.phase.Phase.TheVariants.{Started, Awaiting, Exchanging}
 use Rattle.relations.specs.declared.phase.Partner.{Partner}

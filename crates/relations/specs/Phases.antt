@@ -1,18 +1,18 @@
 -- The phases of a relation: what moves it, and where to.
 use Rattle.std.specs.Prelude.{◌==◌, ℕ, List, [], length, Option, Some, None, Result, Ok, Err, option_map, if◌then◌else◌}
-use Rattle.module_lists.specs.Lists.{Listed}
+use Rattle.block_fields.specs.modules.Lists.{Listed}
 use Rattle.module_blocks.specs.declared.module_diff.DiffModule.{DiffModule}
 use Rattle.module_blocks.specs.declared.module_diff.DiffSubmodule.{DiffSubmodule}
 use Rattle.block_codec.specs.declared.block.Block.TheVariants as is
 use Rattle.block_codec.specs.Block.{block_bytes}
 use Rattle.connect_requests.specs.Request.{Request}
-use Rattle.pnio_status.specs.declared.call_fault.CallFault.{CallFault}
-use Rattle.pnio_status.specs.declared.call_fault.CallFault.TheVariants as fault
-use Rattle.record_writes.specs.declared.taken.TakenRecord.{TakenRecord}
-use Rattle.record_writes.specs.Taken.{keep_of}
+use Rattle.records.specs.declared.status.call_fault.CallFault.{CallFault}
+use Rattle.records.specs.declared.status.call_fault.CallFault.TheVariants as fault
+use Rattle.records.specs.declared.writes.taken.TakenRecord.{TakenRecord}
+use Rattle.records.specs.writes.Taken.{keep_of}
 use Rattle.pn_alarms.specs.declared.abort.Abort.{Abort}
-use Rattle.exchanges.specs.Flow.{Flow}
-use Rattle.exchanges.specs.Opening.{begun_of, opened}
+use Rattle.relations.specs.exchange.Flow.{Flow}
+use Rattle.relations.specs.exchange.Opening.{begun_of, opened}
 use Rattle.relations.specs.declared.phase.Phase.TheVariants.{Started, Awaiting, Exchanging}
 use Rattle.relations.specs.declared.phase.Partner.{Partner}
 use Rattle.relations.specs.Link.{Link}

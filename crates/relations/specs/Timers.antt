@@ -2,7 +2,7 @@
 use Rattle.std.specs.Prelude.{◌≡◌, ◌⊎◌, ◌==◌, ◌+◌, ◌*◌, ◌&&◌, ℕ, Bool, true, false, nat_le, not, Option, Some, None, is_none, option_map, if◌then◌else◌}
 use Rattle.relations.specs.declared.phase.Phase.{Phase}
 use Rattle.relations.specs.declared.phase.Phase.TheVariants.{Started, Awaiting, Exchanging}
-use Rattle.exchanges.specs.Units.{flow_later, tick_of}
+use Rattle.relations.specs.exchange.Units.{flow_later, tick_of}
 use Rattle.pn_alarms.specs.declared.abort.Abort.{Abort}
 use Rattle.pn_alarms.specs.declared.abort.Abort.TheVariants.{Activity, DataHold, Other}
 use Rattle.cyclic_data.specs.Timing.{held_on}

@@ -9,9 +9,8 @@ ghost use Rattle.relations.specs.Link.{phase_of};
 use crate::{Phase, Relation};
 use arrayvec::ArrayVec;
 use block_codec::{Block, BlockType, ControlBlock, write_block};
-use call_blocks::single_block;
 use connect_blocks::control_len;
-use pnio_status::CallFault;
+use records::{CallFault, single_block};
 
 /// ControlCommand of PrmEnd.
 const PRM_END: u16 = 1;

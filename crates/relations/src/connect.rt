@@ -12,7 +12,7 @@ use connect_requests::{ConnectRequest, Iocr, refuse};
 use module_blocks::module_diff_len;
 use module_diff::{DiffRows, diff};
 use pn_values::{Identity, Real};
-use pnio_status::CallFault;
+use records::CallFault;
 use wire::append;
 
 /// IOCRType of inputs.

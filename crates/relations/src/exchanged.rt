@@ -6,7 +6,7 @@ ghost use Rattle.relations.specs.Link.{flow_of, phase_of};
 ghost use Rattle.relations.specs.Phases.{moved};
 
 use crate::Relation;
-use exchanges::{DataExchange, Received};
+use crate::exchange::{DataExchange, Received};
 use pn_alarms::{Message, PduFate};
 use pn_values::{Mac, Real};
 

@@ -7,6 +7,7 @@
 
 mod calls;
 mod connect;
+mod exchange;
 mod exchanged;
 mod farewell;
 mod hearing;
@@ -17,7 +18,7 @@ mod ready;
 mod relation;
 mod time;
 
-pub use exchanges::{DataExchange, Received, Route};
+pub use exchange::{DataExchange, OWN_REFERENCE, Received, Route, Tick, exchange_is_kept};
 pub use farewell::Farewell;
 pub use hearing::ReadyAnswer;
 pub use laws::{phases_are_kept, time_is_kept};

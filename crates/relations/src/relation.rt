@@ -4,15 +4,13 @@ ghost use Rattle.relations.specs.Phases.{Ended, Named, Unmoved, answered, keepin
 ghost use Rattle.relations.specs.Farewells.{farewell_of};
 ghost use Rattle.relations.specs.Link.{IsInStep, differing_in, is_alarm_of, is_named, phase_of, taken_of, uuid_of};
 
+use crate::exchange::{DataExchange, OWN_REFERENCE};
 use crate::{Farewell, Partner, Phase};
 use arrayvec::ArrayVec;
-use call_blocks::is_relation;
 use connect_requests::ConnectRequest;
-use exchanges::{DataExchange, OWN_REFERENCE};
 use pn_alarms::{Abort, PduType};
 use pn_values::Mac;
-use pnio_status::CallFault;
-use record_writes::{TakenRecord, TakenRecords};
+use records::{CallFault, TakenRecord, TakenRecords, is_relation};
 use std::marker::Model;
 use uuid::Uuid;
 

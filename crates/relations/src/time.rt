@@ -11,8 +11,8 @@ ghost use Rattle.relations.specs.Timers.{left_behind, nothing};
 ghost use Rattle.relations.specs.Phases.{moved, passing};
 ghost use Rattle.relations.specs.Ready.{ready_of};
 
+use crate::exchange::Tick;
 use crate::{Phase, Relation};
-use exchanges::Tick;
 use pn_alarms::Abort;
 
 /// 100 ms, in units of 31.25 microseconds: what CMInitiatorActivityTimeoutFactor counts.

@@ -1,3 +1,8 @@
 pub mod Known
 pub mod Playing
 pub mod Silent
+pub mod SessionComing
+mod SessionOnePlan
+pub mod SessionFlashes
+pub mod SessionObeying
+pub mod SessionTicking

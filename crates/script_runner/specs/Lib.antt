@@ -3,3 +3,4 @@ pub mod Output
 pub mod Script
 pub mod Told
 pub mod Planned
+pub mod session

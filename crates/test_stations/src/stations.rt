@@ -1,10 +1,9 @@
 //! The station, over the smallest flash, and frames that were worked out by hand.
 use arrayvec::ArrayVec;
-use demo_station::identity;
 use device_core::{Device, Event, Note};
 use flash_model::{Flash, FlashFault, MemoryFlash, Sector};
 use frame_codec::{Bytes, Frame, Outbox};
-use pn_values::{Real, RealModule, RealSubmodule};
+use pn_values::{Real, RealModule, RealSubmodule, demo_identity};
 
 /// A device over the smallest flash.
 pub type Station = Device<MemoryFlash<768>, 768>;
@@ -78,14 +77,14 @@ pub fn plugged() -> Real {
 
 /// A station with an address in which this is plugged.
 pub fn station(real: Real, flash: MemoryFlash<768>) -> Option<Station> {
-    let mut device = Device::boot(identity(), real, flash).ok()?;
+    let mut device = Device::boot(demo_identity(), real, flash).ok()?;
     let _ = device.step(&set_address(), &mut Outbox::new());
     Some(device)
 }
 
 /// A station without modules, started from what this flash keeps.
 pub fn start(flash: MemoryFlash<768>) -> Option<Station> {
-    Device::boot(identity(), no_modules(), flash).ok()
+    Device::boot(demo_identity(), no_modules(), flash).ok()
 }
 
 /// A station with an address, in which one submodule is plugged, in slot 0.

@@ -2,7 +2,7 @@
 use Rattle.controller_frames.specs.declared.setup.Setup.{Setup}
 use Rattle.network_world.specs.World.{World}
 use Rattle.pn_values.specs.declared.identity.Identity.{Identity}
-use Rattle.world_ends.specs.Played.{Begins, CanMeet}
+use Rattle.startup_law.specs.Played.{Begins, CanMeet}
 
 -- a world begins as the law of a start-up asks, with a device of this identity, and both ends can meet
 pub record IsLawful {F : Type 0} (identity : Identity) (world : World F) : Type 0 where

@@ -1,23 +1,22 @@
 //! The station of a catalogue over the smallest flash, and its controller.
 ghost use Rattle.std.specs.Prelude.{◌≡◌, IfSome};
-ghost use Rattle.demo_station.specs.Demo.{demo};
-ghost use Rattle.world_ends.specs.Played.{Begins};
+ghost use Rattle.pn_values.specs.demo.Demo.{demo};
+ghost use Rattle.startup_law.specs.Played.{Begins};
 ghost use Rattle.test_worlds.specs.Lawful.{IsLawful};
 
 use arrayvec::ArrayVec;
 use configurator::plan_from_json;
 use controller_frames::Setup;
-use demo_station::identity;
 use device_core::Device;
 use flash_model::{MemoryFlash, Order};
 use frame_codec::Outbox;
 use network_world::{Move, World};
 use plans::Plan;
-use pn_values::{ParameterRecord, Real, RealModule, RealSubmodule};
+use pn_values::{ParameterRecord, Real, RealModule, RealSubmodule, demo_identity};
+use startup_law::{begin_world, can_meet};
 use std::alloc::{AllocError, Global};
 use test_stations::{Station, no_modules, set_pump, step};
 use uuid::Uuid;
-use world_ends::{begin_world, can_meet};
 
 /// The world: over the smallest flash.
 pub type Net = World<MemoryFlash<768>, 768>;
@@ -72,7 +71,11 @@ fn plan_of(alloc: Global, catalogue: &str) -> Option<Plan> {
 
 /// A flash that keeps the station name "pump-1".
 fn named_flash() -> Option<MemoryFlash<768>> {
-    let mut device: Station = Device::boot(identity(), no_modules(), MemoryFlash::blank()).ok()?;
+    let mut device: Station = Device::boot(
+        demo_identity(),
+        no_modules(),
+        MemoryFlash::blank(),
+    ).ok()?;
     let _ = step(&mut device, &set_pump(b'1'), &mut Outbox::new());
     Some(device.into_flash())
 }
@@ -101,7 +104,7 @@ fn begun(
 ) -> Option<Net>
     ensures begins { IfSome result (λ world. Begins setup demo world) }
 {
-    let mut device: Station = Device::boot(identity(), real, flash).ok()?;
+    let mut device: Station = Device::boot(demo_identity(), real, flash).ok()?;
     arm(&mut device, fault);
     Some(begin_world(alloc, device, setup))
 }
@@ -125,7 +128,7 @@ pub fn fresh_world(alloc: Global, catalogue: &str, fault: Option<u32>) -> Option
         ar: Uuid::from_bytes([1; 16]),
         activity: Uuid::from_bytes([2; 16]),
     };
-    if !can_meet(&setup, &identity()) {
+    if !can_meet(&setup, &demo_identity()) {
         return None;
     }
     let net = begun(alloc, real, named_flash()?, fault, setup)?;

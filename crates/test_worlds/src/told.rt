@@ -1,7 +1,7 @@
 //! What both ends tell.
 use crate::station::Net;
 use controller_core::State;
-use record_writes::TakenRecord;
+use records::TakenRecord;
 use relations::Phase;
 
 /// The outputs of the slots 2 and 3.

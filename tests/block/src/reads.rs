@@ -3,10 +3,8 @@
 use super::records::{module, settings};
 use super::statuses::told;
 use arrayvec::ArrayVec;
-use demo_station::identity;
-use pn_values::{ParameterRecord, Real, RealSubmodule};
-use pnio_status::{CallFault, Operation};
-use record_reads::{Blocks, read_implicit};
+use pn_values::{ParameterRecord, Real, RealSubmodule, demo_identity};
+use records::{Blocks, CallFault, Operation, read_implicit};
 
 /// I&M0 of the demo station.
 pub(crate) const IM0: [u8; 60] =
@@ -88,7 +86,7 @@ impl Asked {
 /// What these octets are answered.
 fn answered(octets: &[u8]) -> Result<Blocks, CallFault> {
     let mut answer = Blocks::new();
-    read_implicit(&identity(), &plugged(), &settings(), octets, &mut answer)?;
+    read_implicit(&demo_identity(), &plugged(), &settings(), octets, &mut answer)?;
     Ok(answer)
 }
 

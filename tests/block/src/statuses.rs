@@ -1,6 +1,6 @@
 //! PNIOStatus of each fault of each call, octet by octet.
 
-use pnio_status::{CallFault, Operation, Status, done};
+use records::{CallFault, Operation, Status, done};
 
 /// The four octets of a status.
 fn octets(status: Status) -> [u8; 4] {

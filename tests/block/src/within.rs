@@ -3,9 +3,8 @@
 use super::reads::{Asked, GOOD, plugged, sent};
 use super::records::settings;
 use block_fields::Uuid;
-use demo_station::identity;
-use pnio_status::{CallFault, Operation};
-use record_reads::{Blocks, names_relation, read_within};
+use pn_values::demo_identity;
+use records::{Blocks, CallFault, Operation, names_relation, read_within};
 
 /// The ModuleDiffBlock, in any slot.
 const DIFFERENCE: Asked = Asked {
@@ -22,7 +21,7 @@ fn answered(relation: u8, differing: &[u8], asked: Asked) -> Result<Blocks, Call
     read_within(
         Some(&uuid),
         differing,
-        &identity(),
+        &demo_identity(),
         &plugged(),
         &settings(),
         &asked.octets(),

@@ -6,8 +6,9 @@ use super::statuses::told;
 use arrayvec::ArrayVec;
 use block_fields::Uuid;
 use pn_values::{Command, Settings};
-use pnio_status::{CallFault, Operation};
-use record_writes::{Effect, TakenRecord, TakenRecords, Write, judge_write, put_write_answer};
+use records::{
+    CallFault, Effect, Operation, TakenRecord, TakenRecords, Write, judge_write, put_write_answer,
+};
 
 /// Parameter record 1 of the submodule in slot 2, subslot 2, which takes four octets.
 const GOOD: Asked = Asked {

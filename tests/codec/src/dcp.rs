@@ -5,8 +5,7 @@ use dcp_core::{
     DcpFault, Kind, Outcome, Request, Response, ResponseBlock, ResponseBlocks, Service, get_answer,
     identify_answer, identify_matches, read_answer, read_request, set_answer, set_plan,
 };
-use demo_station::identity;
-use pn_values::{BlockError, Command, IpSuite, SetItem, Settings};
+use pn_values::{BlockError, Command, IpSuite, SetItem, Settings, demo_identity};
 use station_names::check;
 
 const GET_SET: u16 = 0xFEFD;
@@ -69,14 +68,14 @@ fn fault(frame_id: u16, bytes: &[u8]) -> Option<DcpFault> {
 
 /// This is how a station with these settings answers Identify.
 fn identifies(settings: &Settings, xid: u32, expected: &[u8]) {
-    let answer = identify_answer(&identity(), settings, xid);
+    let answer = identify_answer(&demo_identity(), settings, xid);
     assert!(answer.as_slice() == expected);
 }
 
 /// This is how a station with these settings answers a Get.
 fn gets(settings: &Settings, asked_for: &[u8], expected: &[u8]) {
     let request = request(GET_SET, asked_for);
-    let answer = get_answer(&identity(), settings, &request);
+    let answer = get_answer(&demo_identity(), settings, &request);
     assert!(answer.as_slice() == expected);
 }
 
@@ -90,7 +89,7 @@ fn sets(request: &Request<'_>, errors: &[BlockError], expected: &[u8]) {
 
 /// Whether an Identify request asks for a station as it leaves the factory.
 fn asks_for_all(request: &Request<'_>) -> bool {
-    identify_matches(&identity(), &Settings::factory(), request)
+    identify_matches(&demo_identity(), &Settings::factory(), request)
 }
 
 #[test]

@@ -1,5 +1,5 @@
 //! A cycle of the device, and the start after it.
-use demo_station::identity;
+use pn_values::demo_identity;
 use device_core::{Event, Sink, cycle};
 use flash_model::{MemoryFlash, Sector};
 use frame_codec::Frame;
@@ -35,7 +35,7 @@ fn a_cycle_with_a_loss() {
         frame(&IDENTIFY),
     ];
     let device = cycle(
-        identity(),
+        demo_identity(),
         no_modules(),
         flash,
         &events,

@@ -1,6 +1,6 @@
 //! What a station goes on with after a flash call that failed, and a start that cannot read.
 use crate::Tried;
-use demo_station::identity;
+use pn_values::demo_identity;
 use device_core::{Device, Event, Note};
 use flash_model::Order;
 use settings_journal::BootFault;
@@ -50,7 +50,7 @@ fn a_start_that_cannot_read_hands_the_flash_back() {
     device.notes(&frame(&SET), Note::Done);
     let mut flash = device.station.into_flash();
     flash.fault_read(0);
-    let refused = Device::boot(identity(), no_modules(), flash).err();
+    let refused = Device::boot(demo_identity(), no_modules(), flash).err();
     let (fault, flash) = refused.expect("a read failed");
     assert_eq!(fault, BootFault::FlashFault);
     let device = Tried::new(start(flash));

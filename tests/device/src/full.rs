@@ -1,6 +1,6 @@
 //! A station whose flash has no room for one more commit, and a flash that another layout was written to.
 use crate::Tried;
-use demo_station::identity;
+use pn_values::demo_identity;
 use device_core::Device;
 use flash_model::{Flash, MemoryFlash, Sector};
 use settings_journal::BootFault;
@@ -77,7 +77,7 @@ fn another_layout_is_foreign() {
         .program(Sector::First, 0, b"PNS\x01\xff\xfe\x06pump-1")
         .unwrap();
     flash.program(Sector::First, 511, &[0]).unwrap();
-    let refused = Device::boot(identity(), no_modules(), flash).err();
+    let refused = Device::boot(demo_identity(), no_modules(), flash).err();
     let (fault, flash) = refused.expect("foreign");
     assert_eq!(fault, BootFault::Foreign);
     assert!(flash.sector(Sector::First).starts_with(b"PNS\x01"));

@@ -3,7 +3,7 @@
 use super::{OTHER_MODULES, PUMP};
 use configurator::plan_from_json;
 use controller_core::{Cause, Controller, Event as ControllerEvent, State};
-use demo_station::identity;
+use pn_values::demo_identity;
 use device_core::{Device, Event, Note};
 use flash_model::{MemoryFlash, Order};
 use frame_codec::{Bytes, Frame, Outbox};
@@ -84,7 +84,7 @@ fn hear(controller: &mut Controller, frame: &Frame, sent: &mut Bytes) {
 impl Ends {
     /// The demo station with the name of the plan, and a controller of the plan, which looks for it.
     fn new(alloc: Global, catalogue: &str) -> Ends {
-        let mut device = Device::boot(identity(), plugged(), MemoryFlash::blank())
+        let mut device = Device::boot(demo_identity(), plugged(), MemoryFlash::blank())
             .ok()
             .expect("it starts");
         let mut answers = Outbox::new();

@@ -2,8 +2,8 @@
 
 use super::PUMP;
 use configurator::plan_from_json;
-use controller_operations::{Port, serve};
-use host_values::Op;
+use controller_abi::{Port, serve};
+use c_layout::Op;
 use rattle_std::alloc::Global;
 use uuid::Uuid;
 

@@ -1,8 +1,8 @@
 //! The reference host over a chip in memory: a name is set, and each call of the chip is struck in turn.
 use crate::stations::booted;
-use demo_station::identity;
+use pn_values::demo_identity;
 use device_core::{Device, Event, Sink};
-use device_port::{Operation, play};
+use device_abi::{Operation, play};
 use flash_model::MemoryFlash;
 use frame_codec::{Bytes, Frame};
 use test_stations::{DONE, SET, plugged};
@@ -47,7 +47,7 @@ fn set_a_name(chip: &mut Chip) -> (bool, Sent) {
 /// The name under which a device starts from the chip.
 fn name_on(mut chip: Chip) -> Vec<u8> {
     chip.power_up();
-    let device = Device::boot(identity(), plugged(), chip)
+    let device = Device::boot(demo_identity(), plugged(), chip)
         .ok()
         .expect("starts");
     device.running().name.as_bytes().to_vec()

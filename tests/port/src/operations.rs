@@ -1,8 +1,7 @@
 //! Operations as a host in C asks for them: numbers, answers, and where what is told lies.
 use crate::stations::{booted, busy, lost, made};
-use device_port::Port;
-use host_values::Op;
-use port_operations::serve;
+use device_abi::{Port, serve};
+use c_layout::Op;
 use test_stations::SET;
 
 /// An operation of this number, with nothing else in it.

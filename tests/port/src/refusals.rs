@@ -3,7 +3,7 @@ use crate::calls::{
     alarm, boot, fill, frame, input, lamp, lose, output, phase, running, stored, taken, tick, work,
 };
 use crate::stations::{booted, busy, lost, made};
-use device_port::{Port, Refusal};
+use device_abi::{Port, Refusal};
 use flash_model::Sector;
 use test_stations::{IDENTIFY, SET};
 

@@ -1,10 +1,8 @@
 //! The ports that are tried.
 use crate::calls;
-use demo_station::identity;
-use device_port::{Port, Work};
+use pn_values::{Real, demo_identity};
+use device_abi::{Port, Recorded, Work};
 use flash_model::Sector;
-use pn_values::Real;
-use recorded_flash::Recorded;
 use test_stations::{SET, plugged};
 
 /// Sets how many octets of input and output the first submodule of a module has.
@@ -27,7 +25,7 @@ fn demo() -> Real {
 
 /// A port that did not start.
 pub(crate) fn made() -> Port {
-    Port::new(identity(), demo())
+    Port::new(demo_identity(), demo())
 }
 
 /// One that started from a chip that was never written.

@@ -4,11 +4,10 @@ use crate::Tried;
 use crate::connects::{Blocks, THREE, connect};
 use crate::exchange::outputs;
 use crate::requests::{exchanging, related, served, write};
-use demo_station::identity;
+use pn_values::{ParameterRecord, Real, RealModule, RealSubmodule, demo_identity};
 use device_core::{Device, Note};
 use flash_model::{MemoryFlash, Order};
 use frame_codec::Outbox;
-use pn_values::{ParameterRecord, Real, RealModule, RealSubmodule};
 use relations::Phase;
 use test_stations::{
     CONNECT, Station, WRITE, call, frame, no_modules, plugged, restart, station, write_last,
@@ -120,7 +119,7 @@ fn full() -> Option<Station> {
     let mut flash = MemoryFlash::blank();
     let suite = [192, 168, 0, 2, 255, 255, 255, 0, 0, 0, 0, 0];
     write_last(&mut flash, 2, suite).ok()?;
-    let mut device = Device::boot(identity(), plugged(), flash).ok()?;
+    let mut device = Device::boot(demo_identity(), plugged(), flash).ok()?;
     let blocks = connect(0x11, 600, THREE);
     let _ = served(&mut device, &call(CONNECT, 7, 0, blocks.as_slice()));
     Some(device)

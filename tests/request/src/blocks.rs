@@ -2,7 +2,7 @@
 
 use arrayvec::ArrayVec;
 use connect_requests::ConnectRequest;
-use pnio_status::CallFault;
+use records::CallFault;
 
 /// The blocks of a call.
 pub(super) type Blocks = ArrayVec<u8, 1372>;

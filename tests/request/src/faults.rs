@@ -5,7 +5,7 @@ use super::blocks::{
     with,
 };
 use connect_requests::refuse;
-use pnio_status::CallFault;
+use records::CallFault;
 use uuid::Uuid;
 
 /// The first fault of these blocks, if there is one.

@@ -6,7 +6,7 @@ use super::blocks::{
 use arrayvec::ArrayVec;
 use connect_requests::{ConnectRequest, Iocr};
 use cyclic_data::{Place, PlaceKind};
-use pnio_status::CallFault;
+use records::CallFault;
 
 /// A place as its kind, slot, subslot, offset and size.
 fn place(kind: PlaceKind, slot: u16, subslot: u16, offset: u16, size: u16) -> Place {

@@ -15,7 +15,7 @@
 
 use crate::{hex, is_same};
 use configurator::plan_from_json;
-use plan_operations::show;
+use plan_abi::show;
 use plans::Plan;
 use rattle_std::alloc::Global;
 use script_runner::plan_text;

@@ -9,7 +9,7 @@
 
 use crate::{hex, is_same, octets};
 use connect_requests::{ConnectRequest, refuse};
-use pnio_status::{CallFault, Operation};
+use records::{CallFault, Operation};
 use uuid::Uuid;
 
 /// The Connect of an edit of another one.

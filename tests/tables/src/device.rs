@@ -1,9 +1,10 @@
 //! What serves the calls of a relation.
 
 use pn_values::{Command, Identity, Mac, Real, Settings};
-use pnio_status::{CallFault, Operation};
-use record_reads::{Blocks, names_relation, read_implicit, read_within};
-use record_writes::{Effect, Write, judge_write, put_write_answer};
+use records::{
+    Blocks, CallFault, Effect, Operation, Write, judge_write, names_relation, put_write_answer,
+    read_implicit, read_within,
+};
 use relations::{Partner, Relation};
 use std::mem;
 
@@ -27,8 +28,8 @@ impl Device {
     /// As it leaves the factory.
     pub(crate) fn new() -> Device {
         Device {
-            identity: demo_station::identity(),
-            real: demo_station::real(),
+            identity: pn_values::demo_identity(),
+            real: pn_values::demo_modules(),
             settings: Settings::factory(),
             relation: Relation::new(),
         }

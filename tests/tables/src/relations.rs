@@ -17,8 +17,7 @@
 use crate::device::Device;
 use crate::{hex, is_same, octets};
 use pn_values::Command;
-use pnio_status::Operation;
-use record_reads::Blocks;
+use records::{Blocks, Operation};
 use relations::{Abort, Farewell, Phase, ReadyAnswer, Relation};
 use rpc_core::{CallHeader, Response, Status};
 use uuid::Uuid;

@@ -4,7 +4,7 @@
 mod otherwise;
 
 use controller_core::{Cause, State};
-use demo_station::identity;
+use pn_values::demo_identity;
 use network_world::{End, Move};
 use rattle_std::alloc::{AllocError, Global};
 use relations::Phase;
@@ -118,7 +118,7 @@ fn a_world_begins_as_the_laws_ask() {
     assert!(*net.controller().ar().as_bytes() != [0; 16]);
     assert!(are_sent(&net, 1));
     is_opened(&net);
-    assert_eq!(identity().mac.octets, [2, 0, 0, 0, 0, 1]);
+    assert_eq!(demo_identity().mac.octets, [2, 0, 0, 0, 0, 1]);
     is_related(&net, None);
     assert!(net.device().ar().is_none());
     assert_eq!(net.device().taken().len(), 0);

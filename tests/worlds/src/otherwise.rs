@@ -4,12 +4,11 @@
 use arrayvec::ArrayVec;
 use configurator::plan_from_json;
 use controller_core::{Cause, Controller, State};
-use demo_station::identity;
+use pn_values::{ParameterRecord, Real, RealModule, RealSubmodule, demo_identity};
 use device_core::Device;
 use flash_model::MemoryFlash;
 use frame_codec::Outbox;
 use network_world::World;
-use pn_values::{ParameterRecord, Real, RealModule, RealSubmodule};
 use rattle_std::alloc::Global;
 use relations::Phase;
 use test_stations::{Station, no_modules, set_pump, step};
@@ -76,11 +75,11 @@ fn as_planned() -> Real {
 
 /// The station "pump-1" in which this is plugged, and a controller of the plan of the catalogue.
 fn world(real: Real) -> Watched {
-    let mut named: Station = Device::boot(identity(), no_modules(), MemoryFlash::blank())
+    let mut named: Station = Device::boot(demo_identity(), no_modules(), MemoryFlash::blank())
         .ok()
         .expect("a station");
     step(&mut named, &set_pump(b'1'), &mut Outbox::new());
-    let device: Station = Device::boot(identity(), real, named.into_flash())
+    let device: Station = Device::boot(demo_identity(), real, named.into_flash())
         .ok()
         .expect("a station");
     let plan = plan_from_json(Global, RECORDS.as_bytes())

@@ -26,14 +26,14 @@ use denote.Triple.Spec.{triple_of}
 use denote.Triple.Table.{framed}
 use denote.Triple.Walked.{Stays, walk_of, says, stay_dropped, Goes-dropped, ends_at}
 use borrow.Table.OneValue.{part_in}
-use Rattle.device_port.specs.State.{State}
-use Rattle.device_port.specs.contracts.port.Port.{the_row as R}
-use Rattle.device_port.proofs.port.Port.TheLaws.{the_row_laws as port_laws}
-use Rattle.port_operations.specs.Made.{IsMade}
-use Rattle.port_operations.specs.Stations.{is_station}
-use Rattle.port_operations.specs.contracts.station.Station.{the_row as S}
-use Rattle.port_operations.specs.contracts.port_of as g
-use Rattle.port_operations.proofs.port_of.Met.{met}
+use Rattle.device_abi.specs.port.State.{State}
+use Rattle.device_abi.specs.contracts.port.device.Port.{the_row as R}
+use Rattle.device_abi.proofs.port.device.Port.TheLaws.{the_row_laws as port_laws}
+use Rattle.device_abi.specs.operations.Made.{IsMade}
+use Rattle.device_abi.specs.operations.Stations.{is_station}
+use Rattle.device_abi.specs.contracts.operations.station.Station.{the_row as S}
+use Rattle.device_abi.specs.contracts.port_of as g
+use Rattle.device_abi.proofs.port_of.Met.{met}
 use Rattle.nandutable.specs.contracts.pn_put as f
 use Rattle.nandutable.proofs.pn_put.Statement.{statement}
 use Rattle.nandutable.proofs.pn_put.Code as code

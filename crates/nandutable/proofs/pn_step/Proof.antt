@@ -31,12 +31,12 @@ use denote.Triple.Clauses.{lasts}
 use denote.Triple.Spec.{triple_of}
 use denote.Triple.Table.{framed}
 use denote.Triple.Walked.{Stays, walk_of, says, stay_dropped, gave_ref, Goes-dropped, Goes-gave_ref, ends_at}
-use Rattle.device_port.specs.State.{State}
-use Rattle.port_operations.specs.Serves.{Serves, operation_of}
-use Rattle.host_values.specs.contracts.op.Op.{the_row as O}
-use Rattle.device_port.specs.contracts.port.Port.{the_row as R}
-use Rattle.port_operations.specs.contracts.serve as g
-use Rattle.port_operations.proofs.serve.Met.{met}
+use Rattle.device_abi.specs.port.State.{State}
+use Rattle.device_abi.specs.operations.Serves.{Serves, operation_of}
+use Rattle.c_layout.specs.contracts.op.Op.{the_row as O}
+use Rattle.device_abi.specs.contracts.port.device.Port.{the_row as R}
+use Rattle.device_abi.specs.contracts.serve as g
+use Rattle.device_abi.proofs.serve.Met.{met}
 use Rattle.nandutable.specs.contracts.pn_step as f
 use Rattle.nandutable.proofs.pn_step.Statement.{statement}
 use Rattle.nandutable.proofs.pn_step.Code as code

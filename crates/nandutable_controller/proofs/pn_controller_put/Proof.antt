@@ -29,13 +29,13 @@ use denote.Triple.Table.{framed}
 use denote.Triple.Walked.{Stays, walk_of, says, stay_dropped, Goes-dropped, ends_at}
 use borrow.Table.OneValue.{part_in}
 use Rattle.controller_core.specs.Machine.{fresh}
-use Rattle.controller_operations.specs.Plans.{is_plan, parts_of}
-use Rattle.controller_operations.specs.State.{State, opened}
-use Rattle.controller_operations.specs.contracts.plan.WrittenPlan.{the_row as S}
-use Rattle.controller_operations.specs.contracts.port.Port.{the_row as R}
-use Rattle.controller_operations.proofs.port.Port.TheLaws.{the_row_laws as port_laws}
-use Rattle.controller_operations.specs.contracts.port_of as g
-use Rattle.controller_operations.proofs.port_of.Met.{met}
+use Rattle.controller_abi.specs.Plans.{is_plan, parts_of}
+use Rattle.controller_abi.specs.State.{State, opened}
+use Rattle.controller_abi.specs.contracts.plan.WrittenPlan.{the_row as S}
+use Rattle.controller_abi.specs.contracts.port.Port.{the_row as R}
+use Rattle.controller_abi.proofs.port.Port.TheLaws.{the_row_laws as port_laws}
+use Rattle.controller_abi.specs.contracts.port_of as g
+use Rattle.controller_abi.proofs.port_of.Met.{met}
 use Rattle.nandutable_controller.specs.contracts.pn_controller_put as f
 use Rattle.nandutable_controller.proofs.pn_controller_put.Statement.{statement}
 use Rattle.nandutable_controller.proofs.pn_controller_put.Code as code
@@ -81,7 +81,7 @@ pn_controller_put_spec 𝓤 𝓛 𝓜 𝓡 wired =
     let z : G.Ghost = (((κ, (η, (θ, tt))), (qs.0, (qs.1.0, (qs.1.1.0, tt))), tt, (plan, (ar, (activity, tt))), (shr_vals plan, (shr_vals ar, (shr_vals activity, tt)))), tt) in
     nothing ! $ move ! (4 ∷ 0 ∷ []) $ join ! $ move ! (3 ∷ 0 ∷ []) $ join ! $ move ! (2 ∷ 0 ∷ []) $ join ! $ move ! (2 ∷ 0 ∷ []) $ join ! $
     use0 𝓛 (raw (fact 𝓤 (is_plan plan.now ≡ true))) (fact_i 𝓤 _ _ fits) $ move ! (1 ∷ 0 ∷ []) $ use2 𝓛 (raw (G.pre z)) (id⊢ 𝓤 _) $
-    calls_at ! (framed 𝓤 𝓛.H 𝓜 𝓣) G (met 𝓤 𝓛 𝓜 𝓡 (code.calls-controller_operations::port_of 𝓡.env wired)) z (and_then ! (get ! refl) (and_then ! (get ! refl) (and_then ! (get ! refl) (no_more !)))) (λ v.
+    calls_at ! (framed 𝓤 𝓛.H 𝓜 𝓣) G (met 𝓤 𝓛 𝓜 𝓡 (code.calls-controller_abi::port_of 𝓡.env wired)) z (and_then ! (get ! refl) (and_then ! (get ! refl) (and_then ! (get ! refl) (no_more !)))) (λ v.
     use1 𝓛 (later (some (λ (port : State). (Tokens ⊛ ‵ (R.own_val port (v ∷ []))) ⊛
     some (λ (ws : Unit {0} × (Unit {0} × (Unit {0} × Unit {0}))). ‵ (lasts g.ended z.0.0 z.0.3 ws) ⊛ raw (fact 𝓤 (IsMade port)))))) (id⊢ 𝓤 _) $
     await ! tt $ pick ! (λ port. split ! $ split ! $

@@ -1,7 +1,7 @@
 -- The layout in its place, or its first fault.
 use Rattle.std.proofs.Common.{sym, ◌∙◌, ap, Ok, Err}
 use Rattle.cyclic_data.specs.Layout.{Table}
-use Rattle.pnio_status.specs.declared.call_fault.CallFault.{CallFault}
+use Rattle.records.specs.declared.status.call_fault.CallFault.{CallFault}
 use Rattle.connect_requests.proofs.Judged.{layout_faulty, layout_good}
 use Rattle.connect_requests.proofs.layouts.fill_layout.Goals as goal
 

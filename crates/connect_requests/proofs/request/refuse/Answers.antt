@@ -1,6 +1,6 @@
 -- The first block alone.
 use Rattle.std.proofs.Common.{◌≡◌, ◌==◌, true, false, length, Some, Err, sym, ap, ◌∙◌}
-use Rattle.pnio_status.specs.declared.call_fault.CallFault.{CallFault}
+use Rattle.records.specs.declared.status.call_fault.CallFault.{CallFault}
 use Rattle.connect_requests.proofs.Read.{nothing_there, first_faulty, first_refused}
 use Rattle.connect_requests.proofs.request.refuse.Goals as goal
 

@@ -1,8 +1,8 @@
 -- A PrmEnd that is accepted is answered, and ApplicationReady follows; one that is refused is answered alone.
 use Rattle.std.proofs.Common.{◌≡◌, ℕ, true, false, List, [], ◌∷◌, map, Option, Result, Ok, Err, IfOk, IfErr, is_ok, refl, sym, ap, subst, ◌∙◌}
 use Rattle.connect_blocks.specs.declared.control.ControlBlock.{ControlBlock}
-use Rattle.pnio_status.specs.declared.call_fault.CallFault.{CallFault}
-use Rattle.pnio_status.specs.declared.operation.Operation.TheVariants as operation
+use Rattle.records.specs.declared.status.call_fault.CallFault.{CallFault}
+use Rattle.records.specs.declared.status.operation.Operation.TheVariants as operation
 use Rattle.rpc_core.specs.Call.{asked}
 use Rattle.relations.specs.Calls.{prm_end_answer, prm_end_of}
 use Rattle.relations.specs.Link.{Link}

@@ -2,8 +2,8 @@
 use Rattle.std.proofs.Common.{◌≡◌, [], ◌∷◌, map, Some, None, Err, refl, sym, ap, ◌∙◌}
 use Rattle.rpc_core.specs.Call.{asked}
 use Rattle.rpc_core.specs.Cache.{looked, again, old}
-use Rattle.pnio_status.specs.Operation.{operation_of}
-use Rattle.pnio_status.specs.declared.call_fault.CallFault.TheVariants.{Arguments}
+use Rattle.records.specs.status.Operation.{operation_of}
+use Rattle.records.specs.declared.status.call_fault.CallFault.TheVariants.{Arguments}
 use Rattle.device_frames.specs.declared.note.Note.TheVariants.{Fault, OldCall}
 use Rattle.device_frames.specs.Sent.{Again}
 use Rattle.device_core.specs.Judged.{answer_from, judged_blocks, judged_call, judged_looked}

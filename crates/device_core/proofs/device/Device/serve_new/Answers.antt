@@ -1,7 +1,7 @@
 -- Each operation asks nothing of the settings, but for a Write.
 use Rattle.std.proofs.Common.{refl, ap, ◌∙◌}
 use Rattle.rpc_core.specs.Call.{asked}
-use Rattle.pnio_status.specs.declared.operation.Operation.TheVariants as operation
+use Rattle.records.specs.declared.status.operation.Operation.TheVariants as operation
 use Rattle.device_core.specs.Judged.{judged_new}
 use Rattle.device_core.proofs.Served.{new_steps}
 use Rattle.device_core.proofs.device.Device.serve_new.Goals as goal

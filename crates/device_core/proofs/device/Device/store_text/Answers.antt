@@ -1,7 +1,7 @@
 -- The answer is made from what became of the command.
 use Rattle.std.proofs.Common.{◌≡◌, [], ◌∷◌, refl, sym, ap, ◌∙◌}
 use Rattle.rpc_core.specs.Call.{asked}
-use Rattle.record_writes.specs.Answer.{answer_of}
+use Rattle.records.specs.writes.Answer.{answer_of}
 use Rattle.relations.specs.Phases.{Named, answered}
 use Rattle.device_core.specs.Judged.{Writes}
 use Rattle.device_core.specs.Machine.{written_as}

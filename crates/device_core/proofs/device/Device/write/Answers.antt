@@ -1,8 +1,8 @@
 -- What is judged of a Write is carried out.
 use Rattle.std.proofs.Common.{◌≡◌, Ok, Err, refl, sym, ap, ◌∙◌}
 use Rattle.rpc_core.specs.Call.{asked}
-use Rattle.record_writes.specs.Judged.{write_of}
-use Rattle.record_writes.specs.declared.write.Effect.TheVariants.{Stores, Keeps}
+use Rattle.records.specs.writes.Judged.{write_of}
+use Rattle.records.specs.declared.writes.write.Effect.TheVariants.{Stores, Keeps}
 use Rattle.relations.specs.Link.{uuid_of}
 use Rattle.device_core.specs.Judged.{judged_effect, judged_write}
 use Rattle.device_core.proofs.Served.{effect_as}

@@ -1,7 +1,0 @@
--- each of those so far
-use Rattle.std.proofs.Common.{take}
-use Rattle.alarm_ends.specs.Sized.{AreSizedModules}
-use Rattle.alarm_ends.proofs.plugged.entries_are_sized.Given as goal
-
-abbrev pub invariant-loop-entry : goal.invariant-loop-entry
-invariant-loop-entry l = AreSizedModules (take l.entry-index l.modules)

@@ -1,0 +1,28 @@
+-- What is asked of what is plugged in a device, whose numbers have their sizes, and of the FrameID that it chooses for outputs.
+use Rattle.std.specs.Prelude.{◌≡◌, ◌<◌, true, false, ℕ, List, Some}
+use Rattle.std.specs.List.{AllByRecursion}
+use Rattle.pn_values.specs.declared.real.RealModule.{RealModule}
+use Rattle.pn_values.specs.declared.real.RealSubmodule.{RealSubmodule}
+use Rattle.frame_codec.specs.FrameId.{is_alarm}
+use Rattle.controller_core.specs.Connect.{found_in, is_whole, nothing}
+use Rattle.message_laws.specs.sending.Sized.{Found}
+
+-- ---- what is plugged
+
+-- slots and subslots have 16 bits, and ident numbers 32
+abbrev pub IsSizedPart : RealSubmodule → Type 0
+IsSizedPart part = (part.subslot < 65536) × (part.ident < 4294967296)
+
+abbrev pub IsSizedModule : RealModule → Type 0
+IsSizedModule entry = (entry.slot < 65536) × (entry.ident < 4294967296) × AllByRecursion IsSizedPart entry.submodules.items
+
+abbrev pub AreSizedModules : List RealModule → Type 0
+AreSizedModules modules = AllByRecursion IsSizedModule modules
+
+-- ---- what a device answers
+
+-- in the blocks of an answer, where all is there that a relation needs and no module differs, the FrameID that the device chose for outputs
+-- has two octets, and is none of alarms
+abbrev pub IsChosenWell : List ℕ → Type 0
+IsChosenWell blocks = (found : Found) → found_in 400 blocks nothing ≡ Some found → is_whole found ≡ true → found.differs ≡ false
+    → (frame_id : ℕ) → found.output ≡ Some frame_id → (frame_id < 65536) × (is_alarm frame_id ≡ false)

@@ -1,0 +1,19 @@
+//! The FrameID that a device chooses for outputs.
+ghost use Rattle.pn_values.specs.declared.identity.Identity.{Identity};
+ghost use Rattle.pn_values.specs.declared.real.Real.{Real};
+ghost use Rattle.controller_frames.specs.declared.setup.Setup.{Setup};
+ghost use Rattle.message_laws.specs.hearing.Stations.{IsDevice, IsSetup};
+ghost use Rattle.connect_laws.specs.request.Request.{request_for};
+ghost use Rattle.relations.specs.Connect.{connect_blocks, differing_of};
+ghost use Rattle.alarms_law.specs.Sized.{IsChosenWell};
+
+use codec_laws::blocks_are_read;
+
+/// The blocks with which a device answers the Connect of a plan are as the law of alarms asks: a law of the definitions.
+pub fn answers_choose_well()
+    // Whatever is plugged in the device: where a module differs a controller finds so.
+    ensures { (setup : Setup) (identity : Identity) (real : Real) → IsSetup setup → IsDevice identity
+        → IsChosenWell (connect_blocks identity (request_for setup.plan setup.ar) (differing_of (request_for setup.plan setup.ar) real)) }
+{
+    blocks_are_read();
+}

@@ -1,0 +1,10 @@
+-- the submodules so far, and those that are still to be read
+use Rattle.std.proofs.Common.{◌≡◌, ◌≤◌, ◌-◌, length}
+use Rattle.block_fields.specs.modules.Lists.{submodules_read}
+use Rattle.block_fields.proofs.modules.reading.submodules_at.Given as goal
+
+abbrev pub invariant-loop-turn : goal.invariant-loop-turn
+invariant-loop-turn g l = record {
+  read : submodules_read g.S.Entry.format l.start (l.count - l.turn) l.submodules.items l.rest ≡ submodules_read g.S.Entry.format l.start l.count l.initial.submodules.items l.initial.rest;
+  start : l.start ≤ length l.submodules.items;
+}

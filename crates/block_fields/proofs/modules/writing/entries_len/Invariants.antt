@@ -1,0 +1,11 @@
+-- the octets so far, and those of the entries that are left
+use Rattle.std.proofs.Common.{◌≡◌, ◌+◌, ◌*◌, ◌≤◌, length, drop}
+use Rattle.block_fields.specs.modules.Lists.{modules_size}
+use Rattle.block_fields.proofs.modules.writing.entries_len.Given as goal
+
+abbrev pub invariant-loop-entry : goal.invariant-loop-entry
+invariant-loop-entry g l = let sizes = modules_size g.M.Entry.format g.M.Module.own g.S.Entry.format in record {
+  size : l.size + sizes (drop l.entry-index l.modules) l.left ≡ sizes l.modules l.submodules;
+  few : l.size + 255 * length l.left ≤ 255 * l.entry-index + 255 * length l.submodules;
+  left : length l.left ≤ length l.submodules;
+}

@@ -1,0 +1,10 @@
+-- the octets so far, and those of the entries that are left
+use Rattle.std.proofs.Common.{◌≡◌, ◌+◌, ◌*◌, ◌≤◌, drop}
+use Rattle.block_fields.specs.modules.Lists.{submodules_size}
+use Rattle.block_fields.proofs.modules.writing.submodules_len.Given as goal
+
+abbrev pub invariant-loop-submodule : goal.invariant-loop-submodule
+invariant-loop-submodule g l = record {
+  size : l.size + submodules_size g.S.Entry.format (drop l.submodule-index l.submodules) ≡ submodules_size g.S.Entry.format l.submodules;
+  few : l.size ≤ 255 * l.submodule-index;
+}

@@ -1,0 +1,145 @@
+//! Modules with their submodules, where they lie.
+ghost use Rattle.std.specs.Prelude.{◌≡◌, ◌+◌, ◌≤◌, ◌++◌, List, ℕ, length};
+ghost use Rattle.arrayvec.specs.ArrayVec.{array_vec_len};
+ghost use Rattle.wire.specs.Codec.{Gives};
+ghost use Rattle.wire.specs.Nested.{FitsNested};
+ghost use Rattle.block_fields.specs.modules.Lists.{Listed, listed_modules, modules_in};
+
+use crate::BlockFault;
+use crate::modules::entry::{Entry, Module, Put};
+use crate::modules::reading::fill_modules;
+use crate::modules::writing::{lists_len, put_lists};
+use arrayvec::ArrayVec;
+use std::marker::Model;
+
+/// Modules with their submodules, in place: in the octets that were read, or in lists that are lent to be written.
+#[derive(Drop)]
+pub struct Modules<'a, M: Module, S: Entry> {
+    place: Place<'a, M, S>,
+}
+
+/// Where they lie.
+#[derive(Drop)]
+enum Place<'a, M: Module, S: Entry> {
+    /// In octets, from their count on, and how many of the octets they take as they are written.
+    Octets(&'a [u8], usize),
+    /// In a list of modules, and in one of the submodules of all of them: first those of the first module.
+    Lists(&'a [M], &'a [S]),
+}
+
+impl<'a, M: Module, S: Entry> Model for Modules<'a, M, S> {
+    ghost use Rattle.block_fields.specs.modules.Lists.{Listed};
+    ghost use Rattle.block_fields.specs.modules.Places.{modules_at, IsPlace};
+
+    ghost Value = { Listed M S };
+
+    ghost view = { λ inside. modules_at M.format M.own S.format inside.place };
+
+    ghost invariant = { λ inside. IsPlace M.format M.own S.format inside.place };
+}
+
+impl<'a, M: Module, S: Entry> Modules<'a, M, S> {
+    /// The modules of a list, and in a second one the submodules of all of them: first those of the first module. Either has
+    /// room for at most 256.
+    pub fn lent<const N: usize, const K: usize>(
+        modules: &'a ArrayVec<M, N>,
+        submodules: &'a ArrayVec<S, K>,
+    ) -> Modules<'a, M, S>
+        requires few_modules { N ≤ 256 }
+        requires few_submodules { K ≤ 256 }
+        ensures { result ≡ record { modules = modules.now.items; submodules = submodules.now.items } }
+    {
+        Modules {
+            place: Place::Lists(modules.as_slice(), submodules.as_slice()),
+        }
+    }
+
+    /// The modules behind their count, each with its submodules, and what is behind them. They are read into these lists to
+    /// be judged, and stay where they lie.
+    #[tactic(auto, unfolding(crate::specs::modules::Lists::listed_modules, crate::specs::modules::Lists::modules_in))]
+    pub fn at(
+        bytes: &'a [u8],
+        modules: &mut ArrayVec<M, 256>,
+        submodules: &mut ArrayVec<S, 256>,
+    ) -> Result<(Modules<'a, M, S>, &'a [u8]), BlockFault>
+        ensures { Gives (λ x. (x.0, x.1.now)) result ((listed_modules M.format M.own S.format).read bytes.now) }
+    {
+        let rest = fill_modules(bytes, modules, submodules)?;
+        let size = lists_len(modules.as_slice(), submodules.as_slice());
+        let place = Place::Octets(bytes, size);
+        Ok((Modules { place }, rest))
+    }
+
+    /// Copies them: the modules to a list, and the submodules of all of them to a second one, first those of the first
+    /// module.
+    #[tactic(auto, unfolding(crate::specs::modules::Lists::listed_modules, crate::specs::modules::Lists::modules_in))]
+    pub fn copy_to(&self, modules: &mut ArrayVec<M, 256>, submodules: &mut ArrayVec<S, 256>)
+        ensures modules { modules.new.items ≡ self.now.modules }
+        ensures submodules { submodules.new.items ≡ self.now.submodules }
+    {
+        match self.place {
+            Place::Octets(bytes, _) => copy_read(bytes, modules, submodules),
+            Place::Lists(from, parts) => {
+                modules.clear();
+                let _ = modules.try_extend_from_slice(from);
+                submodules.clear();
+                let _ = submodules.try_extend_from_slice(parts);
+            }
+        }
+    }
+}
+
+/// Copies the modules at the front of octets to these lists.
+#[tactic(auto, unfolding(crate::specs::modules::Lists::listed_modules, crate::specs::modules::Lists::modules_in))]
+fn copy_read<M: Module, S: Entry>(
+    bytes: &[u8],
+    modules: &mut ArrayVec<M, 256>,
+    submodules: &mut ArrayVec<S, 256>,
+)
+    ensures modules { modules.new.items ≡ (modules_in M.format M.own S.format bytes.now).modules }
+    ensures submodules { submodules.new.items ≡ (modules_in M.format M.own S.format bytes.now).submodules }
+{
+    if fill_modules(bytes, modules, submodules).is_err() {
+        modules.clear();
+        submodules.clear();
+    }
+}
+
+/// Appends a count of modules, and each with as many of the submodules as it counts. There must be room. Modules that were
+/// read are copied to these lists first.
+#[tactic(auto, unfolding(crate::specs::modules::Lists::listed_modules, crate::specs::modules::Lists::modules_in))]
+pub fn put_modules<const N: usize, M: Module + Put<N>, S: Put<N>>(
+    out: &mut ArrayVec<u8, N>,
+    value: &Modules<M, S>,
+    copied: &mut ArrayVec<M, 256>,
+    copied_parts: &mut ArrayVec<S, 256>,
+)
+    requires { array_vec_len out.old + (listed_modules M.format M.own S.format).size value.now ≤ N }
+    ensures items { (tail : List ℕ) → out.new.items ++ tail
+        ≡ out.old.items ++ (listed_modules M.format M.own S.format).write value.now tail }
+    ensures len { array_vec_len out.new ≡ array_vec_len out.old + (listed_modules M.format M.own S.format).size value.now }
+    ensures fits { FitsNested M.fits M.own S.fits value.now.modules value.now.submodules }
+    ensures few_modules { length value.now.modules ≤ 256 }
+    ensures few_submodules { length value.now.submodules ≤ 256 }
+{
+    match value.place {
+        Place::Octets(bytes, _) => {
+            copy_read(bytes, copied, copied_parts);
+            put_lists(out, copied.as_slice(), copied_parts.as_slice());
+        }
+        Place::Lists(modules, submodules) => put_lists(out, modules, submodules),
+    }
+}
+
+/// How many octets a count of modules takes, and each of them with its submodules.
+#[tactic(auto, unfolding(crate::specs::modules::Lists::listed_modules))]
+pub fn modules_len<M: Module, S: Entry>(value: &Modules<M, S>) -> usize
+    ensures size { result ≡ (listed_modules M.format M.own S.format).size value.now }
+    ensures few_modules { length value.now.modules ≤ 256 }
+    ensures few_submodules { length value.now.submodules ≤ 256 }
+{
+    match value.place {
+        Place::Octets(_, size) => size,
+        Place::Lists(modules, submodules) => lists_len(modules, submodules),
+    }
+}

@@ -1,0 +1,85 @@
+//! Lists of modules from octets.
+ghost use Rattle.std.specs.Prelude.{◌≡◌, ◌<◌, ◌≤◌, OnOk};
+ghost use Rattle.arrayvec.specs.ArrayVec.{array_vec_len};
+ghost use Rattle.wire.specs.Codec.{Gives};
+ghost use Rattle.block_fields.specs.modules.Lists.{next_entry, module_list, modules_read, submodules_read};
+
+use crate::modules::entry::{Entry, Module};
+use crate::{BlockFault, u16_at};
+use arrayvec::ArrayVec;
+
+/// One more entry behind these, if there is room for it, and what is behind it. Those that judge it begin at a place.
+#[tactic(auto, unfolding(crate::specs::modules::Lists::next_entry))]
+fn next_at<'a, E: Entry>(
+    bytes: &'a [u8],
+    start: usize,
+    before: &ArrayVec<E, 256>,
+) -> Result<(E, &'a [u8]), BlockFault>
+    requires { start ≤ array_vec_len before.now }
+    ensures read { Gives (λ x. (x.0, x.1.now)) result ((next_entry E.format start before.now.items).read bytes.now) }
+    ensures room { OnOk result (array_vec_len before.now < 256) }
+{
+    let all = before.as_slice();
+    let (entry, rest) = E::at(bytes, &all[start..])?;
+    if before.len() < 256 {
+        Ok((entry, rest))
+    } else {
+        Err(BlockFault::Count)
+    }
+}
+
+/// So many submodules of one module, which come to those before them, and what is behind them.
+#[tactic(auto, using(crate::proofs::ModulesTaken::submodules_go_on, crate::proofs::ModulesTaken::submodules_fail, crate::proofs::ModulesTaken::submodules_end))]
+fn submodules_at<'a, S: Entry>(
+    bytes: &'a [u8],
+    count: u16,
+    submodules: &mut ArrayVec<S, 256>,
+) -> Result<&'a [u8], BlockFault>
+    ensures { Gives (λ rest. (submodules.new.items, rest.now)) result
+        (submodules_read S.format (array_vec_len submodules.old) count submodules.old.items bytes.now) }
+{
+    let start = submodules.len();
+    let mut rest = bytes;
+    for turn in 0..count {
+        let (entry, behind) = next_at(rest, start, submodules)?;
+        submodules.push(entry);
+        rest = behind;
+    }
+    Ok(rest)
+}
+
+/// So many modules with their submodules, which come to those before them, and what is behind them.
+#[tactic(auto, using(crate::proofs::ModulesTaken::modules_go_on, crate::proofs::ModulesTaken::modules_fail, crate::proofs::ModulesTaken::modules_fail_inside, crate::proofs::ModulesTaken::modules_end))]
+fn modules_at<'a, M: Module, S: Entry>(
+    bytes: &'a [u8],
+    count: u16,
+    modules: &mut ArrayVec<M, 256>,
+    submodules: &mut ArrayVec<S, 256>,
+) -> Result<&'a [u8], BlockFault>
+    ensures { Gives (λ rest. ((modules.new.items, submodules.new.items), rest.now)) result
+        (modules_read M.format M.own S.format count modules.old.items submodules.old.items bytes.now) }
+{
+    let mut rest = bytes;
+    for turn in 0..count {
+        let (entry, behind) = next_at(rest, 0, modules)?;
+        rest = submodules_at(behind, entry.number_of_submodules(), submodules)?;
+        modules.push(entry);
+    }
+    Ok(rest)
+}
+
+/// Reads a count of modules, and each with its submodules, into these lists: what is behind them. At a fault they are any.
+#[tactic(auto, unfolding(crate::specs::modules::Lists::module_list, crate::specs::modules::Lists::modules_read))]
+pub(crate) fn fill_modules<'a, M: Module, S: Entry>(
+    bytes: &'a [u8],
+    modules: &mut ArrayVec<M, 256>,
+    submodules: &mut ArrayVec<S, 256>,
+) -> Result<&'a [u8], BlockFault>
+    ensures { Gives (λ rest. ((modules.new.items, submodules.new.items), rest.now)) result
+        ((module_list M.format M.own S.format).read bytes.now) }
+{
+    let (count, rest) = u16_at(bytes)?;
+    modules.clear();
+    submodules.clear();
+    modules_at(rest, count, modules, submodules)
+}

@@ -1,0 +1,130 @@
+//! What is plugged in a station, as it lies in the memory of the host.
+ghost use Rattle.std.specs.Prelude.{◌≡◌, ◌≤◌, true, length, map};
+ghost use Rattle.std.specs.List.{list_all};
+ghost use Rattle.c_layout.specs.Modules.{is_module, is_submodule, module_of, parameter_of, submodule_of, submodules_in};
+
+use arrayvec::ArrayVec;
+use pn_values::{ParameterRecord, RealModule, RealSubmodule};
+
+/// A parameter record that a submodule takes.
+#[repr(C)]
+#[derive(Drop)]
+pub struct Parameter {
+    pub index: u16,
+    pub length: u16,
+}
+
+/// A submodule, with at most two parameter records.
+#[repr(C)]
+#[derive(Drop)]
+pub struct Submodule {
+    pub ident: u32,
+    pub subslot: u16,
+    pub input: u16,
+    pub output: u16,
+    pub parameter_count: u16,
+    pub parameters: [Parameter; 2],
+}
+
+/// A module, with at most four submodules.
+#[repr(C)]
+#[derive(Drop)]
+pub struct Module {
+    pub ident: u32,
+    pub slot: u16,
+    pub submodule_count: u16,
+    pub submodules: [Submodule; 4],
+}
+
+/// Whether no count of these modules is more than its list holds.
+pub fn are_modules(modules: &[Module]) -> bool
+    ensures { result ≡ list_all is_module modules.now }
+{
+    for entry in modules {
+        if !is_small(entry) {
+            return false;
+        }
+    }
+    true
+}
+
+fn is_small(entry: &Module) -> bool
+    ensures { result ≡ is_module entry.now }
+{
+    entry.submodule_count <= 4
+        && are_submodules(&entry.submodules[..entry.submodule_count as usize])
+}
+
+fn are_submodules(submodules: &[Submodule]) -> bool
+    ensures { result ≡ list_all is_submodule submodules.now }
+{
+    for submodule in submodules {
+        if submodule.parameter_count > 2 {
+            return false;
+        }
+    }
+    true
+}
+
+/// What these modules are.
+pub fn modules(written: &[Module]) -> ArrayVec<RealModule, 16>
+    requires few { length written.now ≤ 16 }
+    requires small { list_all is_module written.now ≡ true }
+    ensures { result ≡ record { items = map module_of written.now } }
+{
+    let mut modules = ArrayVec::new();
+    for entry in written {
+        modules.push(plugged(entry));
+    }
+    modules
+}
+
+fn plugged(entry: &Module) -> RealModule
+    requires { is_module entry.now ≡ true }
+    ensures { result ≡ module_of entry.now }
+{
+    RealModule {
+        slot: entry.slot,
+        ident: entry.ident,
+        submodules: submodules(&entry.submodules[..entry.submodule_count as usize]),
+    }
+}
+
+fn submodules(written: &[Submodule]) -> ArrayVec<RealSubmodule, 4>
+    requires few { length written.now ≤ 4 }
+    requires small { list_all is_submodule written.now ≡ true }
+    ensures { result ≡ record { items = map submodule_of written.now } }
+{
+    let mut submodules = ArrayVec::new();
+    for submodule in written {
+        submodules.push(plugged_in(submodule));
+    }
+    submodules
+}
+
+fn plugged_in(submodule: &Submodule) -> RealSubmodule
+    requires { is_submodule submodule.now ≡ true }
+    ensures { result ≡ submodule_of submodule.now }
+{
+    RealSubmodule {
+        subslot: submodule.subslot,
+        ident: submodule.ident,
+        input: submodule.input,
+        output: submodule.output,
+        parameters: parameters(&submodule.parameters[..submodule.parameter_count as usize]),
+    }
+}
+
+fn parameters(written: &[Parameter]) -> ArrayVec<ParameterRecord, 2>
+    requires { length written.now ≤ 2 }
+    ensures { result ≡ record { items = map parameter_of written.now } }
+{
+    let mut parameters = ArrayVec::new();
+    for parameter in written {
+        parameters.push(ParameterRecord {
+            index: parameter.index,
+            length: parameter.length,
+        });
+    }
+    parameters
+}

@@ -1,0 +1,10 @@
+-- By the laws of the formats.
+use Rattle.codec_laws.proofs.AlarmsBlocks.{alarm_long}
+use Rattle.codec_laws.proofs.AlarmsPdus.{alarm_said}
+use Rattle.codec_laws.proofs.alarms.alarm_law.alarms_are_read.Goals as goal
+
+pub returns-clause-read : goal.returns-clause-read
+returns-clause-read c = alarm_said c.fitting_pdus_are_read.ensures.read c.blocks_are_read.ensures.alone c.blocks_are_read.ensures.long
+
+pub returns-clause-long : goal.returns-clause-long
+returns-clause-long c = alarm_long c.blocks_are_read.ensures.long

@@ -1,0 +1,10 @@
+use Rattle.std.proofs.Common.{refl}
+use Rattle.codec_laws.specs.alarms.World.{behind_all, start}
+use Rattle.codec_laws.proofs.AlarmsMoves.{ordered, lacking}
+use Rattle.codec_laws.proofs.alarms.taken.alarms_are_taken_in_order.Goals as goal
+
+pub returns-clause-prefix : goal.returns-clause-prefix
+returns-clause-prefix c = λ factor retries moves few. ordered factor retries moves (behind_all moves (start factor retries)) refl few
+
+pub returns-clause-last : goal.returns-clause-last
+returns-clause-last c = λ factor retries moves few. lacking factor retries moves (behind_all moves (start factor retries)) refl few

@@ -1,0 +1,3 @@
+pub mod frames
+pub mod blocks
+pub mod alarms

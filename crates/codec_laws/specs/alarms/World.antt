@@ -1,0 +1,176 @@
+-- Both ends of a relation, and each PDU that either ever sent: what may happen between them, in any order and number.
+use Rattle.std.specs.Prelude.{◌≡◌, ℕ, List, [], ◌∷◌, ◌++◌, length, nat_le, nat_lt, slice_get, Option, Some, None, if◌then◌else◌}
+use Rattle.record_blocks.specs.declared.alarm_ack.AlarmAck.{AlarmAck}
+use Rattle.record_blocks.specs.declared.alarm_notification.AlarmNotification.{AlarmNotification}
+use Rattle.pn_alarms.specs.declared.message.Notice.TheVariants as message
+use Rattle.pn_alarms.specs.declared.repeats.Due.{Due}
+use Rattle.pn_alarms.specs.declared.repeats.Due.TheVariants as due_is
+use Rattle.pn_alarms.specs.declared.receiver.Taken.{Taken}
+use Rattle.pn_alarms.specs.declared.receiver.Taken.TheVariants.{New, Again, Refused}
+use Rattle.pn_alarms.specs.declared.sender.Alarm.{Alarm}
+use Rattle.pn_alarms.specs.Numbers.{send_number}
+use Rattle.pn_alarms.specs.Sending.{due}
+use Rattle.pn_alarms.specs.Receiver.{taken_as}
+use Rattle.pn_alarms.specs.Ends.{DeviceEnd, ControllerEnd}
+use Rattle.pn_alarms.specs.Device.{idle, end_raised, end_later, end_behind}
+use Rattle.pn_alarms.specs.Controller.{unheard, confirmed, controller_later, with_data, with_ack}
+use Rattle.codec_laws.specs.alarms.Line.{Line, empty, with_sent, with_again, with_come}
+
+-- both ends; the alarms on their way to the controller, and the AlarmAcks on theirs to the device; and each ACK that ever was
+-- sent to either, and each NACK, by the number of the data that it refused. Of an ERR there is nothing here: who sends one has ended the
+-- relation, and who gets one ends it, so that nothing is taken behind it
+pub record World : Type 0 where
+  pub device : DeviceEnd
+  pub controller : ControllerEnd
+  pub alarms : Line AlarmNotification
+  pub confirms : Line AlarmAck
+  pub acks_to_device : List ℕ
+  pub acks_to_controller : List ℕ
+  pub nacks_to_device : List ℕ
+  pub nacks_to_controller : List ℕ
+
+-- What may happen between both ends: the device raises an alarm, of which one is refused that is too long, or comes while another stands;
+-- the controller sends an AlarmAck, if it took more alarms than it sent AlarmAcks; a unit passes at either; or the data, the ACK or the NACK
+-- of a place, of all that the one end ever sent, comes to the other.
+pub data Move : Type 0 where
+  Raise : (alarm : Alarm) → Move
+  Confirm : (ack : AlarmAck) → Move
+  DeviceTick : Move
+  ControllerTick : Move
+  AlarmComes : (place : ℕ) → Move
+  ConfirmComes : (place : ℕ) → Move
+  AckComesToDevice : (place : ℕ) → Move
+  AckComesToController : (place : ℕ) → Move
+  NackComesToDevice : (place : ℕ) → Move
+  NackComesToController : (place : ℕ) → Move
+
+-- nothing happened yet, in a relation with this RTATimeoutFactor and these RTARetries
+abbrev pub start : ℕ → ℕ → World
+start factor retries = record {
+  device = idle factor retries;
+  controller = unheard factor retries;
+  alarms = empty;
+  confirms = empty;
+  acks_to_device = [];
+  acks_to_controller = [];
+  nacks_to_device = [];
+  nacks_to_controller = [];
+}
+
+-- the alarm that was raised is sent
+abbrev pub with_raised : World → Option AlarmNotification → World
+with_raised w None = w
+with_raised w (Some alarm) = record w { alarms = with_sent w.alarms (send_number w.device.sender.sending.last) alarm }
+
+-- an alarm of at most 32 octets is raised where none stands
+abbrev pub after_raise : World → Alarm → Option AlarmNotification → World
+after_raise w alarm None =
+    if nat_le (length alarm.alarm_data.now) 32
+    then with_raised (record w { device = end_raised w.device alarm }) (end_raised w.device alarm).sender.standing
+    else w
+after_raise w alarm (Some standing) = w
+
+-- an AlarmAck is sent: as many as alarms were taken, at most
+abbrev pub after_confirm : World → AlarmAck → World
+after_confirm w ack =
+    if nat_lt (length w.confirms.sent) (length w.alarms.taken)
+    then record w {
+      controller = confirmed w.controller ack;
+      confirms = with_sent w.confirms (send_number (confirmed w.controller ack).sending.last) ack;
+    }
+    else w
+
+-- what was sent last is sent again
+abbrev pub repeated : {A : Type 0} → Line A → ℕ → Option A → Line A
+repeated line number None = line
+repeated line number (Some value) = with_again line number value
+
+-- what is due
+abbrev pub line_after : {A : Type 0} → Line A → ℕ → Option A → Due → Line A
+line_after line number value due_is.Nothing = line
+line_after line number value due_is.Again = repeated line number value
+line_after line number value due_is.Spent = line
+
+abbrev pub repeated_to_controller : World → Option AlarmNotification → World
+repeated_to_controller w alarm = record w { alarms = repeated w.alarms (send_number w.device.sender.sending.last) alarm }
+
+abbrev pub repeated_to_device : World → Option AlarmAck → World
+repeated_to_device w ack = record w { confirms = repeated w.confirms (send_number w.controller.sending.last) ack }
+
+-- a unit passes at the one end, and at the other
+abbrev pub after_device_tick : World → World
+after_device_tick w = record w {
+  device = end_later w.device;
+  alarms = line_after w.alarms (send_number w.device.sender.sending.last) w.device.sender.standing (due w.device.sender.sending);
+}
+
+abbrev pub after_controller_tick : World → World
+after_controller_tick w = record w {
+  controller = controller_later w.controller;
+  confirms = line_after w.confirms (send_number w.controller.sending.last) w.controller.confirming (due w.controller.sending);
+}
+
+-- an ACK goes back for data that is taken, or was
+abbrev pub acks_after : List ℕ → ℕ → Taken → List ℕ
+acks_after acks number New = acks ++ number ∷ []
+acks_after acks number Again = acks ++ number ∷ []
+acks_after acks number Refused = acks
+
+-- and a NACK for data that is not
+abbrev pub nacks_after : List ℕ → ℕ → Taken → List ℕ
+nacks_after nacks number New = nacks
+nacks_after nacks number Again = nacks
+nacks_after nacks number Refused = nacks ++ number ∷ []
+
+abbrev pub after_alarm : World → Option (ℕ × AlarmNotification) → World
+after_alarm w None = w
+after_alarm w (Some pdu) = record w {
+  controller = with_data w.controller pdu.0;
+  alarms = with_come w.alarms w.controller.seen pdu;
+  acks_to_device = acks_after w.acks_to_device pdu.0 (taken_as w.controller.seen pdu.0);
+  nacks_to_device = nacks_after w.nacks_to_device pdu.0 (taken_as w.controller.seen pdu.0);
+}
+
+abbrev pub after_confirms : World → Option (ℕ × AlarmAck) → World
+after_confirms w None = w
+after_confirms w (Some pdu) = record w {
+  device = end_behind w.device (message.Data pdu.0 pdu.1);
+  confirms = with_come w.confirms w.device.seen pdu;
+  acks_to_controller = acks_after w.acks_to_controller pdu.0 (taken_as w.device.seen pdu.0);
+  nacks_to_controller = nacks_after w.nacks_to_controller pdu.0 (taken_as w.device.seen pdu.0);
+}
+
+abbrev pub after_ack_to_device : World → Option ℕ → World
+after_ack_to_device w None = w
+after_ack_to_device w (Some number) = record w { device = end_behind w.device (message.Ack number) }
+
+abbrev pub after_ack_to_controller : World → Option ℕ → World
+after_ack_to_controller w None = w
+after_ack_to_controller w (Some number) = record w { controller = with_ack w.controller number }
+
+-- a NACK is heard by a device; a controller looks at none, and goes on to repeat
+abbrev pub after_nack_to_device : World → Option ℕ → World
+after_nack_to_device w None = w
+after_nack_to_device w (Some number) = record w { device = end_behind w.device message.Nack }
+
+-- behind a move
+abbrev pub happens : World → Move → World
+happens w (Raise alarm) = after_raise w alarm w.device.sender.standing
+happens w (Confirm ack) = after_confirm w ack
+happens w DeviceTick = after_device_tick w
+happens w ControllerTick = after_controller_tick w
+happens w (AlarmComes k) = after_alarm w (slice_get w.alarms.pdus k)
+happens w (ConfirmComes k) = after_confirms w (slice_get w.confirms.pdus k)
+happens w (AckComesToDevice k) = after_ack_to_device w (slice_get w.acks_to_device k)
+happens w (AckComesToController k) = after_ack_to_controller w (slice_get w.acks_to_controller k)
+happens w (NackComesToDevice k) = after_nack_to_device w (slice_get w.nacks_to_device k)
+happens w (NackComesToController k) = w
+
+-- behind a list of moves
+abbrev pub behind_all : List Move → World → World
+behind_all [] w = w
+behind_all (move ∷ moves) w = behind_all moves (happens w move)
+
+-- one list begins another
+abbrev pub IsPrefixOf : {A : Type 0} → List A → List A → Type 0
+IsPrefixOf {A = A} xs ys = (rest : List A) × (xs ++ rest ≡ ys)

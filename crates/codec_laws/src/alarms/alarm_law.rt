@@ -1,0 +1,84 @@
+//! The laws.
+ghost use Rattle.std.specs.Prelude.{◌≡◌, ◌++◌, ◌+◌, List, ℕ, length, Ok};
+ghost use Rattle.record_blocks.specs.declared.alarm_ack.AlarmAck.{AlarmAck};
+ghost use Rattle.record_blocks.specs.declared.alarm_notification.AlarmNotification.{AlarmNotification};
+ghost use Rattle.block_codec.specs.declared.block.Block.TheVariants.{AlarmAck as ack_block, AlarmNotification as alarm_block};
+ghost use Rattle.block_codec.specs.Block.{block_bytes};
+ghost use Rattle.pn_alarms.specs.declared.abort.Abort.{Abort};
+ghost use Rattle.pn_alarms.specs.declared.message.Notice.TheVariants as notice;
+ghost use Rattle.pn_alarms.specs.declared.pdu.Header.{Header};
+ghost use Rattle.pn_alarms.specs.declared.pdu.PduType.TheVariants as pdu;
+ghost use Rattle.pn_alarms.specs.Abort.{abort_of};
+ghost use Rattle.pn_alarms.specs.Carried.{alarm_pdu};
+ghost use Rattle.pn_alarms.specs.Format.{Said, pdu_bytes, pdu_of};
+ghost use Rattle.pn_alarms.specs.Message.{alarm_of, message_of};
+ghost use Rattle.codec_laws.specs.blocks.Writable.{IsAck, IsAlarm};
+ghost use Rattle.codec_laws.specs.alarms.Sendable.{CanBeSaid, IsHeader, ack_pdu, empty_pdu};
+
+use crate::blocks_are_read;
+use pn_alarms::fitting_pdus_are_read;
+
+/// What is written of a PDU is read as that PDU: a law of the definitions, and no code.
+pub fn pdus_are_read()
+    // Whatever stands behind it.
+    ensures read { (said : Said) (more : List ℕ) → CanBeSaid said → pdu_of (pdu_bytes said ++ more) ≡ Ok said }
+    // How many octets it takes.
+    ensures long { (said : Said) → length (pdu_bytes said) ≡ 12 + length said.body }
+{
+    fitting_pdus_are_read();
+}
+
+/// What a device reads of an AlarmAck: a law of the definitions, and no code.
+pub fn acks_are_read()
+    // Data of its number, and the AlarmAck itself.
+    ensures read { (header : Header) (ack : AlarmAck) (more : List ℕ) → header.kind ≡ pdu.Data → IsHeader header → IsAck ack
+        → message_of (pdu_bytes (ack_pdu header ack) ++ more) ≡ Ok (header, notice.Data header.send_number ack) }
+    // How many octets it takes.
+    ensures long { (ack : AlarmAck) → length (block_bytes (ack_block ack)) ≡ 22 }
+{
+    blocks_are_read();
+    fitting_pdus_are_read();
+}
+
+/// What a controller reads of an alarm: a law of the definitions, and no code.
+pub fn alarms_are_read()
+    // Data of its number, and the alarm itself.
+    ensures read { (header : Header) (alarm : AlarmNotification) (more : List ℕ) → header.kind ≡ pdu.Data → IsHeader header → IsAlarm alarm
+        → alarm_of (pdu_bytes (alarm_pdu header alarm) ++ more) ≡ Ok (header, notice.Data header.send_number alarm) }
+    // How many octets it takes.
+    ensures long { (alarm : AlarmNotification) → length (block_bytes (alarm_block alarm)) ≡ 28 + length alarm.alarm_data }
+{
+    blocks_are_read();
+    fitting_pdus_are_read();
+}
+
+/// What either end reads of an ACK or a NACK: laws of the definitions, and no code.
+pub fn replies_are_read()
+    // An ACK tells the number of the data that came.
+    ensures device_ack { (header : Header) (more : List ℕ) → header.kind ≡ pdu.Ack → IsHeader header
+        → message_of (pdu_bytes (empty_pdu header) ++ more) ≡ Ok (header, notice.Ack header.ack_number) }
+    ensures controller_ack { (header : Header) (more : List ℕ) → header.kind ≡ pdu.Ack → IsHeader header
+        → alarm_of (pdu_bytes (empty_pdu header) ++ more) ≡ Ok (header, notice.Ack header.ack_number) }
+    // A NACK tells that data was refused.
+    ensures device_nack { (header : Header) (more : List ℕ) → header.kind ≡ pdu.Nack → IsHeader header
+        → message_of (pdu_bytes (empty_pdu header) ++ more) ≡ Ok (header, notice.Nack) }
+    ensures controller_nack { (header : Header) (more : List ℕ) → header.kind ≡ pdu.Nack → IsHeader header
+        → alarm_of (pdu_bytes (empty_pdu header) ++ more) ≡ Ok (header, notice.Nack) }
+{
+    fitting_pdus_are_read();
+}
+
+/// What either end reads of an ERR: laws of the definitions, and no code.
+pub fn ends_are_read()
+    // The partner ends the relation, whatever its reason.
+    ensures device { (reason : Abort) (destination source send_number ack_number : ℕ) (more : List ℕ)
+        → IsHeader (abort_of reason destination source send_number ack_number).header
+        → message_of (pdu_bytes (abort_of reason destination source send_number ack_number) ++ more)
+        ≡ Ok ((abort_of reason destination source send_number ack_number).header, notice.Abort) }
+    ensures controller { (reason : Abort) (destination source send_number ack_number : ℕ) (more : List ℕ)
+        → IsHeader (abort_of reason destination source send_number ack_number).header
+        → alarm_of (pdu_bytes (abort_of reason destination source send_number ack_number) ++ more)
+        ≡ Ok ((abort_of reason destination source send_number ack_number).header, notice.Abort) }
+{
+    fitting_pdus_are_read();
+}

@@ -1,0 +1,44 @@
+//! The laws.
+ghost use Rattle.std.specs.Prelude.{◌≡◌, ◌<◌, ◌++◌, IsErr, List, ℕ, length, Ok, Option};
+ghost use Rattle.pn_values.specs.declared.mac.Mac.{Mac};
+ghost use Rattle.frame_codec.specs.declared.arp.Arp.{Arp};
+ghost use Rattle.frame_codec.specs.declared.udp.Endpoint.{Endpoint};
+ghost use Rattle.frame_codec.specs.Meaning.{ArpPacket, Meaning, RealTime, UdpDatagram};
+ghost use Rattle.frame_codec.specs.Frame.{IsReadBack, frame_bytes, frame_of, padding_of};
+ghost use Rattle.codec_laws.specs.frames.Sendable.{CanBeSent, IsMac, IsRealTimeOrNone, IsTag, carrying};
+
+use frame_codec::{fitting_frames_are_read, formats_are_sound};
+
+/// What is written for a frame is read as that frame: laws of the definitions, and no code.
+pub fn frames_are_read()
+    // Whatever it carries, it has 60 octets at least and no more than a frame may have, and is read as what was given with its padding
+    // behind it, also where more stands behind that, up to the limit.
+    ensures back { (meaning : Meaning) → CanBeSent meaning → IsReadBack meaning }
+    // Real-time data is read with the padding at its end.
+    ensures real_time { (destination source : Mac) (tag : Option ℕ) (frame_id : ℕ) (body : List ℕ)
+        → CanBeSent (carrying destination source tag (RealTime frame_id body))
+        → frame_of (frame_bytes (carrying destination source tag (RealTime frame_id body)))
+        ≡ Ok (carrying destination source tag (RealTime frame_id (body
+        ++ padding_of (carrying destination source tag (RealTime frame_id body))))) }
+    // A packet of ARP is read as it, and a datagram of UDP as it: their own lengths tell where they end.
+    ensures arp { (destination source : Mac) (tag : Option ℕ) (packet : Arp)
+        → CanBeSent (carrying destination source tag (ArpPacket packet))
+        → frame_of (frame_bytes (carrying destination source tag (ArpPacket packet)))
+        ≡ Ok (carrying destination source tag (ArpPacket packet)) }
+    ensures udp { (destination source : Mac) (tag : Option ℕ) (from to : Endpoint) (body : List ℕ)
+        → CanBeSent (carrying destination source tag (UdpDatagram from to body))
+        → frame_of (frame_bytes (carrying destination source tag (UdpDatagram from to body)))
+        ≡ Ok (carrying destination source tag (UdpDatagram from to body)) }
+    // However long real-time data is, and whatever its FrameID, it is never read as a packet of ARP or as a datagram.
+    ensures alone { (destination source : Mac) (tag : Option ℕ) (frame_id : ℕ) (body : List ℕ) → IsMac destination → IsMac source →
+        IsTag tag
+        → IsRealTimeOrNone (frame_of (frame_bytes (carrying destination source tag (RealTime frame_id body)))) }
+    // A datagram that does not fit a frame is never read.
+    ensures long { (destination source : Mac) (tag : Option ℕ) (from to : Endpoint) (body : List ℕ) → IsMac destination → IsMac source →
+        IsTag tag
+        → length from.address ≡ 4 → length to.address ≡ 4 → 1472 < length body
+        → IsErr (frame_of (frame_bytes (carrying destination source tag (UdpDatagram from to body)))) }
+{
+    fitting_frames_are_read();
+    formats_are_sound();
+}

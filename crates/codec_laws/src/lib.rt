@@ -1,0 +1,13 @@
+//! Laws of frames, and no code: what fits a frame and is written is read as that.
+#![tactic(auto)]
+
+mod alarms;
+mod blocks;
+mod frames;
+
+pub use alarms::{
+    acks_are_read, alarms_are_read, alarms_are_taken_in_order, ends_are_read, pdus_are_read,
+    replies_are_read,
+};
+pub use blocks::blocks_are_read;
+pub use frames::frames_are_read;

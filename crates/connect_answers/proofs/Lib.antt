@@ -1,4 +1,0 @@
-pub mod Responses
-pub mod Heard
-pub mod Found
-pub mod Answered

@@ -1,0 +1,18 @@
+-- The controller of what is written down.
+use Rattle.std.proofs.Common.{◌∙◌}
+use Rattle.controller_core.specs.Machine.{fresh}
+use Rattle.controller_abi.specs.Plans.{parts_of}
+use Rattle.controller_abi.specs.State.{opened}
+use Rattle.controller_abi.proofs.Ranges.{not_long, plan_is, planned_in}
+use Rattle.controller_abi.proofs.plan.port_of.Goals as goal
+
+pub planned-requires : goal.planned-requires
+planned-requires c = (planned_in c.args.written.now c.requires).0
+
+pub unreachable-requires : goal.unreachable-requires
+unreachable-requires c = not_long _ c.in-Err.field-0 (planned_in c.args.written.now c.requires).1 c.in-Err.ensures
+
+pub returns : goal.returns
+returns c =
+    let plan = plan_is (parts_of c.args.written.now) c.in-Ok.plan c.in-Ok.ensures in
+    c.new.ensures ∙ (λ i. opened (fresh (plan i) (c.from_bytes.ensures i) (c.from_bytes-in-Ok.ensures i)))

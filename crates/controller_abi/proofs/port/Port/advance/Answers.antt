@@ -1,0 +1,12 @@
+-- The next frame is taken.
+use Rattle.std.proofs.Common.{ℕ, List, map, ap, ◌∙◌}
+use Rattle.controller_abi.specs.State.{advanced}
+use Rattle.controller_abi.specs.contracts.port.Port.{the_view}
+use Rattle.controller_abi.proofs.Left.{taken}
+use Rattle.controller_abi.proofs.port.Port.advance.Goals as goal
+
+pub returns-then-self-len : goal.returns-then-self-len
+returns-then-self-len c =
+    let port = c.self.inside in
+    let frames : List (List ℕ) = map (λ frame. frame.items) port.outbox.items in
+    ap (λ left. record (the_view port) { frames = left }) (taken port.frames_past frames) ∙ ap advanced c.self.view_is

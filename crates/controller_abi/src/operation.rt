@@ -1,0 +1,33 @@
+//! Which operation a host asks for.
+ghost use Rattle.std.specs.Prelude.{◌≡◌};
+ghost use Rattle.controller_abi.specs.Serves.{operation_of as of_number};
+
+/// An operation of a host.
+#[derive(Clone, Copy, Debug, PartialEq, Eq)]
+pub enum Operation {
+    Frame,
+    Tick,
+    Give,
+    Next,
+    Value,
+    State,
+    Alarm,
+    Stop,
+}
+
+// The operation of this number, if there is one.
+pub(crate) fn operation_of(what: u32) -> Option<Operation>
+    ensures { result ≡ of_number what }
+{
+    match what {
+        3 => Some(Operation::Frame),
+        4 => Some(Operation::Tick),
+        5 => Some(Operation::Give),
+        7 => Some(Operation::Next),
+        8 => Some(Operation::Value),
+        9 => Some(Operation::State),
+        12 => Some(Operation::Alarm),
+        13 => Some(Operation::Stop),
+        _ => None,
+    }
+}

@@ -1,0 +1,581 @@
+//! The plan of a station, as it lies in the memory of the host.
+ghost use Rattle.std.specs.Prelude.{◌≡◌, ◌≤◌, ◌==◌, true, nat_le, not, length, map};
+ghost use Rattle.std.specs.List.{AllByRecursion, list_all, list_any};
+ghost use Rattle.pn_values.specs.IpSuite.{is_host, is_suite};
+ghost use Rattle.pn_values.specs.StationName.{IsStationName};
+ghost use Rattle.station_names.specs.Valid.{is_station_name};
+ghost use Rattle.wire.specs.Codec.{Gives};
+ghost use Rattle.plans.specs.Plan.{plan_of};
+ghost use Rattle.controller_core.specs.Machine.{fresh};
+ghost use Rattle.c_layout.specs.Modules.{is_module, is_submodule, module_of};
+ghost use Rattle.controller_abi.specs.State.{opened};
+ghost use Rattle.controller_abi.specs.Plans.{IsShort, IsWritten, are_addresses as is_addressed, are_low as is_low, are_named};
+ghost use Rattle.controller_abi.specs.Plans.{are_numbers as are_all_numbers, are_ordered as is_in_order, are_parameters};
+ghost use Rattle.controller_abi.specs.Plans.{are_placed as are_all_placed, are_times as is_timed, controller_name_in};
+ghost use Rattle.controller_abi.specs.Plans.{does_part_take, does_take, fault_of, fault_of_length as of_length, has_index};
+ghost use Rattle.controller_abi.specs.Plans.{has_room as has_all_room, is_item, is_name as is_named, is_parameter, is_part};
+ghost use Rattle.controller_abi.specs.Plans.{is_plan as is_planned, is_record, is_rising, is_sound as is_all_sound};
+ghost use Rattle.controller_abi.specs.Plans.{is_written as is_all_written, modules_in, name_in, parts_of, record_of, records_in};
+ghost use Rattle.controller_abi.specs.Plans.{suite_in, why_not_made};
+
+use crate::port::Port;
+use arrayvec::ArrayVec;
+use c_layout::{Module, Parameter, Submodule, are_modules, modules};
+use plans::{Controller, Parts, Plan, PlanRecord, Station, Times, TooLong};
+use pn_values::{IpSuite, Mac, Real, StationName};
+use station_names::check;
+use uuid::Uuid;
+
+/// The version of the header.
+const ABI: u32 = 1;
+
+/// Octets of a room.
+const ROOM: usize = 40960;
+
+/// Octets of an operation.
+const OP_SIZE: usize = 1560;
+
+// The faults of a plan, with the numbers that they have where a catalogue has them.
+const NUMBER: u32 = 4;
+
+const NOT_ALLOWED: u32 = 5;
+
+const TOO_MANY: u32 = 6;
+
+const FRAME_LONG: u32 = 7;
+
+const CONNECT_LONG: u32 = 8;
+
+const NAME: u32 = 9;
+
+const ADDRESS: u32 = 10;
+
+/// A parameter record that the controller writes at start-up.
+#[repr(C)]
+#[derive(Drop)]
+pub struct WrittenRecord {
+    pub slot: u16,
+    pub subslot: u16,
+    pub index: u16,
+    pub length: u16,
+    pub octets: [u8; 64],
+}
+
+/// The plan of a station.
+#[repr(C)]
+#[derive(Drop)]
+pub struct WrittenPlan {
+    pub name: [u8; 240],
+    pub controller_name: [u8; 240],
+    pub name_length: u32,
+    pub controller_name_length: u32,
+    pub address: [u8; 4],
+    pub mask: [u8; 4],
+    pub gateway: [u8; 4],
+    pub controller_address: [u8; 4],
+    pub controller_mac: [u8; 6],
+    pub vendor_id: u16,
+    pub device_id: u16,
+    pub send_clock_factor: u16,
+    pub reduction_ratio: u16,
+    pub data_hold_factor: u16,
+    pub station_type_length: u32,
+    pub station_type: [u8; 28],
+    pub module_count: u32,
+    pub record_count: u32,
+    pub modules: [Module; 16],
+    pub records: [WrittenRecord; 32],
+}
+
+/// Why no controller is made of this plan, or 0: another version or size of an operation than the library's, a room that is too
+/// small, or what is no plan, or an ARUUID that is zero.
+pub fn judge(size: usize, abi: u32, op_size: usize, written: &WrittenPlan, ar: &[u8; 16]) -> u32
+    ensures { result ≡ why_not_made size abi op_size written.now ar.now }
+{
+    if abi != ABI || op_size != OP_SIZE {
+        return 2;
+    }
+    if size < ROOM {
+        return 3;
+    }
+    if fault_in(written) != 0 || Uuid::from_bytes(*ar).is_nil() {
+        return 14;
+    }
+    0
+}
+
+/// The controller of this plan, with the ARUUID of its relation and the activity of its calls. Its first frame waits.
+#[inline(always)]
+pub fn port_of(written: &WrittenPlan, ar: &[u8; 16], activity: &[u8; 16]) -> Port
+    requires { is_planned written.now ≡ true }
+    ensures { result ≡ opened (fresh (parts_of written.now) ar.now activity.now) }
+{
+    match planned(written) {
+        Ok(plan) => Port::new(plan, Uuid::from_bytes(*ar), Uuid::from_bytes(*activity)),
+        Err(_) => unreachable!(),
+    }
+}
+
+// ---- whether it is a plan
+
+/// The first fault of a plan, with the number that a catalogue with this fault has, or 0: what a catalogue may not say a plan may not
+/// either.
+pub fn fault_in(written: &WrittenPlan) -> u32
+    ensures { result ≡ fault_of written.now }
+{
+    if !has_room(written) {
+        return TOO_MANY;
+    }
+    if !are_numbers(written) {
+        return NUMBER;
+    }
+    if !are_named(written) {
+        return NAME;
+    }
+    if !are_addresses(written) {
+        return ADDRESS;
+    }
+    if !are_placed(written) {
+        return NOT_ALLOWED;
+    }
+    if !are_low(written) {
+        return TOO_MANY;
+    }
+    fault_of_length(written)
+}
+
+// Whether a cyclic frame or the Connect is too long.
+#[inline(never)]
+fn fault_of_length(written: &WrittenPlan) -> u32
+    requires { is_all_written written.now ≡ true }
+    ensures { result ≡ of_length (plan_of (parts_of written.now)) }
+{
+    match planned(written) {
+        Ok(_) => 0,
+        Err(TooLong::Frame) => FRAME_LONG,
+        Err(TooLong::Connect) => CONNECT_LONG,
+    }
+}
+
+// Whether no count is more than its list holds.
+fn has_room(written: &WrittenPlan) -> bool
+    ensures { result ≡ has_all_room written.now }
+{
+    written.module_count <= 16
+        && are_modules(&written.modules[..written.module_count as usize])
+        && written.record_count <= 32
+}
+
+fn are_numbers(written: &WrittenPlan) -> bool
+    requires { has_all_room written.now ≡ true }
+    ensures { result ≡ are_all_numbers written.now }
+{
+    let modules = &written.modules[..written.module_count as usize];
+    let records = &written.records[..written.record_count as usize];
+    are_times(written) && are_sound(modules) && are_records(records, modules)
+}
+
+fn are_times(written: &WrittenPlan) -> bool
+    ensures { result ≡ is_timed written.now }
+{
+    written.send_clock_factor >= 1
+        && written.send_clock_factor <= 128
+        && written.reduction_ratio >= 1
+        && written.reduction_ratio <= 512
+        && written.data_hold_factor >= 1
+        && written.data_hold_factor <= 7680
+}
+
+// Whether modules, their submodules and the parameter records of these are in their ranges.
+fn are_sound(modules: &[Module]) -> bool
+    requires { list_all is_module modules.now ≡ true }
+    ensures { result ≡ list_all is_all_sound modules.now }
+{
+    for entry in modules {
+        if !is_sound(entry) {
+            return false;
+        }
+    }
+    true
+}
+
+fn is_sound(entry: &Module) -> bool
+    requires { is_module entry.now ≡ true }
+    ensures { result ≡ is_all_sound entry.now }
+{
+    let submodules = &entry.submodules[..entry.submodule_count as usize];
+    entry.ident >= 1 && are_subslots_rising(submodules) && are_parts(submodules)
+}
+
+fn are_subslots_rising(submodules: &[Submodule]) -> bool
+    ensures { result ≡ is_rising 1 (map (λ part. part.subslot) submodules.now) }
+{
+    let mut next = 1u32;
+    for submodule in submodules {
+        if u32::from(submodule.subslot) < next {
+            return false;
+        }
+        next = u32::from(submodule.subslot) + 1;
+    }
+    true
+}
+
+fn are_parts(submodules: &[Submodule]) -> bool
+    requires { list_all is_submodule submodules.now ≡ true }
+    ensures { result ≡ list_all is_part submodules.now }
+{
+    for submodule in submodules {
+        if !is_part(submodule) {
+            return false;
+        }
+    }
+    true
+}
+
+fn is_part(submodule: &Submodule) -> bool
+    requires { is_submodule submodule.now ≡ true }
+    ensures { result ≡ is_part submodule.now }
+{
+    submodule.subslot <= 36863
+        && are_parameters(&submodule.parameters[..submodule.parameter_count as usize])
+}
+
+// Whether parameter records are in their ranges, each with an index of its own.
+fn are_parameters(items: &[Parameter]) -> bool
+    ensures { result ≡ are_parameters items.now }
+{
+    for i in 0..items.len() {
+        if !is_parameter(&items[i]) || has_index(&items[i + 1..], items[i].index) {
+            return false;
+        }
+    }
+    true
+}
+
+fn is_parameter(item: &Parameter) -> bool
+    ensures { result ≡ is_parameter item.now }
+{
+    item.index <= 32767 && item.length >= 1 && item.length <= 64
+}
+
+fn has_index(items: &[Parameter], index: u16) -> bool
+    ensures { result ≡ has_index index items.now }
+{
+    items.iter().any(|item| item.index == index)
+}
+
+// Whether each record is one that a submodule of these modules takes.
+fn are_records(records: &[WrittenRecord], modules: &[Module]) -> bool
+    requires { list_all is_module modules.now ≡ true }
+    ensures { result ≡ list_all (is_record modules.now) records.now }
+{
+    for entry in records {
+        if !is_record(entry, modules) {
+            return false;
+        }
+    }
+    true
+}
+
+fn is_record(entry: &WrittenRecord, modules: &[Module]) -> bool
+    requires { list_all is_module modules.now ≡ true }
+    ensures { result ≡ is_record modules.now entry.now }
+{
+    entry.length <= 64 && is_taken(entry, modules)
+}
+
+fn is_taken(entry: &WrittenRecord, modules: &[Module]) -> bool
+    requires { list_all is_module modules.now ≡ true }
+    ensures { result ≡ list_any (does_take entry.now) modules.now }
+{
+    for plugged in modules {
+        if does_take(plugged, entry) {
+            return true;
+        }
+    }
+    false
+}
+
+fn does_take(plugged: &Module, entry: &WrittenRecord) -> bool
+    requires { is_module plugged.now ≡ true }
+    ensures { result ≡ does_take entry.now plugged.now }
+{
+    plugged.slot == entry.slot
+        && do_parts_take(
+            &plugged.submodules[..plugged.submodule_count as usize],
+            entry,
+        )
+}
+
+fn do_parts_take(submodules: &[Submodule], entry: &WrittenRecord) -> bool
+    requires { list_all is_submodule submodules.now ≡ true }
+    ensures { result ≡ list_any (does_part_take entry.now) submodules.now }
+{
+    for submodule in submodules {
+        if does_part_take(submodule, entry) {
+            return true;
+        }
+    }
+    false
+}
+
+fn does_part_take(submodule: &Submodule, entry: &WrittenRecord) -> bool
+    requires { is_submodule submodule.now ≡ true }
+    ensures { result ≡ does_part_take entry.now submodule.now }
+{
+    submodule.subslot == entry.subslot
+        && is_item(
+            &submodule.parameters[..submodule.parameter_count as usize],
+            entry,
+        )
+}
+
+// Whether one of these parameter records has the index and the length of a record.
+fn is_item(items: &[Parameter], entry: &WrittenRecord) -> bool
+    ensures { result ≡ list_any (is_item entry.now) items.now }
+{
+    for item in items {
+        if item.index == entry.index && item.length == entry.length {
+            return true;
+        }
+    }
+    false
+}
+
+fn are_named(written: &WrittenPlan) -> bool
+    ensures { result ≡ are_named written.now }
+{
+    is_name(&written.name, written.name_length)
+        && is_name(&written.controller_name, written.controller_name_length)
+}
+
+fn is_name(octets: &[u8; 240], length: u32) -> bool
+    ensures { result ≡ is_named length octets.now }
+{
+    length <= 240 && is_valid(&octets[..length as usize])
+}
+
+// Whether a text is a station name.
+fn is_valid(text: &[u8]) -> bool
+    ensures { result ≡ is_station_name text.now }
+{
+    check(text).is_ok()
+}
+
+fn are_addresses(written: &WrittenPlan) -> bool
+    ensures { result ≡ is_addressed written.now }
+{
+    is_suite_in(written)
+        && written.controller_mac[0] % 2 == 0
+        && is_host(written.controller_address[0])
+}
+
+fn is_suite_in(written: &WrittenPlan) -> bool
+    ensures { result ≡ is_suite (suite_in written.now) }
+{
+    IpSuite::new(written.address, written.mask, written.gateway).is_some()
+}
+
+// Whether an address that begins with this octet is one of a host.
+fn is_host(octet: u8) -> bool
+    ensures { result ≡ is_host octet }
+{
+    (1 <= octet && octet <= 126) || (128 <= octet && octet <= 223)
+}
+
+// Whether the modules are in order, and no record is one of the access point.
+fn are_placed(written: &WrittenPlan) -> bool
+    requires { has_all_room written.now ≡ true }
+    ensures { result ≡ are_all_placed written.now }
+{
+    are_ordered(&written.modules[..written.module_count as usize])
+        && are_past_point(&written.records[..written.record_count as usize])
+}
+
+// Whether the first module is the access point, in slot 0, and those after it are in the order of their slots.
+fn are_ordered(modules: &[Module]) -> bool
+    ensures { result ≡ is_in_order modules.now }
+{
+    match modules.first() {
+        Some(first) => first.slot == 0 && are_slots_rising(&modules[1..]),
+        None => false,
+    }
+}
+
+fn are_slots_rising(modules: &[Module]) -> bool
+    ensures { result ≡ is_rising 1 (map (λ entry. entry.slot) modules.now) }
+{
+    let mut least = 1u32;
+    for entry in modules {
+        if u32::from(entry.slot) < least {
+            return false;
+        }
+        least = u32::from(entry.slot) + 1;
+    }
+    true
+}
+
+fn are_past_point(records: &[WrittenRecord]) -> bool
+    ensures { result ≡ list_all (λ entry. not (entry.slot == 0)) records.now }
+{
+    for entry in records {
+        if entry.slot == 0 {
+            return false;
+        }
+    }
+    true
+}
+
+fn are_low(written: &WrittenPlan) -> bool
+    requires { has_all_room written.now ≡ true }
+    ensures { result ≡ is_low written.now }
+{
+    are_slots_low(&written.modules[..written.module_count as usize])
+}
+
+fn are_slots_low(modules: &[Module]) -> bool
+    ensures { result ≡ list_all (λ entry. nat_le entry.slot 15) modules.now }
+{
+    for entry in modules {
+        if entry.slot > 15 {
+            return false;
+        }
+    }
+    true
+}
+
+// ---- what it is
+
+// The plan, or what is too long.
+#[inline(never)]
+fn planned(written: &WrittenPlan) -> Result<Plan, TooLong>
+    requires { is_all_written written.now ≡ true }
+    ensures { Gives (λ plan. plan) result (plan_of (parts_of written.now)) }
+{
+    Plan::new(parts_in(written))
+}
+
+// Its parts, each of which is in its range.
+fn parts_in(written: &WrittenPlan) -> Parts
+    requires { IsWritten written.now }
+    ensures value { result ≡ parts_of written.now }
+    ensures named { IsStationName (name_in written.now) }
+    ensures controlled { IsStationName (controller_name_in written.now) }
+{
+    Parts {
+        station: station_in(written),
+        controller: controller_in(written),
+        times: times_of(written),
+        real: real_in(written),
+        records: records_of(written),
+    }
+}
+
+fn station_in(written: &WrittenPlan) -> Station
+    requires few { written.now.name_length ≤ 240 }
+    requires named { is_station_name (name_in written.now) ≡ true }
+    requires addressed { is_suite (suite_in written.now) ≡ true }
+    ensures value { result ≡ (parts_of written.now).station }
+    ensures valid { IsStationName (name_in written.now) }
+{
+    Station {
+        name: name_of(&written.name[..written.name_length as usize]),
+        suite: suite_of(written),
+        vendor_id: written.vendor_id,
+        device_id: written.device_id,
+    }
+}
+
+fn controller_in(written: &WrittenPlan) -> Controller
+    requires few { written.now.controller_name_length ≤ 240 }
+    requires named { is_station_name (controller_name_in written.now) ≡ true }
+    ensures value { result ≡ (parts_of written.now).controller }
+    ensures valid { IsStationName (controller_name_in written.now) }
+{
+    Controller {
+        name: name_of(&written.controller_name[..written.controller_name_length as usize]),
+        mac: Mac {
+            octets: written.controller_mac,
+        },
+        address: written.controller_address,
+    }
+}
+
+fn name_of(text: &[u8]) -> StationName
+    requires { is_station_name text.now ≡ true }
+    ensures value { result ≡ text.now }
+    ensures valid { IsStationName text.now }
+{
+    match check(text) {
+        Ok(name) => name,
+        Err(_) => unreachable!(),
+    }
+}
+
+fn suite_of(written: &WrittenPlan) -> IpSuite
+    requires { is_suite (suite_in written.now) ≡ true }
+    ensures { result ≡ suite_in written.now }
+{
+    match IpSuite::new(written.address, written.mask, written.gateway) {
+        Some(suite) => suite,
+        None => unreachable!(),
+    }
+}
+
+fn times_of(written: &WrittenPlan) -> Times
+    ensures { result ≡ (parts_of written.now).times }
+{
+    Times {
+        send_clock_factor: written.send_clock_factor,
+        reduction_ratio: written.reduction_ratio,
+        data_hold_factor: written.data_hold_factor,
+    }
+}
+
+// What is plugged in.
+#[inline(never)]
+fn real_in(written: &WrittenPlan) -> Real
+    requires few { written.now.module_count ≤ 16 }
+    requires small { list_all is_module (modules_in written.now) ≡ true }
+    ensures { result ≡ record { modules = record { items = map module_of (modules_in written.now) } } }
+{
+    Real {
+        modules: modules(&written.modules[..written.module_count as usize]),
+    }
+}
+
+// The records, in the order in which they are written.
+#[inline(never)]
+fn records_of(written: &WrittenPlan) -> ArrayVec<PlanRecord, 32>
+    requires few { written.now.record_count ≤ 32 }
+    requires short { AllByRecursion IsShort (records_in written.now) }
+    ensures { result ≡ record { items = map record_of (records_in written.now) } }
+{
+    records(&written.records[..written.record_count as usize])
+}
+
+fn records(written: &[WrittenRecord]) -> ArrayVec<PlanRecord, 32>
+    requires few { length written.now ≤ 32 }
+    requires short { AllByRecursion IsShort written.now }
+    ensures { result ≡ record { items = map record_of written.now } }
+{
+    let mut records = ArrayVec::new();
+    for entry in written {
+        records.push(record_in(entry));
+    }
+    records
+}
+
+fn record_in(entry: &WrittenRecord) -> PlanRecord
+    requires { entry.now.length ≤ 64 }
+    ensures { result ≡ record_of entry.now }
+{
+    let mut data = ArrayVec::new();
+    let _ = data.try_extend_from_slice(&entry.octets[..entry.length as usize]);
+    PlanRecord {
+        slot: entry.slot,
+        subslot: entry.subslot,
+        index: entry.index,
+        data,
+    }
+}

@@ -1,0 +1,228 @@
+//! One operation of the host.
+ghost use Rattle.std.specs.Prelude.{◌≡◌, ◌≤◌, length, take};
+ghost use Rattle.cyclic_exchange.specs.Process.{value_at};
+ghost use Rattle.controller_core.specs.declared.event.Event.TheVariants.{Frame as Framed};
+ghost use Rattle.c_layout.specs.Places.{place_in};
+ghost use Rattle.controller_abi.specs.State.{has_frames};
+ghost use Rattle.controller_abi.specs.Serves.{IsAlarm, IsEvent, IsGift, IsHandOut, IsInput, IsTick, IsValue, Serves, cause_number};
+ghost use Rattle.controller_abi.specs.Serves.{operation_of as operation_in, phase_number, why_no_place};
+ghost use Rattle.controller_abi.specs.Serves.{with_alarm, with_next, with_state};
+
+use crate::operation::{Operation, operation_of};
+use crate::port::Port;
+use block_codec::AlarmNotification;
+use c_layout::{Op, place_of, put};
+use controller_core::{Event, State};
+use frame_codec::Bytes;
+
+/// What an operation is answered with that is none.
+const UNKNOWN: u32 = 10;
+
+/// What is answered where there is no such place, and of an alarm that never was.
+const NO_SLOT: u32 = 9;
+
+/// What an event is answered with while frames of the step before are left.
+const HAS_WORK: u32 = 7;
+
+/// Carries one operation out, with the octets that are given. The answer is 0, or why nothing changed.
+pub fn serve(port: &mut Port, op: &mut Op, given: &[u8]) -> u32
+    ensures { Serves (operation_in op.old.what) port.old op.old given.now result port.new op.new }
+{
+    match operation_of(op.what) {
+        Some(operation) => perform(operation, port, op, given),
+        None => UNKNOWN,
+    }
+}
+
+// Carries out what is an operation.
+fn perform(operation: Operation, port: &mut Port, op: &mut Op, given: &[u8]) -> u32
+    ensures { Serves (Some operation) port.old op.old given.now result port.new op.new }
+{
+    match operation {
+        Operation::Frame => frame(port, given),
+        Operation::Tick => tick(port, op),
+        Operation::Give => give(port, op, given),
+        Operation::Next => next(port, op),
+        Operation::Value => value(port, op),
+        Operation::State => state(port, op),
+        Operation::Alarm => alarm(port, op),
+        Operation::Stop => offer(port, &Event::Stop),
+    }
+}
+
+// ---- events
+
+// Takes an event, where no frames of the step before are left.
+fn offer(port: &mut Port, event: &Event) -> u32
+    ensures { IsEvent (has_frames port.old.frames) port.old event.now result port.new }
+{
+    if port.has_work() {
+        return HAS_WORK;
+    }
+    port.take(event);
+    0
+}
+
+#[inline(never)]
+fn frame(port: &mut Port, given: &[u8]) -> u32
+    ensures { IsEvent (has_frames port.old.frames) port.old (Framed (record { items = take 1519 given.now })) result port.new }
+{
+    offer(port, &Event::Frame(first_of(given)))
+}
+
+#[inline(never)]
+fn give(port: &mut Port, op: &Op, given: &[u8]) -> u32
+    ensures { IsGift (place_in op.now.slot op.now.subslot) port.old given.now result port.new }
+{
+    match place_of(op) {
+        Some(place) => offer(port, &Event::Give(place.0, place.1, first_of(given))),
+        None => no_place(port),
+    }
+}
+
+// Why nothing is given to a place that is none.
+fn no_place(port: &Port) -> u32
+    ensures { result ≡ why_no_place (has_frames port.now.frames) }
+{
+    if port.has_work() { HAS_WORK } else { NO_SLOT }
+}
+
+fn tick(port: &mut Port, op: &mut Op) -> u32
+    ensures { IsTick (has_frames port.old.frames) port.old op.old result port.new op.new }
+{
+    if port.has_work() {
+        return HAS_WORK;
+    }
+    op.units = port.pass(op.units);
+    0
+}
+
+// The first octets of those that are given, as many as an event has.
+fn first_of(octets: &[u8]) -> Bytes
+    ensures { result ≡ record { items = take 1519 octets.now } }
+{
+    let mut bytes = Bytes::new();
+    let _ = bytes.try_extend_from_slice(front_of(octets, 1519));
+    bytes
+}
+
+// These octets, or the front of them where they are more than so many.
+#[tactic(auto, using(crate::proofs::Left::all_of))]
+fn front_of(octets: &[u8], most: usize) -> &[u8]
+    ensures value { result.now ≡ take most octets.now }
+    ensures few { length result.now ≤ most }
+{
+    if octets.len() <= most {
+        return octets;
+    }
+    &octets[..most]
+}
+
+// ---- frames
+
+// The next frame, which is taken with that.
+fn next(port: &mut Port, op: &mut Op) -> u32
+    ensures { IsHandOut port.old op.old result port.new op.new }
+{
+    hand_out(port, op);
+    port.advance();
+    0
+}
+
+// What is handed out next.
+fn hand_out(port: &Port, op: &mut Op)
+    ensures { op.new ≡ with_next port.now.frames op.old }
+{
+    match port.next() {
+        Some(frame) => {
+            op.work = 3;
+            put(op, frame.as_slice());
+        }
+        None => {
+            op.work = 0;
+            op.length = 0;
+        }
+    }
+}
+
+// ---- what is told
+
+fn value(port: &Port, op: &mut Op) -> u32
+    ensures { IsInput (place_in op.old.slot op.old.subslot) port.now op.old result op.new }
+{
+    match place_of(op) {
+        Some(place) => tell_value(port, place.0, place.1, op),
+        None => NO_SLOT,
+    }
+}
+
+// The input of a submodule, or that there is none.
+fn tell_value(port: &Port, slot: u16, subslot: u16, op: &mut Op) -> u32
+    ensures { IsValue (value_at port.now.controller.live.cyclic slot subslot) op.old result op.new }
+{
+    match port.controller().value(slot, subslot) {
+        Some(value) => {
+            put(op, value);
+            0
+        }
+        None => NO_SLOT,
+    }
+}
+
+fn state(port: &Port, op: &mut Op) -> u32
+    ensures answer { result ≡ 0 }
+    ensures told { op.new ≡ with_state port.now.controller.live.phase op.old }
+{
+    let reached = port.controller().state();
+    op.phase = number_of_phase(reached);
+    op.note = number_of_cause(reached);
+    0
+}
+
+fn number_of_phase(reached: State) -> u32
+    ensures { result ≡ phase_number reached }
+{
+    match reached {
+        State::Looking => 1,
+        State::Addressing => 2,
+        State::Connecting => 3,
+        State::Writing => 4,
+        State::Ending => 5,
+        State::Waiting => 6,
+        State::Exchanging => 7,
+        State::Ended(_) => 8,
+    }
+}
+
+fn number_of_cause(reached: State) -> u32
+    ensures { result ≡ cause_number reached }
+{
+    match reached {
+        State::Ended(cause) => u32::from(cause.number()),
+        _ => 0,
+    }
+}
+
+// The last alarm that was taken.
+fn alarm(port: &Port, op: &mut Op) -> u32
+    ensures { IsAlarm port.now.controller.live.alarm op.old result op.new }
+{
+    match port.controller().alarm() {
+        Some(alarm) => {
+            tell_alarm(&alarm, op);
+            0
+        }
+        None => NO_SLOT,
+    }
+}
+
+// An alarm.
+fn tell_alarm(alarm: &AlarmNotification<'_>, op: &mut Op)
+    ensures { op.new ≡ with_alarm alarm.now op.old }
+{
+    op.note = u32::from(alarm.alarm_type);
+    op.slot = u32::from(alarm.slot_number);
+    op.subslot = u32::from(alarm.subslot_number);
+    op.units = u32::from(alarm.alarm_specifier);
+    put(op, front_of(alarm.alarm_data.octets(), 1520));
+}

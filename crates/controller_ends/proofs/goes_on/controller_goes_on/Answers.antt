@@ -1,9 +1,0 @@
-use Rattle.std.proofs.Common.{refl}
-use Rattle.controller_ends.proofs.Turns.{event_goes}
-use Rattle.controller_ends.proofs.goes_on.controller_goes_on.Goals as goal
-
-pub returns-clause-begins : goal.returns-clause-begins
-returns-clause-begins c = λ plan. (refl, refl)
-
-pub returns-clause-goes_on : goal.returns-clause-goes_on
-returns-clause-goes_on c = λ setup live event in_step. event_goes setup live event (c.turns_are_of_a_kind.ensures.event setup live event) in_step

@@ -1,9 +1,0 @@
-//! What holds of a controller over any events (IEC 61158-6-10, 5.2; protocol machine CMCTL): laws of the machine by which
-//! `controller_core::Controller` is stated, and no code.
-#![tactic(auto)]
-
-mod law;
-mod turns;
-
-pub use law::{alarms_are_taken_in_order, ended_is_kept};
-pub use turns::turns_are_of_a_kind;

@@ -1,7 +1,0 @@
--- what is judged of all is judged of those that are left
-use Rattle.std.proofs.Common.{◌≡◌, drop}
-use Rattle.controller_operations.specs.Plans.{are_parameters}
-use Rattle.controller_operations.proofs.plan.are_parameters.Given as goal
-
-abbrev pub invariant-loop-i : goal.invariant-loop-i
-invariant-loop-i l = are_parameters l.items ≡ are_parameters (drop l.i l.items)

@@ -1,8 +1,0 @@
--- what is judged of all is judged of those that are left
-use Rattle.std.proofs.Common.{◌≡◌, drop}
-use Rattle.std.specs.List.{list_any}
-use Rattle.controller_operations.specs.Plans.{is_item}
-use Rattle.controller_operations.proofs.plan.is_item.Given as goal
-
-abbrev pub invariant-loop-item : goal.invariant-loop-item
-invariant-loop-item l = list_any (is_item l.entry) l.items ≡ list_any (is_item l.entry) (drop l.item-index l.items)

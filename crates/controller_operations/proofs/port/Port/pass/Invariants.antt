@@ -1,6 +1,0 @@
--- the units so far went by, one step each
-use Rattle.controller_operations.specs.Steps.{Ticks}
-use Rattle.controller_operations.proofs.port.Port.pass.Given as goal
-
-abbrev pub invariant-loop-passed : goal.invariant-loop-passed
-invariant-loop-passed l = Ticks l.was_over l.passed l.initial.self l.self

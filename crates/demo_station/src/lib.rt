@@ -1,9 +1,0 @@
-//! The demo station: what it is, and what is plugged in it. Scripts are run on it, and tests, tables and benches take it where any station
-//! would do.
-#![tactic(auto)]
-
-mod modules;
-mod station;
-
-pub use modules::real;
-pub use station::identity;

@@ -1,0 +1,11 @@
+pub mod RecordingAsked
+pub mod RecordingFew
+pub mod RecordingLegal
+pub mod RecordingPlaced
+pub mod RecordingOneStep
+pub mod PortCounts
+pub mod PortHosted
+pub mod PortLeft
+pub mod PortStages
+pub mod OperationsCounts
+pub mod OperationsTold

@@ -1,0 +1,24 @@
+-- What is told of a port.
+use Rattle.std.proofs.Common.{◌≡◌, ℕ, List, [], Option, Some, None, sym, ap, subst, ◌∙◌}
+use Rattle.device_abi.specs.port.State.{State, IsNext, IsUntold}
+use Rattle.device_abi.specs.port.Refusals.{refusal_number}
+use Rattle.device_abi.specs.declared.port.device.Work.{Work}
+use Rattle.device_abi.specs.declared.port.device.Work.TheVariants.{Nothing, Carry, Send}
+use Rattle.device_abi.specs.declared.port.refusal.Refusal.{Refusal}
+use Rattle.c_layout.specs.declared.op.Op.{Op}
+use Rattle.device_abi.specs.operations.Serves.{IsHanded, IsPiece, IsValue, IsValueOf}
+
+-- the piece that is next, as it is told, is what is handed out
+pub handed : (port : State) (work : Work) (asked told : Op) → IsNext port work → IsPiece work asked told → IsHanded port.calls port.frames asked told
+handed port Nothing asked told idle piece =
+    subst (λ calls. IsHanded calls port.frames asked told) (sym idle.0) (subst (λ frames. IsHanded [] frames asked told) (sym idle.1) piece)
+handed port (Carry call) asked told next piece = subst (λ calls. IsHanded calls port.frames asked told) (sym next.1) piece
+handed port (Send frame) asked told next piece =
+    subst (λ calls. IsHanded calls port.frames asked told) (sym next.0) (subst (λ frames. IsHanded [] frames asked told) (sym next.1.1) piece)
+
+-- an output that is not told
+pub untold : (why : Option Refusal) (value : Option (List ℕ)) (refusal : Refusal) (asked : Op) (answer : ℕ) (told : Op)
+    → IsUntold why value refusal → answer ≡ refusal_number refusal → told ≡ asked → IsValueOf why value asked answer told
+untold (Some late) value refusal asked answer told is at same = (at ∙ ap refusal_number is, same)
+untold None value refusal asked answer told is at same =
+    subst (λ v. IsValue v asked answer told) (sym is.0) (at ∙ ap refusal_number is.1, same)

@@ -1,0 +1,72 @@
+-- The work that is left behind a place in the calls and a place in the frames.
+use Rattle.std.proofs.Common.{◌≡◌, ◌+◌, ◌<◌, ◌≤◌, ℕ, Bool, true, false, List, [], ◌∷◌, length, map, drop, get_or, sym, ap, ◌∙◌, inl, inr, arith}
+use Rattle.std.specs.Prelude.{nat_lt}
+use Rattle.std.proofs.lemmas.Bool.{cases_Bool, ltb-true, ltb-false}
+use Rattle.std.proofs.Math.ListN.{get_or-map}
+use Rattle.std.proofs.lemmas.List.{drop_more, drop_all, drop-drop, length-drop, length-map}
+use Rattle.flash_model.specs.Calls.{Call, Erases}
+use Rattle.flash_model.specs.declared.flash.Sector.TheVariants.{First}
+use Rattle.device_abi.specs.declared.port.stage.Stage.{Stage}
+use Rattle.device_abi.specs.declared.port.stage.Stage.TheVariants.{Made, Booted, Lost}
+use Rattle.device_abi.specs.port.State.{State, IsSteady, has_work, advanced_by}
+
+pub call_left : (n : ℕ) (calls : List Call) (frames : List (List ℕ)) → n < length calls → has_work (drop n calls) frames ≡ true
+call_left n calls frames some = ap (λ c. has_work c frames) (drop_more calls n (Erases First) some)
+
+pub frame_left : (n m : ℕ) (calls : List Call) (frames : List (List ℕ)) → length calls ≤ n → m < length frames → has_work (drop n calls) (drop m frames) ≡ true
+frame_left n m calls frames none some =
+    ap (λ c. has_work c (drop m frames)) (drop_all n calls none) ∙ ap (λ f. has_work [] f) (drop_more frames m [] some)
+
+pub none_left : (n m : ℕ) (calls : List Call) (frames : List (List ℕ)) → length calls ≤ n → length frames ≤ m → has_work (drop n calls) (drop m frames) ≡ false
+none_left n m calls frames no_call no_frame =
+    ap (λ c. has_work c (drop m frames)) (drop_all n calls no_call) ∙ ap (λ f. has_work [] f) (drop_all m frames no_frame)
+
+-- where no call is left, whether a frame is
+pub frames_left : (n m : ℕ) (calls : List Call) (frames : List (List ℕ)) → length calls ≤ n → has_work (drop n calls) (drop m frames) ≡ nat_lt m (length frames)
+frames_left n m calls frames none = elim (cases_Bool (nat_lt m (length frames))) [
+  | inl there ↦ frame_left n m calls frames none (ltb-true m (length frames) there) ∙ sym there
+  | inr gone ↦ none_left n m calls frames none (ltb-false m (length frames) gone) ∙ sym gone
+]
+
+-- ---- a piece of work is taken
+
+pub call_taken : (port : State) (n : ℕ) (calls : List Call) → n < length calls → advanced_by port (drop n calls) ≡ record port { calls = drop (n + 1) calls }
+call_taken port n calls some = ap (advanced_by port) (drop_more calls n (Erases First) some)
+
+pub frame_taken : (port : State) (n m : ℕ) (calls : List Call) (frames : List (List ℕ)) → length calls ≤ n → port.frames ≡ drop m frames
+    → advanced_by port (drop n calls) ≡ record port { frames = drop (m + 1) frames }
+frame_taken port n m calls frames none is =
+    ap (advanced_by port) (drop_all n calls none) ∙ ap (λ f. record port { frames = f }) (ap (drop 1) is ∙ drop-drop 1 m frames)
+
+pub none_taken : (port : State) (n : ℕ) (calls : List Call) → length calls ≤ n → port.frames ≡ [] → advanced_by port (drop n calls) ≡ port
+none_taken port n calls none is =
+    ap (advanced_by port) (drop_all n calls none) ∙ ap (λ f. record port { frames = drop 1 f }) is ∙ sym (ap (λ f. record port { frames = f }) is)
+
+-- ---- the next one
+
+-- the one at a place in what a list is seen as is what stands in front there
+pub next_of : {A B : Type 0} (f : A → B) (known : List A) (all : List B) (n : ℕ) (one : A) → map f known ≡ all → n < length known → one ≡ get_or known n one → (rest : List B) × (drop n all ≡ f one ∷ rest)
+next_of f known all n one is some at =
+    let long = length-map known f in
+    let here = drop_more (map f known) n (f one) (omega (arith, some, long)) in
+    (drop (n + 1) (map f known), ap (drop n) (sym is) ∙ here ∙ ap (λ x. x ∷ drop (n + 1) (map f known)) (get_or-map f known n one ∙ ap f (sym at)))
+
+-- ---- a port that did not start, or lost its power, has none
+
+none_there : {A : Type 0} (n : ℕ) (all : List A) → n < length all → drop n all ≡ [] → ⊥
+none_there n all some none =
+    let long = length-drop n all in
+    let short = ap length none in
+    omega (arith, some, long, short)
+
+pub steady_call : (stage : Stage) (has_failed : Bool) (n : ℕ) (calls : List Call) (frames : List (List ℕ)) → n < length calls
+    → IsSteady stage has_failed (drop n calls) frames → IsSteady stage has_failed (drop (n + 1) calls) frames
+steady_call Made has_failed n calls frames some steady = absurd (none_there n calls some steady.1)
+steady_call Booted has_failed n calls frames some steady = steady
+steady_call Lost has_failed n calls frames some steady = absurd (none_there n calls some steady.0)
+
+pub steady_frame : (stage : Stage) (has_failed : Bool) (m : ℕ) (calls : List Call) (frames : List (List ℕ)) → m < length frames
+    → IsSteady stage has_failed calls (drop m frames) → IsSteady stage has_failed calls (drop (m + 1) frames)
+steady_frame Made has_failed m calls frames some steady = absurd (none_there m frames some steady.2)
+steady_frame Booted has_failed m calls frames some steady = steady
+steady_frame Lost has_failed m calls frames some steady = absurd (none_there m frames some steady.1)

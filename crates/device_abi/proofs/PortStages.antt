@@ -1,0 +1,62 @@
+-- What a port's stage says.
+use Rattle.std.proofs.Common.{◌≡◌, ◌+◌, ℕ, Bool, true, false, suc, List, [], Some, None, refl, sym, ap, subst, ◌∙◌, arith}
+use Rattle.flash_model.specs.Calls.{Call}
+use Rattle.settings_journal.specs.declared.journal.BootFault.{BootFault}
+use Rattle.settings_journal.specs.declared.journal.BootFault.TheVariants.{Foreign, FlashFault}
+use Rattle.device_frames.specs.declared.note.Note.{Note}
+use Rattle.device_frames.specs.declared.event.Event.TheVariants.{Tick}
+use Rattle.device_abi.specs.declared.port.refusal.Refusal.TheVariants as refusal
+use Rattle.device_abi.specs.declared.port.stage.Stage.{Stage}
+use Rattle.device_abi.specs.declared.port.stage.Stage.TheVariants.{Made, Booted, Lost}
+use Rattle.device_abi.specs.port.State.{State, IsSteady, barred, barred_by, closed, past_start}
+use Rattle.device_abi.specs.port.Steps.{Takes, Ticks}
+
+-- a port that takes events started, and no commit failed
+pub booted_of : (stage : Stage) (is_left : Bool) → barred_by stage is_left ≡ None → stage ≡ Booted
+booted_of Made is_left free = cc free
+booted_of Booted is_left free = refl
+booted_of Lost is_left free = cc free
+
+pub going_of : (stage : Stage) (has_failed : Bool) (calls : List Call) (frames : List (List ℕ)) → stage ≡ Booted → IsSteady stage has_failed calls frames → has_failed ≡ false
+going_of Made has_failed calls frames is steady = cc is
+going_of Booted has_failed calls frames is steady = steady
+going_of Lost has_failed calls frames is steady = cc is
+
+pub steady_of : (stage : Stage) (has_failed : Bool) (calls : List Call) (frames : List (List ℕ)) → stage ≡ Booted → has_failed ≡ false → IsSteady stage has_failed calls frames
+steady_of Made has_failed calls frames is going = cc is
+steady_of Booted has_failed calls frames is going = going
+steady_of Lost has_failed calls frames is going = cc is
+
+pub made_of : (stage : Stage) (has_failed : Bool) (calls : List Call) (frames : List (List ℕ)) → stage ≡ Made → IsSteady stage has_failed calls frames → (has_failed ≡ true) × (calls ≡ []) × (frames ≡ [])
+made_of Made has_failed calls frames is steady = steady
+made_of Booted has_failed calls frames is steady = cc is
+made_of Lost has_failed calls frames is steady = cc is
+
+-- one that is not past its start was only made
+pub early_of : (stage : Stage) → past_start stage ≡ None → stage ≡ Made
+early_of Made early = refl
+early_of Booted early = cc early
+early_of Lost early = cc early
+
+-- whether one that started takes an event is whether work is left
+pub free_of : (stage : Stage) (is_left : Bool) → stage ≡ Booted → is_left ≡ false → barred_by stage is_left ≡ None
+free_of stage is_left is idle = ap (λ s. barred_by s is_left) is ∙ ap (barred_by Booted) idle
+
+pub working_of : (stage : Stage) (is_left : Bool) → stage ≡ Booted → is_left ≡ true → barred_by stage is_left ≡ Some refusal.HasWork
+working_of stage is_left is busy = ap (λ s. barred_by s is_left) is ∙ ap (barred_by Booted) busy
+
+-- a flash that is foreign is not one that a read failed of
+pub foreign_alone : (fault : BootFault) → fault ≡ Foreign → fault ≡ FlashFault → ⊥
+foreign_alone fault foreign failed = cc (sym foreign ∙ failed)
+
+-- one more unit
+pub one_more : (units : ℕ) (old between new : State) (note : Note) → Ticks units old between → barred between ≡ None → Takes between Tick note new → Ticks (units + 1) old new
+one_more units old between new note ticks free takes =
+    let more : suc units ≡ units + 1 = omega arith in
+    subst (λ n. Ticks n old new) more (between, note, ticks, free, takes)
+
+-- a port that tells what it knows started
+pub open_of : (stage : Stage) → closed stage ≡ None → stage ≡ Booted
+open_of Made open_now = cc open_now
+open_of Booted open_now = refl
+open_of Lost open_now = cc open_now

@@ -1,0 +1,40 @@
+-- One step, from what its items asked of the flash.
+use Rattle.std.proofs.Common.{◌≡◌, ◌≤◌, ℕ, false, [], length, ap, ◌∙◌, arith}
+use Rattle.device_core.specs.Machine.{items_of, judged_step, heard_step, step_of}
+use Rattle.device_core.specs.State.{State, store_of}
+use Rattle.device_frames.specs.Heard.{heard_of}
+use Rattle.device_frames.specs.declared.event.Event.{Event}
+use Rattle.settings_store.specs.Carries.{OneByOne, Holds, Stretch}
+use Rattle.device_abi.specs.recorded.Record.{image_of, record_of}
+use Rattle.device_abi.specs.recorded.Laws.{IsImage-of}
+use Rattle.device_abi.specs.declared.recorded.flash.RecordedFlash.{RecordedFlash}
+use Rattle.device_abi.specs.recording.Recorded.{Records}
+use Rattle.device_abi.proofs.RecordingAsked.{few_items}
+use Rattle.device_abi.proofs.RecordingFew.{few_of_commands, few_of_items}
+use Rattle.device_abi.proofs.RecordingLegal.{are_legal}
+use Rattle.device_abi.proofs.RecordingPlaced.{after_image, as_recorded, items_calls, last_calls}
+
+pub step_records : {S : ℕ} (old new : State (RecordedFlash S)) (event : Event) → Holds (image_of old.flash) old.live.values → old.live.values.has_failed ≡ false
+    → OneByOne as_recorded [] (store_of old) (items_of old.station old.live (heard_of old.station.identity event)) (store_of new)
+    → Stretch as_recorded (store_of old) (step_of [] old.station old.live event).accepted (store_of new) → new.live.values.has_failed ≡ false → Records old (step_of [] old.station old.live event).accepted new
+unfolding heard_step judged_step
+step_records old new event holds going placed stretch goes =
+    let all = items_calls (store_of old) (store_of new) (items_of old.station old.live (heard_of old.station.identity event)) placed going holds in
+    let is = all.asked all.writes in
+    let asks = few_items old.station old.live event in
+    let accepts = few_of_items old.live.values (items_of old.station old.live (heard_of old.station.identity event)) in
+    let commits = few_of_commands (image_of old.flash) old.live.values.stored old.live.values.room _ all.calls all.of_commands in
+    let few : length all.calls ≤ 48 = omega (arith, asks, accepts, commits) in
+    let kept = last_calls (record_of old.flash) all.calls few in
+    record {
+      calls = all.calls;
+      of_commands = all.of_commands;
+      record_is = is;
+      few = few;
+      last = (kept.0, ap (λ r. r.recent) is ∙ kept.1);
+      image = ap (λ r. r.image) is ∙ after_image (record_of old.flash) all.calls;
+      made = stretch.made goes;
+      starts = stretch.holds goes;
+      left = stretch.safe.left;
+      legal = are_legal _ (image_of old.flash) old.live.values.stored old.live.values.room _ all.calls (IsImage-of old.flash).first_size all.of_commands;
+    }

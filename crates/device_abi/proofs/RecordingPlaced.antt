@@ -1,0 +1,136 @@
+-- What items asked of a recorded flash are the calls of the commands that were accepted.
+use Rattle.std.proofs.Common.{◌≡◌, ◌⊎◌, ◌==◌, ◌-◌, ◌+◌, ◌≤◌, ◌<◌, ℕ, Bool, true, false, suc, List, [], ◌∷◌, ◌++◌, length, drop, refl, sym, ap, subst, ◌∙◌, inl, inr, arith}
+use Rattle.std.specs.Prelude.{nat_lt, if◌then◌else◌}
+use Rattle.std.proofs.lemmas.Bool.{cases_Bool, lt-ltb}
+use Rattle.std.proofs.lemmas.List.{length-append, append-nil, append_assoc}
+use Rattle.pn_values.specs.Command.{apply}
+use Rattle.pn_values.specs.declared.command.Command.{Command}
+use Rattle.pn_values.specs.declared.set_item.SetItem.{SetItem}
+use Rattle.pn_values.specs.declared.set_item.SetItem.TheVariants.{Ask, Signal, Answer}
+use Rattle.flash_model.specs.Calls.{Call}
+use Rattle.flash_model.specs.declared.flash.Flash.{Ghosts as Flash}
+use Rattle.settings_journal.specs.Cut.{AreWrites, all_carried_out, carried_out}
+use Rattle.settings_journal.specs.Image.{LeftByDevice}
+use Rattle.settings_store.specs.State.{State, Values}
+use Rattle.settings_store.specs.Machine.{Outcome, Pass, Accepted, Carried, answered, accepted, carried_one, carried}
+use Rattle.settings_store.specs.Carries.{OneByOne, CarriesOne, Holds}
+use Rattle.device_abi.specs.recorded.Record.{Record, image_of, record_of, pushed, after_one, after_all, IsAsked}
+use Rattle.device_abi.specs.recorded.Laws.{failures_of, has_power, IsAlways, after_all-append}
+use Rattle.device_abi.specs.declared.recorded.flash.RecordedFlash.{RecordedFlash}
+use Rattle.device_abi.specs.recording.Calls.{CallsOf}
+
+-- a recorded flash as a flash
+abbrev pub as_recorded : {S : ℕ} → Flash (RecordedFlash S) S
+as_recorded = record { image = image_of; failures = failures_of; is_lost = has_power; is_reliable = IsAlways; asked = IsAsked }
+
+-- ---- one item, with no call failing
+
+-- nothing is accepted and nothing changes, or a command is, and is stored
+abbrev Case : Values → Carried → Type 0
+Case values one =
+    ((one.accepted ≡ []) × (one.values ≡ values))
+    ⊎ ((command : Command) × (one.accepted ≡ record { command = command; is_done = true } ∷ []) × (one.values ≡ (accepted Pass values command).values))
+
+ask_case : (failed full : Bool) (refused exhausted : Carried) (values : Values) (command : Command) → failed ≡ false → (exhausted.accepted ≡ []) × (exhausted.values ≡ values)
+    → Case values (if failed then refused else (if full then exhausted else accepted Pass values command))
+ask_case true full refused exhausted values command e is = cc e
+ask_case false true refused exhausted values command e is = inl is
+ask_case false false refused exhausted values command e is = inr (command, refl, refl)
+
+one_case : (values : Values) (item : SetItem) → values.has_failed ≡ false → Case values (carried_one Pass values item)
+one_case values (Ask command) going = ask_case values.has_failed (values.room == 0) _ _ values command going (refl, refl)
+one_case values Signal going = inl (refl, refl)
+one_case values (Answer answer) going = inl (refl, refl)
+
+-- ---- the record
+
+pub after_image : (before : Record) (calls : List Call) → (after_all before calls).image ≡ all_carried_out before.image calls
+after_image before [] = refl
+after_image before (call ∷ calls) = after_image (after_one before call) calls
+
+-- one call behind those that are kept: they stay, while there is room for it too
+pushed_behind : (front back : List Call) (call : Call) → length back + 1 ≤ 48 → (old : List Call) × (pushed (front ++ back) call ≡ old ++ (back ++ call ∷ []))
+pushed_behind [] back call few =
+    let short : nat_lt (length back) 48 ≡ true = lt-ltb _ _ (omega (arith, few)) in
+    ([], rw short refl)
+pushed_behind (one ∷ front) back call few =
+    elim (cases_Bool (nat_lt (length ((one ∷ front) ++ back)) 48)) [
+      | inl short ↦ (one ∷ front, rw short (append_assoc (one ∷ front) back (call ∷ [])))
+      | inr long ↦ (front, rw long (append_assoc front back (call ∷ [])))
+    ]
+
+-- calls behind those that are kept stay there while there is room for all of them
+kept_behind : (front back calls : List Call) → length back + length calls ≤ 48 → (before : Record) → before.recent ≡ front ++ back
+    → (old : List Call) × ((after_all before calls).recent ≡ old ++ (back ++ calls))
+kept_behind front back [] few before is = (front, is ∙ ap (λ l. front ++ l) (sym (append-nil back)))
+kept_behind front back (call ∷ calls) few before is =
+    let long = length-append back (call ∷ []) in
+    let pushes = pushed_behind front back call (omega (arith, few)) in
+    let rest = kept_behind pushes.0 (back ++ call ∷ []) calls (omega (arith, long, few)) (after_one before call) (ap (λ l. pushed l call) is ∙ pushes.1) in
+    (rest.0, rest.1 ∙ ap (λ l. rest.0 ++ l) (append_assoc back (call ∷ []) calls))
+
+pub last_calls : (before : Record) (calls : List Call) → length calls ≤ 48 → (old : List Call) × ((after_all before calls).recent ≡ old ++ calls)
+last_calls before calls few = kept_behind before.recent [] calls (omega (arith, few)) before (sym (append-nil before.recent))
+
+-- ---- the items
+
+pub record ItemsCalls {S : ℕ} (old : State (RecordedFlash S)) (accepted : List Accepted) (new : State (RecordedFlash S)) : Type 0 where
+  pub calls : List Call
+  pub of_commands : CallsOf (image_of old.flash) old.values.stored old.values.room accepted calls
+  pub writes : AreWrites calls
+  pub asked : IsAsked old.flash calls new.flash
+
+writes_append : (front back : List Call) → AreWrites front → AreWrites back → AreWrites (front ++ back)
+writes_append [] back f b = b
+writes_append (call ∷ front) back f b = (f.0, writes_append front back f.1 b)
+
+module _ {S : ℕ} where
+  -- the first item accepted nothing
+  behind_none : (old between new : State (RecordedFlash S)) (item : SetItem) (items : List SetItem) → between ≡ old → (carried_one Pass old.values item).accepted ≡ [] → (carried_one Pass old.values item).values ≡ old.values
+      → ItemsCalls between (carried [] between.values items).accepted new → ItemsCalls old (carried [] old.values (item ∷ items)).accepted new
+  behind_none old between new item items is none same rest =
+      let here : ItemsCalls old (carried [] old.values items).accepted new = subst (λ s. ItemsCalls s (carried [] s.values items).accepted new) is rest in
+      let by_values : ItemsCalls old ([] ++ (carried [] (carried_one Pass old.values item).values items).accepted) new = subst (λ v. ItemsCalls old (carried [] v items).accepted new) (sym same) here in
+      subst (λ l. ItemsCalls old (l ++ (carried [] (carried_one Pass old.values item).values items).accepted) new) (sym none) by_values
+
+  -- it accepted a command
+  behind_command : (old between new : State (RecordedFlash S)) (command : Command) (items : List SetItem) (outcome : Outcome) (item : SetItem) → CarriesOne as_recorded outcome old item between
+      → (carried_one outcome old.values item).accepted ≡ record { command = command; is_done = true } ∷ [] → between.values ≡ (accepted Pass old.values command).values
+      → ItemsCalls between (carried [] between.values items).accepted new → ItemsCalls old (record { command = command; is_done = true } ∷ (carried [] between.values items).accepted) new
+  behind_command old between new command items outcome item one is values rest =
+      let asks = one.asks (record { command = command; is_done = true }) is in
+      let commit : List Call = asks.commit in
+      let were : IsAsked old.flash commit between.flash = subst (λ c. IsAsked old.flash c between.flash) asks.part asks.were in
+      let writes = asks.of_commit.writes in
+      let after = were writes in
+      let image : image_of between.flash ≡ all_carried_out (image_of old.flash) commit = ap (λ r. r.image) after ∙ after_image (record_of old.flash) commit in
+      let stored = ap (λ v. v.stored) values in
+      let room = ap (λ v. v.room) values in
+      let later : CallsOf (all_carried_out (image_of old.flash) commit) (apply command old.values.stored) (old.values.room - 1) (carried [] between.values items).accepted rest.calls =
+      subst (λ i. CallsOf i (apply command old.values.stored) (old.values.room - 1) (carried [] between.values items).accepted rest.calls) image
+      (subst (λ s. CallsOf (image_of between.flash) s (old.values.room - 1) (carried [] between.values items).accepted rest.calls) stored
+      (subst (λ n. CallsOf (image_of between.flash) between.values.stored n (carried [] between.values items).accepted rest.calls) room rest.of_commands)) in
+      record {
+        calls = commit ++ rest.calls;
+        of_commands = (commit, rest.calls, asks.of_commit, (λ left. subst LeftByDevice image (one.safe.left left)), later, refl);
+        writes = writes_append commit rest.calls writes rest.writes;
+        asked = λ are. rest.asked rest.writes ∙ ap (λ r. after_all r rest.calls) after ∙ sym (after_all-append (record_of old.flash) commit rest.calls);
+      }
+
+  pub items_calls : (old new : State (RecordedFlash S)) (items : List SetItem) → OneByOne as_recorded [] old items new → old.values.has_failed ≡ false → Holds (image_of old.flash) old.values
+      → ItemsCalls old (carried [] old.values items).accepted new
+  items_calls old new [] placed going holds =
+      record { calls = []; of_commands = (refl, holds going); writes = tt; asked = λ are. ap (λ s. record_of s.flash) placed }
+  items_calls old new (item ∷ items) placed going holds =
+      let between = placed.0 in
+      let one = placed.1 in
+      elim (one_case old.values item going) [
+        | inl none ↦
+            let is : between ≡ old = λ i. record { flash = one.untouched none.0 i; values = (one.values ∙ none.1) i } in
+            behind_none old between new item items is none.0 none.1 (items_calls between new items placed.2 (ap (λ v. v.has_failed) (one.values ∙ none.1) ∙ going) one.holds)
+        | inr took ↦
+            let values = one.values ∙ took.2 in
+            let rest = behind_command old between new took.0 items Pass item one took.1 values (items_calls between new items placed.2 (ap (λ v. v.has_failed) values ∙ going) one.holds) in
+            let by_values = subst (λ v. ItemsCalls old (record { command = took.0; is_done = true } ∷ (carried [] v items).accepted) new) one.values rest in
+            subst (λ l. ItemsCalls old (l ++ (carried [] (carried_one Pass old.values item).values items).accepted) new) (sym took.1) by_values
+      ]

@@ -1,0 +1,5 @@
+-- It is taken, or refused.
+use Rattle.device_abi.proofs.operations.serving.frame.Goals as goal
+
+pub returns : goal.returns
+returns c = (c.frame.result, c.frame.ensures, c.noted.ensures.answer, c.noted.ensures.told)

@@ -1,0 +1,20 @@
+-- What the counts allow.
+use Rattle.std.proofs.Common.{◌∙◌}
+use Rattle.device_abi.proofs.OperationsCounts.{station_small}
+use Rattle.device_abi.proofs.operations.station.port_of.Goals as goal
+
+pub identity_in-requires : goal.identity_in-requires
+identity_in-requires c = (station_small c.args.station.now c.requires).0
+
+pub real_in-requires-clause-few : goal.real_in-requires-clause-few
+real_in-requires-clause-few c = (station_small c.args.station.now c.requires).1
+
+pub real_in-requires-clause-small : goal.real_in-requires-clause-small
+real_in-requires-clause-small c = (station_small c.args.station.now c.requires).2
+
+pub returns : goal.returns
+returns c = record {
+  station = c.new.ensures.station ∙ (λ i. record { identity = c.identity_in.ensures i; real = c.real_in.ensures i });
+  stage = c.new.ensures.stage;
+  idle = c.new.ensures.idle;
+}

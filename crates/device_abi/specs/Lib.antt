@@ -1,0 +1,4 @@
+pub mod recorded
+pub mod recording
+pub mod port
+pub mod operations

@@ -1,0 +1,79 @@
+-- What a host sees of a port.
+use Rattle.std.specs.Prelude.{◌≡◌, Bool, true, false, ℕ, List, [], ◌∷◌, drop, if◌then◌else◌, Option, Some, None}
+use Rattle.flash_model.specs.Calls.{Call}
+use Rattle.device_abi.specs.declared.recorded.flash.RecordedFlash.{RecordedFlash}
+use Rattle.device_abi.specs.recorded.Entry.{call_of}
+use Rattle.device_core.specs.State as device
+use Rattle.device_abi.specs.declared.port.device.Work.{Work}
+use Rattle.device_abi.specs.declared.port.device.Work.TheVariants.{Nothing, Carry, Send}
+use Rattle.device_abi.specs.declared.port.refusal.Refusal.{Refusal}
+use Rattle.device_abi.specs.declared.port.refusal.Refusal.TheVariants as refusal
+use Rattle.device_abi.specs.declared.port.stage.Stage.{Stage}
+use Rattle.device_abi.specs.declared.port.stage.Stage.TheVariants.{Made, Booted, Lost}
+
+-- The device, how far it came, and the work of its last step that the host has not taken yet: calls of the flash, and frames.
+pub record State : Type 0 where
+  pub device : device.State (RecordedFlash 4096)
+  pub stage : Stage
+  pub calls : List Call
+  pub frames : List (List ℕ)
+
+-- all work is taken
+abbrev pub IsIdle : State → Type 0
+IsIdle port = (port.calls ≡ []) × (port.frames ≡ [])
+
+-- Nothing is stored before a start, no commit fails behind it, and only a port that started has work.
+abbrev pub IsSteady : Stage → Bool → List Call → List (List ℕ) → Type 0
+IsSteady Made has_failed calls frames = (has_failed ≡ true) × (calls ≡ []) × (frames ≡ [])
+IsSteady Booted has_failed calls frames = has_failed ≡ false
+IsSteady Lost has_failed calls frames = (calls ≡ []) × (frames ≡ [])
+
+-- why a port tells nothing: it did not start, or power was lost
+abbrev pub closed : Stage → Option Refusal
+closed Made = Some refusal.NotBooted
+closed Booted = None
+closed Lost = Some refusal.PowerLost
+
+-- why it may not be started: it was, or power was lost
+abbrev pub past_start : Stage → Option Refusal
+past_start Made = None
+past_start Booted = Some refusal.IsBooted
+past_start Lost = Some refusal.PowerLost
+
+-- whether work is left
+abbrev pub has_work : List Call → List (List ℕ) → Bool
+has_work [] [] = false
+has_work [] (frame ∷ frames) = true
+has_work (call ∷ calls) frames = true
+
+-- why it takes no event: it is closed, or work of the step before is left
+abbrev pub barred_by : Stage → Bool → Option Refusal
+barred_by Made is_left = Some refusal.NotBooted
+barred_by Booted is_left = if is_left then Some refusal.HasWork else None
+barred_by Lost is_left = Some refusal.PowerLost
+
+abbrev pub barred : State → Option Refusal
+barred port = barred_by port.stage (has_work port.calls port.frames)
+
+-- The next piece of work: a call of the flash where one is left, a frame only where none is, and nothing where no work is left.
+abbrev pub IsNext : State → Work → Type 0
+IsNext port Nothing = IsIdle port
+IsNext port (Carry call) = (rest : List Call) × (port.calls ≡ call_of call.now ∷ rest)
+IsNext port (Send frame) = (port.calls ≡ []) × ((rest : List (List ℕ)) × (port.frames ≡ frame.now.items ∷ rest))
+
+-- the first piece of work is taken
+abbrev pub advanced_by : State → List Call → State
+advanced_by port [] = record port { frames = drop 1 port.frames }
+advanced_by port (call ∷ calls) = record port { calls = calls }
+
+abbrev pub advanced : State → State
+advanced port = advanced_by port port.calls
+
+-- power is lost, and with it the work that was left
+abbrev pub lost : State → State
+lost port = record port { stage = Lost; calls = []; frames = [] }
+
+-- why no output is told: the port is closed, or nothing with an output is plugged there
+abbrev pub IsUntold : Option Refusal → Option (List ℕ) → Refusal → Type 0
+IsUntold (Some why) value refused = refused ≡ why
+IsUntold None value refused = (value ≡ None) × (refused ≡ refusal.NoSlot)

@@ -1,0 +1,8 @@
+-- The call that an entry of a record stands for.
+use Rattle.flash_model.specs.Calls.{Call, Programs, Erases}
+use Rattle.device_abi.specs.declared.recorded.entry.Recorded.{Recorded}
+use Rattle.device_abi.specs.declared.recorded.entry.Recorded.TheVariants.{Program, Erase}
+
+abbrev pub call_of : Recorded → Call
+call_of (Program sector place bytes) = Programs sector place bytes.items
+call_of (Erase sector) = Erases sector

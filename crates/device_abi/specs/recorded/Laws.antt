@@ -1,0 +1,51 @@
+-- The laws of the trait at a recorded flash.
+use Rattle.std.specs.Prelude.{◌≡◌, ℕ, Bool, false, List, [], ◌∷◌, ◌++◌, refl}
+use Rattle.std.proofs.Common.{ap, sym, ◌∙◌}
+use Rattle.flash_model.specs.Calls.{Call}
+use Rattle.flash_model.specs.Image.{IsImage, IsSectorSize}
+use Rattle.flash_model.specs.Memory as memory
+use Rattle.settings_journal.specs.Cut.{AreWrites}
+use Rattle.device_abi.specs.recorded.Record.{Record, image_of, record_of, after_one, after_all, IsAsked}
+use Rattle.device_abi.specs.declared.recorded.flash.RecordedFlash.{RecordedFlash}
+
+-- no call fails, and power is never lost
+abbrev pub failures_of : {S : ℕ} → RecordedFlash S → ℕ
+failures_of flash = memory.failures_of flash.memory
+
+abbrev pub has_power : {S : ℕ} → RecordedFlash S → Bool
+has_power flash = false
+
+abbrev pub IsAlways : {S : ℕ} → RecordedFlash S → Type 0
+IsAlways flash = Unit {0}
+
+-- both sectors have the size that the type names, and bytes in them
+pub IsImage-of : {S : ℕ} (flash : RecordedFlash S) → IsImage S (image_of flash)
+IsImage-of flash = flash.memory.sized
+
+-- that size has room for the base and for whole slots
+pub IsSectorSize-of : {S : ℕ} (flash : RecordedFlash S) → IsSectorSize S
+IsSectorSize-of flash = flash.memory.sector_size
+
+pub has_power-of : {S : ℕ} (flash : RecordedFlash S) → IsAlways flash → has_power flash ≡ false
+has_power-of flash reliable = refl
+
+-- without a call nothing changes
+pub asked_nothing-of : {S : ℕ} (flash : RecordedFlash S) → IsAsked flash [] flash
+asked_nothing-of flash none = refl
+
+-- some calls, and then more
+pub after_all-append : (before : Record) (front back : List Call) → after_all before (front ++ back) ≡ after_all (after_all before front) back
+after_all-append before [] back = refl
+after_all-append before (call ∷ front) back = after_all-append (after_one before call) front back
+
+pub front_recorded : (front back : List Call) → AreWrites (front ++ back) → AreWrites front
+front_recorded [] back are = tt
+front_recorded (call ∷ front) back are = (are.0, front_recorded front back are.1)
+
+pub back_recorded : (front back : List Call) → AreWrites (front ++ back) → AreWrites back
+back_recorded [] back are = are
+back_recorded (call ∷ front) back are = back_recorded front back are.1
+
+pub asked_more-of : {S : ℕ} (old between new : RecordedFlash S) (front back : List Call) → IsAsked old front between → IsAsked between back new → IsAsked old (front ++ back) new
+asked_more-of old between new front back first second are =
+    second (back_recorded front back are) ∙ ap (λ r. after_all r back) (first (front_recorded front back are)) ∙ sym (after_all-append (record_of old) front back)

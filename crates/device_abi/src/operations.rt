@@ -1,0 +1,8 @@
+//! What a host asks of a port: one operation with its number, and a station, as it lies in the host's memory.
+
+mod operation;
+mod serving;
+mod station;
+
+pub use serving::serve;
+pub use station::{Station, judge, port_of};

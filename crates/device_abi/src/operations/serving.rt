@@ -1,0 +1,376 @@
+//! One operation of the host.
+ghost use Rattle.std.specs.Prelude.{◌≡◌, ◌≤◌, Some, slice_get, take};
+ghost use Rattle.device_frames.specs.declared.event.Event.TheVariants.{Frame as Framed};
+ghost use Rattle.device_abi.specs.recorded.Entry.{call_of};
+ghost use Rattle.relations.specs.Link.{phase_of, taken_of};
+ghost use Rattle.device_abi.specs.port.State.{closed};
+ghost use Rattle.c_layout.specs.Places.{place_in};
+ghost use Rattle.c_layout.specs.Told.{with_octets};
+ghost use Rattle.device_abi.specs.operations.Serves.{IsAlarm, IsBoot, IsCall, IsEvent, IsInput, IsLeft, IsLoss, IsNextOf, IsOutput, IsPiece};
+ghost use Rattle.device_abi.specs.operations.Serves.{IsRecordAt, IsRecordOf, IsSector, IsSettings, IsState, IsTick, IsValueOf, Serves, answer_of};
+ghost use Rattle.device_abi.specs.operations.Serves.{noted as is_noted, operation_of as operation_in, passed as is_passed, phase_number};
+ghost use Rattle.device_abi.specs.operations.Serves.{sector_number as number_of, sector_of, settings_octets, value_of};
+
+use crate::operations::operation::{Operation, operation_of};
+use crate::{Port, Recorded, Refusal, Work};
+use c_layout::{Op, place_of, put, put_more};
+use device_core::Note;
+use flash_model::Sector;
+use pn_values::Settings;
+use records::TakenRecord;
+use relations::Phase;
+
+/// What an operation is answered with that is none.
+const UNKNOWN: u32 = 10;
+
+/// What is answered where nothing can be plugged.
+const NO_SLOT: u32 = 9;
+
+/// What is answered of a sector that there is not.
+const NO_SECTOR: u32 = 8;
+
+/// What is answered where no record has this number.
+const NO_RECORD: u32 = 15;
+
+/// Carries one operation out, with the octets that are given. The answer is 0, or why nothing changed.
+pub fn serve(port: &mut Port, op: &mut Op, given: &[u8]) -> u32
+    ensures { Serves (operation_in op.old.what) port.old op.old given.now result port.new op.new }
+{
+    match operation_of(op.what) {
+        Some(operation) => perform(operation, port, op, given),
+        None => UNKNOWN,
+    }
+}
+
+// Carries out what is an operation.
+fn perform(operation: Operation, port: &mut Port, op: &mut Op, given: &[u8]) -> u32
+    ensures { Serves (Some operation) port.old op.old given.now result port.new op.new }
+{
+    match operation {
+        Operation::Sector => fill(port, op, given),
+        Operation::Boot => boot(port),
+        Operation::Frame => frame(port, op, given),
+        Operation::Tick => tick(port, op),
+        Operation::Input => input(port, op, given),
+        Operation::Alarm => alarm(port, op, given),
+        Operation::Next => next(port, op),
+        Operation::Output => output(port, op),
+        Operation::State => state(port, op),
+        Operation::Running => running(port, op),
+        Operation::Stored => stored(port, op),
+        Operation::Lose => lose(port),
+        Operation::Record => tell_taken(port, op),
+        Operation::Left => left(port, op),
+    }
+}
+
+// ---- a start
+
+// The octets of a sector of the chip, in front of a start.
+fn fill(port: &mut Port, op: &Op, given: &[u8]) -> u32
+    ensures { IsSector (sector_of op.now.sector) port.old given.now result port.new }
+{
+    match sector_at(op.sector) {
+        Some(sector) => done(port.fill(sector, given)),
+        None => NO_SECTOR,
+    }
+}
+
+// The sector of a number.
+fn sector_at(number: u32) -> Option<Sector>
+    ensures { result ≡ sector_of number }
+{
+    match number {
+        0 => Some(Sector::First),
+        1 => Some(Sector::Second),
+        _ => None,
+    }
+}
+
+// A start.
+#[inline(never)]
+fn boot(port: &mut Port) -> u32
+    ensures { IsBoot port.old result port.new }
+{
+    done(port.boot())
+}
+
+// The answer to what was done, or refused.
+fn done(outcome: Result<(), Refusal>) -> u32
+    ensures { result ≡ answer_of outcome }
+{
+    match outcome {
+        Ok(()) => 0,
+        Err(refusal) => refusal.number(),
+    }
+}
+
+// ---- events
+
+fn frame(port: &mut Port, op: &mut Op, given: &[u8]) -> u32
+    ensures { IsEvent port.old (Framed (record { items = take 1519 given.now })) op.old result port.new op.new }
+{
+    noted(port.frame(given), op)
+}
+
+fn input(port: &mut Port, op: &mut Op, given: &[u8]) -> u32
+    ensures { IsInput (place_in op.old.slot op.old.subslot) port.old given.now op.old result port.new op.new }
+{
+    match place_of(op) {
+        Some(place) => noted(port.input(place.0, place.1, given), op),
+        None => NO_SLOT,
+    }
+}
+
+fn alarm(port: &mut Port, op: &mut Op, given: &[u8]) -> u32
+    ensures { IsAlarm (place_in op.old.slot op.old.subslot) port.old given.now op.old result port.new op.new }
+{
+    match place_of(op) {
+        Some(place) => noted(port.alarm(place.0, place.1, given), op),
+        None => NO_SLOT,
+    }
+}
+
+// What became of an event, or why it was refused.
+fn noted(outcome: Result<Note, Refusal>, op: &mut Op) -> u32
+    ensures answer { result ≡ answer_of outcome }
+    ensures told { op.new ≡ is_noted outcome op.old }
+{
+    match outcome {
+        Ok(note) => {
+            op.note = u32::from(note.number());
+            0
+        }
+        Err(refusal) => refusal.number(),
+    }
+}
+
+fn tick(port: &mut Port, op: &mut Op) -> u32
+    ensures { IsTick port.old op.old result port.new op.new }
+{
+    let units = op.units;
+    passed(port.tick(units), op)
+}
+
+// How many units are left, or why none went by.
+fn passed(outcome: Result<u32, Refusal>, op: &mut Op) -> u32
+    ensures answer { result ≡ answer_of outcome }
+    ensures told { op.new ≡ is_passed outcome op.old }
+{
+    match outcome {
+        Ok(left) => {
+            op.units = left;
+            op.note = 0;
+            0
+        }
+        Err(refusal) => refusal.number(),
+    }
+}
+
+// Power is lost on the host's side.
+fn lose(port: &mut Port) -> u32
+    ensures { IsLoss port.old result port.new }
+{
+    done(port.lose())
+}
+
+// ---- work
+
+// The next piece of work, which is taken with that.
+fn next(port: &mut Port, op: &mut Op) -> u32
+    ensures { IsNextOf (closed port.old.stage) port.old op.old result port.new op.new }
+{
+    match port.work() {
+        Ok(work) => {
+            tell(work, op);
+            port.advance();
+            0
+        }
+        Err(refusal) => refusal.number(),
+    }
+}
+
+// What a piece of work is.
+fn tell(work: Work<'_>, op: &mut Op)
+    ensures { IsPiece work.entry op.old op.new }
+{
+    match work {
+        Work::Carry(call) => tell_call(call, op),
+        Work::Send(frame) => {
+            op.work = 3;
+            put(op, frame.as_slice());
+        }
+        Work::Nothing => {
+            op.work = 0;
+            op.length = 0;
+        }
+    }
+}
+
+// A call of the flash.
+fn tell_call(call: &Recorded, op: &mut Op)
+    ensures { IsCall (call_of call.now) op.old op.new }
+{
+    match call {
+        Recorded::Program {
+            sector,
+            place,
+            bytes,
+        } => {
+            op.work = 1;
+            op.sector = sector_number(*sector);
+            op.place = *place;
+            put(op, bytes.as_slice());
+        }
+        Recorded::Erase { sector } => {
+            op.work = 2;
+            op.sector = sector_number(*sector);
+            op.length = 0;
+        }
+    }
+}
+
+fn sector_number(sector: Sector) -> u32
+    ensures { result ≡ number_of sector }
+{
+    match sector {
+        Sector::First => 0,
+        Sector::Second => 1,
+    }
+}
+
+// ---- what is told
+
+fn output(port: &Port, op: &mut Op) -> u32
+    ensures { IsOutput (place_in op.old.slot op.old.subslot) port.now op.old result op.new }
+{
+    match place_of(op) {
+        Some(place) => tell_output(port, place.0, place.1, op),
+        None => NO_SLOT,
+    }
+}
+
+// The output of a submodule, or why there is none.
+fn tell_output(port: &Port, slot: u16, subslot: u16, op: &mut Op) -> u32
+    ensures { IsValueOf (closed port.now.stage) (value_of port.now slot subslot) op.old result op.new }
+{
+    match port.output(slot, subslot) {
+        Ok(value) => {
+            put(op, value);
+            0
+        }
+        Err(refusal) => refusal.number(),
+    }
+}
+
+fn state(port: &Port, op: &mut Op) -> u32
+    ensures { IsState (closed port.now.stage) port.now op.old result op.new }
+{
+    match port.phase() {
+        Ok(phase) => tell_state(phase, port, op),
+        Err(refusal) => refusal.number(),
+    }
+}
+
+// The phase, and for how many units the lamp still flashes.
+fn tell_state(phase: Option<Phase>, port: &Port, op: &mut Op) -> u32
+    requires { phase ≡ phase_of port.now.device.live.rest.link }
+    ensures { IsState (closed port.now.stage) port.now op.old result op.new }
+{
+    match port.lamp() {
+        Ok(lamp) => {
+            op.phase = number_of_phase(phase);
+            op.units = lamp;
+            0
+        }
+        Err(refusal) => refusal.number(),
+    }
+}
+
+fn number_of_phase(phase: Option<Phase>) -> u32
+    ensures { result ≡ phase_number phase }
+{
+    match phase {
+        None => 0,
+        Some(Phase::Started) => 1,
+        Some(Phase::Awaiting) => 2,
+        Some(Phase::Exchanging) => 3,
+    }
+}
+
+fn running(port: &Port, op: &mut Op) -> u32
+    ensures { IsSettings (closed port.now.stage) port.now.device.live.values.running op.old result op.new }
+{
+    match port.running() {
+        Ok(settings) => {
+            put_settings(settings, op);
+            0
+        }
+        Err(refusal) => refusal.number(),
+    }
+}
+
+fn stored(port: &Port, op: &mut Op) -> u32
+    ensures { IsSettings (closed port.now.stage) port.now.device.live.values.stored op.old result op.new }
+{
+    match port.stored() {
+        Ok(settings) => {
+            put_settings(settings, op);
+            0
+        }
+        Err(refusal) => refusal.number(),
+    }
+}
+
+// Settings: address, mask and gateway, the I&M texts, and the name.
+fn put_settings(settings: &Settings, op: &mut Op)
+    ensures { op.new ≡ with_octets (settings_octets settings.now) op.old }
+{
+    put(op, &settings.suite.address());
+    put_more(op, &settings.suite.mask());
+    put_more(op, &settings.suite.gateway());
+    put_more(op, settings.im1.as_bytes());
+    put_more(op, settings.im2.as_bytes());
+    put_more(op, settings.im3.as_bytes());
+    put_more(op, settings.im4.as_bytes());
+    put_more(op, settings.name.as_bytes());
+}
+
+// How many commits the flash still takes.
+fn left(port: &Port, op: &mut Op) -> u32
+    ensures { IsLeft (closed port.now.stage) port.now.device.live.values.room op.old result op.new }
+{
+    match port.left() {
+        Ok(left) => {
+            op.place = left;
+            0
+        }
+        Err(refusal) => refusal.number(),
+    }
+}
+
+// A parameter record that the relation took, by its number.
+fn tell_taken(port: &Port, op: &mut Op) -> u32
+    ensures { IsRecordOf (closed port.now.stage) (slice_get (taken_of port.now.device.live.rest.link) op.old.place) op.old result op.new }
+{
+    match port.taken() {
+        Ok(records) => tell_record(records, op),
+        Err(refusal) => refusal.number(),
+    }
+}
+
+// One of these records.
+fn tell_record(records: &[TakenRecord], op: &mut Op) -> u32
+    ensures { IsRecordAt (slice_get records.now op.old.place) op.old result op.new }
+{
+    match records.get(op.place as usize) {
+        Some(entry) => {
+            op.slot = u32::from(entry.slot);
+            op.subslot = u32::from(entry.subslot);
+            op.place = u32::from(entry.index);
+            put(op, entry.value.as_slice());
+            0
+        }
+        None => NO_RECORD,
+    }
+}

@@ -1,0 +1,113 @@
+//! What a device is, as it lies in the memory of the host.
+ghost use Rattle.std.specs.Prelude.{◌≡◌, ◌≤◌, true};
+ghost use Rattle.std.specs.List.{list_all};
+ghost use Rattle.c_layout.specs.Modules.{is_module};
+ghost use Rattle.device_abi.specs.operations.Made.{IsMade, why_not_made};
+ghost use Rattle.device_abi.specs.operations.Stations.{identity_of, is_station as is_written, modules_in, real_of};
+
+use crate::Port;
+use arrayvec::ArrayVec;
+use c_layout::{Module, are_modules, modules};
+use pn_values::{Identity, Mac, Real};
+
+/// The version of the header.
+const ABI: u32 = 1;
+
+/// Octets of a room.
+const ROOM: usize = 81920;
+
+/// Octets of an operation.
+const OP_SIZE: usize = 1560;
+
+/// What a device is from the factory on, and the modules that are plugged in it, at most 16.
+#[repr(C)]
+#[derive(Drop)]
+pub struct Station {
+    pub mac: [u8; 6],
+    pub vendor_id: u16,
+    pub device_id: u16,
+    pub instance: u16,
+    pub hardware_revision: u16,
+    pub profile_id: u16,
+    pub profile_specific_type: u16,
+    pub station_type_length: u16,
+    pub station_type: [u8; 28],
+    pub order_id: [u8; 20],
+    pub serial_number: [u8; 16],
+    pub software_revision: [u8; 4],
+    pub module_count: u32,
+    pub modules: [Module; 16],
+}
+
+/// Why no device is made of this station, or 0: another version or size of an operation than the library's, a room that is too
+/// small, or a list of the station that is too long.
+pub fn judge(size: usize, abi: u32, op_size: usize, station: &Station) -> u32
+    ensures { result ≡ why_not_made size abi op_size station.now }
+{
+    if abi != ABI || op_size != OP_SIZE {
+        return 2;
+    }
+    if size < ROOM {
+        return 3;
+    }
+    if !is_station(station) {
+        return 4;
+    }
+    0
+}
+
+/// A port of this station that did not start.
+#[inline(always)]
+pub fn port_of(station: &Station) -> Port
+    requires { is_written station.now ≡ true }
+    ensures { IsMade station.now result }
+{
+    Port::new(identity_in(station), real_in(station))
+}
+
+// Whether no count of a station is more than its list holds.
+fn is_station(station: &Station) -> bool
+    ensures { result ≡ is_written station.now }
+{
+    station.station_type_length <= 25
+        && station.module_count <= 16
+        && are_modules(&station.modules[..station.module_count as usize])
+}
+
+// The identity of a device.
+fn identity_in(station: &Station) -> Identity
+    requires { station.now.station_type_length ≤ 25 }
+    ensures { result ≡ identity_of station.now }
+{
+    let mut station_type = ArrayVec::new();
+    let _ = station_type.try_extend_from_slice(
+        &station.station_type[..station.station_type_length as usize],
+    );
+    Identity {
+        mac: Mac {
+            octets: station.mac,
+        },
+        station_type,
+        vendor_id: station.vendor_id,
+        device_id: station.device_id,
+        instance: station.instance,
+        order_id: station.order_id,
+        serial_number: station.serial_number,
+        hardware_revision: station.hardware_revision,
+        software_revision: station.software_revision,
+        profile_id: station.profile_id,
+        profile_specific_type: station.profile_specific_type,
+    }
+}
+
+// What is plugged in.
+#[inline(never)]
+fn real_in(station: &Station) -> Real
+    requires few { station.now.module_count ≤ 16 }
+    requires small { list_all is_module (modules_in station.now) ≡ true }
+    ensures { result ≡ real_of station.now }
+{
+    Real {
+        modules: modules(&station.modules[..station.module_count as usize]),
+    }
+}

@@ -1,0 +1,453 @@
+//! A device, and the work of its last step that the host has not taken yet.
+ghost use Rattle.std.specs.Prelude.{◌≡◌, ◌+◌, ◌-◌, ◌<◌, ◌≤◌, ◌%◌, ◌^◌, None, Some, IfOk, MatchResult, ℕ, length, take};
+ghost use Rattle.flash_model.specs.Image.{erased};
+ghost use Rattle.device_abi.specs.recorded.Record.{image_of, record_of};
+ghost use Rattle.device_frames.specs.declared.event.Event.TheVariants.{Alarm, Frame as Framed, Input};
+ghost use Rattle.relations.specs.Exchanged.{output_in};
+ghost use Rattle.relations.specs.Link.{phase_of, taken_of};
+ghost use Rattle.relations.specs.Outputs.{output_of};
+ghost use Rattle.device_abi.specs.port.State.{IsIdle, IsNext, IsUntold, advanced, barred, closed, has_work as is_left, lost};
+ghost use Rattle.device_abi.specs.port.State.{past_start as too_late};
+ghost use Rattle.device_abi.specs.port.Steps.{Answers, KnowsOrNot, Passes, PassesOrNot, StartsOrNot, Takes};
+ghost use Rattle.frame_codec.specs.Outbox.{boxed};
+
+use crate::port::{Refusal, Stage};
+use crate::{Recorded, RecordedFlash, step};
+use device_core::{Device, Event, Note};
+use flash_model::Sector;
+use frame_codec::{Bytes, Frame, Outbox};
+use pn_values::{Identity, Real, Settings};
+use records::TakenRecord;
+use relations::Phase;
+use settings_journal::Fill;
+use std::marker::Model;
+
+/// Octets of each of both sectors.
+pub const SECTOR_SIZE: usize = 4096;
+
+/// A device, and the work of its last step that the host has not taken yet: calls of the flash, then frames.
+///
+/// It is made, given what both sectors of the chip hold, and booted. Then events go in, one at a time, and behind each the
+/// host takes all work: it carries each call of the flash out, durably, before the next one, and all of them before it sends the
+/// first frame. A call that fails on its side is power that is lost.
+#[derive(Drop)]
+pub struct Port {
+    device: Device<RecordedFlash<4096>, 4096>,
+    outbox: Outbox,
+    stage: Stage,
+    /// How many of the calls that the flash keeps are behind the host.
+    calls_past: usize,
+    /// How many of the frames in the box are behind it.
+    frames_past: usize,
+}
+
+impl Model for Port {
+    ghost use Rattle.std.specs.Prelude.{◌≤◌, length, drop};
+    ghost use Rattle.frame_codec.specs.Outbox.{boxed};
+    ghost use Rattle.device_abi.specs.recorded.Record.{record_of};
+    ghost use Rattle.device_abi.specs.port.State.{State, IsSteady};
+
+    ghost Value = { State };
+
+    ghost view = { λ port. record {
+      device = port.device;
+      stage = port.stage;
+      calls = drop port.calls_past (record_of port.device.flash).recent;
+      frames = drop port.frames_past (boxed port.outbox);
+    } };
+
+    ghost invariant = { λ port. (port.calls_past ≤ length (record_of port.device.flash).recent)
+        × (port.frames_past ≤ length port.outbox.items)
+        × IsSteady port.stage port.device.live.values.has_failed (drop port.calls_past (record_of port.device.flash).recent)
+        (drop port.frames_past (boxed port.outbox)) };
+}
+
+/// A piece of work.
+#[derive(Drop)]
+pub enum Work<'a> {
+    /// All is taken.
+    Nothing,
+    /// A call of the flash.
+    Carry(&'a Recorded),
+    /// A frame to be sent.
+    Send(&'a Frame),
+}
+
+// The octets of a sector of the chip.
+#[derive(Drop)]
+struct Chip<'a> {
+    sector: Sector,
+    octets: &'a [u8],
+}
+
+impl Fill<RecordedFlash<4096>> for Chip<'_> {
+    ghost use Rattle.std.specs.Prelude.{◌≡◌, length};
+    ghost use Rattle.device_abi.specs.recorded.Record.{record_of, filled};
+
+    ghost post = { λ chip old new. length chip.octets.now ≡ 4096 →
+        record_of new ≡ filled 4096 (record_of old) chip.sector chip.octets.now };
+
+    fn fill(&self, flash: &mut RecordedFlash<4096>) {
+        flash.put_sector(self.sector, self.octets);
+    }
+}
+
+impl Port {
+    /// A device that did not start, over a chip of which nothing is known yet.
+    #[inline(always)]
+    pub fn new(identity: Identity, real: Real) -> Port
+        ensures station { result.device.station ≡ record { identity = identity; real = real } }
+        ensures stage { result.stage ≡ Stage.Made }
+        ensures idle { IsIdle result }
+        ensures chip { image_of result.device.flash ≡ record { first = erased 4096; second = erased 4096 } }
+    {
+        Port {
+            device: Device::unstarted(identity, real, RecordedFlash::blank()),
+            outbox: Outbox::new(),
+            stage: Stage::Made,
+            calls_past: 0,
+            frames_past: 0,
+        }
+    }
+
+    /// How far it came.
+    pub fn stage(&self) -> Stage
+        ensures { result ≡ self.now.stage }
+    {
+        self.stage
+    }
+
+    /// Whether work of the last step is left.
+    pub fn has_work(&self) -> bool
+        ensures { result ≡ is_left self.now.calls self.now.frames }
+    {
+        self.calls_past < self.device.flash().recent().len() || self.frames_past < self.outbox.len()
+    }
+
+    // ---- a start
+
+    /// Takes the octets of a sector of the chip, before a start: 4,096 of them.
+    pub fn fill(&mut self, sector: Sector, octets: &[u8]) -> Result<(), Refusal>
+        ensures { KnowsOrNot self.old sector octets.now result self.new }
+    {
+        if let Some(late) = past_start(self.stage) {
+            return Err(late);
+        }
+        if octets.len() != SECTOR_SIZE {
+            return Err(Refusal::BadLength);
+        }
+        self.device.fill(&Chip { sector, octets });
+        Ok(())
+    }
+
+    /// Starts from what the chip holds, and writes nothing.
+    pub fn boot(&mut self) -> Result<(), Refusal>
+        ensures { StartsOrNot self.old result self.new }
+    {
+        match past_start(self.stage) {
+            Some(late) => Err(late),
+            None => self.start(),
+        }
+    }
+
+    // Starts a port that was only made.
+    fn start(&mut self) -> Result<(), Refusal>
+        requires { too_late self.old.stage ≡ None }
+        ensures { StartsOrNot self.old result self.new }
+    {
+        match self.device.load() {
+            Ok(()) => {
+                self.stage = Stage::Booted;
+                Ok(())
+            }
+            Err(_) => Err(Refusal::Foreign),
+        }
+    }
+
+    // ---- events
+
+    /// A frame came in: its octets from the destination address on. Of one that is longer than any frame the first 1,519 are read.
+    #[inline(never)]
+    pub fn frame(&mut self, octets: &[u8]) -> Result<Note, Refusal>
+        ensures { Answers self.old (Framed (record { items = take 1519 octets.now })) result self.new }
+    {
+        self.offer(&Event::Frame(first_of(octets)))
+    }
+
+    /// The application gives the input of a submodule.
+    #[inline(never)]
+    pub fn input(&mut self, slot: u16, subslot: u16, octets: &[u8]) -> Result<Note, Refusal>
+        ensures { Answers self.old (Input slot subslot (record { items = take 1519 octets.now })) result self.new }
+    {
+        self.offer(&Event::Input(slot, subslot, first_of(octets)))
+    }
+
+    /// The application raises an alarm of a submodule.
+    #[inline(never)]
+    pub fn alarm(&mut self, slot: u16, subslot: u16, octets: &[u8]) -> Result<Note, Refusal>
+        ensures { Answers self.old (Alarm slot subslot (record { items = take 1519 octets.now })) result self.new }
+    {
+        self.offer(&Event::Alarm(slot, subslot, first_of(octets)))
+    }
+
+    /// Lets units of time go by, up to the first that sends something. How many are left is the answer.
+    pub fn tick(&mut self, units: u32) -> Result<u32, Refusal>
+        ensures { PassesOrNot self.old units result self.new }
+    {
+        match self.barred() {
+            Some(refusal) => Err(refusal),
+            None => Ok(self.pass(units)),
+        }
+    }
+
+    /// A call of the flash failed on the side of the host, which counts as power that is lost. The work that is left is
+    /// dropped, and nothing is handed out any more.
+    pub fn lose(&mut self) -> Result<(), Refusal>
+        ensures { MatchResult result (λ _. (closed self.old.stage ≡ None)
+            × (self.new ≡ lost self.old)) (λ refusal. (closed self.old.stage ≡ Some refusal) × (self.new ≡ self.old)) }
+    {
+        if let Some(refusal) = why_closed(self.stage) {
+            return Err(refusal);
+        }
+        self.calls_past = self.device.flash().recent().len();
+        self.frames_past = self.outbox.len();
+        self.stage = Stage::Lost;
+        Ok(())
+    }
+
+    // ---- work
+
+    /// The next piece of work: the calls of the flash in their order, and behind the last of them the frames.
+    pub fn work(&self) -> Result<Work<'_>, Refusal>
+        ensures { MatchResult result (λ work. (closed self.now.stage ≡ None)
+            × IsNext self.now work) (λ refusal. closed self.now.stage ≡ Some refusal) }
+    {
+        match why_closed(self.stage) {
+            Some(refusal) => Err(refusal),
+            None => Ok(self.next()),
+        }
+    }
+
+    // The piece of work that is next.
+    fn next(&self) -> Work<'_>
+        ensures { IsNext self.now result }
+    {
+        let recent = self.device.flash().recent();
+        if self.calls_past < recent.len() {
+            return Work::Carry(&recent[self.calls_past]);
+        }
+        if self.frames_past < self.outbox.len() {
+            return Work::Send(&self.outbox.as_slice()[self.frames_past]);
+        }
+        Work::Nothing
+    }
+
+    /// That piece is taken.
+    pub fn advance(&mut self)
+        ensures { self.new ≡ advanced self.old }
+    {
+        if self.calls_past < self.device.flash().recent().len() {
+            self.calls_past += 1;
+        } else if self.frames_past < self.outbox.len() {
+            self.frames_past += 1;
+        }
+    }
+
+    // ---- what it tells
+
+    /// The settings that run.
+    pub fn running(&self) -> Result<&Settings, Refusal>
+        ensures { MatchResult result (λ settings. (closed self.now.stage ≡ None)
+            × (settings.now ≡ self.now.device.live.values.running)) (λ refusal. closed self.now.stage ≡ Some refusal) }
+    {
+        match why_closed(self.stage) {
+            Some(refusal) => Err(refusal),
+            None => Ok(self.device.running()),
+        }
+    }
+
+    /// The settings that a restart finds, once all work is taken and carried out.
+    pub fn stored(&self) -> Result<&Settings, Refusal>
+        ensures { MatchResult result (λ settings. (closed self.now.stage ≡ None)
+            × (settings.now ≡ self.now.device.live.values.stored)) (λ refusal. closed self.now.stage ≡ Some refusal) }
+    {
+        match why_closed(self.stage) {
+            Some(refusal) => Err(refusal),
+            None => Ok(self.device.stored()),
+        }
+    }
+
+    /// How many commits are left, once all work is taken and carried out: that many further ones are accepted. 0 is a chip that
+    /// keeps nothing more.
+    pub fn left(&self) -> Result<u32, Refusal>
+        ensures { MatchResult result (λ left. (closed self.now.stage ≡ None)
+            × (left ≡ self.now.device.live.values.room)) (λ refusal. closed self.now.stage ≡ Some refusal) }
+    {
+        match why_closed(self.stage) {
+            Some(refusal) => Err(refusal),
+            None => Ok(self.device.left()),
+        }
+    }
+
+    /// What the application relation waits for, if there is one.
+    pub fn phase(&self) -> Result<Option<Phase>, Refusal>
+        ensures { MatchResult result (λ phase. (closed self.now.stage ≡ None)
+            × (phase ≡ phase_of self.now.device.live.rest.link)) (λ refusal. closed self.now.stage ≡ Some refusal) }
+    {
+        match why_closed(self.stage) {
+            Some(refusal) => Err(refusal),
+            None => Ok(self.device.phase()),
+        }
+    }
+
+    /// For how many units the lamp still flashes.
+    pub fn lamp(&self) -> Result<u32, Refusal>
+        ensures { MatchResult result (λ lamp. (closed self.now.stage ≡ None)
+            × (lamp ≡ self.now.device.live.rest.lamp)) (λ refusal. closed self.now.stage ≡ Some refusal) }
+    {
+        match why_closed(self.stage) {
+            Some(refusal) => Err(refusal),
+            None => Ok(self.device.lamp()),
+        }
+    }
+
+    /// The parameter records that the relation took, in their order.
+    pub fn taken(&self) -> Result<&[TakenRecord], Refusal>
+        ensures { MatchResult result (λ taken. (closed self.now.stage ≡ None)
+            × (taken.now ≡ taken_of self.now.device.live.rest.link)) (λ refusal. closed self.now.stage ≡ Some refusal) }
+    {
+        match why_closed(self.stage) {
+            Some(refusal) => Err(refusal),
+            None => Ok(self.device.taken()),
+        }
+    }
+
+    /// The output of a submodule: NoSlot where nothing with an output is plugged.
+    pub fn output(&self, slot: u16, subslot: u16) -> Result<&[u8], Refusal>
+        ensures value { let value = output_of self.now.device.station.real slot subslot
+            (output_in slot subslot self.now.device.live.rest.link) in
+            MatchResult result (λ told. (closed self.now.stage ≡ None)
+            × (value ≡ Some told.now)) (λ refusal. IsUntold (closed self.now.stage) value refusal) }
+        ensures short { IfOk result (λ value. length value.now ≤ 1440) }
+    {
+        if let Some(refusal) = why_closed(self.stage) {
+            return Err(refusal);
+        }
+        match self.device.output(slot, subslot) {
+            Some(value) => Ok(value),
+            None => Err(Refusal::NoSlot),
+        }
+    }
+
+    // ---- one step
+
+    // Why no event is taken now.
+    fn barred(&self) -> Option<Refusal>
+        ensures { result ≡ barred self.now }
+    {
+        match self.stage {
+            Stage::Made => Some(Refusal::NotBooted),
+            Stage::Lost => Some(Refusal::PowerLost),
+            Stage::Booted if self.has_work() => Some(Refusal::HasWork),
+            Stage::Booted => None,
+        }
+    }
+
+    // Takes an event, where none is barred.
+    pub(crate) fn offer(&mut self, event: &Event) -> Result<Note, Refusal>
+        ensures { Answers self.old event.now result self.new }
+    {
+        match self.barred() {
+            Some(refusal) => Err(refusal),
+            None => Ok(self.take(event)),
+        }
+    }
+
+    // Takes an event. All work of the step before is taken.
+    fn take(&mut self, event: &Event) -> Note
+        requires { barred self.old ≡ None }
+        ensures { Takes self.old event.now result self.new }
+    {
+        let before = counted(self.device.flash());
+        let note = step(&mut self.device, event, &mut self.outbox);
+        self.calls_past = older(before, self.device.flash());
+        self.frames_past = 0;
+        note
+    }
+
+    // Lets units of time go by, up to the first that sends something. How many are left is the result.
+    fn pass(&mut self, units: u32) -> u32
+        requires { barred self.old ≡ None }
+        ensures { Passes self.old units result self.new }
+    {
+        for passed in 0..units {
+            if self.has_work() {
+                return units - passed;
+            }
+            let _ = self.take(&Event::Tick);
+        }
+        0
+    }
+}
+
+// Why a port tells nothing at this stage.
+fn why_closed(stage: Stage) -> Option<Refusal>
+    ensures { result ≡ closed stage }
+{
+    match stage {
+        Stage::Made => Some(Refusal::NotBooted),
+        Stage::Booted => None,
+        Stage::Lost => Some(Refusal::PowerLost),
+    }
+}
+
+// Why it may not be started at this stage.
+fn past_start(stage: Stage) -> Option<Refusal>
+    ensures { result ≡ too_late stage }
+{
+    match stage {
+        Stage::Made => None,
+        Stage::Booted => Some(Refusal::IsBooted),
+        Stage::Lost => Some(Refusal::PowerLost),
+    }
+}
+
+// The first octets of those that are given, as many as an event has.
+fn first_of(octets: &[u8]) -> Bytes
+    ensures { result ≡ record { items = take 1519 octets.now } }
+{
+    let mut bytes = Bytes::new();
+    let _ = bytes.try_extend_from_slice(front_of(octets));
+    bytes
+}
+
+// As many of them as an event has.
+fn front_of(octets: &[u8]) -> &[u8]
+    ensures value { result.now ≡ take 1519 octets.now }
+    ensures few { length result.now ≤ 1519 }
+{
+    if octets.len() < 1519 {
+        octets
+    } else {
+        &octets[..1519]
+    }
+}
+
+// How many calls a flash ever recorded, modulo 2 to the 32.
+fn counted(flash: &RecordedFlash<4096>) -> u32
+    ensures value { result ≡ (record_of flash.now).count }
+    ensures small { (record_of flash.now).count < 2 ^ 32 }
+{
+    flash.count()
+}
+
+// How many of the calls that a flash keeps are older than those that it recorded since it had recorded so many.
+fn older(before: u32, flash: &RecordedFlash<4096>) -> usize
+    ensures most { result ≤ length (record_of flash.now).recent }
+    ensures exact { (calls : ℕ) → (record_of flash.now).count ≡ (before + calls) % 2 ^ 32 → calls ≤ length (record_of flash.now).recent →
+        calls ≤ 48 →
+        result ≡ length (record_of flash.now).recent - calls }
+{
+    let newer = flash.count().wrapping_sub(before) as usize;
+    flash.recent().len().saturating_sub(newer)
+}

@@ -1,0 +1,142 @@
+//! A host: it hands events in, carries the calls of the flash out on its chip, and sends the frames behind them.
+ghost use Rattle.std.specs.Prelude.{◌≡◌, List, [], ◌∷◌, OnOk};
+ghost use Rattle.device_abi.specs.recorded.Entry.{call_of};
+ghost use Rattle.device_frames.specs.declared.event.Event.{Event};
+ghost use Rattle.device_abi.specs.port.Host.{Begun, Carries, EndsBy, GoesOn, HandsIn, IsFresh, Performs, Settles, Stands, begun_by, events_of};
+ghost use Rattle.device_abi.specs.port.State.{advanced};
+
+use crate::Recorded;
+use crate::port::{Port, SECTOR_SIZE, Stage, Work};
+use device_core::{Event, Sink};
+use flash_model::{Flash, FlashFault};
+
+/// What a host does next.
+#[derive(Drop)]
+pub enum Operation {
+    /// It hands an event in, after it has taken all work of the one before.
+    Happens(Event),
+    /// It takes one piece of work.
+    Works,
+}
+
+/// Does what it is told to, in order, over a port that has just started from what the chip holds. A call of the chip that fails
+/// cuts the host off: it sends nothing more, and has to start again from the chip.
+pub fn play<C: Flash<4096>, K: Sink>(
+    port: &mut Port,
+    chip: &mut C,
+    operations: &[Operation],
+    sink: &mut K,
+) -> Result<(), FlashFault>
+    requires { IsFresh port.old (C.image chip.old) }
+    ensures ends { EndsBy result (begun_by port.old (K.taken sink.old)) (events_of operations.now) (K.taken sink.new) port.new
+        (C.image chip.new) }
+{
+    for operation in operations {
+        go_on(port, chip, operation, sink)?;
+    }
+    Ok(())
+}
+
+// One operation.
+fn go_on<C: Flash<4096>, K: Sink>(
+    port: &mut Port,
+    chip: &mut C,
+    operation: &Operation,
+    sink: &mut K,
+) -> Result<(), FlashFault>
+    ensures { (begun : Begun) (events : List Event) → Stands begun events (K.taken sink.old) port.old (C.image chip.old) →
+        GoesOn result begun events (events_of (operation.now ∷ [])) (K.taken sink.new) port.new (C.image chip.new) }
+{
+    match operation {
+        Operation::Happens(event) => {
+            settle(port, chip, sink)?;
+            hand_in(port, event);
+            Ok(())
+        }
+        Operation::Works => work(port, chip, sink),
+    }
+}
+
+// Takes all work that is left.
+fn settle<C: Flash<4096>, K: Sink>(
+    port: &mut Port,
+    chip: &mut C,
+    sink: &mut K,
+) -> Result<(), FlashFault>
+    ensures { (begun : Begun) (events : List Event) → Stands begun events (K.taken sink.old) port.old (C.image chip.old) →
+        Settles result begun events (K.taken sink.new) port.new (C.image chip.new) }
+{
+    while port.has_work() {
+        work(port, chip, sink)?;
+    }
+    Ok(())
+}
+
+// Hands an event in, as a product does.
+fn hand_in(port: &mut Port, event: &Event)
+    ensures { HandsIn port.old event.now port.new }
+{
+    let _ = port.offer(event);
+}
+
+// Takes the next piece of work. A call that fails is power that is lost.
+fn work<C: Flash<4096>, K: Sink>(
+    port: &mut Port,
+    chip: &mut C,
+    sink: &mut K,
+) -> Result<(), FlashFault>
+    ensures performs { port.old.stage ≡ Stage.Booted →
+        Performs port.old.calls port.old.frames (C.image chip.old) (K.taken sink.old) result (C.image chip.new) (K.taken sink.new) }
+    ensures advanced { OnOk result (port.new ≡ advanced port.old) }
+{
+    match perform(port, chip, sink) {
+        Ok(()) => {
+            port.advance();
+            Ok(())
+        }
+        Err(fault) => {
+            let _ = port.lose();
+            Err(fault)
+        }
+    }
+}
+
+// Carries the next call out on the chip, or sends the next frame.
+fn perform<C: Flash<4096>, K: Sink>(
+    port: &Port,
+    chip: &mut C,
+    sink: &mut K,
+) -> Result<(), FlashFault>
+    ensures { port.now.stage ≡ Stage.Booted →
+        Performs port.now.calls port.now.frames (C.image chip.old) (K.taken sink.old) result (C.image chip.new) (K.taken sink.new) }
+{
+    match port.work() {
+        Ok(Work::Carry(call)) => carry(chip, call),
+        Ok(Work::Send(frame)) => {
+            sink.take(frame);
+            Ok(())
+        }
+        Ok(Work::Nothing) | Err(_) => Ok(()),
+    }
+}
+
+// Carries a call out on the chip.
+fn carry<C: Flash<4096>>(chip: &mut C, call: &Recorded) -> Result<(), FlashFault>
+    ensures { Carries (C.image chip.old) (call_of call.now) result (C.image chip.new) }
+{
+    match call {
+        Recorded::Program {
+            sector,
+            place,
+            bytes,
+        } => {
+            let place = *place as usize;
+            // What lies past the end of a sector cannot be carried out.
+            if place + bytes.len() > SECTOR_SIZE {
+                return Err(FlashFault);
+            }
+            chip.program(*sector, place, bytes.as_slice())
+        }
+        Recorded::Erase { sector } => chip.erase(*sector),
+    }
+}

@@ -1,0 +1,170 @@
+// A flash in memory, whose calls are recorded.
+ghost use Rattle.std.specs.Prelude.{◌≡◌, ◌≢◌, ◌+◌, ◌-◌, ◌^◌, ◌<◌, ◌≤◌, ◌↔◌, Option, None, Some, true, false, [], ◌∷◌, ℕ, length, map};
+ghost use Rattle.std.specs.Prelude.{slice_range, IsOk, OnOk, OnErr};
+ghost use Rattle.std.proofs.Props.{props};
+ghost use Rattle.flash_model.specs.Calls.{Programs, Arms};
+ghost use Rattle.flash_model.specs.Image.{IsSectorSize, sector_of, with_sector, programmed, erased};
+ghost use Rattle.flash_model.specs.Memory.{IsReliable};
+ghost use Rattle.flash_model.specs.Torn.{Torn, HasCause, StaysLost};
+
+use crate::recorded::entry::{Recorded, entry_of};
+use arrayvec::ArrayVec;
+use flash_model::{Flash, FlashFault, MemoryFlash, Order, Sector};
+
+/// Both sectors in memory, and the last calls that changed them. No call fails. What is armed is forgotten.
+#[derive(Drop)]
+pub struct RecordedFlash<const S: usize> {
+    memory: MemoryFlash<S>,
+    calls: ArrayVec<Recorded, 48>,
+    count: u32,
+    ghost reliable: { IsReliable memory } by { Prim.hlevel props },
+}
+
+impl<const S: usize> RecordedFlash<S> {
+    ghost use Rattle.device_abi.specs.recorded.Entry.{call_of};
+    ghost use Rattle.device_abi.specs.recorded.Record.{image_of, record_of, pushed, after_one, filled};
+
+    /// A flash with both sectors erased, of which no call is recorded. The count begins at its last number: only what it grows by
+    /// says anything.
+    pub fn blank() -> Self
+        requires { IsSectorSize S }
+        ensures { record_of result ≡ record { image = record { first = erased S; second = erased S }; recent = []; count = 2 ^ 32 - 1 } }
+    {
+        RecordedFlash {
+            memory: MemoryFlash::blank(),
+            calls: ArrayVec::new(),
+            // With a zero here the empty list, 21,696 octets, is copied from the stack when a flash is made.
+            count: u32::MAX,
+        }
+    }
+
+    /// The bytes of one sector.
+    pub fn sector(&self, sector: Sector) -> &[u8]
+        ensures bytes { result.now ≡ sector_of (image_of self.now) sector }
+        ensures size { length result.now ≡ S }
+    {
+        self.memory.sector(sector)
+    }
+
+    /// Puts bytes into a sector, as many as it has, and records nothing. Where they are more or fewer nothing changes.
+    pub fn put_sector(&mut self, sector: Sector, bytes: &[u8])
+        ensures put { length bytes.now ≡ S → record_of self.new ≡ filled S (record_of self.old) sector bytes.now }
+        ensures kept { length bytes.now ≢ S → record_of self.new ≡ record_of self.old }
+    {
+        if bytes.len() == S {
+            let _ = self.memory.erase(sector);
+            let _ = self.memory.program(sector, 0, bytes);
+        }
+    }
+
+    /// A number that grows by one with each call, modulo 2 to the 32.
+    pub fn count(&self) -> u32
+        ensures { result ≡ (record_of self.now).count }
+    {
+        self.count
+    }
+
+    /// The last calls, the oldest of them first.
+    pub fn recent(&self) -> &[Recorded]
+        ensures { map call_of result.now ≡ (record_of self.now).recent }
+    {
+        self.calls.as_slice()
+    }
+
+    /// Puts a call behind the others, and forgets the oldest one where there is no room.
+    fn push(&mut self, call: Recorded)
+        ensures memory { self.new.memory ≡ self.old.memory }
+        ensures recent { (record_of self.new).recent ≡ pushed (record_of self.old).recent (call_of call) }
+        ensures count { (record_of self.new).count ≡ (after_one (record_of self.old) (call_of call)).count }
+    {
+        if self.calls.is_full() {
+            self.calls.remove(0);
+        }
+        self.calls.push(call);
+        self.count = self.count.wrapping_add(1);
+    }
+}
+
+impl<const S: usize> Flash<S> for RecordedFlash<S> {
+    ghost use Rattle.device_abi.specs.recorded.Record.{image_of, record_of, IsAsked};
+    ghost use Rattle.device_abi.specs.recorded.Laws.{failures_of, has_power, IsAlways, IsImage-of, IsSectorSize-of, has_power-of};
+    ghost use Rattle.device_abi.specs.recorded.Laws.{asked_nothing-of, asked_more-of};
+
+    ghost image = { image_of };
+
+    ghost failures = { failures_of };
+
+    ghost is_lost = { has_power };
+
+    ghost is_reliable = { IsAlways };
+
+    ghost asked = { IsAsked };
+
+    /// Reads the bytes from `place` on.
+    fn read(&mut self, sector: Sector, place: usize, buffer: &mut [u8]) -> Result<(), FlashFault> {
+        self.memory.read(sector, place, buffer)
+    }
+
+    /// Turns to 0 each bit that is 0 in `bytes`, from `place` on, and records the call, unless it has more than 437 bytes.
+    fn program(&mut self, sector: Sector, place: usize, bytes: &[u8]) -> Result<(), FlashFault>
+        requires { place + length bytes.now ≤ S }
+
+        // What the trait asks.
+        ensures done { OnOk result (image_of self.new
+            ≡ with_sector (image_of self.old) sector (programmed (sector_of (image_of self.old) sector) place bytes.now)) }
+        ensures torn { OnErr result (Torn sector place (place + length bytes.now)
+            (programmed (sector_of (image_of self.old) sector) place bytes.now) (image_of self.old) (image_of self.new)) }
+        ensures calls { IsAsked self.old (Programs sector place bytes.now ∷ []) self.new }
+        ensures cause { HasCause (failures_of self.old) (failures_of self.new) result }
+        ensures lost { StaysLost (has_power self.old) (has_power self.new) result }
+        ensures reliable { IsAlways self.old → IsOk result × IsAlways self.new }
+
+        // A call that has no room is not recorded, and no other one is lost by it.
+        ensures unrecorded { 437 < length bytes.now → record_of self.new ≡ record (record_of self.old) { image = image_of self.new } }
+    {
+        self.memory.program(sector, place, bytes)?;
+        if let Some(call) = entry_of(sector, place as u32, bytes) {
+            self.push(call);
+        }
+        Ok(())
+    }
+
+    /// Turns every bit of a sector to 1, and records the call.
+    fn erase(&mut self, sector: Sector) -> Result<(), FlashFault> {
+        self.memory.erase(sector)?;
+        self.push(Recorded::Erase { sector });
+        Ok(())
+    }
+
+    fn failures(&self) -> u64 {
+        self.memory.failures()
+    }
+
+    fn is_lost(&self) -> bool {
+        false
+    }
+
+    /// Nothing is armed, and nothing recorded.
+    fn arm(&mut self, order: Order)
+        // What the trait asks.
+        ensures image { image_of self.new ≡ image_of self.old }
+        ensures failures { failures_of self.new ≡ failures_of self.old }
+        ensures lost { has_power self.new ≡ has_power self.old }
+        ensures calls { IsAsked self.old (Arms order ∷ []) self.new }
+
+        // An order is no call that a host carries out.
+        ensures unrecorded { record_of self.new ≡ record_of self.old }
+    {
+        let _ = order;
+    }
+
+    ghost sized = { IsImage-of };
+
+    ghost sector_size = { IsSectorSize-of };
+
+    ghost has_power = { has_power-of };
+
+    ghost asked_nothing = { asked_nothing-of };
+
+    ghost asked_more = { asked_more-of };
+}

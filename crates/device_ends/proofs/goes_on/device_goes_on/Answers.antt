@@ -1,5 +1,0 @@
-use Rattle.device_ends.proofs.Turns.{step_goes}
-use Rattle.device_ends.proofs.goes_on.device_goes_on.Goals as goal
-
-pub returns : goal.returns
-returns c = λ rules activity outcomes station live heard planned sent. step_goes c.refusals_are_not_done.ensures rules activity outcomes station live heard planned sent

@@ -1,6 +1,0 @@
--- A call on the chip.
-use Rattle.device_port.proofs.Hosted.{erased_by}
-use Rattle.device_port.proofs.host.carry.Goals as goal
-
-pub returns-in-Erase : goal.returns-in-Erase
-returns-in-Erase g c = rw c.in-Erase.is (erased_by 4096 _ _ c.in-Erase.sector c.erase.result (g.met.C.Flash.sized c.args.chip.now) c.erase.ensures.done c.erase.ensures.torn)

@@ -1,6 +1,0 @@
--- An event is offered.
-use Rattle.device_port.proofs.Hosted.{answered_in}
-use Rattle.device_port.proofs.host.hand_in.Goals as goal
-
-pub returns : goal.returns
-returns c = answered_in c.args.port.now c.args.event.now c.offer.result c.offer.new.self c.offer.ensures

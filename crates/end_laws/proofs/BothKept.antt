@@ -1,0 +1,367 @@
+-- What a step of the device leaves: what was taken stays taken, what holds of its relation goes on to hold, and what it sends is fine.
+use Rattle.std.proofs.Common.{◌≡◌, ◌⊎◌, inl, inr, ◌<◌, ◌≤◌, ℕ, suc, Bool, true, false, List, [], ◌∷◌, ◌++◌, length, Option, Some, None, refl, sym, ap, subst, ◌∙◌, append_assoc, append-nil, length-append, arith}
+use Rattle.std.specs.List.{AllByRecursion}
+use Rattle.std.specs.Prelude.{slice_get}
+use Rattle.end_laws.specs.both.Small.{Ask, Connects, Writes, Parameterized, Releases, ToDevice, Call, Confirms, Idle, Answers, Readies, Nothing, Rules, Started, Awaiting, Exchanging, Link, Kept, Device}
+use Rattle.end_laws.specs.both.Steps.{IsNew, made, TakesRecord, IsParameterized, Comes, IsReady, IsDull, IsAnswered, IsAgain, Rests, IsConfirmed, GoesBy, DeviceSteps}
+use Rattle.end_laws.proofs.BothHolds.{IsSomeKept, TookIn, Took, IsHeld, IsHeldIn, HoldsAt, Behind, IsCall, TellsDevice, TellsController, IsFine, AreFine, KeepsFine, ConfirmedIn}
+use Rattle.end_laws.proofs.BothGoes.{Grows, are_fine_on, keeps_on, same_grows, fine_as, fine_at_most}
+
+-- ---- lists
+
+some_is : {A : Type 0} (x y : A) → Some x ≡ Some y → x ≡ y
+some_is x y e = cc
+
+-- the item of a number is the first of what is left behind so many
+next_item : {A : Type 0} (taken rest : List A) (value : A) → slice_get (taken ++ rest) (length taken) ≡ Some value → (more : List A) × (rest ≡ value ∷ more)
+next_item [] [] value is = absurd cc
+next_item {A = A} [] (x ∷ xs) value is = (xs, ap (λ (y : A). y ∷ xs) (some_is x value is))
+next_item (t ∷ taken) rest value is = next_item taken rest value is
+
+next_of : {A : Type 0} (taken rest all : List A) (value : A) (number : ℕ) → taken ++ rest ≡ all → length taken ≡ number → slice_get all number ≡ Some value → (more : List A) × (rest ≡ value ∷ more)
+next_of {A = A} taken rest all value number begins long is =
+    next_item taken rest value (ap (λ (xs : List A). slice_get xs (length taken)) begins ∙ (ap (λ (n : ℕ). slice_get all n) long ∙ is))
+
+-- nothing is left
+all_taken : {A : Type 0} (taken rest all : List A) → taken ++ rest ≡ all → length all ≤ length taken → taken ≡ all
+all_taken taken [] all begins few = sym (append-nil taken) ∙ begins
+all_taken taken (x ∷ rest) all begins few = absurd (omega (arith, length-append taken (x ∷ rest), ap length begins, few))
+
+module _ {T Q : Type 0} (rules : Rules T Q) where
+  -- ---- a new call
+
+  -- what it does, where a Connect comes to no relation
+  abbrev Does : Bool → Ask → Option (Link T Q) → Option (Link T Q) → Type 0
+  Does false ask before after = after ≡ before
+  Does true Connects before after = after ≡ Some (made rules)
+  Does true (Writes number) before after = TakesRecord rules number before after
+  Does true Parameterized before after = IsParameterized before after
+  Does true Releases before after = after ≡ None
+
+  first_unrelated : (sequence : ℕ) (kept : Option Kept) (link : Option (Link T Q)) → sequence ≡ 0 → IsNew sequence kept → HoldsAt rules kept link → link ≡ None
+  first_unrelated sequence None link first new holds = holds
+  first_unrelated sequence (Some kept) link first new holds = absurd (omega (arith, first, new))
+
+  does_by : (sequence : ℕ) (ask : Ask) (positive : Bool) (kept : Option Kept) (link after : Option (Link T Q))
+      → IsNew sequence kept → IsCall rules sequence ask kept link → Comes rules positive ask link after → HoldsAt rules kept link → Does positive ask link after
+  does_by sequence ask false kept link after new call comes holds = comes
+  does_by sequence Connects true kept link after new (inl releases) comes holds = absurd cc
+  does_by sequence Connects true kept link after new (inr asked) comes holds = comes (first_unrelated sequence kept link asked.0 new holds)
+  does_by sequence (Writes number) true kept link after new call comes holds = comes
+  does_by sequence Parameterized true kept link after new call comes holds = comes
+  does_by sequence Releases true kept link after new call comes holds = comes
+
+  -- none is left of the sequences below the first
+  never_first : (sequence : ℕ) (kept : Option Kept) → sequence ≡ 0 → IsNew sequence kept → IsSomeKept kept → ⊥
+  never_first sequence None first new some = some
+  never_first sequence (Some kept) first new some = absurd (omega (arith, first, new))
+
+  took_by : (sequence : ℕ) (ask : Ask) (positive : Bool) (kept : Option Kept) (link after : Option (Link T Q)) (count : ℕ)
+      → IsNew sequence kept → IsCall rules sequence ask kept link → Does positive ask link after → Took count kept link → TookIn count after
+  took_by sequence ask false kept link after count new call comes took = subst (λ (l : Option (Link T Q)). TookIn count l) (sym comes) took.taken
+  took_by sequence Connects true kept link after count new (inl releases) comes took = absurd cc
+  took_by sequence Connects true kept link after count new (inr asked) comes took = absurd (never_first sequence kept asked.0 new took.called)
+  took_by sequence (Writes number) true kept link after count new call comes took =
+      let before : TookIn count (Some comes.link) = subst (λ (l : Option (Link T Q)). TookIn count l) comes.was took.taken in
+      subst (λ (l : Option (Link T Q)). TookIn count l) (sym comes.becomes) (omega (arith, before, length-append comes.link.taken (comes.value ∷ [])))
+  took_by sequence Parameterized true kept link after count new call comes took =
+      subst (λ (l : Option (Link T Q)). TookIn count l) (sym comes.becomes) (subst (λ (l : Option (Link T Q)). TookIn count l) comes.was took.taken)
+  took_by sequence Releases true kept link after count new call comes took = subst (λ (l : Option (Link T Q)). TookIn count l) (sym comes) tt
+
+  -- the relation is held behind a later answer too
+  past_later : (sequence later : ℕ) (link : Link T Q) → sequence < later → (link.phase ≡ Started) ⊎ ((length rules.records < sequence) × (link.taken ≡ rules.records))
+      → (link.phase ≡ Started) ⊎ ((length rules.records < later) × (link.taken ≡ rules.records))
+  past_later sequence later link before (inl started) = inl started
+  past_later sequence later link before (inr past) = inr (omega (arith, before, past.0), past.1)
+
+  held_later : (sequence : ℕ) (kept : Option Kept) (link : Option (Link T Q)) → IsNew sequence kept → HoldsAt rules kept link → IsHeldIn rules sequence link
+  held_later sequence None link new none = subst (λ (l : Option (Link T Q)). IsHeldIn rules sequence l) (sym none) tt
+  held_later sequence (Some kept) None new held = tt
+  held_later sequence (Some kept) (Some link) new held = record {
+    few = omega (arith, new, held.few);
+    made = held.made;
+    rest = held.rest;
+    begins = held.begins;
+    past = past_later kept.sequence sequence link new held.past;
+  }
+
+  -- the relation that is there is held behind the answer that is kept
+  is_held : (kept : Option Kept) (link : Option (Link T Q)) (there : Link T Q) → link ≡ Some there → HoldsAt rules kept link → (answer : Kept) × (kept ≡ Some answer) × IsHeld rules answer.sequence there
+  is_held None link there is none = absurd cc
+  is_held (Some kept) link there is held = (kept, refl, subst (λ (l : Option (Link T Q)). IsHeldIn rules kept.sequence l) is held)
+
+  past_write : (number : ℕ) (sequence : ℕ) (link : Link T Q) → number < length rules.records → sequence ≤ number → (link.phase ≡ Started) ⊎ ((length rules.records < sequence) × (link.taken ≡ rules.records))
+      → link.phase ≡ Started
+  past_write number sequence link inside few (inl started) = started
+  past_write number sequence link inside few (inr past) = absurd (omega (arith, inside, few, past.0))
+
+  -- one more record is taken: the next one
+  write_held : (sequence number : ℕ) (kept : Option Kept) (link after : Option (Link T Q)) → IsNew sequence kept → number < length rules.records → sequence ≡ suc number
+      → Took number kept link → TakesRecord rules number link after → HoldsAt rules kept link → IsHeldIn rules sequence after
+  write_held sequence number kept link after new inside is took takes holds =
+      let held = is_held kept link takes.link takes.was holds in
+      let fresh : IsNew sequence (Some held.0) = subst (λ (k : Option Kept). IsNew sequence k) held.1 new in
+      let there : TookIn number (Some takes.link) = subst (λ (l : Option (Link T Q)). TookIn number l) takes.was took.taken in
+      let long : length takes.link.taken ≡ number = omega (arith, there, held.2.few, fresh, is) in
+      let next = next_of takes.link.taken held.2.rest rules.records takes.value number held.2.begins long takes.is in
+      subst (λ (l : Option (Link T Q)). IsHeldIn rules sequence l) (sym takes.becomes) (record {
+        few = omega (arith, long, is, length-append takes.link.taken (takes.value ∷ []));
+        made = held.2.made;
+        rest = next.0;
+        begins = append_assoc takes.link.taken (takes.value ∷ []) next.0 ∙ (ap (λ (xs : List T). takes.link.taken ++ xs) (sym next.1) ∙ held.2.begins);
+        past = inl (past_write number held.0.sequence takes.link inside (omega (arith, fresh, is)) held.2.past);
+      })
+
+  -- all records are taken
+  end_held : (sequence : ℕ) (kept : Option Kept) (link after : Option (Link T Q)) → sequence ≡ suc (length rules.records)
+      → Took (length rules.records) kept link → IsParameterized link after → HoldsAt rules kept link → IsHeldIn rules sequence after
+  end_held sequence kept link after is took ends holds =
+      let held = is_held kept link ends.link ends.was holds in
+      let there : TookIn (length rules.records) (Some ends.link) = subst (λ (l : Option (Link T Q)). TookIn (length rules.records) l) ends.was took.taken in
+      let whole : ends.link.taken ≡ rules.records = all_taken ends.link.taken held.2.rest rules.records held.2.begins there in
+      subst (λ (l : Option (Link T Q)). IsHeldIn rules sequence l) (sym ends.becomes) (record {
+        few = omega (arith, is, ap length whole);
+        made = held.2.made;
+        rest = held.2.rest;
+        begins = held.2.begins;
+        past = inr (omega (arith, is), whole);
+      })
+
+  new_held : (sequence : ℕ) → IsHeld rules sequence (made rules)
+  new_held sequence = record { few = omega arith; made = refl; rest = rules.records; begins = refl; past = inl refl }
+
+  behind_suc : (sequence count : ℕ) (kept : Option Kept) (link : Option (Link T Q)) → sequence ≡ suc count → Behind sequence kept link → Took count kept link
+  behind_suc sequence count kept link is behind = subst (λ (s : ℕ). Behind s kept link) is behind
+
+  held_by : (sequence : ℕ) (ask : Ask) (positive : Bool) (kept : Option Kept) (link after : Option (Link T Q))
+      → IsNew sequence kept → IsCall rules sequence ask kept link → Does positive ask link after → HoldsAt rules kept link → IsHeldIn rules sequence after
+  held_by sequence ask false kept link after new call comes holds =
+      subst (λ (l : Option (Link T Q)). IsHeldIn rules sequence l) (sym comes) (held_later sequence kept link new holds)
+  held_by sequence Connects true kept link after new call comes holds = subst (λ (l : Option (Link T Q)). IsHeldIn rules sequence l) (sym comes) (new_held sequence)
+  held_by sequence (Writes number) true kept link after new (inl releases) comes holds = absurd cc
+  held_by sequence (Writes number) true kept link after new (inr asked) comes holds =
+      let is : sequence ≡ suc number = omega (arith, asked.0.1) in
+      write_held sequence number kept link after new asked.0.0 is (behind_suc sequence number kept link is asked.1) comes holds
+  held_by sequence Parameterized true kept link after new (inl releases) comes holds = absurd cc
+  held_by sequence Parameterized true kept link after new (inr asked) comes holds =
+      let is : sequence ≡ suc (length rules.records) = omega (arith, asked.0) in
+      end_held sequence kept link after is (behind_suc sequence (length rules.records) kept link is asked.1) comes holds
+  held_by sequence Releases true kept link after new call comes holds = subst (λ (l : Option (Link T Q)). IsHeldIn rules sequence l) (sym comes) tt
+
+  -- a positive answer says what was taken
+  told_by : (sequence : ℕ) (ask : Ask) (kept : Option Kept) (link after : Option (Link T Q))
+      → IsCall rules sequence ask kept link → Does true ask link after → sequence ≤ length rules.records → TookIn sequence after
+  told_by sequence Connects kept link after (inl releases) comes few = absurd cc
+  told_by sequence Connects kept link after (inr asked) comes few =
+      subst (λ (l : Option (Link T Q)). TookIn sequence l) (sym comes) (omega (arith, asked.0))
+  told_by sequence (Writes number) kept link after (inl releases) comes few = absurd cc
+  told_by sequence (Writes number) kept link after (inr asked) comes few =
+      let is : sequence ≡ suc number = omega (arith, asked.0.1) in
+      let took = behind_suc sequence number kept link is asked.1 in
+      let there : TookIn number (Some comes.link) = subst (λ (l : Option (Link T Q)). TookIn number l) comes.was took.taken in
+      subst (λ (l : Option (Link T Q)). TookIn sequence l) (sym comes.becomes) (omega (arith, is, there, length-append comes.link.taken (comes.value ∷ [])))
+  told_by sequence Parameterized kept link after (inl releases) comes few = absurd cc
+  told_by sequence Parameterized kept link after (inr asked) comes few = absurd (omega (arith, asked.0, few))
+  told_by sequence Releases kept link after call comes few = subst (λ (l : Option (Link T Q)). TookIn sequence l) (sym comes) tt
+
+  -- while ApplicationReady waits for its answer, all records were taken
+  past_ready : (sequence : ℕ) (link : Link T Q) → link.phase ≡ Awaiting → (link.phase ≡ Started) ⊎ ((length rules.records < sequence) × (link.taken ≡ rules.records)) → link.taken ≡ rules.records
+  past_ready sequence link awaits (inl started) = absurd cc
+  past_ready sequence link awaits (inr past) = past.1
+
+  pub ready_is : (kept : Option Kept) (link : Option (Link T Q)) (there : Link T Q) → link ≡ Some there → there.phase ≡ Awaiting → HoldsAt rules kept link
+      → (there.request ≡ rules.request) × (there.taken ≡ rules.records)
+  ready_is kept link there is awaits holds =
+      let held = is_held kept link there is holds in
+      (held.2.made, past_ready held.0.sequence there awaits held.2.past)
+
+  -- a relation is what the Connect asks for
+  pub made_is : (kept : Option Kept) (link : Option (Link T Q)) (there : Link T Q) → link ≡ Some there → HoldsAt rules kept link → there.request ≡ rules.request
+  made_is kept link there is holds = (is_held kept link there is holds).2.made
+
+  -- ---- steps
+
+  module _ (Was WasNow Past PastNow : Type 0) (Good GoodNow : List ℕ → Type 0) (was_on : Was → WasNow) (past_on : Past → PastNow) (good_on : (frame : List ℕ) → Good frame → GoodNow frame) where
+    -- what a step of the device leaves, which sends these frames
+    pub record Leaves (before after : Device T Q) (frames : List (List ℕ)) : Type 0 where
+      pub grows : Grows before.kept before.link after.kept after.link
+      pub held : HoldsAt rules after.kept after.link
+      pub kept : KeepsFine rules WasNow GoodNow after.kept after.link after.kept
+      pub new : AreFine rules WasNow GoodNow after.kept after.link frames
+      pub confirmed : ConfirmedIn PastNow after.link
+
+    -- each ApplicationReady that is sent now is good from now on
+    abbrev pub AreGood : Device T Q → List (List ℕ) → Type 0
+    AreGood after frames = (number : ℕ) (frame : List ℕ) → slice_get frames number ≡ Some frame → IsReady rules after frame → GoodNow frame
+
+    good_behind : (after : Device T Q) (frame : List ℕ) (frames : List (List ℕ)) → AreGood after (frame ∷ frames) → AreGood after frames
+    good_behind after frame frames good number other there ready = good (suc number) other there ready
+
+    ready_fine : (after : Device T Q) (frame : List ℕ) → GoodNow frame → IsReady rules after frame → IsFine rules WasNow GoodNow after.kept after.link frame
+    ready_fine after frame good ready = fine_at_most rules WasNow GoodNow after.kept after.link frame Readies ready.to_device ready.to_controller good
+
+    readies_fine : (after : Device T Q) (frames : List (List ℕ)) → AreGood after frames → AllByRecursion (IsReady rules after) frames → AreFine rules WasNow GoodNow after.kept after.link frames
+    readies_fine after [] good all = tt
+    readies_fine after (frame ∷ frames) good all = (
+      ready_fine after frame (good 0 frame refl all.0) all.0,
+      readies_fine after frames (good_behind after frame frames good) all.1,
+    )
+
+    dull_fine : (after : Device T Q) (frame : List ℕ) → (IsReady rules after frame → GoodNow frame) → IsDull rules frame ⊎ IsReady rules after frame
+        → IsFine rules WasNow GoodNow after.kept after.link frame
+    dull_fine after frame good (inl dull) = fine_as rules WasNow GoodNow after.kept after.link frame Idle Nothing dull.0 dull.1 tt tt
+    dull_fine after frame good (inr ready) = ready_fine after frame (good ready) ready
+
+    all_dull_fine : (after : Device T Q) (frames : List (List ℕ)) → AreGood after frames → AllByRecursion (λ frame. IsDull rules frame ⊎ IsReady rules after frame) frames
+        → AreFine rules WasNow GoodNow after.kept after.link frames
+    all_dull_fine after [] good all = tt
+    all_dull_fine after (frame ∷ frames) good all = (
+      dull_fine after frame (good 0 frame refl) all.0,
+      all_dull_fine after frames (good_behind after frame frames good) all.1,
+    )
+
+    -- a confirmed relation stays one, and no call makes one of another
+    still_confirmed : (link after : Option (Link T Q)) → (after ≡ link) ⊎ (after ≡ None) → ConfirmedIn Past link → ConfirmedIn PastNow after
+    still_confirmed None after (inl same) confirmed = subst (λ (l : Option (Link T Q)). ConfirmedIn PastNow l) (sym same) tt
+    still_confirmed (Some link) after (inl same) confirmed =
+        subst (λ (l : Option (Link T Q)). ConfirmedIn PastNow l) (sym same) (λ exchanges. past_on (confirmed exchanges))
+    still_confirmed link after (inr none) confirmed = subst (λ (l : Option (Link T Q)). ConfirmedIn PastNow l) (sym none) tt
+
+    confirmed_by : (ask : Ask) (positive : Bool) (link after : Option (Link T Q)) → Does positive ask link after → ConfirmedIn Past link → ConfirmedIn PastNow after
+    confirmed_by ask false link after comes confirmed = still_confirmed link after (inl comes) confirmed
+    confirmed_by Connects true link after comes confirmed =
+        subst (λ (l : Option (Link T Q)). ConfirmedIn PastNow l) (sym comes) (λ exchanges. absurd (started_is exchanges))
+      where
+        started_is : Started ≡ Exchanging → ⊥
+        started_is e = absurd cc
+    confirmed_by (Writes number) true link after comes confirmed =
+        let before : ConfirmedIn Past (Some comes.link) = subst (λ (l : Option (Link T Q)). ConfirmedIn Past l) comes.was confirmed in
+        subst (λ (l : Option (Link T Q)). ConfirmedIn PastNow l) (sym comes.becomes) (λ exchanges. past_on (before exchanges))
+    confirmed_by Parameterized true link after comes confirmed =
+        subst (λ (l : Option (Link T Q)). ConfirmedIn PastNow l) (sym comes.becomes) (λ exchanges. absurd (awaiting_is exchanges))
+      where
+        awaiting_is : Awaiting ≡ Exchanging → ⊥
+        awaiting_is e = absurd cc
+    confirmed_by Releases true link after comes confirmed = subst (λ (l : Option (Link T Q)). ConfirmedIn PastNow l) (sym comes) tt
+
+    answer_tells : (sequence : ℕ) (ask : Ask) (positive : Bool) (kept : Option Kept) (link : Option (Link T Q)) (answer : Kept) (after : Option (Link T Q)) (frame : List ℕ)
+        → IsCall rules sequence ask kept link → Does positive ask link after
+        → TellsController rules GoodNow (Some answer) after frame (Answers sequence positive)
+    answer_tells sequence ask true kept link answer after frame call comes = λ few. record { called = tt; taken = told_by sequence ask kept link after call comes few }
+    answer_tells sequence ask false kept link answer after frame call comes = tt
+
+    module _ (before after : Device T Q) (frames : List (List ℕ)) (held : HoldsAt rules before.kept before.link)
+        (kept : KeepsFine rules Was Good before.kept before.link before.kept) (confirmed : ConfirmedIn Past before.link) where
+      answered_leaves : (sequence : ℕ) (ask : Ask) → IsCall rules sequence ask before.kept before.link → AreGood after frames → IsAnswered rules sequence ask before after frames
+          → Leaves before after frames
+      answered_leaves sequence ask call good answered =
+          let answer : Kept = record { sequence = sequence; frame = answered.frame } in
+          let does = does_by sequence ask answered.positive before.kept before.link after.link answered.new call answered.does held in
+          let fine : IsFine rules WasNow GoodNow (Some answer) after.link answered.frame =
+          fine_at_most rules WasNow GoodNow (Some answer) after.link answered.frame (Answers sequence answered.positive) answered.to_device answered.to_controller
+          (answer_tells sequence ask answered.positive before.kept before.link answer after.link answered.frame call does) in
+          let behind : AreGood after (answered.frame ∷ answered.others) = subst (λ (fs : List (List ℕ)). AreGood after fs) answered.sent good in
+          record {
+            grows = λ count took. record {
+              called = subst (λ (k : Option Kept). IsSomeKept k) (sym answered.keeps) tt;
+              taken = took_by sequence ask answered.positive before.kept before.link after.link count answered.new call does took;
+            };
+            held = subst (λ (k : Option Kept). HoldsAt rules k after.link) (sym answered.keeps)
+                (held_by sequence ask answered.positive before.kept before.link after.link answered.new call does held);
+            kept = subst (λ (k : Option Kept). KeepsFine rules WasNow GoodNow k after.link k) (sym answered.keeps) fine;
+            new = subst (λ (fs : List (List ℕ)). AreFine rules WasNow GoodNow after.kept after.link fs) (sym answered.sent) (
+              subst (λ (k : Option Kept). IsFine rules WasNow GoodNow k after.link answered.frame) (sym answered.keeps) fine,
+              readies_fine after answered.others (good_behind after answered.frame answered.others behind) answered.readies,
+            );
+            confirmed = confirmed_by ask answered.positive before.link after.link does confirmed;
+          }
+
+      -- nothing changed, and what is sent was fine
+      same_leaves : after ≡ before → AreFine rules Was Good before.kept before.link frames → Leaves before after frames
+      same_leaves same fine = subst (λ (d : Device T Q). Leaves before d frames) (sym same) (record {
+        grows = same_grows before.kept before.link;
+        held = held;
+        kept = keeps_on before.kept before.kept before.link before.link (same_grows before.kept before.link) rules Was WasNow Good GoodNow was_on good_on before.kept kept;
+        new = are_fine_on before.kept before.kept before.link before.link (same_grows before.kept before.link) rules Was WasNow Good GoodNow was_on good_on frames fine;
+        confirmed = still_confirmed before.link before.link (inl refl) confirmed;
+      })
+
+      again_leaves : (sequence : ℕ) → IsAgain sequence before after frames → Leaves before after frames
+      again_leaves sequence again = same_leaves again.unchanged (subst (λ (fs : List (List ℕ)). AreFine rules Was Good before.kept before.link fs) (sym again.sent) (
+        subst (λ (k : Option Kept). KeepsFine rules Was Good before.kept before.link k) again.has kept,
+        tt,
+      ))
+
+      rests_leaves : Rests before after frames → Leaves before after frames
+      rests_leaves rests = same_leaves rests.0 (subst (λ (fs : List (List ℕ)). AreFine rules Was Good before.kept before.link fs) (sym rests.1) tt)
+
+      call_leaves : (sequence : ℕ) (ask : Ask) → IsCall rules sequence ask before.kept before.link → AreGood after frames
+          → IsAnswered rules sequence ask before after frames ⊎ (IsAgain sequence before after frames ⊎ Rests before after frames) → Leaves before after frames
+      call_leaves sequence ask call good (inl answered) = answered_leaves sequence ask call good answered
+      call_leaves sequence ask call good (inr (inl again)) = again_leaves sequence again
+      call_leaves sequence ask call good (inr (inr rests)) = rests_leaves rests
+
+      -- what was taken is not changed by a move of the relation to another phase, or to its end
+      took_same : (link now : Option (Link T Q)) (count : ℕ) → (now ≡ link) ⊎ (now ≡ None) → TookIn count link → TookIn count now
+      took_same link now count (inl same) took = subst (λ (l : Option (Link T Q)). TookIn count l) (sym same) took
+      took_same link now count (inr none) took = subst (λ (l : Option (Link T Q)). TookIn count l) (sym none) tt
+
+      held_same : (answer : Option Kept) (link now : Option (Link T Q)) → (now ≡ link) ⊎ (now ≡ None) → HoldsAt rules answer link → HoldsAt rules answer now
+      held_same answer link now (inl same) holds = subst (λ (l : Option (Link T Q)). HoldsAt rules answer l) (sym same) holds
+      held_same None link now (inr none) holds = none
+      held_same (Some answer) link now (inr none) holds = subst (λ (l : Option (Link T Q)). IsHeldIn rules answer.sequence l) (sym none) tt
+
+      by_leaves : AreGood after frames → GoesBy rules before after frames → Leaves before after frames
+      by_leaves good goes =
+          let grows : Grows before.kept before.link after.kept after.link = λ count took. record {
+            called = subst (λ (k : Option Kept). IsSomeKept k) (sym goes.keeps) took.called;
+            taken = took_same before.link after.link count goes.link took.taken;
+          } in
+          record {
+            grows = grows;
+            held = subst (λ (k : Option Kept). HoldsAt rules k after.link) (sym goes.keeps) (held_same before.kept before.link after.link goes.link held);
+            kept = subst (λ (k : Option Kept). KeepsFine rules WasNow GoodNow after.kept after.link k) (sym goes.keeps)
+                (keeps_on before.kept after.kept before.link after.link grows rules Was WasNow Good GoodNow was_on good_on before.kept kept);
+            new = all_dull_fine after frames good goes.sent;
+            confirmed = still_confirmed before.link after.link goes.link confirmed;
+          }
+
+      past_exchanging : (sequence : ℕ) (link : Link T Q) → IsHeld rules sequence link → link.phase ≡ Awaiting → IsHeld rules sequence (record link { phase = Exchanging })
+      past_exchanging sequence link there awaits = record {
+        few = there.few;
+        made = there.made;
+        rest = there.rest;
+        begins = there.begins;
+        past = inr (is_past sequence link awaits there.past);
+      }
+        where
+          is_past : (sequence : ℕ) (link : Link T Q) → link.phase ≡ Awaiting → (link.phase ≡ Started) ⊎ ((length rules.records < sequence) × (link.taken ≡ rules.records))
+              → (length rules.records < sequence) × (link.taken ≡ rules.records)
+          is_past sequence link awaits (inl started) = absurd cc
+          is_past sequence link awaits (inr past) = past
+
+      confirmed_leaves : PastNow → IsConfirmed before after frames → Leaves before after frames
+      confirmed_leaves past confirms =
+          let there = is_held before.kept before.link confirms.link confirms.was held in
+          let now : Option (Link T Q) = Some (record confirms.link { phase = Exchanging }) in
+          let grows : Grows before.kept before.link before.kept now = λ count took. record {
+            called = took.called;
+            taken = subst (λ (l : Option (Link T Q)). TookIn count l) confirms.was took.taken;
+          } in
+          subst (λ (d : Device T Q). Leaves before d frames) (sym confirms.becomes) (record {
+            grows = grows;
+            held = subst (λ (k : Option Kept). HoldsAt rules k now) (sym there.1) (past_exchanging there.0.sequence confirms.link there.2 confirms.awaits);
+            kept = keeps_on before.kept before.kept before.link now grows rules Was WasNow Good GoodNow was_on good_on before.kept kept;
+            new = subst (λ (fs : List (List ℕ)). AreFine rules WasNow GoodNow before.kept now fs) (sym confirms.silent) tt;
+            confirmed = λ exchanges. past;
+          })
+
+      confirms_leave : PastNow → IsConfirmed before after frames ⊎ Rests before after frames → Leaves before after frames
+      confirms_leave past (inl confirms) = confirmed_leaves past confirms
+      confirms_leave past (inr rests) = rests_leaves rests
+
+      pub device_leaves : (heard : ToDevice) → TellsDevice rules PastNow before.kept before.link heard → AreGood after frames → DeviceSteps rules heard before after frames
+          → Leaves before after frames
+      device_leaves (Call sequence ask) tells good steps = call_leaves sequence ask tells good steps
+      device_leaves Confirms tells good steps = confirms_leave tells steps
+      device_leaves Idle tells good steps = by_leaves good steps

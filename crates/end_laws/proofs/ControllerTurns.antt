@@ -1,0 +1,262 @@
+-- Each turn of a controller, as far as a start-up goes.
+use Rattle.std.proofs.Common.{◌≡◌, ◌⊎◌, inl, inr, ◌+◌, ◌<◌, ◌≤◌, ◌==◌, ◌&&◌, ℕ, Bool, true, false, cond, List, [], ◌∷◌, ◌++◌, length, Option, Some, None, refl, sym, ap, subst, ◌∙◌, arith}
+use Rattle.std.specs.Prelude.{nat_lt, nat_eq}
+use Rattle.std.specs.List.{AllByRecursion}
+use Rattle.std.specs.Cmp.Lexicographic.{pointwise}
+use Rattle.std.proofs.lemmas.Bool.{and_parts, eqb-true, ltb-true, ltb-false}
+use Rattle.pn_values.specs.declared.mac.Mac.{Mac}
+use Rattle.frame_codec.specs.declared.udp.Caller.{Caller}
+use Rattle.rpc_core.specs.Call.{Asked as Call}
+use Rattle.rpc_core.specs.Response.{Answered as Response, is_done}
+use Rattle.connect_blocks.specs.declared.control.ControlBlock.{ControlBlock}
+use Rattle.record_blocks.specs.declared.alarm_ack.AlarmAck.{AlarmAck}
+use Rattle.record_blocks.specs.declared.alarm_notification.AlarmNotification.{AlarmNotification}
+use Rattle.pn_alarms.specs.declared.receiver.Taken.{Taken}
+use Rattle.pn_alarms.specs.declared.receiver.Taken.TheVariants.{New, Again, Refused}
+use Rattle.pn_alarms.specs.Receiver.{taken_as}
+use Rattle.plans.specs.declared.parts.Parts.{Parts}
+use Rattle.controller_frames.specs.declared.setup.Setup.{Setup}
+use Rattle.controller_frames.specs.declared.request.Request.{Request}
+use Rattle.controller_frames.specs.declared.request.Request.TheVariants as asks
+use Rattle.controller_frames.specs.Heard.{Responds, heard_of}
+use Rattle.controller_frames.specs.Requests.{sequence_of, writing_from}
+use Rattle.controller_frames.specs.Sent.{Sent}
+use Rattle.controller_core.specs.declared.state.Cause.{Cause}
+use Rattle.controller_core.specs.declared.state.State.{State}
+use Rattle.controller_core.specs.declared.state.State.TheVariants.{Looking, Addressing, Connecting, Writing, Ending, Ended}
+use Rattle.controller_core.specs.declared.event.Event.{Event}
+use Rattle.controller_core.specs.declared.event.Event.TheVariants.{Frame, Tick, Give, Stop}
+use Rattle.controller_core.specs.State.{Live}
+use Rattle.controller_core.specs.Answers.{is_answer, is_call}
+use Rattle.controller_core.specs.Machine.{Turn, stays, over, next_sequence, released, writing, standing, behind_data, confirming, taken, is_again, where_due, requests_of, acks_in, acks_of, outputs_of, flow_later, due_frames, brought, turn_of}
+use Rattle.message_laws.specs.turns.Turns.{Came, Hears, Passes, Gets, Halts, IsGranted, IsKind, IsReadied, IsTurn, Kind, Rests, Connects, Addresses, Ends, Releases, Relates, Writes, Waits, Forgets, Begins, Repeats, Follows, Takes, IsAcked, Gives, Flows, Breaks, Idles, came_by, turn_by}
+use Rattle.end_laws.specs.both.Small as small
+use Rattle.end_laws.specs.both.Small.{Controller, ToController, ToDevice}
+use Rattle.end_laws.specs.both.Steps.{SaysToDevice}
+use Rattle.end_laws.specs.controller.Small.{asking_of, state_of, small_of, IsInStep, readied_by, said_to, asked_by, said_by, said_in, GoesOn}
+
+some_is : {A : Type 0} (x y : A) → Some x ≡ Some y → x ≡ y
+some_is x y e = cc
+
+module _ (plan : Parts) where
+  abbrev count : ℕ
+  count = length plan.records.items
+
+  -- what is sent of a message says nothing of a start-up
+  abbrev IsQuiet : Sent → Type 0
+  IsQuiet message = said_by plan message ≡ small.Idle
+
+  quiet_says : (now : Controller) (message : Sent) → IsQuiet message → SaysToDevice count now (said_by plan message)
+  quiet_says now message quiet = subst (λ (said : ToDevice). SaysToDevice count now said) (sym quiet) tt
+
+  all_quiet : (now : Controller) (sent : List Sent) → AllByRecursion IsQuiet sent → AllByRecursion (λ message. SaysToDevice count now (said_by plan message)) sent
+  all_quiet now [] all = tt
+  all_quiet now (message ∷ sent) all = (quiet_says now message all.0, all_quiet now sent all.1)
+
+  -- ---- where nothing moves, and where all is over
+
+  same_goes : (heard : ToController) (live after : Live) (sent : List Sent) → IsInStep plan live.phase live.asked → after.phase ≡ live.phase → after.asked ≡ live.asked
+      → AllByRecursion IsQuiet sent → GoesOn plan heard live (record { live = after; sent = sent })
+  same_goes heard live after sent in_step phase asked quiet = record {
+    in_step = subst (λ (p : State). IsInStep plan p after.asked) (sym phase) (subst (λ (a : Option Request). IsInStep plan live.phase a) (sym asked) in_step);
+    moves = inl (ap (λ (p : State). state_of plan p after.asked) phase ∙ ap (λ (a : Option Request). state_of plan live.phase a) asked);
+    says = all_quiet (small_of plan after) sent quiet;
+  }
+
+  stays_goes : (heard : ToController) (live : Live) → IsInStep plan live.phase live.asked → GoesOn plan heard live (stays live)
+  stays_goes heard live in_step = same_goes heard live live [] in_step refl refl tt
+
+  over_goes : (heard : ToController) (reason : Cause) (live : Live) (sent : List Sent) → AllByRecursion IsQuiet sent → GoesOn plan heard live (record { live = over reason live; sent = sent })
+  over_goes heard reason live sent quiet = record { in_step = inl refl; moves = inr (inl refl); says = all_quiet small.Ended sent quiet }
+
+module _ (setup : Setup) where
+  released_goes : (heard : ToController) (reason : Cause) (live : Live) → GoesOn setup.plan heard live (released setup reason live)
+  released_goes heard reason live = record { in_step = inr (next_sequence setup.plan live.asked, refl); moves = inr (inl refl); says = (inl refl, tt) }
+
+  -- what a request that stands tells of the state: by which call it asks, that there is such a record, or that it is over
+  abbrev Tells : State → Option Request → Request → Type 0
+  Tells phase asked asks.Identify = Unit {0}
+  Tells phase asked asks.Address = Unit {0}
+  Tells phase asked asks.Connect = state_of setup.plan phase asked ≡ small.Asking 0
+  Tells phase asked (asks.Write number) = (number < length setup.plan.records.items) × (state_of setup.plan phase asked ≡ small.Asking (number + 1))
+  Tells phase asked asks.PrmEnd = state_of setup.plan phase asked ≡ small.Asking (length setup.plan.records.items + 1)
+  Tells phase asked (asks.Release sequence) = IsInStep setup.plan phase None × (state_of setup.plan phase None ≡ small.Ended)
+
+  tells_so : (phase : State) (asked : Option Request) (one request : Request) → asked ≡ Some one → Tells phase asked one → asked ≡ Some request → Tells phase asked request
+  tells_so phase asked one request is told stands = subst (λ (r : Request). Tells phase asked r) (some_is one request (sym is ∙ stands)) told
+
+  none_stands : (request : Request) → None ≡ Some request → ⊥
+  none_stands request e = absurd cc
+
+  -- in each state the request that belongs to it
+  tells : (phase : State) (asked : Option Request) → IsInStep setup.plan phase asked → (request : Request) → asked ≡ Some request → Tells phase asked request
+  tells Looking asked in_step request stands = tells_so Looking asked asks.Identify request in_step tt stands
+  tells Addressing asked in_step request stands = tells_so Addressing asked asks.Address request in_step tt stands
+  tells Connecting asked in_step request stands =
+      tells_so Connecting asked asks.Connect request in_step (ap (λ (a : Option Request). asking_of setup.plan a) in_step) stands
+  tells Writing asked in_step request stands =
+      tells_so Writing asked (asks.Write in_step.0) request in_step.2 (in_step.1, ap (λ (a : Option Request). asking_of setup.plan a) in_step.2) stands
+  tells Ending asked in_step request stands =
+      tells_so Ending asked asks.PrmEnd request in_step (ap (λ (a : Option Request). asking_of setup.plan a) in_step) stands
+  tells (Ended reason) asked (inl none) request stands = absurd (none_stands request (sym none ∙ stands))
+  tells (Ended reason) asked (inr there) request stands = tells_so (Ended reason) asked (asks.Release there.0) request there.1 (inl refl, refl) stands
+  tells phase asked in_step request stands = absurd (none_stands request (sym in_step ∙ stands))
+
+  -- what is asked next is asked by the next call
+  module _ (live after : Live) (number : ℕ) (heard : ToController) (before : small_of setup.plan live ≡ small.Asking number) (answers : heard ≡ small.Answers number true)
+      (few : number ≤ length setup.plan.records.items) where
+    writing_by : (b : Bool) → nat_lt number (length setup.plan.records.items) ≡ b
+        → GoesOn setup.plan heard live (writing (cond b (asks.Write number) asks.PrmEnd) after)
+    writing_by true below = record {
+      in_step = (number, ltb-true number (length setup.plan.records.items) below, refl);
+      moves = inr (inr (inr (inl (record { sequence = number; asked = before; answered = answers; becomes = inl (few, refl) }))));
+      says = (inr (refl, (ltb-true number (length setup.plan.records.items) below, refl)), tt);
+    }
+    writing_by false above =
+        let last : length setup.plan.records.items ≡ number = omega (arith, few, ltb-false number (length setup.plan.records.items) above) in
+        record {
+          in_step = refl;
+          moves = inr (inr (inr (inl (record { sequence = number; asked = before; answered = answers; becomes = inl (few, ap (λ (n : ℕ). small.Asking (n + 1)) last) }))));
+          says = (inr (refl, refl), tt);
+        }
+
+    writing_goes : GoesOn setup.plan heard live (writing (writing_from setup.plan number) after)
+    writing_goes = writing_by (nat_lt number (length setup.plan.records.items)) refl
+
+  -- a response is heard as the answer that it is
+  is_heard : (request : Request) (response : Response) → is_answer setup request response.header ≡ true
+      → said_to setup (Responds response) ≡ small.Answers (sequence_of setup.plan request) (is_done response.status)
+  is_heard request response e =
+      let call = and_parts (is_call request) (pointwise nat_eq response.header.activity setup.activity && (response.header.sequence == sequence_of setup.plan request)) e in
+      let parts = and_parts (pointwise nat_eq response.header.activity setup.activity) (response.header.sequence == sequence_of setup.plan request) call.1 in
+      let sequence : response.header.sequence ≡ sequence_of setup.plan request = eqb-true response.header.sequence (sequence_of setup.plan request) parts.1 in
+      heard_answer (pointwise nat_eq response.header.activity setup.activity) response.header.sequence (is_done response.status) parts.0
+      ∙ ap (λ (s : ℕ). small.Answers s (is_done response.status)) sequence
+    where
+      heard_answer : (b : Bool) (s : ℕ) (d : Bool) → b ≡ true → cond b (small.Answers s d) small.Nothing ≡ small.Answers s d
+      heard_answer true s d own = refl
+      heard_answer false s d own = absurd cc
+
+  taken_goes : (heard : ToController) (live after : Live) (alarm : AlarmNotification) (came : Taken) → IsInStep setup.plan live.phase live.asked → after.phase ≡ live.phase → after.asked ≡ live.asked
+      → GoesOn setup.plan heard live (taken after alarm came)
+  taken_goes heard live after alarm New in_step phase asked = same_goes setup.plan heard live (confirming after alarm) _ in_step phase asked (refl, (refl, tt))
+  taken_goes heard live after alarm Again in_step phase asked = same_goes setup.plan heard live after _ in_step phase asked (refl, tt)
+  taken_goes heard live after alarm Refused in_step phase asked = same_goes setup.plan heard live after _ in_step phase asked (refl, tt)
+
+  -- the request that stands says what it may
+  request_says : (phase : State) (asked : Option Request) (request : Request) → Tells phase asked request
+      → SaysToDevice (length setup.plan.records.items) (state_of setup.plan phase asked) (asked_by setup.plan request)
+  request_says phase asked asks.Identify told = tt
+  request_says phase asked asks.Address told = tt
+  request_says phase asked asks.Connect told = inr (told, refl)
+  request_says phase asked (asks.Write number) told = inr (told.1, (told.0, refl))
+  request_says phase asked asks.PrmEnd told = inr (told, refl)
+  request_says phase asked (asks.Release sequence) told = inl refl
+
+  abbrev AreSaid : Controller → List Sent → Type 0
+  AreSaid now sent = AllByRecursion (λ message. SaysToDevice (length setup.plan.records.items) now (said_by setup.plan message)) sent
+
+  requests_say : (device : Mac) (phase : State) (asked request : Option Request) → request ≡ asked → IsInStep setup.plan phase asked → AreSaid (state_of setup.plan phase asked) (requests_of device request)
+  requests_say device phase asked (Some request) is in_step = (request_says phase asked request (tells phase asked in_step request (sym is)), tt)
+  requests_say device phase asked None is in_step = tt
+
+  due_say : (now : Controller) (b : Bool) (sent : List Sent) → AreSaid now sent → AreSaid now (where_due b sent)
+  due_say now true sent all = all
+  due_say now false sent all = tt
+
+  both_say : (now : Controller) (sent more : List Sent) → AreSaid now sent → AreSaid now more → AreSaid now (sent ++ more)
+  both_say now [] more all others = others
+  both_say now (message ∷ sent) more all others = (all.0, both_say now sent more all.1 others)
+
+  acks_say : (now : Controller) (live : Live) (ack : Option AlarmAck) → AreSaid now (acks_in live ack)
+  acks_say now live (Some ack) = (tt, tt)
+  acks_say now live None = tt
+
+  due_frames_say : (live : Live) (is_ack is_request is_cyclic : Bool) → IsInStep setup.plan live.phase live.asked → AreSaid (small_of setup.plan live) (due_frames live is_ack is_request is_cyclic)
+  due_frames_say live is_ack is_request is_cyclic in_step =
+      let now = small_of setup.plan live in
+      both_say now (where_due is_ack (acks_of live)) _ (due_say now is_ack (acks_of live) (acks_say now live live.alarms.confirming))
+      (both_say now (where_due is_request (requests_of live.device live.asked)) _
+      (due_say now is_request (requests_of live.device live.asked) (requests_say live.device live.phase live.asked live.asked refl in_step))
+      (due_say now is_cyclic (outputs_of live) (tt, tt)))
+
+  -- ---- each kind
+
+  abbrev said_of : Came → ToController
+  said_of (Hears heard) = said_to setup heard
+  said_of Passes = small.Nothing
+  said_of (Gets slot subslot value) = small.Nothing
+  said_of Halts = small.Nothing
+
+  said_is : (event : Event) → said_of (came_by setup event) ≡ said_in setup (heard_of setup.plan.controller) event
+  said_is (Frame bytes) = refl
+  said_is Tick = refl
+  said_is (Give slot subslot value) = refl
+  said_is Stop = refl
+
+  module _ (live : Live) (came : Came) (in_step : IsInStep setup.plan live.phase live.asked) where
+    abbrev heard : ToController
+    heard = said_of came
+
+    seeking : (live.phase ≡ Looking) ⊎ (live.phase ≡ Addressing) → small_of setup.plan live ≡ small.Seeking
+    seeking (inl is) = ap (λ (p : State). state_of setup.plan p live.asked) is
+    seeking (inr is) = ap (λ (p : State). state_of setup.plan p live.asked) is
+
+    granted_said : (request : Request) → (g : IsGranted setup live came request) → heard ≡ small.Answers (sequence_of setup.plan request) true
+    granted_said request g =
+        ap said_of g.comes ∙ is_heard request g.response g.right ∙ ap (λ (d : Bool). small.Answers (sequence_of setup.plan request) d) g.granted
+
+    readied_said : (caller : Caller) (call : Call) (block : ControlBlock) → IsReadied setup came caller call block → heard ≡ small.Readies
+    readied_said caller call block ready =
+        ap said_of ready.comes ∙ ap (λ (o : Option ControlBlock). readied_by setup o) ready.is ∙ ap (λ (b : Bool). cond b small.Readies small.Nothing) ready.right
+
+    kind_goes : (kind : Kind) → IsKind setup live came kind → GoesOn setup.plan heard live (turn_by setup live kind)
+    kind_goes Rests holds = stays_goes setup.plan heard live in_step
+    kind_goes (Connects source) holds = record { in_step = refl; moves = inr (inr (inl refl)); says = (inr (refl, refl), tt) }
+    kind_goes (Addresses source) holds = record { in_step = refl; moves = inl (sym (seeking holds.seeking)); says = (tt, tt) }
+    kind_goes (Ends reason) holds = over_goes setup.plan heard reason live [] tt
+    kind_goes (Releases reason) holds = released_goes heard reason live
+    kind_goes (Relates frame_id) holds =
+        let granted = holds.0 in
+        writing_goes live (standing setup live frame_id) 0 heard (tells live.phase live.asked in_step asks.Connect granted.stood) (granted_said asks.Connect granted) (omega arith)
+    kind_goes (Writes number) holds =
+        let there = tells live.phase live.asked in_step (asks.Write number) holds.stood in
+        writing_goes live live (number + 1) heard there.1 (granted_said (asks.Write number) holds) (omega (arith, there.0))
+    kind_goes Waits holds = record {
+      in_step = refl;
+      moves = inr (inr (inr (inl (record {
+        sequence = length setup.plan.records.items + 1;
+        asked = tells live.phase live.asked in_step asks.PrmEnd holds.stood;
+        answered = granted_said asks.PrmEnd holds;
+        becomes = inr refl;
+      }))));
+      says = tt;
+    }
+    kind_goes Forgets holds =
+        let ends = tells live.phase live.asked in_step (asks.Release holds.2.sequence) holds.2.stood in
+        record { in_step = ends.0; moves = inr (inl ends.1); says = tt }
+    kind_goes (Begins caller call block) holds =
+        record { in_step = refl; moves = inr (inr (inr (inr (readied_said caller call block holds.1, refl)))); says = (refl, tt) }
+    kind_goes (Repeats caller call block) holds =
+        record { in_step = in_step; moves = inl refl; says = (ap (λ (p : State). state_of setup.plan p live.asked) holds.0, tt) }
+    kind_goes (Follows source frame_id body) holds = same_goes setup.plan heard live _ [] in_step refl refl tt
+    kind_goes (Takes number alarm) holds = taken_goes heard live (behind_data live number) alarm (taken_as live.alarms.seen number) in_step refl refl
+    kind_goes (IsAcked number) holds = same_goes setup.plan heard live _ [] in_step refl refl tt
+    kind_goes (Gives slot subslot value) holds = same_goes setup.plan heard live _ [] in_step refl refl tt
+    kind_goes Flows holds = record {
+      in_step = in_step;
+      moves = inl refl;
+      says = due_frames_say (flow_later live) (brought live).is_alarm (is_again live) (brought live).is_cyclic in_step;
+    }
+    kind_goes (Breaks reason) holds = record { in_step = inl refl; moves = inr (inl refl); says = (tt, tt) }
+    kind_goes Idles holds = record {
+      in_step = in_step;
+      moves = inl refl;
+      says = due_say (small_of setup.plan live) (is_again live) (requests_of live.device live.asked) (requests_say live.device live.phase live.asked live.asked refl in_step);
+    }
+
+  pub event_goes : (live : Live) (event : Event) → IsTurn setup live (came_by setup event) (turn_of setup live event) → IsInStep setup.plan live.phase live.asked
+      → GoesOn setup.plan (said_in setup (heard_of setup.plan.controller) event) live (turn_of setup live event)
+  event_goes live event turn in_step =
+      subst (λ (h : ToController). GoesOn setup.plan h live (turn_of setup live event)) (said_is event)
+      (subst (λ (t : Turn). GoesOn setup.plan (said_of (came_by setup event)) live t) (sym turn.is) (kind_goes live (came_by setup event) in_step turn.kind turn.holds))

@@ -1,0 +1,284 @@
+-- The status of each answer of a start-up has four octets.
+use Rattle.std.proofs.Common.{◌≡◌, ◌<◌, ℕ, Bool, true, false, not, cond, List, [], ◌∷◌, ◌++◌, length, take, Option, Some, None, Result, Ok, Err, sym, subst, arith}
+use Rattle.std.specs.Prelude.{◌==◌, ◌||◌, nat_lt, nat_eq}
+use Rattle.std.specs.List.{AllByRecursion}
+use Rattle.std.specs.Cmp.Lexicographic.{pointwise}
+use Rattle.wire.specs.Codec.{◌>>=◌}
+use Rattle.wire.specs.Checks.{or_fault}
+use Rattle.wire.specs.Formats.{big_number}
+use Rattle.pn_values.specs.declared.real.Real.{Real}
+use Rattle.pn_values.specs.declared.set_item.BlockError.{BlockError}
+use Rattle.pn_values.specs.declared.set_item.BlockError.TheVariants as error
+use Rattle.rpc_core.specs.Sendable.{IsStatus}
+use Rattle.block_fields.specs.declared.fault.BlockFault.{BlockFault}
+use Rattle.connect_blocks.specs.declared.control.ControlBlock.{ControlBlock}
+use Rattle.block_codec.specs.declared.block_type.BlockType.{BlockType}
+use Rattle.block_codec.specs.declared.block_type.BlockType.TheVariants as kind
+use Rattle.block_codec.specs.Kinds.{number_of}
+use Rattle.block_codec.specs.Block.{block_of, in_iod_write_req}
+use Rattle.records.specs.declared.status.call_fault.CallFault.{CallFault}
+use Rattle.records.specs.declared.status.call_fault.CallFault.TheVariants as fault
+use Rattle.records.specs.declared.status.operation.Operation.{Operation}
+use Rattle.records.specs.declared.status.operation.Operation.TheVariants as operation
+use Rattle.records.specs.status.Operation.{code_of}
+use Rattle.records.specs.status.Status.{status_of}
+use Rattle.records.specs.calls.Judged.{judged as in_order}
+use Rattle.records.specs.calls.Naming.{in_relation, is_relation}
+use Rattle.records.specs.calls.Single.{formed, single_of}
+use Rattle.connect_requests.specs.declared.parts.Ar.{Ar}
+use Rattle.connect_requests.specs.Pieces.{Piece, pieces_of}
+use Rattle.connect_requests.specs.Request.{Request}
+use Rattle.connect_requests.specs.Judged.{admitted, ar_in, conflict, request_behind, request_in, request_of}
+use Rattle.record_blocks.specs.declared.write_record.IodWriteReq.{IodWriteReq}
+use Rattle.im_records.specs.Indices.{is_anywhere, is_read_only, record_with}
+use Rattle.im_records.specs.Records.{is_real}
+use Rattle.records.specs.reads.Judged.{placed}
+use Rattle.records.specs.declared.writes.taken.TakenRecord.{TakenRecord}
+use Rattle.records.specs.writes.Judged.{effect_of, is_known, judged_request as write_judged, targeted, write_of, written}
+use Rattle.records.specs.writes.Taken.{keep_of}
+use Rattle.relations.specs.Link.{Link, is_named, is_session, is_started, phase_of, uuid_of}
+use Rattle.relations.specs.Phases.{keeping}
+use Rattle.relations.specs.Calls.{control_block, in_control, in_started, named_of, prm_end_of, release_of}
+use Rattle.relations.specs.Connect.{connect_of}
+use Rattle.device_core.specs.Judged.{outcome_of, kept_answer}
+use Rattle.device_core.specs.Machine.{written_as}
+use Rattle.end_laws.proofs.DeviceTurns.{bind_ok}
+
+-- ---- faults whose status has four octets
+
+-- a fault that names no field of a block
+abbrev pub IsPlain : CallFault → Type 0
+IsPlain (fault.ArField field) = ⊥
+IsPlain (fault.IocrField field) = ⊥
+IsPlain (fault.ExpectedField field) = ⊥
+IsPlain (fault.AlarmCrField field) = ⊥
+IsPlain fault.Arguments = Unit {0}
+IsPlain fault.BlockHeader = Unit {0}
+IsPlain fault.BlockForm = Unit {0}
+IsPlain fault.BlockType = Unit {0}
+IsPlain fault.BlockMissing = Unit {0}
+IsPlain fault.IocrMissing = Unit {0}
+IsPlain fault.AlarmCrMissing = Unit {0}
+IsPlain fault.AlarmCrRepeated = Unit {0}
+IsPlain fault.OtherRelationExists = Unit {0}
+IsPlain fault.TooManyModules = Unit {0}
+IsPlain fault.TooManySubmodules = Unit {0}
+IsPlain fault.UnknownRelation = Unit {0}
+IsPlain fault.UnknownSession = Unit {0}
+IsPlain fault.RelationExists = Unit {0}
+IsPlain fault.ControlCommand = Unit {0}
+IsPlain fault.Phase = Unit {0}
+IsPlain fault.LayoutOutside = Unit {0}
+IsPlain fault.LayoutOverlap = Unit {0}
+IsPlain fault.LayoutUnknown = Unit {0}
+IsPlain fault.LayoutMissing = Unit {0}
+IsPlain fault.Index = Unit {0}
+IsPlain fault.WriteLength = Unit {0}
+IsPlain fault.Place = Unit {0}
+IsPlain fault.Api = Unit {0}
+IsPlain fault.JournalExhausted = Unit {0}
+IsPlain fault.FlashFault = Unit {0}
+IsPlain fault.TooManyRecords = Unit {0}
+IsPlain fault.Access = Unit {0}
+
+code_small : (which : Operation) → code_of which < 256
+code_small operation.Connect = omega arith
+code_small operation.Release = omega arith
+code_small operation.Control = omega arith
+code_small operation.Read = omega arith
+code_small operation.ReadImplicit = omega arith
+code_small operation.Write = omega arith
+
+status_sized : (which : Operation) (why : CallFault) → IsPlain why → IsStatus (status_of which why)
+unfolding status_of
+status_sized which (fault.ArField field) plain = absurd plain
+status_sized which (fault.IocrField field) plain = absurd plain
+status_sized which (fault.ExpectedField field) plain = absurd plain
+status_sized which (fault.AlarmCrField field) plain = absurd plain
+status_sized which fault.Arguments plain = record { code = code_small which; decode = omega arith; code1 = omega arith; code2 = omega arith }
+status_sized which fault.BlockHeader plain = record { code = code_small which; decode = omega arith; code1 = omega arith; code2 = omega arith }
+status_sized which fault.BlockForm plain = record { code = code_small which; decode = omega arith; code1 = omega arith; code2 = omega arith }
+status_sized which fault.BlockType plain = record { code = code_small which; decode = omega arith; code1 = omega arith; code2 = omega arith }
+status_sized which fault.BlockMissing plain = record { code = code_small which; decode = omega arith; code1 = omega arith; code2 = omega arith }
+status_sized which fault.IocrMissing plain = record { code = code_small which; decode = omega arith; code1 = omega arith; code2 = omega arith }
+status_sized which fault.AlarmCrMissing plain = record { code = code_small which; decode = omega arith; code1 = omega arith; code2 = omega arith }
+status_sized which fault.AlarmCrRepeated plain = record { code = code_small which; decode = omega arith; code1 = omega arith; code2 = omega arith }
+status_sized which fault.OtherRelationExists plain = record { code = code_small which; decode = omega arith; code1 = omega arith; code2 = omega arith }
+status_sized which fault.TooManyModules plain = record { code = code_small which; decode = omega arith; code1 = omega arith; code2 = omega arith }
+status_sized which fault.TooManySubmodules plain = record { code = code_small which; decode = omega arith; code1 = omega arith; code2 = omega arith }
+status_sized which fault.UnknownRelation plain = record { code = code_small which; decode = omega arith; code1 = omega arith; code2 = omega arith }
+status_sized which fault.UnknownSession plain = record { code = code_small which; decode = omega arith; code1 = omega arith; code2 = omega arith }
+status_sized which fault.RelationExists plain = record { code = code_small which; decode = omega arith; code1 = omega arith; code2 = omega arith }
+status_sized which fault.ControlCommand plain = record { code = code_small which; decode = omega arith; code1 = omega arith; code2 = omega arith }
+status_sized which fault.Phase plain = record { code = code_small which; decode = omega arith; code1 = omega arith; code2 = omega arith }
+status_sized which fault.LayoutOutside plain = record { code = code_small which; decode = omega arith; code1 = omega arith; code2 = omega arith }
+status_sized which fault.LayoutOverlap plain = record { code = code_small which; decode = omega arith; code1 = omega arith; code2 = omega arith }
+status_sized which fault.LayoutUnknown plain = record { code = code_small which; decode = omega arith; code1 = omega arith; code2 = omega arith }
+status_sized which fault.LayoutMissing plain = record { code = code_small which; decode = omega arith; code1 = omega arith; code2 = omega arith }
+status_sized which fault.Index plain = record { code = code_small which; decode = omega arith; code1 = omega arith; code2 = omega arith }
+status_sized which fault.WriteLength plain = record { code = code_small which; decode = omega arith; code1 = omega arith; code2 = omega arith }
+status_sized which fault.Place plain = record { code = code_small which; decode = omega arith; code1 = omega arith; code2 = omega arith }
+status_sized which fault.Api plain = record { code = code_small which; decode = omega arith; code1 = omega arith; code2 = omega arith }
+status_sized which fault.JournalExhausted plain = record { code = code_small which; decode = omega arith; code1 = omega arith; code2 = omega arith }
+status_sized which fault.FlashFault plain = record { code = code_small which; decode = omega arith; code1 = omega arith; code2 = omega arith }
+status_sized which fault.TooManyRecords plain = record { code = code_small which; decode = omega arith; code1 = omega arith; code2 = omega arith }
+status_sized which fault.Access plain = record { code = code_small which; decode = omega arith; code1 = omega arith; code2 = omega arith }
+
+-- a call that is refused, if it is, for such a fault
+abbrev pub IsPlainIn : {A : Type 0} → Result A CallFault → Type 0
+IsPlainIn (Ok value) = Unit {0}
+IsPlainIn (Err why) = IsPlain why
+
+pub outcome_sized : (which : Operation) (outcome : Result (List ℕ) CallFault) → IsPlainIn outcome → IsStatus (outcome_of which outcome).0
+outcome_sized which (Ok blocks) plain = record { code = omega arith; decode = omega arith; code1 = omega arith; code2 = omega arith }
+outcome_sized which (Err why) plain = status_sized which why plain
+
+pub bind_plain : {A B : Type 0} (r : Result A CallFault) (next : A → Result B CallFault) → IsPlainIn r → ((value : A) → IsPlainIn (next value)) → IsPlainIn (r >>= next)
+bind_plain (Ok value) next one others = others value
+bind_plain (Err why) next one others = one
+
+fault_plain : {A : Type 0} (why : CallFault) (value : Option A) → IsPlain why → IsPlainIn (or_fault why value)
+fault_plain why (Some value) plain = tt
+fault_plain why None plain = plain
+
+judged_plain : {A : Type 0} (judgements : List (Bool × CallFault)) (otherwise : Result A CallFault) → AllByRecursion (λ (one : Bool × CallFault). IsPlain one.1) judgements → IsPlainIn otherwise
+    → IsPlainIn (in_order judgements otherwise)
+judged_plain [] otherwise plain other = other
+judged_plain {A} (judgement ∷ others) otherwise plain other = by_test judgement.0 (judged_plain others otherwise plain.1 other)
+  where
+    by_test : (b : Bool) → IsPlainIn (in_order others otherwise) → IsPlainIn (cond b (Err judgement.1) (in_order others otherwise))
+    by_test true rest = plain.0
+    by_test false rest = rest
+
+-- ---- a block, and what it is for
+
+formed_plain : {A : Type 0} (r : Result A BlockFault) → IsPlainIn (formed r)
+formed_plain (Ok value) = tt
+formed_plain (Err why) = tt
+
+single_plain : (type : BlockType) (blocks : List ℕ) → IsPlainIn (single_of type blocks)
+unfolding single_of
+single_plain type blocks = judged_plain
+    ((length blocks == 0, fault.BlockMissing)
+    ∷ (nat_lt (length blocks) 4, fault.BlockHeader)
+    ∷ (not (big_number 2 blocks == number_of type), fault.BlockType)
+    ∷ [])
+    (formed (block_of blocks)) (tt, (tt, (tt, tt))) (formed_plain (block_of blocks))
+
+control_plain : (type : BlockType) (blocks : List ℕ) → IsPlainIn (control_block type blocks)
+control_plain type blocks =
+    bind_plain (single_of type blocks) (λ x. or_fault fault.BlockForm (in_control x.0)) (single_plain type blocks) (λ x. fault_plain fault.BlockForm (in_control x.0) tt)
+
+named_plain : (link : Option Link) (block : ControlBlock) (command : ℕ) → IsPlainIn (named_of link block command)
+named_plain link block command = judged_plain
+    ((not (is_named block.ar_uuid link), fault.UnknownRelation)
+    ∷ (not (is_session block.session_key link), fault.UnknownSession)
+    ∷ (not (block.control_command == command), fault.ControlCommand)
+    ∷ [])
+    (Ok tt) (tt, (tt, (tt, tt))) tt
+
+started_plain : (link : Option Link) → IsPlainIn (in_started link)
+started_plain link = judged_plain ((not (is_started (phase_of link)), fault.Phase) ∷ []) (Ok tt) (tt, tt) tt
+
+pub prm_plain : (link : Option Link) (blocks : List ℕ) → IsPlainIn (prm_end_of link blocks)
+unfolding prm_end_of
+prm_plain link blocks =
+    bind_plain (control_block kind.PrmEnd blocks) (λ block. named_of link block 1 >>= λ _. in_started link >>= λ _. Ok block) (control_plain kind.PrmEnd blocks)
+    (λ block. bind_plain (named_of link block 1) (λ _. in_started link >>= λ _. Ok block) (named_plain link block 1)
+    (λ _. bind_plain (in_started link) (λ _. Ok block) (started_plain link) (λ _. tt)))
+
+pub release_plain : (link : Option Link) (blocks : List ℕ) → IsPlainIn (release_of link blocks)
+unfolding release_of
+release_plain link blocks =
+    bind_plain (control_block kind.Release blocks) (λ block. named_of link block 4 >>= λ _. Ok block) (control_plain kind.Release blocks)
+    (λ block. bind_plain (named_of link block 4) (λ _. Ok block) (named_plain link block 4) (λ _. tt))
+
+-- ---- a Write
+
+related_plain : (standing : Option (List ℕ)) (uuid : List ℕ) → IsPlainIn (in_relation standing uuid)
+unfolding in_relation
+related_plain standing uuid = judged_plain ((not (is_relation standing uuid), fault.UnknownRelation) ∷ []) (Ok tt) (tt, tt) tt
+
+placed_plain : (real : Real) (api slot subslot index : ℕ) → IsPlainIn (placed real api slot subslot index)
+unfolding placed
+placed_plain real api slot subslot index = judged_plain
+    ((not (api == 0), fault.Api)
+    ∷ (not (is_anywhere (record_with index) || is_real real slot subslot), fault.Place)
+    ∷ [])
+    (Ok tt) (tt, (tt, tt)) tt
+
+targeted_plain : (standing : Option (List ℕ)) (real : Real) (request : IodWriteReq) → IsPlainIn (targeted standing real request)
+unfolding targeted
+targeted_plain standing real request =
+    bind_plain (in_relation standing request.header.ar_uuid) (λ _. placed real request.header.api request.header.slot_number request.header.subslot_number request.header.index)
+    (related_plain standing request.header.ar_uuid) (λ _. placed_plain real request.header.api request.header.slot_number request.header.subslot_number request.header.index)
+
+written_plain : (real : Real) (request : IodWriteReq) (behind : List ℕ) → IsPlainIn (written real request behind)
+unfolding written
+written_plain real request behind = judged_plain
+    ((not (is_known real request), fault.Index)
+    ∷ (is_read_only (record_with request.header.index), fault.Access)
+    ∷ (nat_lt (length behind) request.header.record_data_length, fault.WriteLength)
+    ∷ [])
+    (or_fault fault.WriteLength (effect_of real request (take request.header.record_data_length behind))) (tt, (tt, (tt, tt)))
+    (fault_plain fault.WriteLength (effect_of real request (take request.header.record_data_length behind)) tt)
+
+request_plain : (standing : Option (List ℕ)) (real : Real) (request : IodWriteReq) (behind : List ℕ) → IsPlainIn (write_judged standing real request behind)
+unfolding write_judged
+request_plain standing real request behind =
+    bind_plain (targeted standing real request) (λ _. written real request behind >>= λ effect. Ok (record { request = request; effect = effect })) (targeted_plain standing real request)
+    (λ _. bind_plain (written real request behind) (λ effect. Ok (record { request = request; effect = effect })) (written_plain real request behind) (λ effect. tt))
+
+pub write_plain : (standing : Option (List ℕ)) (real : Real) (blocks : List ℕ) → IsPlainIn (write_of standing real blocks)
+unfolding write_of
+write_plain standing real blocks =
+    bind_plain (single_of kind.IodWriteReq blocks) (λ x. or_fault fault.BlockForm (in_iod_write_req x.0) >>= λ request. write_judged standing real request x.1)
+    (single_plain kind.IodWriteReq blocks)
+    (λ x. bind_plain (or_fault fault.BlockForm (in_iod_write_req x.0)) (λ request. write_judged standing real request x.1) (fault_plain fault.BlockForm (in_iod_write_req x.0) tt)
+    (λ request. request_plain standing real request x.1))
+
+keep_plain : (value : TakenRecord) (records : List TakenRecord) → IsPlainIn (keep_of value records)
+unfolding keep_of
+keep_plain value records = by_room (nat_lt (length records) 64)
+  where
+    by_room : (b : Bool) → IsPlainIn (cond b (Ok (records ++ value ∷ [])) (Err fault.TooManyRecords))
+    by_room true = tt
+    by_room false = tt
+
+pub keeping_plain : (value : TakenRecord) (link : Option Link) → IsPlainIn (keeping value link)
+keeping_plain value None = tt
+keeping_plain value (Some link) = keep_plain value link.taken
+
+pub kept_plain : (header : IodWriteReq) (kept : Result (List TakenRecord) CallFault) → IsPlainIn kept → IsPlainIn (kept_answer header kept)
+kept_plain header (Ok taken) plain = tt
+kept_plain header (Err why) plain = plain
+
+pub stored_plain : (header : IodWriteReq) (answer : BlockError) → IsPlainIn (written_as header answer)
+stored_plain header error.Done = tt
+stored_plain header error.Exhausted = tt
+stored_plain header error.Local = tt
+stored_plain header error.Option = tt
+stored_plain header error.Suboption = tt
+stored_plain header error.Value = tt
+stored_plain header error.InOperation = tt
+
+-- ---- a Connect that is accepted where there is no relation
+
+conflict_plain : (standing asked : List ℕ) → IsPlain (conflict standing asked)
+conflict_plain standing asked = by_name (pointwise nat_eq asked standing)
+  where
+    by_name : (b : Bool) → IsPlain (cond b fault.RelationExists fault.OtherRelationExists)
+    by_name true = tt
+    by_name false = tt
+
+pieces_plain : (standing : Option (List ℕ)) (pieces : List Piece) (request : Request) → request_in None pieces ≡ Ok request → IsPlainIn (request_in standing pieces)
+unfolding request_in
+pieces_plain None pieces request reads = subst (λ (r : Result Request CallFault). IsPlainIn r) (sym reads) tt
+pieces_plain (Some standing) [] request reads = absurd cc
+pieces_plain (Some standing) (piece ∷ pieces) request reads =
+    let there = bind_ok (ar_in piece) (λ ar. admitted None ar >>= λ _. request_behind ar pieces) request reads in
+    subst (λ (r : Result Ar CallFault). IsPlainIn (r >>= λ ar. admitted (Some standing) ar >>= λ _. request_behind ar pieces)) (sym there.1) (conflict_plain standing there.0.uuid)
+
+pub connect_plain : (link : Option Link) (blocks : List ℕ) (request : Request) → request_of None blocks ≡ Ok request → IsPlainIn (connect_of link blocks)
+unfolding request_of
+connect_plain link blocks request reads = pieces_plain (uuid_of link) (pieces_of blocks) request reads

@@ -1,0 +1,8 @@
+use Rattle.end_laws.proofs.DeviceWalk.{step_raises, step_turns}
+use Rattle.end_laws.proofs.device.turn.device_turns.Goals as goal
+
+pub returns-clause-turn : goal.returns-clause-turn
+returns-clause-turn c = λ rules activity outcomes station live heard plan. step_turns rules activity outcomes station live heard plan
+
+pub returns-clause-raises : goal.returns-clause-raises
+returns-clause-raises c = λ outcomes station live slot subslot octets. step_raises outcomes station live slot subslot octets

@@ -1,0 +1,3 @@
+pub mod both
+pub mod device
+pub mod controller

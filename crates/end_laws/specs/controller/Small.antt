@@ -1,0 +1,105 @@
+-- What a controller is of a start-up, and what it says and hears of it.
+use Rattle.std.specs.Prelude.{◌≡◌, ◌⊎◌, ◌<◌, ℕ, nat_eq, List, length, Option, Some, None, if◌then◌else◌}
+use Rattle.std.specs.List.{AllByRecursion}
+use Rattle.std.specs.Cmp.Lexicographic.{pointwise}
+use Rattle.connect_blocks.specs.declared.control.ControlBlock.{ControlBlock}
+use Rattle.rpc_core.specs.Response.{is_done}
+use Rattle.plans.specs.declared.parts.Parts.{Parts}
+use Rattle.controller_frames.specs.declared.setup.Setup.{Setup}
+use Rattle.controller_frames.specs.declared.request.Request.{Request}
+use Rattle.controller_frames.specs.declared.request.Request.TheVariants as asks
+use Rattle.controller_frames.specs.Heard.{Heard, Nothing, Answers, Responds, Calls, Cyclic, Alarms}
+use Rattle.controller_frames.specs.Requests.{sequence_of}
+use Rattle.controller_frames.specs.Sent.{Sent, Requests, Agrees, Cycles, Confirms, Replies, Ends}
+use Rattle.controller_core.specs.declared.state.State.{State}
+use Rattle.controller_core.specs.declared.state.State.TheVariants.{Looking, Addressing, Connecting, Writing, Ending, Waiting, Exchanging, Ended}
+use Rattle.controller_core.specs.declared.event.Event.{Event}
+use Rattle.controller_core.specs.declared.event.Event.TheVariants.{Frame, Tick, Give, Stop}
+use Rattle.controller_core.specs.State.{Live}
+use Rattle.controller_core.specs.Answers.{is_ready}
+use Rattle.controller_core.specs.Machine.{Turn, ready_in}
+use Rattle.end_laws.specs.both.Small as small
+use Rattle.end_laws.specs.both.Small.{Controller, ToController, ToDevice}
+use Rattle.end_laws.specs.both.Steps.{Moves, SaysToDevice}
+
+-- ---- what it is
+
+-- it asks by the call of the request that stands
+abbrev pub asking_of : Parts → Option Request → Controller
+asking_of plan (Some request) = small.Asking (sequence_of plan request)
+asking_of plan None = small.Ended
+
+abbrev pub state_of : Parts → State → Option Request → Controller
+state_of plan Looking asked = small.Seeking
+state_of plan Addressing asked = small.Seeking
+state_of plan Connecting asked = asking_of plan asked
+state_of plan Writing asked = asking_of plan asked
+state_of plan Ending asked = asking_of plan asked
+state_of plan Waiting asked = small.Waiting
+state_of plan Exchanging asked = small.Exchanges
+state_of plan (Ended cause) asked = small.Ended
+
+abbrev pub small_of : Parts → Live → Controller
+small_of plan live = state_of plan live.phase live.asked
+
+-- in each state the request stands that belongs to it
+abbrev pub IsInStep : Parts → State → Option Request → Type 0
+IsInStep plan Looking asked = asked ≡ Some asks.Identify
+IsInStep plan Addressing asked = asked ≡ Some asks.Address
+IsInStep plan Connecting asked = asked ≡ Some asks.Connect
+IsInStep plan Writing asked = (number : ℕ) × (number < length plan.records.items) × (asked ≡ Some (asks.Write number))
+IsInStep plan Ending asked = asked ≡ Some asks.PrmEnd
+IsInStep plan Waiting asked = asked ≡ None
+IsInStep plan Exchanging asked = asked ≡ None
+IsInStep plan (Ended cause) asked = (asked ≡ None) ⊎ ((sequence : ℕ) × (asked ≡ Some (asks.Release sequence)))
+
+-- ---- what it hears
+
+-- ApplicationReady of its relation, if this is a block of one
+abbrev pub readied_by : Setup → Option ControlBlock → ToController
+readied_by setup (Some block) = if is_ready setup block then small.Readies else small.Nothing
+readied_by setup None = small.Nothing
+
+-- a response of its activity, and ApplicationReady of its relation; of all else a start-up knows nothing
+abbrev pub said_to : Setup → Heard → ToController
+said_to setup (Responds response) =
+    if pointwise nat_eq response.header.activity setup.activity then small.Answers response.header.sequence (is_done response.status) else small.Nothing
+said_to setup (Calls caller call) = readied_by setup (ready_in call)
+said_to setup Nothing = small.Nothing
+said_to setup (Answers source answer) = small.Nothing
+said_to setup (Cyclic source frame_id body) = small.Nothing
+said_to setup (Alarms source header notice) = small.Nothing
+
+-- ---- what it says
+
+abbrev pub asked_by : Parts → Request → ToDevice
+asked_by plan asks.Identify = small.Idle
+asked_by plan asks.Address = small.Idle
+asked_by plan asks.Connect = small.Call (sequence_of plan asks.Connect) small.Connects
+asked_by plan (asks.Write number) = small.Call (sequence_of plan (asks.Write number)) (small.Writes number)
+asked_by plan asks.PrmEnd = small.Call (sequence_of plan asks.PrmEnd) small.Parameterized
+asked_by plan (asks.Release sequence) = small.Call (sequence_of plan (asks.Release sequence)) small.Releases
+
+-- a request as the call that it is, and the answer to ApplicationReady
+abbrev pub said_by : Parts → Sent → ToDevice
+said_by plan (Requests device request) = asked_by plan request
+said_by plan (Agrees caller answer) = small.Confirms
+said_by plan (Cycles route shown counter) = small.Idle
+said_by plan (Confirms route header ack) = small.Idle
+said_by plan (Replies route header) = small.Idle
+said_by plan (Ends route header reason) = small.Idle
+
+-- ---- a step
+
+-- what a turn that hears this is of a start-up: the state moves, and each message says to the device what it may then
+pub record GoesOn (plan : Parts) (heard : ToController) (live : Live) (turn : Turn) : Type 0 where
+  pub in_step : IsInStep plan turn.live.phase turn.live.asked
+  pub moves : Moves (length plan.records.items) heard (small_of plan live) (small_of plan turn.live)
+  pub says : AllByRecursion (λ message. SaysToDevice (length plan.records.items) (small_of plan turn.live) (said_by plan message)) turn.sent
+
+-- what an event says, by what is heard of a frame
+abbrev pub said_in : Setup → (List ℕ → Heard) → Event → ToController
+said_in setup heard (Frame bytes) = said_to setup (heard bytes.items)
+said_in setup heard Tick = small.Nothing
+said_in setup heard (Give slot subslot value) = small.Nothing
+said_in setup heard Stop = small.Nothing

@@ -1,0 +1,161 @@
+-- What a device is of a start-up, and what it says and hears of it.
+use Rattle.std.specs.Prelude.{◌≡◌, ◌+◌, ◌-◌, ◌==◌, ◌&&◌, ℕ, Bool, false, nat_eq, List, Option, Some, None, option_map, slice_get, if◌then◌else◌, Ok}
+use Rattle.std.specs.Cmp.Lexicographic.{pointwise}
+use Rattle.pn_values.specs.declared.identity.Identity.{Identity}
+use Rattle.pn_values.specs.declared.real.Real.{Real}
+use Rattle.rpc_core.specs.Cache.{Kept as Answer, kept_of}
+use Rattle.rpc_core.specs.Call.{Asked as Call}
+use Rattle.rpc_core.specs.Response.{Answered as Response, is_done}
+use Rattle.connect_blocks.specs.declared.control.ControlBlock.{ControlBlock}
+use Rattle.block_codec.specs.Block.{block_of}
+use Rattle.records.specs.declared.status.operation.Operation.{Operation}
+use Rattle.records.specs.declared.status.operation.Operation.TheVariants as operation
+use Rattle.records.specs.status.Operation.{operation_of}
+use Rattle.connect_requests.specs.Request.{Request}
+use Rattle.connect_requests.specs.Judged.{request_of}
+use Rattle.records.specs.declared.writes.taken.TakenRecord.{TakenRecord}
+use Rattle.records.specs.declared.writes.write.Effect.TheVariants.{Keeps}
+use Rattle.records.specs.declared.writes.write.Write.{Write}
+use Rattle.records.specs.writes.Judged.{write_of}
+use Rattle.relations.specs.declared.phase.Phase.{Phase}
+use Rattle.relations.specs.declared.phase.Phase.TheVariants.{Started, Awaiting, Exchanging}
+use Rattle.relations.specs.Link.{Link}
+use Rattle.relations.specs.Ready.{confirmed_block}
+use Rattle.device_frames.specs.Heard.{Heard, Ticks, Unreadable, Elsewhere, Asks, Resolves, Told, Cyclic, Alarms, Given, Raised, Said, Calls, Responds, Garbled}
+use Rattle.device_frames.specs.Sent.{Sent, IdentifyAnswer, GetAnswer, SetAnswer, ArpReply, CallAnswer, Again, ReadyCall, Ends, Exchanges, bytes_of}
+use Rattle.device_core.specs.State.{Live}
+use Rattle.end_laws.specs.both.Small as small
+use Rattle.end_laws.specs.both.Small.{Rules, ToDevice, ToController}
+use Rattle.end_laws.specs.both.Steps.{SaysAtMost}
+
+-- ---- what it is
+
+abbrev pub phase_in : Phase → small.Phase
+phase_in Started = small.Started
+phase_in Awaiting = small.Awaiting
+phase_in Exchanging = small.Exchanging
+
+abbrev pub link_of : Link → small.Link TakenRecord Request
+link_of link = record { phase = phase_in link.phase; request = link.request; taken = link.taken }
+
+abbrev pub kept_in : Answer → small.Kept
+kept_in answer = record { sequence = answer.sequence; frame = answer.frame }
+
+-- of the answers that are kept that of the activity of the start-up counts
+abbrev pub small_of : List ℕ → Live → small.Device TakenRecord Request
+small_of activity live = record { kept = option_map kept_in (kept_of activity live.rest.calls); link = option_map link_of live.rest.link }
+
+-- ---- what it hears
+
+-- what a call asks, by its operation: a Write asks for the record in front of its number
+abbrev pub asked_by : ℕ → Option Operation → ToDevice
+asked_by sequence (Some operation.Connect) = small.Call sequence small.Connects
+asked_by sequence (Some operation.Write) = small.Call sequence (small.Writes (sequence - 1))
+asked_by sequence (Some operation.Control) = small.Call sequence small.Parameterized
+asked_by sequence (Some operation.Release) = small.Call sequence small.Releases
+asked_by sequence (Some operation.Read) = small.Idle
+asked_by sequence (Some operation.ReadImplicit) = small.Idle
+asked_by sequence None = small.Idle
+
+-- the positive answer to an ApplicationReady: its block names the relation whose ARUUID was the activity of the call
+abbrev pub names_own : List ℕ → Option ControlBlock → Bool
+names_own activity None = false
+names_own activity (Some block) = pointwise nat_eq block.ar_uuid activity
+
+abbrev pub confirms : Response → Bool
+confirms response =
+    (response.header.sequence == 0 && response.header.operation == 4)
+    && (is_done response.status && names_own response.header.activity (confirmed_block (block_of response.blocks)))
+
+abbrev pub said_to : Said → ToDevice
+said_to (Calls call) = asked_by call.header.sequence (operation_of call.header.operation)
+said_to (Responds response) = if confirms response then small.Confirms else small.Idle
+said_to Garbled = small.Idle
+
+-- calls and answers, and of all else a start-up knows nothing
+abbrev pub heard_as : Heard → ToDevice
+heard_as (Told caller address said) = said_to said
+heard_as Ticks = small.Idle
+heard_as Unreadable = small.Idle
+heard_as Elsewhere = small.Idle
+heard_as (Asks source request) = small.Idle
+heard_as (Resolves asker packet) = small.Idle
+heard_as (Cyclic source frame_id body) = small.Idle
+heard_as (Alarms source header message) = small.Idle
+heard_as (Given slot subslot value) = small.Idle
+heard_as (Raised slot subslot octets) = small.Idle
+
+-- ---- the calls of a start-up
+
+-- a call with these blocks is one of the start-up: its Connect is read as what it asks for; its Writes, where they are judged well, keep
+-- the records; what a PrmEnd or a Release says is looked at when it comes
+pub record IsPlannedWrite (rules : Rules TakenRecord Request) (real : Real) (sequence : ℕ) (blocks : List ℕ) : Type 0 where
+  pub number : ℕ
+  pub value : TakenRecord
+  pub is : sequence ≡ number + 1
+  pub there : slice_get rules.records number ≡ Some value
+  pub keeps : (standing : Option (List ℕ)) (write : Write) → write_of standing real blocks ≡ Ok write → write.effect ≡ Keeps value
+
+abbrev pub IsPlannedAs : Rules TakenRecord Request → Real → ℕ → List ℕ → Option Operation → Type 0
+IsPlannedAs rules real sequence blocks (Some operation.Connect) = request_of None blocks ≡ Ok rules.request
+IsPlannedAs rules real sequence blocks (Some operation.Write) = IsPlannedWrite rules real sequence blocks
+IsPlannedAs rules real sequence blocks (Some operation.Control) = Unit {0}
+IsPlannedAs rules real sequence blocks (Some operation.Release) = Unit {0}
+IsPlannedAs rules real sequence blocks (Some operation.Read) = ⊥
+IsPlannedAs rules real sequence blocks (Some operation.ReadImplicit) = ⊥
+IsPlannedAs rules real sequence blocks None = ⊥
+
+-- of the activity of the start-up, its blocks counted well
+pub record IsPlannedCall (rules : Rules TakenRecord Request) (activity : List ℕ) (real : Real) (call : Call) : Type 0 where
+  pub own : call.header.activity ≡ activity
+  pub blocks : List ℕ
+  pub counted : call.blocks ≡ Some blocks
+  pub asks : IsPlannedAs rules real call.header.sequence blocks (operation_of call.header.operation)
+
+-- each call that is heard is one of the start-up
+abbrev pub IsPlannedIn : Rules TakenRecord Request → List ℕ → Real → Said → Type 0
+IsPlannedIn rules activity real (Calls call) = IsPlannedCall rules activity real call
+IsPlannedIn rules activity real (Responds response) = Unit {0}
+IsPlannedIn rules activity real Garbled = Unit {0}
+
+abbrev pub IsPlanned : Rules TakenRecord Request → List ℕ → Real → Heard → Type 0
+IsPlanned rules activity real (Told caller address said) = IsPlannedIn rules activity real said
+IsPlanned rules activity real Ticks = Unit {0}
+IsPlanned rules activity real Unreadable = Unit {0}
+IsPlanned rules activity real Elsewhere = Unit {0}
+IsPlanned rules activity real (Asks source request) = Unit {0}
+IsPlanned rules activity real (Resolves asker packet) = Unit {0}
+IsPlanned rules activity real (Cyclic source frame_id body) = Unit {0}
+IsPlanned rules activity real (Alarms source header message) = Unit {0}
+IsPlanned rules activity real (Given slot subslot value) = Unit {0}
+IsPlanned rules activity real (Raised slot subslot octets) = Unit {0}
+
+-- ---- what it says
+
+-- what the controller hears of a message: the answer to a call, or ApplicationReady. An answer that is sent again is not asked for here:
+-- what it says it said before
+abbrev pub said_by : Sent → ToController
+said_by (CallAnswer caller address answer) = small.Answers answer.header.sequence (is_done answer.status)
+said_by (ReadyCall address ready) = small.Readies
+said_by (IdentifyAnswer asker running xid) = small.Nothing
+said_by (GetAnswer asker running request) = small.Nothing
+said_by (SetAnswer asker request answers) = small.Nothing
+said_by (ArpReply asker address target) = small.Nothing
+said_by (Again frame) = small.Nothing
+said_by (Ends farewell) = small.Nothing
+said_by (Exchanges route frame) = small.Nothing
+
+-- both ends hear that of its octets: the device nothing, and the controller what it says, or nothing
+abbrev pub IsHeardBy : Rules TakenRecord Request → List ℕ → ToController → Type 0
+IsHeardBy rules frame says = (rules.to_device frame ≡ small.Idle) × SaysAtMost rules says frame
+
+abbrev pub IsHeardAs : Rules TakenRecord Request → Identity → Sent → Type 0
+IsHeardAs rules identity (Again frame) = Unit {0}
+IsHeardAs rules identity (CallAnswer caller address answer) = IsHeardBy rules (bytes_of identity (CallAnswer caller address answer)) (said_by (CallAnswer caller address answer))
+IsHeardAs rules identity (ReadyCall address ready) = IsHeardBy rules (bytes_of identity (ReadyCall address ready)) small.Readies
+IsHeardAs rules identity (IdentifyAnswer asker running xid) = IsHeardBy rules (bytes_of identity (IdentifyAnswer asker running xid)) small.Nothing
+IsHeardAs rules identity (GetAnswer asker running request) = IsHeardBy rules (bytes_of identity (GetAnswer asker running request)) small.Nothing
+IsHeardAs rules identity (SetAnswer asker request answers) = IsHeardBy rules (bytes_of identity (SetAnswer asker request answers)) small.Nothing
+IsHeardAs rules identity (ArpReply asker address target) = IsHeardBy rules (bytes_of identity (ArpReply asker address target)) small.Nothing
+IsHeardAs rules identity (Ends farewell) = IsHeardBy rules (bytes_of identity (Ends farewell)) small.Nothing
+IsHeardAs rules identity (Exchanges route frame) = IsHeardBy rules (bytes_of identity (Exchanges route frame)) small.Nothing

@@ -1,0 +1,5 @@
+//! A controller's end of a start-up: its machine refines the small one of `both_ends`. Laws, and no code.
+
+mod goes_on;
+
+pub use goes_on::controller_goes_on;

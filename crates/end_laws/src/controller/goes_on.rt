@@ -1,0 +1,23 @@
+//! The machine of a controller refines the small one.
+ghost use Rattle.std.specs.Prelude.{◌≡◌, List, ℕ};
+ghost use Rattle.plans.specs.declared.parts.Parts.{Parts};
+ghost use Rattle.controller_frames.specs.declared.setup.Setup.{Setup};
+ghost use Rattle.controller_frames.specs.Heard.{heard_of};
+ghost use Rattle.controller_core.specs.declared.event.Event.{Event};
+ghost use Rattle.controller_core.specs.State.{Live};
+ghost use Rattle.controller_core.specs.Machine.{first, turn_of};
+ghost use Rattle.end_laws.specs.both.Small.{Seeking};
+ghost use Rattle.end_laws.specs.controller.Small.{GoesOn, IsInStep, said_in, small_of};
+
+use message_laws::turns_are_of_a_kind;
+
+/// The machine by which each step of a controller is stated, as far as a start-up goes.
+pub fn controller_goes_on()
+    // A controller that was just made looks for the device.
+    ensures begins { (plan : Parts) → IsInStep plan (first plan).phase (first plan).asked × (small_of plan (first plan) ≡ Seeking) }
+    // Whatever happens to it: its state moves as the small one does, and each message that it sends says to the device what it may then.
+    ensures goes_on { (setup : Setup) (live : Live) (event : Event) → IsInStep setup.plan live.phase live.asked
+        → GoesOn setup.plan (said_in setup (heard_of setup.plan.controller) event) live (turn_of setup live event) }
+{
+    turns_are_of_a_kind();
+}

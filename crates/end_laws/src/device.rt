@@ -1,0 +1,9 @@
+//! The machine of a device refines the small one of a start-up. Laws, and no code.
+
+mod goes_on;
+mod owed;
+mod turn;
+
+pub use goes_on::device_goes_on;
+pub use owed::device_sends_what_it_owes;
+pub use turn::device_turns;

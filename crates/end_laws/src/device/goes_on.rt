@@ -1,0 +1,28 @@
+//! The machine of a device refines the small one.
+ghost use Rattle.std.specs.Prelude.{List, ℕ};
+ghost use Rattle.std.specs.List.{AllByRecursion};
+ghost use Rattle.settings_store.specs.Machine.{Outcome};
+ghost use Rattle.connect_requests.specs.Request.{Request};
+ghost use Rattle.records.specs.declared.writes.taken.TakenRecord.{TakenRecord};
+ghost use Rattle.device_frames.specs.Heard.{Heard};
+ghost use Rattle.device_core.specs.State.{Station, Live};
+ghost use Rattle.device_core.specs.Machine.{heard_step};
+ghost use Rattle.end_laws.specs.both.Small.{Rules};
+ghost use Rattle.end_laws.specs.both.Steps.{DeviceSteps};
+ghost use Rattle.end_laws.specs.device.Small.{IsHeardAs, IsPlanned, heard_as, small_of};
+
+use records::refusals_are_not_done;
+
+/// The machine by which each step of a device is stated, as far as a start-up goes.
+pub fn device_goes_on()
+    // Whatever a device hears, where each call is one of the start-up and each message that is sent is heard as it is meant: it is a step
+    // of the small machine, whatever the flash did.
+    ensures { (rules : Rules TakenRecord Request) (activity : List ℕ) (outcomes : List Outcome) (station : Station) (live : Live)
+        (heard : Heard)
+        → IsPlanned rules activity station.real heard
+        → AllByRecursion (IsHeardAs rules station.identity) (heard_step outcomes station live heard).sent
+        → DeviceSteps rules (heard_as heard) (small_of activity live) (small_of activity (heard_step outcomes station live heard).live)
+        (heard_step outcomes station live heard).frames }
+{
+    refusals_are_not_done();
+}

@@ -1,0 +1,26 @@
+//! One turn of a device.
+ghost use Rattle.std.specs.Prelude.{List, ℕ};
+ghost use Rattle.settings_store.specs.Machine.{Outcome};
+ghost use Rattle.connect_requests.specs.Request.{Request};
+ghost use Rattle.records.specs.declared.writes.taken.TakenRecord.{TakenRecord};
+ghost use Rattle.device_frames.specs.Heard.{Heard, Raised};
+ghost use Rattle.device_core.specs.State.{Station, Live};
+ghost use Rattle.device_core.specs.Machine.{heard_step};
+ghost use Rattle.end_laws.specs.both.Small.{Rules};
+ghost use Rattle.end_laws.specs.device.Small.{IsPlanned};
+ghost use Rattle.end_laws.specs.device.Turn.{IsRaise, Turn};
+
+/// The machine by which each step of a device is stated, turn by turn: the laws of outputs and of alarms cite it.
+pub fn device_turns()
+    // Whatever a device hears, if each call is one of the start-up: what its outputs and alarms are read of stays, or changes as a Connect, a
+    // cyclic frame, an alarm frame, an alarm or a unit of time changes it; an answer that is kept from now on was sent now; and each message
+    // is owed. So it is whatever the flash did.
+    ensures turn { (rules : Rules TakenRecord Request) (activity : List ℕ) (outcomes : List Outcome) (station : Station) (live : Live)
+        (heard : Heard) → IsPlanned rules activity station.real heard
+        → Turn station live heard (heard_step outcomes station live heard).live.rest (heard_step outcomes station live heard).sent }
+    // An alarm is raised and sent, or it is refused and nothing changes.
+    ensures raises { (outcomes : List Outcome) (station : Station) (live : Live) (slot subslot : ℕ) (octets : List ℕ)
+        → IsRaise station.real.modules.items live.rest.link slot subslot octets
+        (heard_step outcomes station live (Raised slot subslot octets)).live.rest.link
+        (heard_step outcomes station live (Raised slot subslot octets)).sent }
+{}

@@ -1,6 +1,0 @@
--- An operation with no octets yet.
-use Rattle.std.proofs.Common.{[], refl}
-use Rattle.host_values.proofs.op.put.Goals as goal
-
-pub returns : goal.returns
-returns c = c.put_more.ensures [] c.args.op.now refl

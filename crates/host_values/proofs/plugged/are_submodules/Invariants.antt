@@ -1,8 +1,0 @@
--- what is judged of all is judged of what is left
-use Rattle.std.proofs.Common.{◌≡◌, drop}
-use Rattle.std.specs.List.{list_all}
-use Rattle.host_values.specs.Modules.{is_submodule}
-use Rattle.host_values.proofs.plugged.are_submodules.Given as goal
-
-abbrev pub invariant-loop-submodule : goal.invariant-loop-submodule
-invariant-loop-submodule l = list_all is_submodule l.submodules ≡ list_all is_submodule (drop l.submodule-index l.submodules)

@@ -1,0 +1,17 @@
+pub mod HearingGiven
+pub mod HearingChoices
+pub mod HearingDevice
+pub mod HearingController
+pub mod HearingDatagrams
+pub mod HearingSendings
+pub mod HearingExchanges
+pub mod HearingRequests
+pub mod TurnsOneTurn
+pub mod TurnsWhole
+pub mod TurnsEnded
+pub mod TurnsQuiet
+pub mod TurnsAlarms
+pub mod SendingSizes
+pub mod SendingTurns
+pub mod SendingHeard
+pub mod SendingAimed

@@ -1,0 +1,3 @@
+pub mod hearing
+pub mod turns
+pub mod sending

@@ -1,0 +1,63 @@
+-- What the two ends hear.
+use Rattle.std.specs.Prelude.{◌&&◌, ◌||◌, ◌==◌, ◌++◌, nat_eq, ℕ, Bool, List, if◌then◌else◌, Option, Some, None, ⊤}
+use Rattle.std.specs.Cmp.Lexicographic.{pointwise}
+use Rattle.pn_values.specs.declared.identity.Identity.{Identity}
+use Rattle.pn_values.specs.declared.mac.Mac.{Mac}
+use Rattle.frame_codec.specs.declared.udp.Caller.{Caller}
+use Rattle.frame_codec.specs.declared.udp.Endpoint.{Endpoint}
+use Rattle.frame_codec.specs.Meaning.{RealTime}
+use Rattle.frame_codec.specs.Frame.{padding_of}
+use Rattle.device_frames.specs.declared.event.Event.{Event}
+use Rattle.device_frames.specs.declared.event.Event.TheVariants.{Frame}
+use Rattle.device_frames.specs.Heard.{Heard, Said, is_own}
+use Rattle.device_frames.specs.Heard as device
+use Rattle.controller_frames.specs.Heard as controller
+use Rattle.plans.specs.declared.parts.Controller.{Controller}
+use Rattle.codec_laws.specs.frames.Sendable.{carrying}
+
+-- octets that come from the network
+abbrev pub comes : List ℕ → Event
+comes octets = Frame (record { items = octets })
+
+-- ---- a device
+
+-- a frame to this device alone is heard as that, and one to another is not for it
+abbrev pub own_hears : Identity → Mac → Heard → Heard
+own_hears identity destination heard = if is_own identity destination then heard else device.Elsewhere
+
+-- the same of a frame that may go to all stations too
+abbrev pub all_hears : Identity → Mac → Heard → Heard
+all_hears identity destination heard =
+    if is_own identity destination || pointwise nat_eq destination.octets device.broadcast then heard else device.Elsewhere
+
+-- so is a datagram, which goes to the port of calls too
+abbrev pub own_told : Identity → Mac → Mac → Endpoint → Endpoint → Said → Heard
+own_told identity source destination from to said =
+    if is_own identity destination && to.port == 34964 then device.Told (record { mac = source; endpoint = from }) to.address said else device.Elsewhere
+
+-- no call and no response was heard
+abbrev pub IsUntold : Heard → Type 0
+IsUntold (device.Told caller address said) = ⊥
+IsUntold heard = ⊤
+
+-- ---- a controller
+
+-- a frame to this controller is heard as that, and one to another is nothing
+abbrev pub mine_hears : Controller → Mac → controller.Heard → controller.Heard
+mine_hears mine destination heard = if pointwise nat_eq destination.octets mine.mac.octets then heard else controller.Nothing
+
+-- so is a datagram, which goes to its IP address and to the port of calls too
+abbrev pub mine_told : Controller → Mac → Endpoint → controller.Heard → controller.Heard
+mine_told mine destination to heard = mine_hears mine destination (if controller.is_to mine.address to then heard else controller.Nothing)
+
+-- no call and no response was heard
+abbrev pub IsUncalled : controller.Heard → Type 0
+IsUncalled (controller.Responds response) = ⊥
+IsUncalled (controller.Calls caller call) = ⊥
+IsUncalled heard = ⊤
+
+-- ---- both
+
+-- what is heard of the octets of real-time data: with the padding behind them
+abbrev pub padded : Mac → Mac → Option ℕ → ℕ → List ℕ → List ℕ
+padded source destination tag frame_id body = body ++ padding_of (carrying destination source tag (RealTime frame_id body))

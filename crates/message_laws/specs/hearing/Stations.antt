@@ -1,0 +1,72 @@
+-- Which stations and messages there are: each field has its size.
+use Rattle.std.specs.Prelude.{◌≡◌, ◌≤◌, ◌<◌, ◌+◌, ℕ, true, List, length, Some, ⊤}
+use Rattle.pn_values.specs.declared.identity.Identity.{Identity}
+use Rattle.pn_values.specs.IpSuite.{Suite}
+use Rattle.frame_codec.specs.declared.udp.Caller.{Caller}
+use Rattle.frame_codec.specs.declared.udp.Endpoint.{Endpoint}
+use Rattle.frame_codec.specs.FrameId.{is_cyclic}
+use Rattle.rpc_core.specs.Call.{Asked as Call}
+use Rattle.block_codec.specs.declared.block.Block.TheVariants as is
+use Rattle.block_codec.specs.Block.{block_bytes}
+use Rattle.cyclic_data.specs.Image.{Shown}
+use Rattle.cyclic_exchange.specs.declared.route.Route.{Route}
+use Rattle.plans.specs.Plan.{IsPlan}
+use Rattle.relations.specs.declared.ready.Ready.{Ready}
+use Rattle.controller_frames.specs.declared.request.Request.{Request}
+use Rattle.controller_frames.specs.declared.request.Request.TheVariants as asks
+use Rattle.controller_frames.specs.declared.setup.Setup.{Setup}
+use Rattle.codec_laws.specs.frames.Sendable.{IsEndpoint, IsMac}
+use Rattle.rpc_core.specs.Sendable.{IsUuid}
+
+-- an address of IPv4
+abbrev pub IsAddress : List ℕ → Type 0
+IsAddress octets = length octets ≡ 4
+
+-- a controller's set-up: a plan, and its addresses and identifiers have their sizes
+pub record IsSetup (setup : Setup) : Type 0 where
+  pub plan : IsPlan setup.plan
+  pub mac : IsMac setup.plan.controller.mac
+  pub address : IsAddress setup.plan.controller.address
+  pub station : IsAddress setup.plan.station.suite.address
+  pub mask : IsAddress setup.plan.station.suite.mask
+  pub gateway : IsAddress setup.plan.station.suite.gateway
+  pub ar : IsUuid setup.ar
+  pub activity : IsUuid setup.activity
+
+-- a device: its address of Ethernet has its size
+abbrev pub IsDevice : Identity → Type 0
+IsDevice identity = IsMac identity.mac
+
+-- a caller: its addresses and its port have their sizes
+pub record IsCaller (caller : Caller) : Type 0 where
+  pub mac : IsMac caller.mac
+  pub endpoint : IsEndpoint caller.endpoint
+
+-- a request whose number can be written
+abbrev pub IsNumbered : Request → Type 0
+IsNumbered asks.Identify = ⊤
+IsNumbered asks.Address = ⊤
+IsNumbered asks.Connect = ⊤
+IsNumbered (asks.Write number) = number < 65536
+IsNumbered asks.PrmEnd = ⊤
+IsNumbered (asks.Release sequence) = sequence < 4294967296
+
+-- a request that a call asks
+abbrev pub IsCalled : Request → Type 0
+IsCalled asks.Identify = ⊥
+IsCalled asks.Address = ⊥
+IsCalled asks.Connect = ⊤
+IsCalled (asks.Write number) = ⊤
+IsCalled asks.PrmEnd = ⊤
+IsCalled (asks.Release sequence) = ⊤
+
+-- the frames of a relation go to a partner, under a cyclic FrameID and with tags of two octets
+pub record IsRoute (route : Route) : Type 0 where
+  pub partner : IsMac route.partner
+  pub cyclic : is_cyclic route.sent_id ≡ true
+  pub tag : route.sent_tag < 65536
+  pub alarm_tag : route.alarm_tag < 65536
+
+-- the call ApplicationReady, as it is written
+abbrev pub ready_call : Ready → Call
+ready_call ready = record { header = ready.header; args_maximum = 1372; blocks = Some (block_bytes (is.ApplicationReady ready.block)) }

@@ -1,0 +1,53 @@
+//! Cyclic frames.
+ghost use Rattle.std.specs.Prelude.{◌≡◌, ◌≤◌, ℕ, length, Some};
+ghost use Rattle.pn_values.specs.declared.identity.Identity.{Identity};
+ghost use Rattle.cyclic_data.specs.Image.{Shown};
+ghost use Rattle.cyclic_exchange.specs.declared.route.Route.{Route};
+ghost use Rattle.cyclic_exchange.specs.Frames.{cyclic_body};
+ghost use Rattle.relations.specs.exchange.Frames.{Inputs};
+ghost use Rattle.plans.specs.declared.parts.Controller.{Controller};
+ghost use Rattle.device_frames.specs.Heard.{Cyclic, heard_of as device_hears};
+ghost use Rattle.device_frames.specs.Sent.{Exchanges, bytes_of as device_bytes};
+ghost use Rattle.controller_frames.specs.declared.setup.Setup.{Setup};
+ghost use Rattle.controller_frames.specs.Heard.{Cyclic as Comes, heard_of as controller_hears};
+ghost use Rattle.controller_frames.specs.Sent.{Cycles, bytes_of as controller_bytes};
+ghost use Rattle.message_laws.specs.hearing.Hearing.{comes, mine_hears, own_hears, padded};
+ghost use Rattle.message_laws.specs.hearing.Stations.{IsDevice, IsRoute, IsSetup};
+
+use codec_laws::frames_are_read;
+
+/// What is heard of a frame of outputs: laws of the definitions.
+pub fn outputs_are_heard()
+    // The device that it goes to hears it: from the controller, under its FrameID, with its padding.
+    ensures device { (identity : Identity) (setup : Setup) (route : Route) (shown : Shown) (counter : ℕ)
+        → IsSetup setup → IsRoute route → length (cyclic_body shown counter) ≤ 1498
+        → device_hears identity (comes (controller_bytes setup (Cycles route shown counter)))
+        ≡ own_hears identity route.partner (Cyclic setup.plan.controller.mac route.sent_id
+        (padded setup.plan.controller.mac route.partner (Some route.sent_tag) route.sent_id (cyclic_body shown counter))) }
+    // So does a controller that it goes to.
+    ensures controller { (mine : Controller) (setup : Setup) (route : Route) (shown : Shown) (counter : ℕ)
+        → IsSetup setup → IsRoute route → length (cyclic_body shown counter) ≤ 1498
+        → controller_hears mine (controller_bytes setup (Cycles route shown counter))
+        ≡ mine_hears mine route.partner (Comes setup.plan.controller.mac route.sent_id
+        (padded setup.plan.controller.mac route.partner (Some route.sent_tag) route.sent_id (cyclic_body shown counter))) }
+{
+    frames_are_read();
+}
+
+/// What is heard of a frame of inputs: laws of the definitions.
+pub fn inputs_are_heard()
+    // The controller that it goes to hears it: from the device, under its FrameID, with its padding.
+    ensures controller { (mine : Controller) (identity : Identity) (route : Route) (inputs : Shown) (counter : ℕ)
+        → IsDevice identity → IsRoute route → length (cyclic_body inputs counter) ≤ 1498
+        → controller_hears mine (device_bytes identity (Exchanges route (Inputs inputs counter)))
+        ≡ mine_hears mine route.partner (Comes identity.mac route.sent_id
+        (padded identity.mac route.partner (Some route.sent_tag) route.sent_id (cyclic_body inputs counter))) }
+    // So does a device that it goes to.
+    ensures device { (other identity : Identity) (route : Route) (inputs : Shown) (counter : ℕ)
+        → IsDevice identity → IsRoute route → length (cyclic_body inputs counter) ≤ 1498
+        → device_hears other (comes (device_bytes identity (Exchanges route (Inputs inputs counter))))
+        ≡ own_hears other route.partner (Cyclic identity.mac route.sent_id
+        (padded identity.mac route.partner (Some route.sent_tag) route.sent_id (cyclic_body inputs counter))) }
+{
+    frames_are_read();
+}

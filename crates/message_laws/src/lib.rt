@@ -1,0 +1,21 @@
+//! Hearing laws, and no code: what either end hears of each message of the other end, and of its own.
+//!
+//! A message is a meaning with one way to octets (`bytes_of`), and what is heard of octets hangs on these alone. Each law says of a kind
+//! of message what a device hears of its octets, and what a controller does. A message that can be sent is heard as itself where it is
+//! meant, and as nothing anywhere else.
+#![tactic(auto)]
+
+mod hearing;
+mod sending;
+mod turns;
+
+pub use hearing::{
+    alarms_are_heard, answers_are_heard, calls_are_heard, calls_can_be_sent,
+    confirmations_are_heard, datagrams_alone_are_calls, ends_are_heard, inputs_are_heard,
+    outputs_are_heard, packets_are_heard, ready_answers_are_heard, ready_calls_are_heard,
+    requests_are_heard, responses_are_heard, stations_are_real,
+};
+pub use sending::{
+    frames_are_messages, messages_are_addressed, messages_are_sized, messages_can_be_sent,
+};
+pub use turns::{alarms_are_taken_in_order, ended_is_kept, turns_are_of_a_kind};

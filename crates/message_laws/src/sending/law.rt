@@ -1,0 +1,56 @@
+//! The laws.
+ghost use Rattle.std.specs.Prelude.{◌≡◌, map};
+ghost use Rattle.std.specs.List.{AllByRecursion};
+ghost use Rattle.controller_frames.specs.declared.setup.Setup.{Setup};
+ghost use Rattle.controller_frames.specs.Sent.{bytes_of};
+ghost use Rattle.controller_core.specs.declared.event.Event.{Event};
+ghost use Rattle.controller_core.specs.Machine.{first, step_of, turn_of};
+ghost use Rattle.controller_core.specs.State.{Controlling, Live};
+ghost use Rattle.pn_values.specs.declared.identity.Identity.{Identity};
+ghost use Rattle.plans.specs.declared.parts.Controller.{Controller};
+ghost use Rattle.device_frames.specs.Sent.{Sent as Message, bytes_of as device_bytes};
+ghost use Rattle.controller_frames.specs.Heard.{heard_of};
+ghost use Rattle.message_laws.specs.hearing.Stations.{IsDevice, IsSetup};
+ghost use Rattle.message_laws.specs.sending.Devices.{CanBeSentBy};
+ghost use Rattle.message_laws.specs.sending.Messages.{CanBeSent};
+ghost use Rattle.message_laws.specs.sending.Sized.{IsLive, IsSized, IsSizedEvent};
+
+use crate::{
+    alarms_are_heard, answers_are_heard, ends_are_heard, inputs_are_heard, packets_are_heard,
+    ready_calls_are_heard, responses_are_heard, turns_are_of_a_kind,
+};
+use codec_laws::blocks_are_read;
+
+/// Each frame that a controller sends is a message of its machine: a law of the definitions.
+pub fn frames_are_messages()
+    // The frames of a step are the octets of the messages of its turn, one for one.
+    ensures { (old : Controlling) (event : Event) → (step_of old event).frames
+        ≡ map (bytes_of old.setup) (turn_of old.setup old.live event).sent }
+{}
+
+/// Each message of a controller's machine can be sent, by the plan's limits: laws of the definitions.
+pub fn messages_can_be_sent()
+    // What a controller of a plan begins with has its sizes.
+    ensures first { (setup : Setup) → IsSetup setup → IsLive (first setup.plan) }
+    // Where what it keeps and what it hears has its sizes, so has what it keeps then, and each message can be sent.
+    ensures next { (setup : Setup) (live : Live) (event : Event) → IsSetup setup → IsLive live → IsSizedEvent setup event
+        → IsLive (turn_of setup live event).live × AllByRecursion (CanBeSent setup) (turn_of setup live event).sent }
+{
+    blocks_are_read();
+    turns_are_of_a_kind();
+}
+
+/// What a controller hears of a device has its sizes: a law of the definitions.
+pub fn messages_are_sized()
+    // Whatever message the device can send, and whichever controller hears it.
+    ensures { (mine : Controller) (identity : Identity) (message : Message) → IsDevice identity → CanBeSentBy identity message
+        → IsSized (heard_of mine (device_bytes identity message)) }
+{
+    answers_are_heard();
+    packets_are_heard();
+    responses_are_heard();
+    ready_calls_are_heard();
+    inputs_are_heard();
+    alarms_are_heard();
+    ends_are_heard();
+}

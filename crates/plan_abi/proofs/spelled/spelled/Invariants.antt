@@ -1,0 +1,7 @@
+-- the steps so far are spelled
+use Rattle.std.proofs.Common.{◌≡◌, take}
+use Rattle.plan_abi.specs.Places.{spelled_behind}
+use Rattle.plan_abi.proofs.spelled.spelled.Given as goal
+
+abbrev pub invariant-loop-step : goal.invariant-loop-step
+invariant-loop-step l = l.text.items ≡ spelled_behind (take l.step-index l.steps)

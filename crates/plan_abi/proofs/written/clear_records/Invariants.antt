@@ -1,0 +1,10 @@
+-- the places so far are empty, and none is lost
+use Rattle.std.proofs.Common.{◌≡◌, length, take, replicate}
+use Rattle.plan_abi.specs.Readings.{no_record}
+use Rattle.plan_abi.proofs.written.clear_records.Given as goal
+
+abbrev pub invariant-loop-index : goal.invariant-loop-index
+invariant-loop-index l = record {
+  items : take l.index l.places ≡ replicate l.index no_record;
+  len : length l.places ≡ length l.initial.places;
+}

@@ -1,0 +1,38 @@
+//! A catalogue read into a plan.
+ghost use Rattle.std.specs.Prelude.{◌≡◌, ◌≢◌};
+ghost use Rattle.configurator.specs.Planned.{IsPlanOf};
+ghost use Rattle.plan_abi.specs.Readings.{IsBlank, IsFault, IsWritten};
+ghost use Rattle.controller_abi.specs.Plans.{parts_of};
+
+use crate::written::{clear, put};
+use configurator::plan_or_place;
+use controller_abi::WrittenPlan;
+use std::alloc::Global;
+
+/// Octets of a plan.
+const PLAN: usize = 4272;
+
+/// Reads a catalogue into a plan of that many octets: 0, or the number of its first fault; then all of the plan is zero. A plan of
+/// another size is left as it is, and answered with 12.
+pub fn read(alloc: Global, text: &[u8], size: usize, plan: &mut WrittenPlan) -> u32
+    ensures planned { result ≡ 0 → IsPlanOf text.now (parts_of plan.new) }
+    ensures written { result ≡ 0 → IsWritten text.now plan.new }
+    ensures refused { result ≢ 0 → result ≢ 12 → IsFault text.now result }
+    ensures nothing { result ≢ 0 → result ≢ 12 → IsBlank plan.new }
+    ensures kept { result ≡ 12 → plan.new ≡ plan.old }
+    ensures fits { size ≡ 4272 → result ≢ 12 }
+    ensures other { size ≢ 4272 → result ≡ 12 }
+{
+    if size != PLAN {
+        return 12;
+    }
+    clear(plan);
+    match plan_or_place(alloc, text) {
+        Ok((planned, found)) => {
+            let station_type = found.access_point.station_type.as_str().as_bytes();
+            put(plan, &planned, station_type);
+            0
+        }
+        Err(refusal) => u32::from(refusal.fault.number()),
+    }
+}

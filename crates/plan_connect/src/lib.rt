@@ -1,7 +1,0 @@
-//! What a device reads of the Connect of a plan (IEC 61158-6-10, 5.2.4): exactly what the plan asks for, and where the device has
-//! the plan's modules, none of them differs.
-#![tactic(auto)]
-
-mod law;
-
-pub use law::{connect_is_taken, requests_are_read};

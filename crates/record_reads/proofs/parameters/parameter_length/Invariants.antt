@@ -1,7 +1,0 @@
--- the modules so far do not have it
-use Rattle.std.proofs.Common.{◌≡◌, drop}
-use Rattle.record_reads.specs.Parameters.{parameter_length}
-use Rattle.record_reads.proofs.parameters.parameter_length.Given as goal
-
-abbrev pub invariant-loop-entry : goal.invariant-loop-entry
-invariant-loop-entry l = parameter_length (drop l.entry-index l.real.modules.items) l.slot l.subslot l.index ≡ parameter_length l.real.modules.items l.slot l.subslot l.index

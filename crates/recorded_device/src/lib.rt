@@ -1,7 +1,0 @@
-//! A device whose flash is carried out by a host: what a step asks of the flash is recorded, and the host does it on a chip
-//! of its own before it sends the frames of that step.
-#![tactic(auto)]
-
-mod recording;
-
-pub use recording::step;

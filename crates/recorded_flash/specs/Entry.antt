@@ -1,8 +1,0 @@
--- The call that an entry of a record stands for.
-use Rattle.flash_model.specs.Calls.{Call, Programs, Erases}
-use Rattle.recorded_flash.specs.declared.entry.Recorded.{Recorded}
-use Rattle.recorded_flash.specs.declared.entry.Recorded.TheVariants.{Program, Erase}
-
-abbrev pub call_of : Recorded → Call
-call_of (Program sector place bytes) = Programs sector place bytes.items
-call_of (Erase sector) = Erases sector

@@ -1,0 +1,4 @@
+pub mod status
+pub mod calls
+pub mod reads
+pub mod writes

@@ -1,0 +1,91 @@
+-- In which order a Write is judged, and what it asks for.
+use Rattle.std.specs.Prelude.{◌==◌, ◌&&◌, ◌||◌, ℕ, Bool, false, not, List, [], ◌∷◌, length, take, nat_le, nat_lt, Option, Some, None, Result, Ok, if◌then◌else◌}
+use Rattle.pn_values.specs.declared.real.Real.{Real}
+use Rattle.pn_values.specs.declared.command.Command.{Command}
+use Rattle.pn_values.specs.declared.command.Command.TheVariants.{SetIm}
+use Rattle.wire.specs.Checks.{or_fault}
+use Rattle.wire.specs.Codec.{◌>>=◌}
+use Rattle.block_codec.specs.declared.block_type.BlockType.TheVariants as kind
+use Rattle.block_codec.specs.Block.{in_iod_write_req}
+use Rattle.record_blocks.specs.declared.write_record.IodWriteReq.{IodWriteReq}
+use Rattle.im_records.specs.declared.fault.RecordFault.{RecordFault}
+use Rattle.im_records.specs.Indices.{is_read_only, record_with}
+use Rattle.im_records.specs.Writable.{is_writable}
+use Rattle.im_records.specs.Writes.{command_of}
+use Rattle.records.specs.declared.status.call_fault.CallFault.{CallFault}
+use Rattle.records.specs.declared.status.call_fault.CallFault.TheVariants as fault
+use Rattle.records.specs.calls.Judged.{judged}
+use Rattle.records.specs.calls.Single.{single_of}
+use Rattle.records.specs.calls.Naming.{in_relation}
+use Rattle.records.specs.reads.Judged.{has_parameter, placed}
+use Rattle.records.specs.reads.Parameters.{parameter_length}
+use Rattle.records.specs.declared.writes.write.Effect.{Effect}
+use Rattle.records.specs.declared.writes.write.Effect.TheVariants.{Stores, Keeps}
+use Rattle.records.specs.declared.writes.write.Write.{Write}
+
+-- ---- what it asks for
+
+-- whether there is a record of the index of a request at its slot and subslot, where a submodule is plugged in
+abbrev pub is_known : Real → IodWriteReq → Bool
+is_known real request = is_read_only (record_with request.header.index)
+    || is_writable request.header.index request.header.slot_number request.header.subslot_number
+    || has_parameter real request.header.slot_number request.header.subslot_number request.header.index
+
+-- the I&M text that a record is, if it is whole
+abbrev pub text_in : Result Command RecordFault → Option Effect
+text_in (Ok (SetIm value)) = Some (Stores value)
+text_in _ = None
+
+abbrev pub stored : ℕ → List ℕ → Option Effect
+stored index octets = text_in (command_of index octets)
+
+-- whether a record of so many octets is one of this length, which is at most 64
+abbrev pub is_length : Option ℕ → ℕ → Bool
+is_length (Some size) count = count == size && nat_le count 64
+is_length None count = false
+
+-- the parameter record that is kept, if it is as long as the submodule takes it
+abbrev pub kept : Real → IodWriteReq → List ℕ → Option Effect
+kept real request octets =
+    if is_length (parameter_length real.modules.items request.header.slot_number request.header.subslot_number request.header.index) (length octets)
+    then Some (Keeps (record {
+      slot = request.header.slot_number;
+      subslot = request.header.subslot_number;
+      index = request.header.index;
+      value = record { items = octets };
+    }))
+    else None
+
+-- what a request asks for whose record is these octets, if they are a whole one
+abbrev pub effect_of : Real → IodWriteReq → List ℕ → Option Effect
+effect_of real request octets =
+    if is_writable request.header.index request.header.slot_number request.header.subslot_number then stored request.header.index octets else kept real request octets
+
+-- ---- in which order it is judged
+
+-- the record: that there is one of this index at its place, that it can be written, that its octets are all there, and that they are
+-- a whole one; what is behind them is not looked at
+unfoldable pub written : Real → IodWriteReq → List ℕ → Result Effect CallFault
+written real request behind = judged
+    ((not (is_known real request), fault.Index)
+    ∷ (is_read_only (record_with request.header.index), fault.Access)
+    ∷ (nat_lt (length behind) request.header.record_data_length, fault.WriteLength)
+    ∷ [])
+    (or_fault fault.WriteLength (effect_of real request (take request.header.record_data_length behind)))
+
+-- what a request is for: the relation, and then the place
+unfoldable pub targeted : Option (List ℕ) → Real → IodWriteReq → Result (Unit {0}) CallFault
+targeted standing real request = in_relation standing request.header.ar_uuid
+    >>= λ _. placed real request.header.api request.header.slot_number request.header.subslot_number request.header.index
+
+-- a request, with these octets behind its header
+unfoldable pub judged_request : Option (List ℕ) → Real → IodWriteReq → List ℕ → Result Write CallFault
+judged_request standing real request behind = targeted standing real request
+    >>= λ _. written real request behind
+    >>= λ effect. Ok (record { request = request; effect = effect })
+
+-- a Write while this relation stands: judged are its block, the relation, the place, and then the record
+unfoldable pub write_of : Option (List ℕ) → Real → List ℕ → Result Write CallFault
+write_of standing real blocks = single_of kind.IodWriteReq blocks
+    >>= λ x. or_fault fault.BlockForm (in_iod_write_req x.0)
+    >>= λ request. judged_request standing real request x.1

@@ -1,0 +1,17 @@
+//! Records that are read (IEC 61158-6-10, 5.2.3): in which order a call is judged, and what answers it.
+
+mod answering;
+mod implicit;
+mod judging;
+mod naming;
+mod parameters;
+mod serving;
+mod within;
+
+pub use answering::put_read_answer;
+pub use implicit::read_implicit;
+pub use judging::{check_place, read_request};
+pub use naming::names_relation;
+pub use parameters::parameter_length;
+pub use serving::Blocks;
+pub use within::read_within;

@@ -1,0 +1,43 @@
+//! The judgements that calls of Read and Write have in common.
+ghost use Rattle.std.specs.Prelude.{◌≡◌};
+ghost use Rattle.wire.specs.Codec.{Gives};
+ghost use Rattle.records.specs.reads.Judged.{placed, request_of};
+
+use crate::{CallFault, single_block};
+use block_codec::{Block, BlockType, IodReadReq};
+use im_records::{is_anywhere, is_real};
+use pn_values::Real;
+
+/// The IODReadReqHeader that a call consists of. What is behind it is not looked at.
+#[tactic(auto, unfolding(crate::specs::reads::Judged::request_of))]
+pub fn read_request(blocks: &[u8]) -> Result<IodReadReq, CallFault>
+    ensures { Gives (λ x. x) result (request_of blocks.now) }
+{
+    // TargetARUUID and padding may follow, and decide nothing.
+    let (block, _behind) = single_block(blocks, BlockType::IodReadReq)?;
+    match block {
+        Block::IodReadReq(request) => Ok(request),
+        _ => Err(CallFault::BlockForm),
+    }
+}
+
+/// Whether a request names API 0 and, where its index wants one, a submodule that is plugged in.
+#[tactic(auto, unfolding(crate::specs::reads::Judged::placed))]
+pub fn check_place(
+    real: &Real,
+    api: u32,
+    slot: u16,
+    subslot: u16,
+    index: u16,
+) -> Result<(), CallFault>
+    ensures { result ≡ placed real.now api slot subslot index }
+{
+    if api != 0 {
+        return Err(CallFault::Api);
+    }
+    if is_anywhere(index) || is_real(real, slot, subslot) {
+        Ok(())
+    } else {
+        Err(CallFault::Place)
+    }
+}

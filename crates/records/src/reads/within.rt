@@ -1,0 +1,83 @@
+//! Read within a relation.
+ghost use Rattle.std.specs.Prelude.{◌≡◌, ◌≤◌, [], length, IfErr, IfOk, Err, Ok};
+ghost use Rattle.std.specs.Option.{option_map};
+ghost use Rattle.records.specs.reads.Judged.{read_of};
+ghost use Rattle.records.specs.reads.Within.{record_within, relation_read, request_within};
+
+use crate::reads::answering::put_read_answer;
+use crate::reads::judging::{check_place, read_request};
+use crate::reads::serving::{Blocks, serve};
+use crate::{CallFault, check_relation};
+use block_codec::IodReadReq;
+use block_fields::Uuid;
+use im_records::is_module_diff;
+use pn_values::{Identity, Real, Settings};
+
+/// Serves a Read of the controller while the relation of this ARUUID stands, if one does: puts the blocks of the answer into an empty
+/// list, or says why the call is refused. Of the faults the first in the order of the statuses counts. To what anybody reads comes
+/// the ModuleDiffBlock of the relation, which is these octets: none where nothing differs.
+#[tactic(auto, unfolding(crate::specs::reads::Within::relation_read))]
+pub fn read_within(
+    standing: Option<&Uuid>,
+    differing: &[u8],
+    identity: &Identity,
+    real: &Real,
+    settings: &Settings,
+    blocks: &[u8],
+    answer: &mut Blocks,
+) -> Result<(), CallFault>
+    requires empty { answer.old.items ≡ [] }
+    requires room { length differing.now ≤ 1308 }
+    // The answer,
+    ensures done { IfOk result (λ _. relation_read (option_map (λ uuid. uuid.now) standing.entry) differing.now identity.now real.now
+        settings.now blocks.now ≡ Ok answer.new.items) }
+    // or which fault it is; then there is none.
+    ensures refused { IfErr result (λ fault. (relation_read (option_map (λ uuid. uuid.now) standing.entry) differing.now identity.now
+        real.now settings.now blocks.now ≡ Err fault) × (answer.new.items ≡ [])) }
+{
+    let request = request_within(standing, blocks)?;
+    serve_within(differing, identity, real, settings, &request, answer)
+}
+
+/// The IODReadReqHeader that a call consists of, if it names the relation that stands.
+#[tactic(auto, unfolding(crate::specs::reads::Within::request_within))]
+fn request_within(standing: Option<&Uuid>, blocks: &[u8]) -> Result<IodReadReq, CallFault>
+    ensures { result ≡ request_within (option_map (λ uuid. uuid.now) standing.entry) blocks.now }
+{
+    let request = read_request(blocks)?;
+    // Before the place: a stranger is told that he has no relation, and not what is plugged.
+    check_relation(standing, &request.header.ar_uuid)?;
+    Ok(request)
+}
+
+/// Puts the answer to a request within the relation whose ModuleDiffBlock is these octets into an empty list, or says why it is
+/// refused.
+#[tactic(auto, unfolding(crate::specs::reads::Judged::read_of))]
+fn serve_within(
+    differing: &[u8],
+    identity: &Identity,
+    real: &Real,
+    settings: &Settings,
+    request: &IodReadReq,
+    answer: &mut Blocks,
+) -> Result<(), CallFault>
+    requires empty { answer.old.items ≡ [] }
+    requires room { length differing.now ≤ 1308 }
+    ensures done { IfOk result (λ _. read_of real.now request.now
+        (record_within differing.now request.now identity.now real.now settings.now) ≡ Ok answer.new.items) }
+    ensures refused { IfErr result (λ fault. (read_of real.now request.now
+        (record_within differing.now request.now identity.now real.now settings.now) ≡ Err fault) × (answer.new.items ≡ [])) }
+{
+    if !is_module_diff(request.header.index) {
+        return serve(identity, real, settings, request, answer);
+    }
+    check_place(
+        real,
+        request.header.api,
+        request.header.slot_number,
+        request.header.subslot_number,
+        request.header.index,
+    )?;
+    put_read_answer(answer, request, differing);
+    Ok(())
+}

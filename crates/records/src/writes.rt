@@ -1,0 +1,12 @@
+//! Records that are written within a relation (IEC 61158-6-10, 5.2.3): in which order a Write is judged, what it asks for, what
+//! answers it, and the parameter records that a relation has taken.
+
+mod answering;
+mod judging;
+mod taken;
+mod write;
+
+pub use answering::put_write_answer;
+pub use judging::judge_write;
+pub use taken::{TakenRecord, TakenRecords};
+pub use write::{Effect, Write};

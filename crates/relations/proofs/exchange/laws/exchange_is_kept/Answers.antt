@@ -1,0 +1,18 @@
+use Rattle.relations.proofs.ExchangeKept.{are_of_the_last, is_due_each_interval, is_held_so_long}
+use Rattle.relations.proofs.ExchangeGiven.{are_still_the_statuses, are_the_last_given}
+use Rattle.relations.proofs.exchange.laws.exchange_is_kept.Goals as goal
+
+pub returns-clause-interval : goal.returns-clause-interval
+returns-clause-interval c = is_due_each_interval c.cyclic_data_is_kept.ensures.interval
+
+pub returns-clause-last : goal.returns-clause-last
+returns-clause-last c = are_of_the_last c.cyclic_data_is_kept.ensures.last
+
+pub returns-clause-given : goal.returns-clause-given
+returns-clause-given c = are_the_last_given
+
+pub returns-clause-statuses : goal.returns-clause-statuses
+returns-clause-statuses c = are_still_the_statuses
+
+pub returns-clause-hold : goal.returns-clause-hold
+returns-clause-hold c = is_held_so_long c.cyclic_data_is_kept.ensures.hold

@@ -1,0 +1,51 @@
+-- The frames by which a device exchanges, by what they mean.
+use Rattle.std.specs.Prelude.{ℕ, List, [], Option, Some, None, option_map}
+use Rattle.record_blocks.specs.declared.alarm_notification.AlarmNotification.{AlarmNotification}
+use Rattle.cyclic_data.specs.Image.{Shown}
+use Rattle.pn_alarms.specs.declared.pdu.Header.{Header}
+use Rattle.pn_alarms.specs.declared.pdu.PduType.TheVariants.{Data}
+use Rattle.pn_alarms.specs.declared.receiver.Taken.{Taken}
+use Rattle.pn_alarms.specs.Carried.{alarm_pdu}
+use Rattle.pn_alarms.specs.Format.{frame_id_of, pdu_bytes}
+use Rattle.pn_alarms.specs.Receiver.{answer_to}
+use Rattle.cyclic_exchange.specs.declared.route.Route.{Route}
+use Rattle.cyclic_exchange.specs.Frames.{cyclic_body}
+use Rattle.relations.specs.exchange.Flow.{Flow}
+use Rattle.relations.specs.exchange.Notices.{header_of}
+
+-- A frame to the partner: the inputs, at this CycleCounter; an alarm; or the ACK or NACK that answers an AlarmAck.
+pub data Frame : Type 0 where
+  Inputs : (inputs : Shown) → (counter : ℕ) → Frame
+  Notifies : (header : Header) → (alarm : AlarmNotification) → Frame
+  Replies : (header : Header) → Frame
+
+-- the inputs now; the alarm that stands, if one does; the reply to data that was taken so
+abbrev pub inputs_frame : Flow → ℕ → Frame
+inputs_frame flow counter = Inputs flow.cyclic.shown counter
+
+abbrev pub alarm_frame : Flow → Option Frame
+alarm_frame flow = option_map (Notifies (header_of flow Data)) flow.alarms.sender.standing
+
+abbrev pub reply_frame : Flow → Taken → Frame
+reply_frame flow taken = Replies (header_of flow (answer_to taken))
+
+-- the word of the tag, the FrameID, and what follows it
+abbrev pub tag_of : Route → Frame → ℕ
+tag_of route (Inputs inputs counter) = route.sent_tag
+tag_of route (Notifies header alarm) = route.alarm_tag
+tag_of route (Replies header) = route.alarm_tag
+
+abbrev pub id_of : Route → Frame → ℕ
+id_of route (Inputs inputs counter) = route.sent_id
+id_of route (Notifies header alarm) = frame_id_of Data
+id_of route (Replies header) = frame_id_of header.kind
+
+abbrev pub body_of : Frame → List ℕ
+body_of (Inputs inputs counter) = cyclic_body inputs counter
+body_of (Notifies header alarm) = pdu_bytes (alarm_pdu header alarm)
+body_of (Replies header) = pdu_bytes (record { header = header; body = [] })
+
+-- the same of a frame that there may be
+abbrev pub body_in : Option Frame → List ℕ
+body_in (Some frame) = body_of frame
+body_in None = []

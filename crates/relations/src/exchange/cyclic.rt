@@ -1,0 +1,34 @@
+//! Cyclic frames, and the units of time.
+ghost use Rattle.std.specs.Prelude.{◌≡◌, ◌≢◌};
+ghost use Rattle.relations.specs.exchange.Received.{behind_frame, received_as};
+ghost use Rattle.relations.specs.exchange.Units.{flow_later, tick_of};
+
+use crate::exchange::DataExchange;
+use cyclic_exchange::{Received, Tick};
+use pn_alarms::Due;
+use pn_values::Mac;
+
+impl DataExchange {
+    /// A cyclic frame comes: from this station, of this FrameID, and all that follows it.
+    pub fn receive(&mut self, source: Mac, frame_id: u16, body: &[u8]) -> Received
+        ensures received { result ≡ received_as self.old source frame_id body.now }
+        ensures state { self.new ≡ behind_frame self.old source frame_id body.now }
+        // One that is not taken changes nothing.
+        ensures refused { result ≢ Received.Taken → self.new ≡ self.old }
+    {
+        self.cyclic.receive(source, frame_id, body)
+    }
+
+    /// A unit of 31.25 microseconds passes. A frame of inputs is due each interval. Once data is exchanged the relation ends where no
+    /// frame of outputs was taken for the data hold time, and then where an alarm was sent as often as it may be without an ACK.
+    pub fn tick(&mut self) -> Tick
+        ensures brought { result ≡ tick_of self.old }
+        ensures state { self.new ≡ flow_later self.old }
+    {
+        match self.alarms.tick() {
+            // Mostly no alarm is due: what follows from one is then not even asked.
+            Due::Nothing => self.cyclic.tick(Due::Nothing),
+            due => self.cyclic.tick(due),
+        }
+    }
+}

@@ -1,0 +1,101 @@
+//! What is exchanged.
+ghost use Rattle.std.specs.Prelude.{◌≡◌, ◌≤◌, IfSome, None, [], false, is_some, length, option_map, unwrap_or};
+ghost use Rattle.relations.specs.exchange.Opening.{begun_of, opened};
+ghost use Rattle.relations.specs.exchange.Process.{given_at, output_at};
+
+use crate::exchange::opening::{Differing, route_of};
+use connect_requests::ConnectRequest;
+use cyclic_data::{Consumer, Provider};
+use cyclic_exchange::{CyclicExchange, Route};
+use module_diff::DiffRows;
+use pn_alarms::DeviceAlarms;
+use std::marker::Model;
+
+/// What a relation exchanges with its partner. It is large, and stays in its place: what was exchanged is filled anew as the next
+/// relation opens it, so that no end of a relation has to clear it.
+#[derive(Drop)]
+pub struct DataExchange {
+    pub(crate) cyclic: CyclicExchange,
+    pub(crate) alarms: DeviceAlarms,
+}
+
+// Clauses see one value a place, and the states of those who send and take.
+impl Model for DataExchange {
+    ghost use Rattle.relations.specs.exchange.Flow.{Flow};
+
+    ghost Value = { Flow };
+
+    ghost view = { λ exchange. record { cyclic = exchange.cyclic; alarms = exchange.alarms } };
+}
+
+impl DataExchange {
+    /// One of nobody, to be opened: no data is exchanged, no submodule has an input or an output, and no alarm stands.
+    pub fn new() -> DataExchange
+        ensures begun { result.cyclic.begun ≡ false }
+        ensures inputs { result.cyclic.shown.cells ≡ [] }
+        ensures outputs { result.cyclic.taken.cells ≡ [] }
+        ensures alarms { result.alarms.sender.standing ≡ None }
+    {
+        DataExchange {
+            cyclic: CyclicExchange::new(),
+            alarms: DeviceAlarms::new(1, 1),
+        }
+    }
+
+    /// A Connect is answered, where these modules and submodules differ: nothing was given and nothing taken, and the interval of the
+    /// inputs is counted from now. Nothing is left of an earlier relation.
+    pub fn open(&mut self, request: &ConnectRequest, rows: &DiffRows)
+        ensures { self.new ≡ opened request.now rows.now }
+    {
+        let (input, output, alarm) = (request.input(), request.output(), request.alarm());
+        self.cyclic.open(
+            route_of(request),
+            Provider::start(input.send_clock_factor, input.reduction_ratio),
+            Consumer::new(output.data_hold_factor, output.interval()),
+            &input.layout,
+            &output.layout,
+            &Differing(rows),
+        );
+        self.alarms = DeviceAlarms::new(alarm.timeout_factor, alarm.retries);
+    }
+
+    /// ApplicationReady is answered: data is exchanged, and the data hold time runs from now on.
+    pub fn begin(&mut self)
+        ensures { self.new ≡ begun_of self.old }
+    {
+        self.cyclic.begin();
+    }
+
+    /// With whom, and the numbers of its frames.
+    pub fn route(&self) -> &Route
+        ensures { result.now ≡ self.now.cyclic.route }
+    {
+        self.cyclic.route()
+    }
+
+    /// The end of cyclic data, of which the frames of inputs are made.
+    #[inline(always)]
+    pub fn cyclic(&self) -> &CyclicExchange
+        ensures { result.now ≡ self.now.cyclic }
+    {
+        &self.cyclic
+    }
+
+    /// Gives a submodule its input, which the frames have from now on. Answers whether it has an input of this length; if not,
+    /// nothing changes. One with no data has an input of no octets.
+    pub fn give(&mut self, slot: u16, subslot: u16, value: &[u8]) -> bool
+        ensures done { result ≡ is_some (given_at self.old slot subslot value.now) }
+        ensures state { self.new ≡ unwrap_or (given_at self.old slot subslot value.now) self.old }
+    {
+        self.cyclic.give(slot, subslot, value)
+    }
+
+    /// The output of a submodule, if it has one: what the last frame that was taken holds, and zeros where none was taken or its IOPS
+    /// is not good.
+    pub fn output(&self, slot: u16, subslot: u16) -> Option<&[u8]>
+        ensures value { option_map (λ value. value.now) result ≡ output_at self.now slot subslot }
+        ensures short { IfSome result (λ value. length value.now ≤ 1440) }
+    {
+        self.cyclic.value(slot, subslot)
+    }
+}

@@ -1,0 +1,20 @@
+//! What holds of exchanges over many events.
+ghost use Rattle.relations.specs.exchange.Runs.{AreOfTheLast, AreStillTheStatuses, AreTheLastGiven, IsDueEachInterval, IsHeldSoLong};
+
+use cyclic_exchange::cyclic_data_is_kept;
+
+/// What is exchanged, over any list of events: laws of the definitions by which `DataExchange` is stated, and no code.
+pub fn exchange_is_kept()
+    // A frame of inputs is due each interval, counted from the answer to the Connect, whatever happens meanwhile.
+    ensures interval { IsDueEachInterval }
+    // The outputs are those of the last frame that was taken.
+    ensures last { AreOfTheLast }
+    // The inputs are those that were given last, and zeros where none was.
+    ensures given { AreTheLastGiven }
+    // What is sent of IOPS and IOCS is that of the answer to the Connect.
+    ensures statuses { AreStillTheStatuses }
+    // The data hold time is over with the unit that completes it, unless a frame is taken before.
+    ensures hold { IsHeldSoLong }
+{
+    cyclic_data_is_kept();
+}

@@ -1,0 +1,49 @@
+//! An exchange that is opened.
+ghost use Rattle.std.specs.Prelude.{◌≡◌};
+ghost use Rattle.relations.specs.exchange.Opening.{route_of, status_of};
+
+use connect_requests::ConnectRequest;
+use cyclic_data::{GOOD, PlaceKind};
+use cyclic_exchange::{Route, Statuses};
+use module_diff::DiffRows;
+
+/// IOPS and IOCS of a submodule: bad where these rows list it, and else good.
+fn status_of(rows: &DiffRows, slot: u16, subslot: u16) -> u8
+    ensures { result ≡ status_of rows.now slot subslot }
+{
+    // A module that is not the expected one must not be taken for it: its data is marked bad from the first frame on.
+    if rows.is_listed(slot, subslot) {
+        0
+    } else {
+        GOOD
+    }
+}
+
+/// The statuses of a device of which these modules and submodules differ.
+#[derive(Drop)]
+pub(crate) struct Differing<'a>(pub(crate) &'a DiffRows);
+
+impl Statuses for Differing<'_> {
+    ghost use Rattle.relations.specs.exchange.Opening.{statuses_of};
+
+    ghost status_of = { λ differing. statuses_of differing.0.now };
+
+    fn status(&self, _kind: PlaceKind, slot: u16, subslot: u16) -> u8 {
+        status_of(self.0, slot, subslot)
+    }
+}
+
+/// What a Connect asks for.
+pub(crate) fn route_of(request: &ConnectRequest) -> Route
+    ensures { result ≡ route_of request.now }
+{
+    let alarm = request.alarm();
+    Route {
+        partner: request.ar().initiator,
+        sent_id: request.input().frame_id,
+        sent_tag: request.input().tag,
+        taken_id: request.output().frame_id,
+        alarm_tag: alarm.tag_high,
+        reference: alarm.reference,
+    }
+}

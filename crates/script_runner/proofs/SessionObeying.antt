@@ -1,0 +1,111 @@
+-- What a line does to both ends.
+use Rattle.std.proofs.Common.{◌≡◌, inl, ℕ, List, [], ◌∷◌, ◌++◌, length, arith, Bool, true, false, Option, None, Result, Ok, Err, OnOk, IfOk, IsErr, MatchResult, is_ok, if◌then◌else◌, refl, sym, subst, append-nil}
+use Rattle.flash_model.specs.declared.flash.Order.{Order}
+use Rattle.flash_model.specs.declared.memory.MemoryFlash.{MemoryFlash}
+use Rattle.plans.specs.declared.parts.Parts.{Parts}
+use Rattle.configurator.specs.declared.fault.PlanFault.{PlanFault}
+use Rattle.configurator.specs.declared.fault.PlanFault.TheVariants.{OutOfMemory}
+use Rattle.device_core.specs.State.{State}
+use Rattle.script_lines.specs.Line.{Command, Frame, Restart, Tick, Show, Arm, Input, Alarm, Config, Start, Give, Stop, Deliver, Line, Unfit, Skipped, Asks, Unknown, meaning_of}
+use Rattle.script_runner.specs.declared.session.power.Power.{Power}
+use Rattle.script_runner.specs.declared.session.power.Power.TheVariants.{On, Off, Away}
+use Rattle.script_runner.specs.session.Ends.{Network, Station, Other}
+use Rattle.script_runner.specs.session.Power.{Held, IsRunning, is_off, refusal_of}
+use Rattle.script_runner.specs.session.Said.{Answer, Answers, Outcome, outcome_of, unchanged}
+use Rattle.script_runner.specs.session.Off.{Orders, TakesOrder}
+use Rattle.script_runner.specs.session.Session.{Are, Comes, IsDone, IsObeyed, Obeys}
+
+-- a device that runs was not refused its start
+pub unrefused : (station : Station) (power : Power) → IsRunning station power → refusal_of power ≡ None
+unrefused station (On device) runs = refl
+unrefused station (Off fault flash) runs = absurd runs
+unrefused station Away runs = absurd runs
+
+-- and it has power
+pub unlost : (station : Station) (power : Power) → IsRunning station power → is_off power ≡ false
+unlost station (On device) runs = runs.reliable.0
+unlost station (Off fault flash) runs = absurd runs
+unlost station Away runs = absurd runs
+
+-- what the device did is what was asked for
+pub done_obeyed : (answer : Answer) (device : State (MemoryFlash 4096)) (other : Other) (before now : List ℕ) → IsDone answer device other before now → IsObeyed answer (record { power = On device; other = other }) before now
+done_obeyed answer device other before now done = record { runs = done.runs; waits = done.waits; text = done.text }
+
+-- a line that is read so is this one
+pub line_obeys : (plans : List ℕ → Option Parts) (network : Network) (line read : Line) (held : Held) (before now : List ℕ) (result : Result Bool PlanFault) → read ≡ line → Obeys (outcome_of plans network read) held before now result → Obeys (outcome_of plans network line) held before now result
+line_obeys plans network line read held before now result same = subst (λ l. Obeys (outcome_of plans network l) held before now result) same
+
+-- an empty line is skipped
+pub empty_is_skipped : (line : List ℕ) → length line ≡ 0 → meaning_of line ≡ Skipped
+unfolding meaning_of
+empty_is_skipped [] none = refl
+empty_is_skipped (octet ∷ octets) none = absurd (omega (arith, none))
+
+-- one that is skipped changes nothing
+pub skipped_obeys : (network : Network) (held : Held) (before : List ℕ) → Are network held → Obeys (Answers (unchanged network)) held before before (Ok true)
+skipped_obeys network held before are = (refl, record { runs = are.0; waits = are.1; text = sym (append-nil before) })
+
+-- a text that was appended, if there was memory
+pub appended : {E : Type 0} (done : Result (Unit {0}) E) (now before more : List ℕ) → now ≡ (if is_ok done then before ++ more else before) → OnOk done (now ≡ before ++ more)
+appended (Ok done) now before more e = e
+appended (Err fault) now before more e = tt
+
+-- what a script may have at any time
+pub always_obeys : {E : Type 0} (answer : Answer) (held : Held) (before now : List ℕ) (done : Result (Unit {0}) E) (result : Result Bool PlanFault) → OnOk done (IsObeyed answer held before now)
+    → MatchResult result (λ is. (is ≡ true) × (done ≡ Ok tt)) (λ fault. (fault ≡ OutOfMemory) × IsErr done) → Obeys (Answers answer) held before now result
+always_obeys answer held before now done (Ok is) obeyed given = (given.0, subst (λ d. OnOk d (IsObeyed answer held before now)) given.1 obeyed)
+always_obeys answer held before now done (Err fault) obeyed given = inl given.0
+
+-- what a script may have where something is there
+pub if_there_obeys : {E : Type 0} (outcome : Outcome) (held : Held) (before now : List ℕ) (is : Result Bool E) (result : Result Bool PlanFault) → IfOk is (Comes outcome held before now)
+    → MatchResult result (λ there. is ≡ Ok there) (λ fault. (fault ≡ OutOfMemory) × IsErr is) → Obeys outcome held before now result
+if_there_obeys outcome held before now is (Ok there) comes given = subst (λ i. IfOk i (Comes outcome held before now)) given comes
+if_there_obeys outcome held before now is (Err fault) comes given = inl given.0
+
+-- what a script may have at any time tells a loss of power as what it did
+pub always_tells : {E : Type 0} (A : Type 0) (done : Result (Unit {0}) E) (result : Result Bool PlanFault) → OnOk done A
+    → MatchResult result (λ is. (is ≡ true) × (done ≡ Ok tt)) (λ fault. (fault ≡ OutOfMemory) × IsErr done) → OnOk result A
+always_tells A done (Ok is) told given = subst (λ d. OnOk d A) given.1 told
+always_tells A done (Err fault) told given = tt
+
+-- and so what it may have where something is there
+pub if_there_tells : {E : Type 0} (A : Type 0) (is : Result Bool E) (result : Result Bool PlanFault) → OnOk is A
+    → MatchResult result (λ there. is ≡ Ok there) (λ fault. (fault ≡ OutOfMemory) × IsErr is) → OnOk result A
+if_there_tells A is (Ok there) told given = subst (λ i. OnOk i A) given told
+if_there_tells A is (Err fault) told given = tt
+
+-- ---- orders to the flash
+
+-- a line for which memory was refused did nothing
+pub untaken : (line : Line) (held : Held) (before : List ℕ) → TakesOrder line held held before before (Err OutOfMemory)
+untaken Unfit held before = tt
+untaken Skipped held before = tt
+untaken Unknown held before = tt
+untaken (Asks (Arm order)) held before = (refl, refl, refl)
+untaken (Asks (Frame bytes)) held before = tt
+untaken (Asks Restart) held before = tt
+untaken (Asks (Tick units)) held before = tt
+untaken (Asks Show) held before = tt
+untaken (Asks (Input slot subslot bytes)) held before = tt
+untaken (Asks (Alarm slot subslot bytes)) held before = tt
+untaken (Asks (Config catalogue)) held before = tt
+untaken (Asks (Start ar activity)) held before = tt
+untaken (Asks (Give slot subslot bytes)) held before = tt
+untaken (Asks Stop) held before = tt
+untaken (Asks Deliver) held before = tt
+
+-- what is true of an order is what taking it does
+pub order_taken : (command : Command) (old new : Held) (before now : List ℕ) (result : Result Bool PlanFault)
+    → ((order : Order) → command ≡ Arm order → Orders order old new before now result) → TakesOrder (Asks command) old new before now result
+order_taken (Arm order) old new before now result orders = orders order refl
+order_taken (Frame bytes) old new before now result orders = tt
+order_taken Restart old new before now result orders = tt
+order_taken (Tick units) old new before now result orders = tt
+order_taken Show old new before now result orders = tt
+order_taken (Input slot subslot bytes) old new before now result orders = tt
+order_taken (Alarm slot subslot bytes) old new before now result orders = tt
+order_taken (Config catalogue) old new before now result orders = tt
+order_taken (Start ar activity) old new before now result orders = tt
+order_taken (Give slot subslot bytes) old new before now result orders = tt
+order_taken Stop old new before now result orders = tt
+order_taken Deliver old new before now result orders = tt

@@ -1,0 +1,149 @@
+-- Events, one after another, at either end.
+use Rattle.std.proofs.Common.{◌≡◌, ℕ, ◌-◌, ◌<◌, ◌≤◌, List, [], ◌∷◌, ◌++◌, suc, replicate, length, drop, append_assoc, append-nil, arith, refl, ap, subst, sym, ◌∙◌, Option, Some, None}
+use Rattle.std.proofs.lemmas.Grind.{flat_map-append}
+use Rattle.std.proofs.lemmas.List.{drop_all}
+use Rattle.arrayvec.specs.ArrayVec.{ArrayVec}
+use Rattle.flash_model.specs.declared.memory.MemoryFlash.{MemoryFlash}
+use Rattle.device_frames.specs.declared.event.Event.{Event}
+use Rattle.device_frames.specs.declared.event.Event.TheVariants as event
+use Rattle.device_core.specs.State.{State}
+use Rattle.device_core.specs.Machine.{step_of}
+use Rattle.controller_core.specs.declared.event.Event.{Event as ControllerEvent}
+use Rattle.controller_core.specs.declared.event.Event.TheVariants as heard
+use Rattle.controller_core.specs.Machine.{Stepped as ControllerRun, step_of as controller_step}
+use Rattle.controller_core.specs.State.{Controlling}
+use Rattle.script_runner.specs.session.Ends.{Station, turned_to, Other, DeviceRun, IsRun, controller_run, device_run, frames_for_device, kept, octets_of, printed_for, with_sent}
+use Rattle.script_runner.specs.session.Power.{Runs}
+use Rattle.script_runner.specs.session.Session.{IsHandedTo, IsRunOf, IsTurned}
+
+-- ---- units of time at the device
+
+-- Between two events: the device runs, and what it sent before these is kept or printed; with what these send it is the whole.
+pub record IsUnderway (whole : DeviceRun) (left : List Event) (now : Station) (device : State (MemoryFlash 4096)) (far other : Other) (before text : List ℕ) : Type 0 where
+  pub runs : Runs now device
+  pub station : whole.station ≡ (device_run now left).station
+  pub sent : List (List ℕ)
+  pub frames : whole.frames ≡ sent ++ (device_run now left).frames
+  pub waits : other ≡ with_sent far sent
+  pub printed : text ≡ before ++ printed_for far.controller sent
+
+-- frames kept one after another
+kept_on : (controller : Option Controlling) (waiting a b : List (List ℕ)) → kept controller (kept controller waiting a) b ≡ kept controller waiting (a ++ b)
+kept_on None waiting a b = refl
+kept_on (Some controller) waiting a b = append_assoc waiting a b
+
+printed_on : (controller : Option Controlling) (a b : List (List ℕ)) → printed_for controller a ++ printed_for controller b ≡ printed_for controller (a ++ b)
+printed_on None a b = sym (flat_map-append _ a b)
+printed_on (Some controller) a b = refl
+
+kept_none : (controller : Option Controlling) (waiting : List (List ℕ)) → kept controller waiting [] ≡ waiting
+kept_none None waiting = refl
+kept_none (Some controller) waiting = append-nil waiting
+
+printed_none : (controller : Option Controlling) → printed_for controller [] ≡ []
+printed_none None = refl
+printed_none (Some controller) = refl
+
+pub sent_on : (far : Other) (a b : List (List ℕ)) → with_sent (with_sent far a) b ≡ with_sent far (a ++ b)
+sent_on far a b = ap (λ waiting. record far { to_controller = waiting }) (kept_on far.controller far.to_controller a b)
+
+sent_none : (far : Other) → with_sent far [] ≡ far
+sent_none far = ap (λ waiting. record far { to_controller = waiting }) (kept_none far.controller far.to_controller)
+
+-- before the first
+pub underway_first : (events : List Event) (now : Station) (device : State (MemoryFlash 4096)) (far : Other) (before : List ℕ) → Runs now device → IsUnderway (device_run now events) events now device far far before before
+underway_first events now device far before runs = record {
+  runs = runs;
+  station = refl;
+  sent = [];
+  frames = refl;
+  waits = sym (sent_none far);
+  printed = sym (ap (λ t. before ++ t) (printed_none far.controller) ∙ append-nil before);
+}
+
+-- after one more
+pub underway_on : (whole : DeviceRun) (event : Event) (left : List Event) (now : Station) (device after : State (MemoryFlash 4096)) (far other later : Other) (before text more : List ℕ) → IsUnderway whole (event ∷ left) now device far other before text → IsTurned now (step_of [] now.device now.live event) after other later text more → IsUnderway whole left (turned_to now (step_of [] now.device now.live event).live) after far later before more
+underway_on whole event left now device after far other later before text more underway turned =
+    let step = step_of [] now.device now.live event in
+    let next = turned_to now step.live in
+    record {
+      runs = turned.runs;
+      station = underway.station;
+      sent = underway.sent ++ step.frames;
+      frames = underway.frames ∙ sym (append_assoc underway.sent step.frames (device_run next left).frames);
+      waits = turned.waits ∙ ap (λ o. with_sent o step.frames) underway.waits ∙ sent_on far underway.sent step.frames;
+      printed = turned.text ∙ ap (λ o. text ++ printed_for o.controller step.frames) underway.waits
+          ∙ ap (λ t. t ++ printed_for far.controller step.frames) underway.printed ∙ append_assoc before _ _ ∙ ap (λ t. before ++ t) (printed_on far.controller underway.sent step.frames);
+    }
+
+-- after all of them
+pub underway_all : (whole : DeviceRun) (left : List Event) (now : Station) (device : State (MemoryFlash 4096)) (far other : Other) (before text : List ℕ) → left ≡ [] → IsUnderway whole left now device far other before text → IsRunOf whole device far other before text
+underway_all whole left now device far other before text none underway =
+    let frames : whole.frames ≡ underway.sent = underway.frames ∙ ap (λ events. underway.sent ++ (device_run now events).frames) none ∙ append-nil underway.sent in
+    let station : whole.station ≡ now = underway.station ∙ ap (λ events. (device_run now events).station) none in
+    record {
+      runs = subst (λ s. Runs s device) (sym station) underway.runs;
+      waits = underway.waits ∙ ap (with_sent far) (sym frames);
+      text = underway.printed ∙ ap (λ sent. before ++ printed_for far.controller sent) (sym frames);
+    }
+
+-- units of time that are left
+pub some_left : (A : Type 0) (tick : A) (left : ℕ) → 0 < left → replicate left tick ≡ tick ∷ replicate (left - 1) tick
+some_left A tick left some =
+    let e : left ≡ suc (left - 1) = omega arith in
+    ap (λ units. replicate units tick) e
+
+-- ---- frames that are handed over to the device
+
+-- Between two frames: the device runs, and with what those that are left make it send, what waits is the whole.
+pub record IsHanding (whole : DeviceRun) (left : List Event) (now : Station) (device : State (MemoryFlash 4096)) (before waiting : List (ArrayVec ℕ)) : Type 0 where
+  pub runs : Runs now device
+  pub station : whole.station ≡ (device_run now left).station
+  pub frames : octets_of before ++ whole.frames ≡ octets_of waiting ++ (device_run now left).frames
+
+pub handing_on : (whole : DeviceRun) (event : Event) (left : List Event) (now : Station) (device after : State (MemoryFlash 4096)) (before waiting more : List (ArrayVec ℕ)) → IsHanding whole (event ∷ left) now device before waiting → Runs (turned_to now (step_of [] now.device now.live event).live) after → octets_of more ≡ octets_of waiting ++ (step_of [] now.device now.live event).frames → IsHanding whole left (turned_to now (step_of [] now.device now.live event).live) after before more
+handing_on whole event left now device after before waiting more handing runs sent =
+    let step = step_of [] now.device now.live event in
+    let later = device_run (turned_to now step.live) left in
+    record {
+      runs = runs;
+      station = handing.station;
+      frames = handing.frames ∙ sym (append_assoc (octets_of waiting) step.frames later.frames) ∙ ap (λ t. t ++ later.frames) (sym sent);
+    }
+
+pub handed_all : (whole : DeviceRun) (left : List Event) (now : Station) (device : State (MemoryFlash 4096)) (before waiting : List (ArrayVec ℕ)) → left ≡ [] → IsHanding whole left now device before waiting → IsHandedTo whole device before waiting
+handed_all whole left now device before waiting none handing =
+    let station : whole.station ≡ now = handing.station ∙ ap (λ events. (device_run now events).station) none in
+    record {
+      runs = subst (λ s. Runs s device) (sym station) handing.runs;
+      waits = sym (handing.frames ∙ ap (λ events. octets_of waiting ++ (device_run now events).frames) none ∙ append-nil (octets_of waiting));
+    }
+
+-- none is left behind the last
+pub no_frames : (frames : List (ArrayVec ℕ)) (i : ℕ) → length frames ≤ i → frames_for_device (octets_of (drop i frames)) ≡ []
+no_frames frames i all = ap (λ left. frames_for_device (octets_of left)) (drop_all i frames all)
+
+-- ---- events at the controller
+
+-- Between two events: with what those that are left make it send, what waits is the whole.
+pub record IsHearing (whole : ControllerRun) (left : List ControllerEvent) (now : Controlling) (before waiting : List (ArrayVec ℕ)) : Type 0 where
+  pub controller : whole.controller ≡ (controller_run now left).controller
+  pub frames : octets_of before ++ whole.frames ≡ octets_of waiting ++ (controller_run now left).frames
+
+pub hearing_first : (left : List ControllerEvent) (now : Controlling) (before : List (ArrayVec ℕ)) → IsHearing (controller_run now left) left now before before
+hearing_first left now before = record { controller = refl; frames = refl }
+
+pub hearing_on : (whole : ControllerRun) (event : ControllerEvent) (left : List ControllerEvent) (now after : Controlling) (before waiting more : List (ArrayVec ℕ)) → IsHearing whole (event ∷ left) now before waiting → IsRun (controller_step now event) after waiting more → IsHearing whole left after before more
+hearing_on whole event left now after before waiting more hearing run =
+    let step = controller_step now event in
+    record {
+      controller = hearing.controller ∙ ap (λ c. (controller_run c left).controller) (sym run.0);
+      frames = hearing.frames ∙ sym (append_assoc (octets_of waiting) step.frames (controller_run step.controller left).frames)
+          ∙ ap (λ t. t ++ (controller_run step.controller left).frames) (sym run.1) ∙ ap (λ c. octets_of more ++ (controller_run c left).frames) (sym run.0);
+    }
+
+pub heard_all : (whole : ControllerRun) (left : List ControllerEvent) (now : Controlling) (before waiting : List (ArrayVec ℕ)) → left ≡ [] → IsHearing whole left now before waiting → IsRun whole now before waiting
+heard_all whole left now before waiting none hearing = (
+  sym (hearing.controller ∙ ap (λ events. (controller_run now events).controller) none),
+  sym (hearing.frames ∙ ap (λ events. octets_of waiting ++ (controller_run now events).frames) none ∙ append-nil (octets_of waiting)),
+)

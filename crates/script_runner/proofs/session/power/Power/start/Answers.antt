@@ -1,0 +1,34 @@
+use Rattle.std.proofs.Common.{subst, sym, ap}
+use Rattle.settings_journal.specs.Image.{LeftByDevice, IsForeign, StartsWith}
+use Rattle.script_runner.proofs.session.power.Power.start.Goals as goal
+
+pub returns-in-Ok-clause-stored : goal.returns-in-Ok-clause-stored
+returns-in-Ok-clause-stored c settings room reliable left starts =
+    let live = c.in-Ok.ensures.known settings room starts in
+    record {
+      station_is = rw (c.identity.ensures, c.real.ensures) at c.in-Ok.ensures.station;
+      live_is = live;
+      reliable = c.in-Ok.ensures.reliable reliable;
+      unfailed = ap (λ l. l.values.has_failed) live;
+      left = subst LeftByDevice (sym c.in-Ok.ensures.same) left;
+    }
+
+pub returns-in-Ok-clause-blank : goal.returns-in-Ok-clause-blank
+returns-in-Ok-clause-blank c reliable blank =
+    let at_first = c.in-Ok.ensures.blank blank in
+    returns-in-Ok-clause-stored c _ _ reliable at_first.0 at_first.1
+
+pub returns-in-Err-clause-back : goal.returns-in-Err-clause-back
+returns-in-Err-clause-back c = (
+  c.in-Err.ensures.cause,
+  λ foreign. subst IsForeign (sym c.in-Err.ensures.same) (c.in-Err.ensures.foreign foreign),
+  (c.in-Err.ensures.same, ap (λ chip. chip.armed) c.in-Err.ensures.calls),
+)
+
+pub returns-in-Ok-clause-back : goal.returns-in-Ok-clause-back
+returns-in-Ok-clause-back c = (
+  rw (c.identity.ensures, c.real.ensures) at c.in-Ok.ensures.station,
+  c.in-Ok.ensures.fresh,
+  subst (λ image. StartsWith image c.in-Ok.device.live.values.stored c.in-Ok.device.live.values.room) (sym c.in-Ok.ensures.same) c.in-Ok.ensures.starts,
+  (c.in-Ok.ensures.same, ap (λ chip. chip.armed) c.in-Ok.ensures.calls),
+)

@@ -1,0 +1,83 @@
+-- The power of the demo device.
+use Rattle.std.specs.Prelude.{◌≡◌, Bool, true, false, [], ◌∷◌, Option, Some, None}
+use Rattle.flash_model.specs.declared.memory.MemoryFlash.{MemoryFlash}
+use Rattle.flash_model.specs.declared.flash.Order.{Order}
+use Rattle.flash_model.specs.Asked.{IsAsked}
+use Rattle.flash_model.specs.Calls.{Arms}
+use Rattle.flash_model.specs.Fate.{against_writes}
+use Rattle.flash_model.specs.Memory.{armed_in, image_of, failures_of, is_powerless, IsReliable}
+use Rattle.settings_journal.specs.Commit.{HasBootCause}
+use Rattle.settings_journal.specs.Image.{StartsWith, IsForeign, LeftByDevice}
+use Rattle.settings_journal.specs.declared.journal.BootFault.{BootFault}
+use Rattle.settings_journal.specs.declared.journal.BootFault.TheVariants.{Foreign}
+use Rattle.device_core.specs.Cycle.{started}
+use Rattle.device_core.specs.State.{State}
+use Rattle.script_runner.specs.declared.session.power.Power.{Power}
+use Rattle.script_runner.specs.declared.session.power.Power.TheVariants.{On, Off, Away}
+use Rattle.script_runner.specs.session.Demo.{demo_device}
+use Rattle.script_runner.specs.session.Ends.{Other, Station}
+
+-- this station, over a flash whose calls do not fail, and none has
+pub record Runs (station : Station) (device : State (MemoryFlash 4096)) : Type 0 where
+  pub station_is : device.station ≡ station.device
+  pub live_is : device.live ≡ station.live
+  pub reliable : IsReliable device.flash
+  pub unfailed : device.live.values.has_failed ≡ false
+  pub left : LeftByDevice (image_of device.flash)
+
+-- the device runs, in this state
+abbrev pub IsRunning : Station → Power → Type 0
+IsRunning station (On device) = Runs station device
+IsRunning station (Off fault flash) = ⊥
+IsRunning station Away = ⊥
+
+-- why the device did not start, if it did not
+abbrev pub refusal_of : Power → Option BootFault
+refusal_of (On device) = None
+refusal_of (Off fault flash) = Some fault
+refusal_of Away = None
+
+-- whether there is no device that has power
+abbrev pub is_off : Power → Bool
+is_off (On device) = is_powerless device.flash
+is_off (Off fault flash) = true
+is_off Away = true
+
+-- the demo device runs, whatever its settings, or its start was refused
+abbrev pub IsDemo : Power → Type 0
+IsDemo (On device) = device.station ≡ demo_device
+IsDemo (Off fault flash) = Unit {0}
+IsDemo Away = ⊥
+
+-- The same flash: no byte of it has changed, and what is armed against its program and erase calls is armed still. A read may have
+-- spent an order to reads.
+abbrev pub IsSameFlash : MemoryFlash 4096 → MemoryFlash 4096 → Type 0
+IsSameFlash old new = (image_of new ≡ image_of old) × (against_writes (armed_in new) ≡ against_writes (armed_in old))
+
+-- The demo device was started over this flash, which is the same still: it runs what is stored, and nothing is left of an
+-- earlier cycle; or its start was refused, for a cause of its own. A flash is foreign where it cannot be read.
+abbrev pub IsOver : MemoryFlash 4096 → Power → Type 0
+IsOver flash (On device) =
+    IsDemo (On device) × (device.live ≡ started device.live.values.stored device.live.values.room)
+    × StartsWith (image_of device.flash) device.live.values.stored device.live.values.room × IsSameFlash flash device.flash
+IsOver flash (Off fault left) =
+    HasBootCause fault (failures_of flash) (failures_of left) × (fault ≡ Foreign → IsForeign (image_of left)) × IsSameFlash flash left
+IsOver flash Away = ⊥
+
+-- The flash was told this, and nothing else of the run changed.
+abbrev pub IsArmed : Order → Power → Power → Type 0
+IsArmed order (On old) (On new) = (new.station ≡ old.station) × (new.live ≡ old.live) × IsAsked old.flash (Arms order ∷ []) new.flash
+IsArmed order (Off fault old) (Off still new) = (still ≡ fault) × IsAsked old (Arms order ∷ []) new
+IsArmed order Away Away = Unit {0}
+IsArmed order old new = ⊥
+
+-- the flash has power again, and the demo device was started over it
+abbrev pub IsBack : Power → Power → Type 0
+IsBack (On device) power = IsOver device.flash power
+IsBack (Off fault flash) power = IsOver flash power
+IsBack Away power = power ≡ Away
+
+-- both ends, as a run holds them
+pub record Held : Type 0 where
+  pub power : Power
+  pub other : Other

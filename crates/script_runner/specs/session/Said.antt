@@ -1,0 +1,169 @@
+-- What comes of a line: a command to the demo device, whose flash never fails, or to the other end.
+use Rattle.std.specs.Prelude.{◌+◌, ℕ, Bool, true, false, List, [], ◌++◌, codes, length, replicate, take, Option, Some, None}
+use Rattle.std.specs.Str.Lines.{lines}
+use Rattle.arrayvec.specs.ArrayVec.{ArrayVec}
+use Rattle.pn_values.specs.Settings.{factory_settings}
+use Rattle.pn_values.specs.declared.settings.Settings.{Settings}
+use Rattle.settings_journal.specs.Image.{capacity}
+use Rattle.relations.specs.Link.{phase_of}
+use Rattle.plans.specs.declared.parts.Parts.{Parts}
+use Rattle.device_frames.specs.declared.event.Event.{Event}
+use Rattle.device_frames.specs.declared.event.Event.TheVariants as event
+use Rattle.device_frames.specs.declared.note.Note.TheVariants.{Done}
+use Rattle.device_core.specs.Machine.{Stepped, step_of}
+use Rattle.device_core.specs.Cycle.{started}
+use Rattle.controller_core.specs.declared.event.Event.{Event as ControllerEvent}
+use Rattle.controller_core.specs.declared.event.Event.TheVariants as heard
+use Rattle.controller_core.specs.Machine.{step_of as controller_step}
+use Rattle.controller_core.specs.State.{Controlling}
+use Rattle.script_runner.specs.session.Demo.{demo_device}
+use Rattle.script_runner.specs.session.Ends.{Station, turned_to, Other, Network, DeviceRun, with_ends, arrived_at, cleared, device_run, frames_for_device, nobody, printed_for, ticked_by, with_fresh, with_plan, with_run, with_sent}
+use Rattle.script_lines.specs.Line.{Command, Frame, Restart, Tick, Show, Arm, Input, Alarm, Config, Start, Give, Stop, Deliver, Line, Unfit, Skipped, Asks, Unknown}
+use Rattle.script_lines.specs.Show.{shown, outputs_shown, controller_shown}
+use Rattle.script_lines.specs.Text.{boot_line, moved_line, note_line, printed}
+
+-- the demo device, started from these settings
+abbrev pub demo_started : Settings → ℕ → Station
+demo_started settings room = record { device = demo_device; live = started settings room }
+
+-- what is at both ends after a line, and what the line prints
+pub record Answer : Type 0 where
+  pub network : Network
+  pub text : List ℕ
+
+-- a step of the device: a line for each frame that it sends, as long as there is no controller, and one for its note
+abbrev pub step_answer : Network → Stepped → Answer
+step_answer network step = record {
+  network = with_ends (turned_to network.station step.live) (with_sent network.other step.frames);
+  text = printed_for network.other.controller step.frames ++ note_line step.note;
+}
+
+-- of more than 1,519 bytes the first 1,519 are handed in, which are refused alike
+abbrev pub handed : List ℕ → ArrayVec ℕ
+handed bytes = record { items = take 1519 bytes }
+
+abbrev pub event_answer : Network → Event → Answer
+event_answer network event = step_answer network (step_of [] network.station.device network.station.live event)
+
+-- a restart starts the device from what is stored; no frame waits then, and the controller is as it was
+abbrev pub restart_answer : Network → Answer
+restart_answer network = record {
+  network = with_ends (demo_started network.station.live.values.stored network.station.live.values.room) (cleared network.other);
+  text = boot_line None;
+}
+
+-- units of time at either end, and then the note
+abbrev pub tick_answer : Network → ℕ → Answer
+tick_answer network units =
+    let run = device_run network.station (replicate units event.Tick) in
+    record {
+      network = with_ends run.station (ticked_by network.other.controller (with_sent network.other run.frames) units);
+      text = printed_for network.other.controller run.frames ++ note_line Done;
+    }
+
+abbrev pub show_answer : Network → Answer
+show_answer network =
+    let live = network.station.live in
+    record {
+      network = network;
+      text = shown live.values.running live.values.stored (phase_of live.rest.link) live.rest.lamp
+          ++ (outputs_shown network.station.device.real live.rest.link ++ controller_shown network.other.controller);
+    }
+
+-- an order to the flash is none to either end
+abbrev pub unchanged : Network → Answer
+unchanged network = record { network = network; text = [] }
+
+-- ---- lines that a script may have at some times alone
+
+-- what comes of a line: it is answered, none that a script may have here, or a catalogue that has no plan
+pub data Outcome : Type 0 where
+  Answers : (answer : Answer) → Outcome
+  Refuses : Outcome
+  HasNoPlan : (catalogue : List ℕ) → Outcome
+
+-- what is at the other end is this, and the line says what the controller is at
+abbrev pub at_other : Network → Other → Outcome
+at_other network other = Answers (record { network = with_ends network.station other; text = controller_shown other.controller })
+
+abbrev pub config_outcome : Network → List ℕ → Option Parts → Outcome
+config_outcome network catalogue (Some plan) = Answers (record { network = with_ends network.station (with_plan network.other plan); text = printed (codes "plan ok") })
+config_outcome network catalogue None = HasNoPlan catalogue
+
+abbrev pub start_outcome : Network → List ℕ → List ℕ → Option Parts → Outcome
+start_outcome network ar activity (Some plan) = at_other network (with_fresh network.other plan ar activity)
+start_outcome network ar activity None = Refuses
+
+abbrev pub heard_outcome : Network → ControllerEvent → Option Controlling → Outcome
+heard_outcome network event (Some controller) = at_other network (with_run network.other (controller_step controller event))
+heard_outcome network event None = Refuses
+
+-- what waits for the device was handed over: it waits no longer, and what the device answered waits for the controller
+abbrev pub handed_over : Other → DeviceRun → Other
+handed_over other run = record other { to_device = []; to_controller = other.to_controller ++ run.frames }
+
+-- what waits for the device is handed over, and then what then waits for the controller: also what the device answered
+abbrev pub deliver_answer : Network → Answer
+deliver_answer network =
+    let run = device_run network.station (frames_for_device network.other.to_device) in
+    let between = handed_over network.other run in
+    let after = arrived_at network.other.controller between in
+    record {
+      network = with_ends run.station after;
+      text = moved_line (length network.other.to_device) (length between.to_controller) ++ controller_shown after.controller;
+    }
+
+abbrev pub deliver_outcome : Network → Option Controlling → Outcome
+deliver_outcome network (Some controller) = Answers (deliver_answer network)
+deliver_outcome network None = Refuses
+
+-- what a command does, by the plans of catalogues
+unfoldable pub said : (List ℕ → Option Parts) → Network → Command → Outcome
+said plans network (Frame bytes) = Answers (event_answer network (event.Frame (handed bytes)))
+said plans network Restart = Answers (restart_answer network)
+said plans network (Tick units) = Answers (tick_answer network units)
+said plans network Show = Answers (show_answer network)
+said plans network (Arm order) = Answers (unchanged network)
+said plans network (Input slot subslot bytes) = Answers (event_answer network (event.Input slot subslot (handed bytes)))
+said plans network (Alarm slot subslot bytes) = Answers (event_answer network (event.Alarm slot subslot (handed bytes)))
+said plans network (Config catalogue) = config_outcome network catalogue (plans catalogue)
+said plans network (Start ar activity) = start_outcome network ar activity network.other.plan
+said plans network (Give slot subslot bytes) = heard_outcome network (heard.Give slot subslot (handed bytes)) network.other.controller
+said plans network Stop = heard_outcome network heard.Stop network.other.controller
+said plans network Deliver = deliver_outcome network network.other.controller
+
+-- what comes of a line
+abbrev pub outcome_of : (List ℕ → Option Parts) → Network → Line → Outcome
+outcome_of plans network Skipped = Answers (unchanged network)
+outcome_of plans network (Asks command) = said plans network command
+outcome_of plans network Unfit = Refuses
+outcome_of plans network Unknown = Refuses
+
+-- a command that orders a failure of the flash
+abbrev pub arms : Command → Bool
+arms (Frame bytes) = false
+arms Restart = false
+arms (Tick units) = false
+arms Show = false
+arms (Arm order) = true
+arms (Input slot subslot bytes) = false
+arms (Alarm slot subslot bytes) = false
+arms (Config catalogue) = false
+arms (Start ar activity) = false
+arms (Give slot subslot bytes) = false
+arms Stop = false
+arms Deliver = false
+
+-- a line that does
+abbrev pub is_order : Line → Bool
+is_order Unfit = false
+is_order Skipped = false
+is_order (Asks command) = arms command
+is_order Unknown = false
+
+-- the demo device as it leaves the factory, and nobody at the other end
+abbrev pub factory_device : Station
+factory_device = demo_started factory_settings (capacity 4096)
+
+abbrev pub alone : Network
+alone = with_ends factory_device nobody

@@ -1,0 +1,15 @@
+//! Both ends of a script between two lines: the demo device over its flash, the controller, and the frames that wait between them.
+
+mod both;
+mod bytes;
+mod copies;
+mod device;
+mod laws;
+mod other_end;
+mod outputs;
+mod power;
+mod waiting;
+mod whole;
+
+pub use laws::plans_are_known;
+pub use whole::Session;

@@ -1,0 +1,109 @@
+// What comes of a line at both ends.
+ghost use Rattle.std.specs.Prelude.{◌≡◌, ◌++◌, [], true, OnOk, replicate};
+ghost use Rattle.flash_model.specs.Memory.{is_powerless};
+ghost use Rattle.device_frames.specs.declared.event.Event.TheVariants as event;
+ghost use Rattle.device_core.specs.Machine.{step_of};
+ghost use Rattle.script_lines.specs.Text.{lost_line};
+ghost use Rattle.script_runner.specs.session.Ends.{Network, Station, device_run};
+ghost use Rattle.script_runner.specs.session.Said.{deliver_answer, event_answer};
+ghost use Rattle.script_runner.specs.session.Off.{Delivers};
+ghost use Rattle.script_runner.specs.session.Power.{Runs};
+ghost use Rattle.script_runner.specs.session.Session.{IsDone, IsRunOf, IsTurned};
+
+use crate::session::device::step;
+use crate::session::other_end::OtherEnd;
+use crate::session::power::DemoDevice;
+use device_core::Event;
+use flash_model::Flash;
+use frame_codec::Outbox;
+use script_lines::render;
+use std::alloc::AllocError;
+
+/// Makes a step of the device, and renders what became of the event, or that power was lost. What the device sends is rendered or,
+/// once there is a controller, waits for it.
+pub(crate) fn respond(
+    device: &mut DemoDevice<'_>,
+    event: &Event,
+    outbox: &mut Outbox,
+    other: &mut OtherEnd,
+    text: &mut Vec<u8>,
+) -> Result<(), AllocError>
+    ensures done { (network : Network) → Runs network.station device.old → other.old ≡ network.other →
+        OnOk result (IsDone (event_answer network event.now) device.new other.new text.old.items text.new.items) }
+    ensures lost { is_powerless device.new.flash ≡ true →
+        OnOk result ((text.new.items ≡ text.old.items ++ lost_line) × (other.new ≡ other.old)) }
+    ensures same { device.new.station ≡ device.old.station }
+{
+    let note = step(device, event, outbox);
+    if device.flash().is_lost() {
+        return lost(text);
+    }
+    other.send(outbox.as_slice(), text)?;
+    render::note(note, text)
+}
+
+/// Renders that power was lost.
+fn lost(text: &mut Vec<u8>) -> Result<(), AllocError>
+    ensures { OnOk result (text.new.items ≡ text.old.items ++ lost_line) }
+{
+    text.extend_from_slice(b"power lost\n")
+}
+
+/// Lets a unit of time go by at the device.
+fn tick(
+    device: &mut DemoDevice<'_>,
+    outbox: &mut Outbox,
+    other: &mut OtherEnd,
+    text: &mut Vec<u8>,
+) -> Result<(), AllocError>
+    ensures ticked { (station : Station) → Runs station device.old →
+        OnOk result (IsTurned station (step_of [] station.device station.live event.Tick) device.new other.old other.new text.old.items
+        text.new.items) }
+    ensures same { device.new.station ≡ device.old.station }
+{
+    step(device, &Event::Tick, outbox);
+    other.send(outbox.as_slice(), text)
+}
+
+/// Lets units of time go by at the device.
+pub(crate) fn ticks(
+    device: &mut DemoDevice<'_>,
+    units: u32,
+    outbox: &mut Outbox,
+    other: &mut OtherEnd,
+    text: &mut Vec<u8>,
+) -> Result<(), AllocError>
+    ensures ticked { (station : Station) → Runs station device.old →
+        OnOk result (IsRunOf (device_run station (replicate units event.Tick)) device.new other.old other.new text.old.items
+        text.new.items) }
+    ensures same { device.new.station ≡ device.old.station }
+{
+    let mut left = units;
+    while left > 0 {
+        tick(device, outbox, other, text)?;
+        left -= 1;
+    }
+    Ok(())
+}
+
+/// Hands over what waits at either end, and renders how much that was and what the controller is at, or that power was lost.
+pub(crate) fn exchange(
+    device: &mut DemoDevice<'_>,
+    outbox: &mut Outbox,
+    other: &mut OtherEnd,
+    text: &mut Vec<u8>,
+) -> Result<(), AllocError>
+    ensures done { (network : Network) → Runs network.station device.old → other.old ≡ network.other →
+        OnOk result (IsDone (deliver_answer network) device.new other.new text.old.items text.new.items) }
+    ensures lost { is_powerless device.new.flash ≡ true →
+        OnOk result ((text.new.items ≡ text.old.items ++ lost_line) × Delivers other.old other.new) }
+    ensures same { device.new.station ≡ device.old.station }
+{
+    let to_device = other.hand_over(device, outbox)?;
+    if device.flash().is_lost() {
+        return lost(text);
+    }
+    let to_controller = other.deliver()?;
+    render::moved(to_device, to_controller, text)?;
+    other.show(text)
+}

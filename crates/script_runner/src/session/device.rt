@@ -1,0 +1,64 @@
+// Steps of the demo device.
+ghost use Rattle.std.specs.Prelude.{◌≡◌, [], OnOk};
+ghost use Rattle.device_frames.specs.declared.event.Event.TheVariants as event;
+ghost use Rattle.device_core.specs.Machine.{step_of};
+ghost use Rattle.script_runner.specs.session.Ends.{Station, device_run, frames_for_device, octets_of};
+ghost use Rattle.script_runner.specs.session.Said.{handed};
+ghost use Rattle.script_runner.specs.session.Power.{Runs};
+ghost use Rattle.script_runner.specs.session.Session.{IsHandedTo, IsStepped};
+
+use crate::session::bytes::{copied, front};
+use crate::session::power::DemoDevice;
+use crate::session::waiting::append;
+use device_core::{Event, Note};
+use flash_model::Flash;
+use frame_codec::{Frame, Outbox};
+use std::alloc::AllocError;
+
+/// Makes the event of bytes that come from the network, in the room of the last one. At most 1,519 of them: no frame is so long.
+pub(crate) fn receive(received: &mut Event, bytes: &[u8])
+    ensures { received.new ≡ event.Frame (handed bytes.now) }
+{
+    let bytes = front(bytes, 1519);
+    match received {
+        Event::Frame(room) => {
+            room.clear();
+            let _ = room.try_extend_from_slice(bytes);
+        }
+        Event::Tick | Event::Input(..) | Event::Alarm(..) => *received = Event::Frame(copied(
+            bytes,
+        )),
+    }
+}
+
+/// Makes a step of the device.
+pub(crate) fn step(device: &mut DemoDevice<'_>, event: &Event, outbox: &mut Outbox) -> Note
+    ensures steps { (station : Station) → Runs station device.old →
+        IsStepped station (step_of [] station.device station.live event.now) device.new outbox.new result }
+    ensures same { device.new.station ≡ device.old.station }
+{
+    device.step(event, outbox)
+}
+
+/// Hands frames over to the device, until power is lost. What it sends waits for the controller.
+pub(crate) fn hand_over(
+    device: &mut DemoDevice<'_>,
+    frames: &[Frame],
+    outbox: &mut Outbox,
+    to_controller: &mut Vec<Frame>,
+) -> Result<(), AllocError>
+    ensures handed { (station : Station) → Runs station device.old →
+        OnOk result (IsHandedTo (device_run station (frames_for_device (octets_of frames.now))) device.new to_controller.old.items
+        to_controller.new.items) }
+    ensures same { device.new.station ≡ device.old.station }
+{
+    for frame in frames {
+        let event = Event::Frame(copied(frame.as_slice()));
+        step(device, &event, outbox);
+        if device.flash().is_lost() {
+            return Ok(());
+        }
+        append(outbox.as_slice(), to_controller)?;
+    }
+    Ok(())
+}

@@ -1,0 +1,237 @@
+// The other end of the wire: the controller, and what waits between the two ends.
+ghost use Rattle.std.specs.Prelude.{◌≡◌, ◌++◌, OnOk, IfOk, replicate};
+ghost use Rattle.controller_core.specs.Machine.{step_of};
+ghost use Rattle.controller_core.specs.declared.event.Event.TheVariants as event;
+ghost use Rattle.script_runner.specs.session.Ends.{IsRun, Station, controller_run, device_run, frames_for_controller, frames_for_device};
+ghost use Rattle.script_runner.specs.session.Ends.{octets_of};
+ghost use Rattle.script_runner.specs.session.Off.{Delivers};
+ghost use Rattle.script_runner.specs.session.Power.{Runs};
+ghost use Rattle.script_runner.specs.session.Session.{IsHandedOver};
+
+use crate::session::bytes::copied;
+use crate::session::copies::plan_copy;
+use crate::session::device::hand_over;
+use crate::session::power::DemoDevice;
+use crate::session::waiting::append;
+use configurator::{PlanFault, plan_from_json};
+use controller_core::{Controller, Event};
+use frame_codec::{Frame, Outbox};
+use plans::Plan;
+use script_lines::{render, show};
+use std::alloc::{AllocError, Global};
+use std::marker::Model;
+use uuid::Uuid;
+
+/// The other end of the wire: the plan that the next controller gets, the controller, once there is one, and the frames that wait
+/// at either end. A clause sees these four.
+#[derive(Drop)]
+pub(crate) struct OtherEnd {
+    alloc: Global,
+    plan: Option<Plan>,
+    controller: Option<Controller>,
+    to_device: Vec<Frame>,
+    to_controller: Vec<Frame>,
+    outbox: Outbox,
+}
+
+impl Model for OtherEnd {
+    ghost use Rattle.script_runner.specs.session.Ends.{Other, octets_of};
+
+    ghost Value = { Other };
+
+    ghost view = { λ end. record {
+      plan = end.plan;
+      controller = end.controller;
+      to_device = octets_of end.to_device.items;
+      to_controller = octets_of end.to_controller.items;
+    } };
+}
+
+impl OtherEnd {
+    ghost use Rattle.std.specs.Prelude.{is_some, length};
+    ghost use Rattle.script_lines.specs.Show.{controller_shown};
+    ghost use Rattle.script_runner.specs.session.Ends.{Hears, Plans, Starts, arrived_at, cleared, nobody, printed_for, ticked_by, with_sent};
+
+    /// Nobody, before a catalogue was read.
+    pub(crate) fn new(alloc: Global) -> OtherEnd
+        ensures { result ≡ nobody }
+    {
+        OtherEnd {
+            alloc,
+            plan: None,
+            controller: None,
+            to_device: Vec::new(alloc),
+            to_controller: Vec::new(alloc),
+            outbox: Outbox::new(),
+        }
+    }
+
+    /// Drops the frames that wait.
+    pub(crate) fn clear(&mut self)
+        ensures { self.new ≡ cleared self.old }
+    {
+        self.to_device.clear();
+        self.to_controller.clear();
+    }
+
+    /// Whether there is a controller.
+    pub(crate) fn is_started(&self) -> bool
+        ensures { result ≡ is_some self.now.controller }
+    {
+        self.controller.is_some()
+    }
+
+    /// Says what the controller is at, if there is one.
+    pub(crate) fn show(&self, text: &mut Vec<u8>) -> Result<(), AllocError>
+        ensures { OnOk result (text.new.items ≡ text.old.items ++ controller_shown self.now.controller) }
+    {
+        match &self.controller {
+            Some(controller) => show::state(controller.state(), text),
+            None => Ok(()),
+        }
+    }
+
+    /// Prints frames that the device sends, or has them wait once there is a controller.
+    pub(crate) fn send(&mut self, frames: &[Frame], text: &mut Vec<u8>) -> Result<(), AllocError>
+        ensures { OnOk result ((self.new ≡ with_sent self.old (octets_of frames.now))
+            × (text.new.items ≡ text.old.items ++ printed_for self.old.controller (octets_of frames.now))) }
+    {
+        match self.controller {
+            Some(_) => append(frames, &mut self.to_controller),
+            None => render::outs(frames, text),
+        }
+    }
+
+    /// Makes the plan of a catalogue, for the next controller.
+    pub(crate) fn plan(&mut self, catalogue: &[u8]) -> Result<(), PlanFault>
+        ensures { Plans catalogue.now self.old self.new result }
+    {
+        self.plan = Some(plan_from_json(self.alloc, catalogue)?);
+        Ok(())
+    }
+
+    /// Puts a controller of the plan in the place of the one that was. Its first request waits behind what waits already. Says
+    /// whether there is a plan.
+    pub(crate) fn start(&mut self, ar: Uuid, activity: Uuid) -> Result<bool, AllocError>
+        ensures { IfOk result (Starts self.old.plan self.old ar activity self.new) }
+    {
+        let Some(plan) = &self.plan else {
+            return Ok(false);
+        };
+        let controller = Controller::new(plan_copy(plan), ar, activity);
+        self.to_device.push(controller.opening())?;
+        self.controller = Some(controller);
+        Ok(true)
+    }
+
+    /// Has the controller take an event. What it sends waits. Says whether there is a controller.
+    pub(crate) fn take(&mut self, event: &Event) -> Result<bool, AllocError>
+        ensures { IfOk result (Hears self.old.controller self.old event.now self.new) }
+    {
+        let Some(controller) = &mut self.controller else {
+            return Ok(false);
+        };
+        step(controller, event, &mut self.outbox, &mut self.to_device)?;
+        Ok(true)
+    }
+
+    /// Hands what waits for the device over to it, in order, unless power is lost. What it answers waits for the controller. Says how
+    /// many frames waited.
+    pub(crate) fn hand_over(
+        &mut self,
+        device: &mut DemoDevice<'_>,
+        outbox: &mut Outbox,
+    ) -> Result<usize, AllocError>
+        ensures handed { (station : Station) → Runs station device.old →
+            IfOk result (λ moved. IsHandedOver (device_run station (frames_for_device self.old.to_device)) device.new self.old self.new
+            moved) }
+        ensures left { IfOk result (λ _. Delivers self.old self.new) }
+        ensures same { device.new.station ≡ device.old.station }
+    {
+        let moved = self.to_device.len();
+        hand_over(
+            device,
+            self.to_device.as_slice(),
+            outbox,
+            &mut self.to_controller,
+        )?;
+        self.to_device.clear();
+        Ok(moved)
+    }
+
+    /// Hands what waits for the controller over to it, in order, if there is one. What it sends waits. Says how many frames waited.
+    pub(crate) fn deliver(&mut self) -> Result<usize, AllocError>
+        ensures { IfOk result (λ moved. (moved ≡ length self.old.to_controller) × (self.new ≡ arrived_at self.old.controller self.old)) }
+    {
+        let moved = self.to_controller.len();
+        let Some(controller) = &mut self.controller else {
+            return Ok(moved);
+        };
+        hear(
+            controller,
+            self.to_controller.as_slice(),
+            &mut self.outbox,
+            &mut self.to_device,
+        )?;
+        self.to_controller.clear();
+        Ok(moved)
+    }
+
+    /// Lets units of time go by at the controller, if there is one.
+    pub(crate) fn ticks(&mut self, units: u32) -> Result<(), AllocError>
+        ensures { OnOk result (self.new ≡ ticked_by self.old.controller self.old units) }
+    {
+        let Some(controller) = &mut self.controller else {
+            return Ok(());
+        };
+        ticks(controller, units, &mut self.outbox, &mut self.to_device)
+    }
+}
+
+/// Makes a step of the controller. What it sends waits for the device.
+fn step(
+    controller: &mut Controller,
+    event: &Event,
+    outbox: &mut Outbox,
+    to_device: &mut Vec<Frame>,
+) -> Result<(), AllocError>
+    ensures { OnOk result (IsRun (step_of controller.old event.now) controller.new to_device.old.items to_device.new.items) }
+{
+    controller.step(event, outbox);
+    append(outbox.as_slice(), to_device)
+}
+
+/// Makes a step for each of some units of time.
+fn ticks(
+    controller: &mut Controller,
+    units: u32,
+    outbox: &mut Outbox,
+    to_device: &mut Vec<Frame>,
+) -> Result<(), AllocError>
+    ensures { OnOk result (IsRun (controller_run controller.old (replicate units event.Tick)) controller.new to_device.old.items
+        to_device.new.items) }
+{
+    let mut left = units;
+    while left > 0 {
+        step(controller, &Event::Tick, outbox, to_device)?;
+        left -= 1;
+    }
+    Ok(())
+}
+
+/// Hands frames over to the controller.
+fn hear(
+    controller: &mut Controller,
+    frames: &[Frame],
+    outbox: &mut Outbox,
+    to_device: &mut Vec<Frame>,
+) -> Result<(), AllocError>
+    ensures { OnOk result (IsRun (controller_run controller.old (frames_for_controller (octets_of frames.now))) controller.new
+        to_device.old.items to_device.new.items) }
+{
+    for frame in frames {
+        let event = Event::Frame(copied(frame.as_slice()));
+        step(controller, &event, outbox, to_device)?;
+    }
+    Ok(())
+}

@@ -1,0 +1,436 @@
+//! What a run holds from line to line.
+ghost use Rattle.std.specs.Prelude.{◌≡◌, ◌++◌, IfOk, IsErr, MatchResult, OnOk, Ok, true};
+ghost use Rattle.controller_core.specs.declared.event.Event.TheVariants as heard;
+ghost use Rattle.device_frames.specs.declared.event.Event.TheVariants as event;
+ghost use Rattle.configurator.specs.declared.fault.PlanFault.TheVariants as plan_fault;
+ghost use Rattle.script_lines.specs.Read.{line_read};
+ghost use Rattle.script_runner.specs.session.Ends.{Network};
+ghost use Rattle.script_runner.specs.session.Said.{event_answer, handed};
+ghost use Rattle.script_runner.specs.session.Power.{IsDemo, IsRunning};
+ghost use Rattle.script_runner.specs.session.Off.{TellsLoss, is_heard_off};
+ghost use Rattle.script_runner.specs.session.Session.{IsObeyed};
+
+use crate::session::both::{exchange, respond, ticks};
+use crate::session::bytes::{copied, front};
+use crate::session::device::receive;
+use crate::session::other_end::OtherEnd;
+use crate::session::outputs::outputs;
+use crate::session::power::Power;
+use configurator::PlanFault;
+use controller_core::Event as ControllerEvent;
+use device_core::{Event, Note};
+use flash_model::{Flash, Lent, MemoryFlash, Order};
+use frame_codec::{Bytes, Outbox};
+use script_lines::{Command, Line, meaning, render, show};
+use std::alloc::{AllocError, Global};
+use std::marker::Model;
+use std::mem;
+use uuid::Uuid;
+
+/// A run between two lines: the device, the other end, the last event that came from the network, and the frames that the device
+/// sends at a time. A clause sees both ends.
+#[derive(Drop)]
+pub struct Session<'a> {
+    power: Power<'a>,
+    other: OtherEnd,
+    received: Event,
+    outbox: Outbox,
+}
+
+impl<'a> Model for Session<'a> {
+    ghost use Rattle.script_runner.specs.session.Power.{Held};
+
+    ghost Value = { Held };
+
+    ghost view = { λ session. record { power = session.power; other = session.other } };
+}
+
+impl<'a> Session<'a> {
+    ghost use Rattle.std.specs.Prelude.{ℕ, List, Option, false};
+    ghost use Rattle.plans.specs.declared.parts.Parts.{Parts};
+    ghost use Rattle.flash_model.specs.Image.{erased};
+    ghost use Rattle.flash_model.specs.Memory.{image_of, IsReliable};
+    ghost use Rattle.script_lines.specs.Line.{Arm, Asks, Restart, meaning_of};
+    ghost use Rattle.script_lines.specs.Read.{command_read};
+    ghost use Rattle.script_lines.specs.Text.{boot_line};
+    ghost use Rattle.script_runner.specs.session.Ends.{IsRightFor, cleared, nobody};
+    ghost use Rattle.script_runner.specs.session.Said.{arms, config_outcome, deliver_answer, deliver_outcome, factory_device};
+    ghost use Rattle.script_runner.specs.session.Said.{heard_outcome, is_order, outcome_of, restart_answer, said, show_answer, start_outcome};
+    ghost use Rattle.script_runner.specs.session.Said.{tick_answer};
+    ghost use Rattle.script_runner.specs.session.Power.{IsArmed, IsBack, is_off, refusal_of};
+    ghost use Rattle.script_runner.specs.session.Session.{Are, AreRightFor, Comes, Obeys};
+    ghost use Rattle.script_runner.specs.session.Off.{Delivers, GivesBack, Leaves, LeavesBy, Orders, TakesOff, TakesOrder, hands, is_handed};
+
+    /// The demo device over this flash, as it starts, and nobody at the other end.
+    pub fn new(alloc: Global, flash: &'a mut MemoryFlash<4096>) -> Session<'a>
+        ensures runs { IsReliable flash.old → image_of flash.old ≡ record { first = erased 4096; second = erased 4096 } →
+            IsRunning factory_device result.power }
+        ensures other { result.other ≡ nobody }
+    {
+        Session {
+            power: Power::start(Lent::new(flash)),
+            other: OtherEnd::new(alloc),
+            received: Event::Tick,
+            outbox: Outbox::new(),
+        }
+    }
+
+    /// Takes a line of the script, and appends what it prints to a text. Says whether it is a line that a script may have here. `buffer`
+    /// is for the bytes that the line spells. A line fails where its catalogue has no plan, or for want of memory.
+    pub fn take(
+        &mut self,
+        line: &[u8],
+        buffer: &mut Vec<u8>,
+        text: &mut Vec<u8>,
+    ) -> Result<bool, PlanFault>
+        // Both ends become what the line makes of them, and its text is printed, where the flash does not fail.
+        ensures takes { (plans : List ℕ → Option Parts) (network : Network) → AreRightFor plans (meaning_of line.now) →
+            Are network self.old → is_order (meaning_of line.now) ≡ false →
+            Obeys (outcome_of plans network (meaning_of line.now)) self.new text.old.items text.new.items result }
+        // While there is no power a line does nothing but a restart.
+        ensures off { is_off self.old.power ≡ true → TakesOff (meaning_of line.now) self.old self.new text.old.items text.new.items result }
+        // Where power is lost as something is handed to the device, that alone is printed, and no time goes by at the other end.
+        ensures lost { is_handed (meaning_of line.now) ≡ true →
+            TellsLoss (LeavesBy (meaning_of line.now) self.old.other self.new.other) self.old.power self.new.power text.old.items
+            text.new.items result }
+        // An order to the flash stands there, and changes nothing else; it prints nothing.
+        ensures ordered { is_off self.old.power ≡ false →
+            TakesOrder (meaning_of line.now) self.old self.new text.old.items text.new.items result }
+        ensures demo { IsDemo self.old.power → IsDemo self.new.power }
+    {
+        // An empty line asks for nothing, and nothing is made for it.
+        if line.is_empty() {
+            return Ok(true);
+        }
+        let Ok(meaning) = meaning(line, buffer) else {
+            return Err(PlanFault::OutOfMemory);
+        };
+        if let Line::Skipped = meaning {
+            return Ok(true);
+        }
+        if self.power.is_off() && !is_heard_without_power(&meaning) {
+            return always(text.extend_from_slice(b"off\n"));
+        }
+        match meaning {
+            Line::Asks(command) => self.answer(command, text),
+            Line::Skipped => Ok(true),
+            Line::Unfit | Line::Unknown => Ok(false),
+        }
+    }
+
+    /// Does what a command asks for, and renders what it prints. Says whether it is one that a script may have here. It stands in `take`
+    /// where that is called: what the commands keep on the stack, a plan among it, is more than a page, which each call would touch.
+    #[inline(always)]
+    #[tactic(auto, using(crate::proofs::SessionObeying::always_obeys, crate::proofs::SessionObeying::if_there_obeys, crate::proofs::SessionObeying::always_tells, crate::proofs::SessionObeying::if_there_tells), unfolding(crate::specs::session::Said::said))]
+    fn answer(&mut self, command: Command<'_>, text: &mut Vec<u8>) -> Result<bool, PlanFault>
+        ensures obeys { (plans : List ℕ → Option Parts) (network : Network) → AreRightFor plans (Asks (command_read command.entry)) →
+            Are network self.old → arms (command_read command.entry) ≡ false →
+            Obeys (said plans network (command_read command.entry)) self.new text.old.items text.new.items result }
+        ensures back { command_read command.entry ≡ Restart → GivesBack self.old self.new text.old.items text.new.items result }
+        ensures armed { (order : Order) → command_read command.entry ≡ Arm order →
+            Orders order self.old self.new text.old.items text.new.items result }
+        ensures lost { hands (command_read command.entry) ≡ true →
+            TellsLoss (Leaves (command_read command.entry) self.old.other self.new.other) self.old.power self.new.power text.old.items
+            text.new.items result }
+        ensures demo { IsDemo self.old.power → IsDemo self.new.power }
+    {
+        match command {
+            Command::Frame(bytes) => always(self.hand_in(bytes, text)),
+            Command::Input(slot, subslot, bytes) => always(self.give(slot, subslot, bytes, text)),
+            Command::Alarm(slot, subslot, bytes) => always(self.alarm(slot, subslot, bytes, text)),
+            Command::Restart => always(self.restart(text)),
+            Command::Tick(units) => always(self.tick(units, text)),
+            Command::Show => always(self.show(text)),
+            Command::Arm(order) => {
+                self.arm(order);
+                Ok(true)
+            }
+            Command::Config(catalogue) => self.config(catalogue, text),
+            Command::Start(ar, activity) => if_there(self.start(ar, activity, text)),
+            Command::Give(slot, subslot, bytes) => {
+                if_there(self.give_output(slot, subslot, bytes, text))
+            }
+            Command::Stop => if_there(self.stop(text)),
+            Command::Deliver => if_there(self.deliver(text)),
+        }
+    }
+
+    /// Hands bytes to the device, as from the network, at most 1,519 of them: no frame is so long.
+    fn hand_in(&mut self, bytes: &[u8], text: &mut Vec<u8>) -> Result<(), AllocError>
+        ensures obeys { (network : Network) → Are network self.old →
+            OnOk result (IsObeyed (event_answer network (event.Frame (handed bytes.now))) self.new text.old.items text.new.items) }
+        ensures demo { IsDemo self.old.power → IsDemo self.new.power }
+        ensures lost { TellsLoss (self.new.other ≡ self.old.other) self.old.power self.new.power text.old.items text.new.items result }
+    {
+        receive(&mut self.received, bytes);
+        answered(
+            &mut self.power,
+            &self.received,
+            &mut self.outbox,
+            &mut self.other,
+            text,
+        )
+    }
+
+    /// Gives a submodule its input.
+    fn give(
+        &mut self,
+        slot: u16,
+        subslot: u16,
+        bytes: &[u8],
+        text: &mut Vec<u8>,
+    ) -> Result<(), AllocError>
+        ensures obeys { (network : Network) → Are network self.old →
+            OnOk result (IsObeyed (event_answer network (event.Input slot subslot (handed bytes.now))) self.new text.old.items
+            text.new.items) }
+        ensures demo { IsDemo self.old.power → IsDemo self.new.power }
+        ensures lost { TellsLoss (self.new.other ≡ self.old.other) self.old.power self.new.power text.old.items text.new.items result }
+    {
+        let event = Event::Input(slot, subslot, handed(bytes));
+        answered(
+            &mut self.power,
+            &event,
+            &mut self.outbox,
+            &mut self.other,
+            text,
+        )
+    }
+
+    /// Raises an alarm at the device.
+    fn alarm(
+        &mut self,
+        slot: u16,
+        subslot: u16,
+        bytes: &[u8],
+        text: &mut Vec<u8>,
+    ) -> Result<(), AllocError>
+        ensures obeys { (network : Network) → Are network self.old →
+            OnOk result (IsObeyed (event_answer network (event.Alarm slot subslot (handed bytes.now))) self.new text.old.items
+            text.new.items) }
+        ensures demo { IsDemo self.old.power → IsDemo self.new.power }
+        ensures lost { TellsLoss (self.new.other ≡ self.old.other) self.old.power self.new.power text.old.items text.new.items result }
+    {
+        let event = Event::Alarm(slot, subslot, handed(bytes));
+        answered(
+            &mut self.power,
+            &event,
+            &mut self.outbox,
+            &mut self.other,
+            text,
+        )
+    }
+
+    /// Takes the device's power away, and gives it back. Frames that wait are lost with it.
+    fn restart(&mut self, text: &mut Vec<u8>) -> Result<(), AllocError>
+        ensures obeys { (network : Network) → Are network self.old →
+            OnOk result (IsObeyed (restart_answer network) self.new text.old.items text.new.items) }
+        ensures back { IsBack self.old.power self.new.power }
+        ensures other { self.new.other ≡ cleared self.old.other }
+        ensures printed { OnOk result (text.new.items ≡ text.old.items ++ boot_line (refusal_of self.new.power)) }
+    {
+        let power = mem::replace(&mut self.power, Power::Away);
+        self.power = power.restart();
+        self.other.clear();
+        render::boot(self.power.refusal(), text)
+    }
+
+    /// Lets units of time go by at either end.
+    fn tick(&mut self, units: u32, text: &mut Vec<u8>) -> Result<(), AllocError>
+        ensures obeys { (network : Network) → Are network self.old →
+            OnOk result (IsObeyed (tick_answer network units) self.new text.old.items text.new.items) }
+        ensures demo { IsDemo self.old.power → IsDemo self.new.power }
+    {
+        match &mut self.power {
+            Power::On(device) => {
+                ticks(device, units, &mut self.outbox, &mut self.other, text)?;
+                self.other.ticks(units)?;
+                render::note(Note::Done, text)
+            }
+            Power::Off(_, _) | Power::Away => text.extend_from_slice(b"off\n"),
+        }
+    }
+
+    /// Shows the settings, the relation, the lamp, the outputs and, where there is one, what the controller is at.
+    fn show(&self, text: &mut Vec<u8>) -> Result<(), AllocError>
+        ensures { (network : Network) → Are network self.now →
+            OnOk result (IsObeyed (show_answer network) self.now text.old.items text.new.items) }
+    {
+        match &self.power {
+            Power::On(device) => {
+                let (phase, lamp) = (device.phase(), device.lamp());
+                show::all(device.running(), device.stored(), phase, lamp, text)?;
+                outputs(device, text)?;
+                self.other.show(text)
+            }
+            Power::Off(_, _) | Power::Away => text.extend_from_slice(b"off\n"),
+        }
+    }
+
+    /// Tells the flash what to do to a later call.
+    fn arm(&mut self, order: Order)
+        ensures armed { IsArmed order self.old.power self.new.power }
+        ensures other { self.new.other ≡ self.old.other }
+        ensures demo { IsDemo self.old.power → IsDemo self.new.power }
+    {
+        match &mut self.power {
+            Power::On(device) => device.arm(order),
+            Power::Off(_, flash) => flash.arm(order),
+            Power::Away => {}
+        }
+    }
+
+    /// Makes the plan of a catalogue, for the next controller.
+    fn config(&mut self, catalogue: &[u8], text: &mut Vec<u8>) -> Result<bool, PlanFault>
+        ensures obeys { (plans : List ℕ → Option Parts) (network : Network) → IsRightFor plans catalogue.now → Are network self.old →
+            Obeys (config_outcome network catalogue.now (plans catalogue.now)) self.new text.old.items text.new.items result }
+        ensures same { self.new.power ≡ self.old.power }
+    {
+        self.other.plan(catalogue)?;
+        always(text.extend_from_slice(b"plan ok\n"))
+    }
+
+    /// Puts a controller at the other end. Says whether there is a plan for it.
+    fn start(&mut self, ar: Uuid, activity: Uuid, text: &mut Vec<u8>) -> Result<bool, AllocError>
+        ensures obeys { (network : Network) → Are network self.old →
+            IfOk result (Comes (start_outcome network ar activity network.other.plan) self.new text.old.items text.new.items) }
+        ensures same { self.new.power ≡ self.old.power }
+    {
+        if !self.other.start(ar, activity)? {
+            return Ok(false);
+        }
+        self.other.show(text)?;
+        Ok(true)
+    }
+
+    /// Gives the controller's output to a submodule. Says whether there is a controller.
+    #[inline(never)]
+    fn give_output(
+        &mut self,
+        slot: u16,
+        subslot: u16,
+        bytes: &[u8],
+        text: &mut Vec<u8>,
+    ) -> Result<bool, AllocError>
+        ensures obeys { (network : Network) → Are network self.old →
+            IfOk result (Comes (heard_outcome network (heard.Give slot subslot (handed bytes.now)) network.other.controller) self.new
+            text.old.items text.new.items) }
+        ensures same { self.new.power ≡ self.old.power }
+    {
+        self.hear(&output(slot, subslot, bytes), text)
+    }
+
+    /// Has the controller end the relation. Says whether there is a controller.
+    #[inline(never)]
+    fn stop(&mut self, text: &mut Vec<u8>) -> Result<bool, AllocError>
+        ensures obeys { (network : Network) → Are network self.old →
+            IfOk result (Comes (heard_outcome network heard.Stop network.other.controller) self.new text.old.items text.new.items) }
+        ensures same { self.new.power ≡ self.old.power }
+    {
+        self.hear(&ControllerEvent::Stop, text)
+    }
+
+    /// Has the controller take an event of its application. Says whether there is a controller.
+    fn hear(&mut self, event: &ControllerEvent, text: &mut Vec<u8>) -> Result<bool, AllocError>
+        ensures obeys { (network : Network) → Are network self.old →
+            IfOk result (Comes (heard_outcome network event.now network.other.controller) self.new text.old.items text.new.items) }
+        ensures same { self.new.power ≡ self.old.power }
+    {
+        if !self.other.take(event)? {
+            return Ok(false);
+        }
+        self.other.show(text)?;
+        Ok(true)
+    }
+
+    /// Hands over what waits for the device, and then what waits for the controller. Says whether there is a controller.
+    fn deliver(&mut self, text: &mut Vec<u8>) -> Result<bool, AllocError>
+        ensures obeys { (network : Network) → Are network self.old →
+            IfOk result (Comes (deliver_outcome network network.other.controller) self.new text.old.items text.new.items) }
+        ensures demo { IsDemo self.old.power → IsDemo self.new.power }
+        ensures lost { TellsLoss (Delivers self.old.other self.new.other) self.old.power self.new.power text.old.items text.new.items result }
+    {
+        if !self.other.is_started() {
+            return Ok(false);
+        }
+        self.hand_over(text)?;
+        Ok(true)
+    }
+
+    /// Hands over what waits at either end.
+    fn hand_over(&mut self, text: &mut Vec<u8>) -> Result<(), AllocError>
+        ensures obeys { (network : Network) → Are network self.old →
+            OnOk result (IsObeyed (deliver_answer network) self.new text.old.items text.new.items) }
+        ensures demo { IsDemo self.old.power → IsDemo self.new.power }
+        ensures lost { TellsLoss (Delivers self.old.other self.new.other) self.old.power self.new.power text.old.items text.new.items result }
+    {
+        match &mut self.power {
+            Power::On(device) => exchange(device, &mut self.outbox, &mut self.other, text),
+            Power::Off(_, _) | Power::Away => text.extend_from_slice(b"off\n"),
+        }
+    }
+}
+
+/// Has the device, where there is one, answer an event.
+fn answered(
+    power: &mut Power<'_>,
+    event: &Event,
+    outbox: &mut Outbox,
+    other: &mut OtherEnd,
+    text: &mut Vec<u8>,
+) -> Result<(), AllocError>
+    ensures obeys { (network : Network) → IsRunning network.station power.old → other.old ≡ network.other →
+        OnOk result (IsObeyed (event_answer network event.now) (record { power = power.new; other = other.new }) text.old.items
+        text.new.items) }
+    ensures demo { IsDemo power.old → IsDemo power.new }
+    ensures lost { TellsLoss (other.new ≡ other.old) power.old power.new text.old.items text.new.items result }
+{
+    match power {
+        Power::On(device) => respond(device, event, outbox, other, text),
+        Power::Off(_, _) | Power::Away => text.extend_from_slice(b"off\n"),
+    }
+}
+
+/// The result of what a script may have at any time.
+fn always(done: Result<(), AllocError>) -> Result<bool, PlanFault>
+    ensures { MatchResult result (λ is. (is ≡ true) × (done ≡ Ok tt)) (λ fault. (fault ≡ plan_fault.OutOfMemory) × IsErr done) }
+{
+    match done {
+        Ok(()) => Ok(true),
+        Err(_) => Err(PlanFault::OutOfMemory),
+    }
+}
+
+/// The same of what a script may have where something is there.
+fn if_there(is: Result<bool, AllocError>) -> Result<bool, PlanFault>
+    ensures { MatchResult result (λ there. is ≡ Ok there) (λ fault. (fault ≡ plan_fault.OutOfMemory) × IsErr is) }
+{
+    match is {
+        Ok(there) => Ok(there),
+        Err(_) => Err(PlanFault::OutOfMemory),
+    }
+}
+
+/// The event of an output that is given.
+fn output(slot: u16, subslot: u16, bytes: &[u8]) -> ControllerEvent
+    ensures { result ≡ heard.Give slot subslot (handed bytes.now) }
+{
+    ControllerEvent::Give(slot, subslot, handed(bytes))
+}
+
+/// What is handed over of some bytes, at most 1,519 of them: no frame, input, output or alarm is so long.
+fn handed(bytes: &[u8]) -> Bytes
+    ensures { result ≡ handed bytes.now }
+{
+    copied(front(bytes, 1519))
+}
+
+/// Whether a line is more than `off` while there is no power: it is skipped, is none that a script may have, or gives
+/// the power back.
+fn is_heard_without_power(line: &Line<'_>) -> bool
+    ensures { result ≡ is_heard_off (line_read line.now) }
+{
+    matches!(
+        line,
+        Line::Unfit | Line::Skipped | Line::Asks(Command::Restart)
+    )
+}

@@ -1,5 +1,0 @@
-pub mod Coming
-mod OnePlan
-pub mod Flashes
-pub mod Obeying
-pub mod Ticking

@@ -1,7 +1,0 @@
--- The device that scripts are run on.
-use Rattle.demo_station.specs.Demo.{demo, demo_real}
-use Rattle.device_core.specs.State.{Station as Device}
-
--- the demo station
-abbrev pub demo_device : Device
-demo_device = record { identity = demo; real = demo_real }

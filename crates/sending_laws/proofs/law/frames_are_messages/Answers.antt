@@ -1,8 +1,0 @@
--- By the definition of a step.
-use Rattle.std.proofs.Common.{refl}
-use Rattle.controller_core.specs.Machine.{step_of}
-use Rattle.sending_laws.proofs.law.frames_are_messages.Goals as goal
-
-pub returns : goal.returns
-unfolding step_of
-returns c = λ old event. refl

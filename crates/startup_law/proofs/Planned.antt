@@ -1,0 +1,229 @@
+-- Each call that a device hears is one of the start-up.
+use Rattle.std.proofs.Common.{◌≡◌, ◌<◌, ◌≤◌, ◌+◌, ◌&&◌, ◌==◌, ℕ, zero, suc, Bool, true, false, not, cond, List, [], ◌∷◌, ◌++◌, length, take, Option, Some, None, option_map, Result, Ok, Err, refl, sym, ap, subst, ◌∙◌, arith}
+use Rattle.std.specs.Prelude.{nat_lt, slice_get}
+use Rattle.std.specs.List.{AllByRecursion}
+use Rattle.std.proofs.lemmas.Bool.{ne_eqb}
+use Rattle.std.proofs.lemmas.Option.{slice_get-map}
+use Rattle.wire.specs.Codec.{◌>>=◌}
+use Rattle.wire.specs.Checks.{or_fault}
+use Rattle.wire.specs.Formats.{big_number}
+use Rattle.pn_values.specs.declared.real.Real.{Real}
+use Rattle.frame_codec.specs.declared.udp.Caller.{Caller}
+use Rattle.rpc_core.specs.Call.{Asked as Call}
+use Rattle.block_fields.specs.declared.fault.BlockFault.{BlockFault}
+use Rattle.block_codec.specs.declared.block.Block.{Block}
+use Rattle.block_codec.specs.declared.block.Block.TheVariants as variant
+use Rattle.block_codec.specs.declared.block_type.BlockType.{BlockType}
+use Rattle.block_codec.specs.declared.block_type.BlockType.TheVariants as kind
+use Rattle.block_codec.specs.Kinds.{number_of}
+use Rattle.block_codec.specs.Block.{block_bytes, block_of, front, in_iod_write_req}
+use Rattle.records.specs.declared.status.call_fault.CallFault.{CallFault}
+use Rattle.records.specs.declared.status.call_fault.CallFault.TheVariants as fault
+use Rattle.records.specs.status.Operation.{operation_of}
+use Rattle.records.specs.calls.Judged.{judged as in_order}
+use Rattle.records.specs.calls.Single.{formed, single_of}
+use Rattle.connect_requests.specs.Request.{Request as Asked_for}
+use Rattle.connect_requests.specs.Judged.{request_of}
+use Rattle.record_blocks.specs.declared.write_record.IodWriteReq.{IodWriteReq}
+use Rattle.im_records.specs.declared.record.Record.{Record}
+use Rattle.im_records.specs.Indices.{is_read_only, is_text, record_with}
+use Rattle.im_records.specs.Records.{is_device}
+use Rattle.im_records.specs.Writable.{is_writable}
+use Rattle.records.specs.reads.Parameters.{parameter_length}
+use Rattle.records.specs.declared.writes.taken.TakenRecord.{TakenRecord}
+use Rattle.records.specs.declared.writes.write.Effect.{Effect}
+use Rattle.records.specs.declared.writes.write.Effect.TheVariants.{Keeps}
+use Rattle.records.specs.declared.writes.write.Write.{Write}
+use Rattle.records.specs.writes.Judged.{effect_of, is_known, is_length, judged_request, kept, stored, targeted, write_of, written}
+use Rattle.plans.specs.declared.parts.PlanRecord.{PlanRecord}
+use Rattle.plans.specs.Connect.{connect_of}
+use Rattle.plans.specs.Plan.{AreShort}
+use Rattle.connect_laws.specs.request.Request.{request_for}
+use Rattle.device_frames.specs.Heard as device
+use Rattle.device_frames.specs.Heard.{Heard}
+use Rattle.device_core.specs.State.{Station}
+use Rattle.controller_frames.specs.declared.request.Request.{Request}
+use Rattle.controller_frames.specs.declared.request.Request.TheVariants as asks
+use Rattle.controller_frames.specs.declared.setup.Setup.{Setup}
+use Rattle.controller_frames.specs.Requests.{blocks_of, call_for, write_blocks, write_of as write_asked}
+use Rattle.codec_laws.specs.blocks.Writable.{CanBeWritten}
+use Rattle.message_laws.specs.hearing.Stations.{IsCalled}
+use Rattle.end_laws.specs.both.Small.{Rules}
+use Rattle.end_laws.specs.device.Small.{IsPlanned, IsPlannedAs, IsPlannedCall, IsPlannedIn, IsPlannedWrite}
+use Rattle.startup_law.specs.Played.{ArePlaced, IsParameter, IsPlaced}
+use Rattle.startup_law.specs.View.{rules_of, taken_for}
+use Rattle.wire.proofs.Fields.{bind_ok, ok_is}
+use Rattle.startup_law.proofs.Each.{each_at, some_is}
+use Rattle.startup_law.proofs.Heard.{IsKnownHeard, IsKnownSaid, IsListed, IsOwnCall}
+
+-- where no judgement strikes, the rest decides
+judged_ok : {A : Type 0} (judgements : List (Bool × CallFault)) (otherwise : Result A CallFault) (value : A) → in_order judgements otherwise ≡ Ok value → otherwise ≡ Ok value
+judged_ok [] otherwise value e = e
+judged_ok {A} (judgement ∷ others) otherwise value e = by_test judgement.0 (λ f. judged_ok others otherwise value f) e
+  where
+    by_test : (b : Bool) → (in_order others otherwise ≡ Ok value → otherwise ≡ Ok value) → cond b (Err judgement.1) (in_order others otherwise) ≡ Ok value → otherwise ≡ Ok value
+    by_test true rest f = absurd cc
+    by_test false rest f = rest f
+
+fault_ok : {A : Type 0} (why : CallFault) (value : Option A) (x : A) → or_fault why value ≡ Ok x → value ≡ Some x
+fault_ok why (Some value) x e = ap (λ y. Some y) (ok_is value x e)
+fault_ok why None x e = absurd cc
+
+formed_ok : {A : Type 0} (read : Result A BlockFault) (x : A) → formed read ≡ Ok x → read ≡ Ok x
+formed_ok (Ok value) x e = ap (λ y. Ok y) (ok_is value x e)
+formed_ok (Err why) x e = absurd cc
+
+-- ---- a record that is written
+
+single_is : (type : BlockType) (blocks : List ℕ) (x : Block × List ℕ) → single_of type blocks ≡ Ok x → block_of blocks ≡ Ok x
+unfolding single_of
+single_is type blocks x e = formed_ok (block_of blocks) x (judged_ok
+    ((length blocks == 0, fault.BlockMissing)
+    ∷ (nat_lt (length blocks) 4, fault.BlockHeader)
+    ∷ (not (big_number 2 blocks == number_of type), fault.BlockType)
+    ∷ [])
+    (formed (block_of blocks)) x e)
+
+all_octets : (xs : List ℕ) → take (length xs) xs ≡ xs
+all_octets [] = refl
+all_octets (x ∷ xs) = ap (λ (ys : List ℕ). x ∷ ys) (all_octets xs)
+
+differs : (index number : ℕ) → index < number → (index == number) ≡ false
+differs index number below = ne_eqb index number (λ same. omega (arith, below, same))
+
+-- an index below these is of none of the device's records
+none_below : (index : ℕ) → index < 0x8000 → record_with index ≡ None
+unfolding record_with
+none_below index below =
+    let not_0 : (index == 0xAFF0) ≡ false = differs index 0xAFF0 (omega (arith, below)) in
+    let not_1 : (index == 0xAFF1) ≡ false = differs index 0xAFF1 (omega (arith, below)) in
+    let not_2 : (index == 0xAFF2) ≡ false = differs index 0xAFF2 (omega (arith, below)) in
+    let not_3 : (index == 0xAFF3) ≡ false = differs index 0xAFF3 (omega (arith, below)) in
+    let not_4 : (index == 0xAFF4) ≡ false = differs index 0xAFF4 (omega (arith, below)) in
+    let not_filter : (index == 0xF840) ≡ false = differs index 0xF840 (omega (arith, below)) in
+    let not_diff : (index == 0xE002) ≡ false = differs index 0xE002 (omega (arith, below)) in
+    rw (not_0, not_1, not_2, not_3, not_4, not_filter, not_diff) refl
+
+not_writable : (index slot subslot : ℕ) → index < 0x8000 → is_writable index slot subslot ≡ false
+not_writable index slot subslot below = ap (λ (one : Option Record). is_text one && is_device slot subslot) (none_below index below)
+
+module _ (setup : Setup) (real : Real) (number : ℕ) (entry : PlanRecord) (below : IsParameter entry) where
+  abbrev asked : IodWriteReq
+  asked = write_asked setup number entry
+
+  kept_is : (size : Option ℕ) (effect : Effect) → cond (is_length size (length entry.data.items)) (Some (Keeps (taken_for entry))) None ≡ Some effect → effect ≡ Keeps (taken_for entry)
+  kept_is size effect e = by_length (is_length size (length entry.data.items)) e
+    where
+      by_length : (b : Bool) → cond b (Some (Keeps (taken_for entry))) None ≡ Some effect → effect ≡ Keeps (taken_for entry)
+      by_length true f = sym (some_is (Keeps (taken_for entry)) effect f)
+      by_length false f = absurd cc
+
+  effect_is : (effect : Effect) → effect_of real asked entry.data.items ≡ Some effect → effect ≡ Keeps (taken_for entry)
+  effect_is effect e =
+      kept_is (parameter_length real.modules.items entry.slot entry.subslot entry.index) effect
+      (ap (λ (b : Bool). cond b (stored entry.index entry.data.items) (kept real asked entry.data.items)) (sym (not_writable entry.index entry.slot entry.subslot below)) ∙ e)
+
+  written_is : (effect : Effect) → written real asked entry.data.items ≡ Ok effect → effect ≡ Keeps (taken_for entry)
+  unfolding written
+  written_is effect e =
+      let all = take (length entry.data.items) entry.data.items in
+      let there = fault_ok fault.WriteLength (effect_of real asked all) effect (judged_ok
+      ((not (is_known real asked), fault.Index)
+      ∷ (is_read_only (record_with entry.index), fault.Access)
+      ∷ (nat_lt (length entry.data.items) (length entry.data.items), fault.WriteLength)
+      ∷ [])
+      (or_fault fault.WriteLength (effect_of real asked all)) effect e) in
+      effect_is effect (ap (λ (octets : List ℕ). effect_of real asked octets) (sym (all_octets entry.data.items)) ∙ there)
+
+  request_is : (standing : Option (List ℕ)) (write : Write) → judged_request standing real asked entry.data.items ≡ Ok write → write.effect ≡ Keeps (taken_for entry)
+  unfolding judged_request
+  request_is standing write e =
+      let one = bind_ok (targeted standing real asked) (λ _. written real asked entry.data.items >>= λ effect. Ok (record { request = asked; effect = effect })) write e in
+      let two = bind_ok (written real asked entry.data.items) (λ effect. Ok (record { request = asked; effect = effect })) write one.2 in
+      ap (λ (w : Write). w.effect) (sym (ok_is (record { request = asked; effect = two.0 }) write two.2)) ∙ written_is two.0 two.1
+
+  -- what is read of the blocks that the controller writes
+  write_is : ((rest : List ℕ) → block_of (block_bytes (variant.IodWriteReq asked) ++ rest) ≡ front (variant.IodWriteReq asked) rest)
+      → (standing : Option (List ℕ)) (write : Write) → write_of standing real (block_bytes (variant.IodWriteReq asked) ++ entry.data.items) ≡ Ok write → write.effect ≡ Keeps (taken_for entry)
+  unfolding write_of
+  write_is read standing write e =
+      let blocks = block_bytes (variant.IodWriteReq asked) ++ entry.data.items in
+      let one = bind_ok (single_of kind.IodWriteReq blocks) (λ x. or_fault fault.BlockForm (in_iod_write_req x.0) >>= λ request. judged_request standing real request x.1) write e in
+      let same : one.0 ≡ (variant.IodWriteReq asked, entry.data.items) =
+      ok_is one.0 (variant.IodWriteReq asked, entry.data.items) (sym (single_is kind.IodWriteReq blocks one.0 one.1) ∙ read entry.data.items) in
+      request_is standing write
+      (subst (λ (x : Block × List ℕ). (or_fault fault.BlockForm (in_iod_write_req x.0) >>= λ request. judged_request standing real request x.1) ≡ Ok write) same one.2)
+
+-- ---- the plan's records
+
+there_is : {A : Type 0} (xs : List A) (number : ℕ) → number < length xs → (x : A) × (slice_get xs number ≡ Some x)
+there_is [] number below = absurd (omega (arith, below))
+there_is (x ∷ xs) zero below = (x, refl)
+there_is (x ∷ xs) (suc number) below = there_is xs number (omega (arith, below))
+
+-- what holds of a set-up: its Connect is read as what it asks for, its records are written in blocks that are read, and are kept
+pub record IsGood (setup : Setup) : Type 0 where
+  pub connect : request_of None (connect_of setup.plan setup.ar) ≡ Ok (request_for setup.plan setup.ar)
+  pub few : length setup.plan.records.items ≤ 32
+  pub short : AreShort setup.plan.records.items
+  pub records : AllByRecursion IsParameter setup.plan.records.items
+  pub placed : ArePlaced setup.plan.records.items
+  pub named : length setup.ar ≡ 16
+
+module _ (read : (block : Block) (rest : List ℕ) → CanBeWritten block → block_of (block_bytes block ++ rest) ≡ front block rest) (setup : Setup) (station : Station) (good : IsGood setup) where
+  abbrev rules : Rules TakenRecord Asked_for
+  rules = rules_of setup station
+
+  write_planned : (number : ℕ) → number < length setup.plan.records.items → IsPlannedWrite rules station.real (number + 1) (write_blocks setup number (slice_get setup.plan.records.items number))
+  write_planned number listed =
+      let there = there_is setup.plan.records.items number listed in
+      let entry = there.0 in
+      let below : IsParameter entry = each_at IsParameter setup.plan.records.items number entry good.records there.1 in
+      let fits : IsPlaced entry = each_at IsPlaced setup.plan.records.items number entry good.placed there.1 in
+      let short : length entry.data.items ≤ 64 = each_at (λ (e : PlanRecord). length e.data.items ≤ 64) setup.plan.records.items number entry good.short there.1 in
+      record {
+        number = number;
+        value = taken_for entry;
+        is = refl;
+        there = slice_get-map taken_for setup.plan.records.items number ∙ ap (λ (o : Option PlanRecord). option_map taken_for o) there.1;
+        keeps = λ standing write e. write_is setup station.real number entry below
+            (λ rest. read (variant.IodWriteReq (write_asked setup number entry)) rest (record {
+              header = record {
+                seq_number = omega (arith, listed, good.few);
+                ar_uuid = good.named;
+                api = omega arith;
+                slot_number = fits.0;
+                subslot_number = fits.1;
+                index = omega (arith, below);
+                record_data_length = omega (arith, short);
+              };
+            }))
+            standing write
+            (subst (λ (o : Option PlanRecord). write_of standing station.real (write_blocks setup number o) ≡ Ok write) there.1 e);
+      }
+
+  asked_planned : (request : Request) → IsCalled request → IsListed setup.plan request
+      → IsPlannedAs rules station.real (call_for setup request).header.sequence (blocks_of setup request) (operation_of (call_for setup request).header.operation)
+  unfolding operation_of
+  asked_planned asks.Identify called listed = absurd called
+  asked_planned asks.Address called listed = absurd called
+  asked_planned asks.Connect called listed = good.connect
+  asked_planned (asks.Write number) called listed = write_planned number listed
+  asked_planned asks.PrmEnd called listed = tt
+  asked_planned (asks.Release sequence) called listed = tt
+
+  call_planned : (caller : Caller) (call : Call) → IsOwnCall setup caller call → IsPlannedCall rules setup.activity station.real call
+  call_planned caller call own = subst (λ (c : Call). IsPlannedCall rules setup.activity station.real c) (sym own.is) (record {
+    own = refl;
+    blocks = blocks_of setup own.request;
+    counted = refl;
+    asks = asked_planned own.request own.called own.listed;
+  })
+
+  said_planned : (caller : Caller) (told : device.Said) → IsKnownSaid setup caller told → IsPlannedIn rules setup.activity station.real told
+  said_planned caller (device.Calls call) known = call_planned caller call known
+  said_planned caller told known = tt
+
+  pub heard_planned : (heard : Heard) → IsKnownHeard setup heard → IsPlanned rules setup.activity station.real heard
+  heard_planned (device.Told caller address told) known = said_planned caller told known
+  heard_planned heard known = tt

@@ -1,0 +1,97 @@
+-- What both ends of a network are of a start-up.
+use Rattle.std.specs.Prelude.{◌≡◌, ◌⊎◌, ℕ, List, map, slice_get, Some}
+use Rattle.std.specs.List.{AllByRecursion}
+use Rattle.settings_store.specs.Machine.{Outcome}
+use Rattle.connect_requests.specs.Request.{Request}
+use Rattle.records.specs.declared.writes.taken.TakenRecord.{TakenRecord}
+use Rattle.plans.specs.declared.parts.PlanRecord.{PlanRecord}
+use Rattle.connect_laws.specs.request.Request.{request_for}
+use Rattle.device_frames.specs.declared.event.Event.TheVariants.{Frame}
+use Rattle.device_frames.specs.Heard.{Heard, Ticks, Given, Raised, heard_of}
+use Rattle.device_frames.specs.Sendable.{AreSendable}
+use Rattle.device_core.specs.State.{Station}
+use Rattle.device_core.specs.Machine.{heard_step}
+use Rattle.controller_frames.specs.declared.setup.Setup.{Setup}
+use Rattle.controller_frames.specs.Heard.{heard_of as heard_by}
+use Rattle.controller_frames.specs.Sent.{Sent, bytes_of}
+use Rattle.controller_core.specs.declared.event.Event.{Event}
+use Rattle.controller_core.specs.declared.event.Event.TheVariants as controller
+use Rattle.controller_core.specs.Machine.{turn_of}
+use Rattle.network_world.specs.declared.moves.End.TheVariants.{Device, Controller}
+use Rattle.network_world.specs.declared.moves.Move.{Move}
+use Rattle.network_world.specs.declared.moves.Move.TheVariants as move
+use Rattle.network_world.specs.World.{World}
+use Rattle.end_laws.specs.both.Small as small
+use Rattle.end_laws.specs.both.Small.{Rules}
+use Rattle.end_laws.specs.controller.Small.{said_by, said_to, small_of}
+use Rattle.end_laws.specs.device.Small.{IsHeardAs, IsPlanned, heard_as}
+use Rattle.end_laws.specs.device.Small as device
+
+-- ---- the start-up of a plan
+
+-- a record of the plan, as a device keeps it
+abbrev pub taken_for : PlanRecord → TakenRecord
+taken_for entry = record { slot = entry.slot; subslot = entry.subslot; index = entry.index; value = record { items = entry.data.items } }
+
+-- what the Connect of the plan asks for, the plan's records, and what each end hears of octets
+abbrev pub rules_of : Setup → Station → Rules TakenRecord Request
+rules_of setup station = record {
+  request = request_for setup.plan setup.ar;
+  records = map taken_for setup.plan.records.items;
+  to_device = λ octets. heard_as (heard_of station.identity (Frame (record { items = octets })));
+  to_controller = λ octets. said_to setup (heard_by setup.plan.controller octets);
+}
+
+-- a world, as a start-up sees it
+abbrev pub view_of : {F : Type 0} → World F → small.World TakenRecord Request
+view_of world = record {
+  device = device.small_of world.controller.setup.activity world.device.live;
+  controller = small_of world.controller.setup.plan world.controller.live;
+  sent = world.sent;
+}
+
+-- a move
+abbrev pub move_of : Move → small.Move
+move_of (move.Deliver Device number) = small.ComesToDevice number
+move_of (move.Deliver Controller number) = small.ComesToController number
+move_of (move.Tick Device) = small.AtDevice
+move_of (move.Tick Controller) = small.AtController
+move_of (move.Input slot subslot value) = small.AtDevice
+move_of (move.Alarm slot subslot octets) = small.AtDevice
+move_of (move.Give slot subslot value) = small.AtController
+move_of move.Stop = small.AtController
+
+-- ---- what is heard as it is meant
+
+-- The device hears this: if it is a call it is one of the plan, and each message that the device then sends is heard as it is meant, where
+-- it can be sent, whatever its flash does.
+pub record IsMeantAtDevice {F : Type 0} (world : World F) (heard : Heard) : Type 0 where
+  pub planned : IsPlanned (rules_of world.controller.setup world.device.station) world.controller.setup.activity world.device.station.real heard
+  pub sent : (outcomes : List Outcome) → AreSendable world.device.station.identity (heard_step outcomes world.device.station world.device.live heard).sent
+      → AllByRecursion (IsHeardAs (rules_of world.controller.setup world.device.station) world.device.station.identity)
+      (heard_step outcomes world.device.station world.device.live heard).sent
+
+-- a message of the controller: itself hears nothing of a start-up in it, and the device what it says, or nothing
+abbrev pub IsSaidAs : Setup → Station → Sent → Type 0
+IsSaidAs setup station message =
+    ((rules_of setup station).to_controller (bytes_of setup message) ≡ small.Nothing)
+    × (((rules_of setup station).to_device (bytes_of setup message) ≡ said_by setup.plan message)
+    ⊎ ((rules_of setup station).to_device (bytes_of setup message) ≡ small.Idle))
+
+-- the controller takes this event: each message that it then sends is heard as it is meant
+abbrev pub IsMeantAtController : {F : Type 0} → World F → Event → Type 0
+IsMeantAtController world event =
+    AllByRecursion (IsSaidAs world.controller.setup world.device.station) (turn_of world.controller.setup world.controller.live event).sent
+
+-- a move, in a world: whatever comes and is sent then is heard as it is meant
+abbrev pub IsMeant : {F : Type 0} → World F → Move → Type 0
+IsMeant world (move.Deliver Device number) =
+    (octets : List ℕ) → slice_get world.sent number ≡ Some octets → IsMeantAtDevice world (heard_of world.device.station.identity (Frame (record { items = octets })))
+IsMeant world (move.Deliver Controller number) =
+    (octets : List ℕ) → slice_get world.sent number ≡ Some octets → IsMeantAtController world (controller.Frame (record { items = octets }))
+IsMeant world (move.Tick Device) = IsMeantAtDevice world Ticks
+IsMeant world (move.Tick Controller) = IsMeantAtController world controller.Tick
+IsMeant world (move.Input slot subslot value) = IsMeantAtDevice world (Given slot subslot value.items)
+IsMeant world (move.Alarm slot subslot octets) = IsMeantAtDevice world (Raised slot subslot octets.items)
+IsMeant world (move.Give slot subslot value) = IsMeantAtController world (controller.Give slot subslot value)
+IsMeant world move.Stop = IsMeantAtController world controller.Stop

@@ -1,0 +1,100 @@
+//! The law of a start-up, of the worlds that moves make.
+ghost use Rattle.std.specs.Prelude.{◌≡◌, ◌<◌, List, Some};
+ghost use Rattle.connect_laws.specs.request.Request.{request_for};
+ghost use Rattle.relations.specs.Link.{Link};
+ghost use Rattle.relations.specs.declared.phase.Phase.TheVariants.{Exchanging as in_exchange};
+ghost use Rattle.controller_core.specs.declared.state.State.TheVariants.{Exchanging};
+ghost use Rattle.network_world.specs.declared.moves.Move.{Move};
+ghost use Rattle.network_world.specs.World.{World, Played};
+ghost use Rattle.end_laws.specs.both.StartUp.{WasExchanging, WasHanded};
+ghost use Rattle.startup_law.specs.View.{rules_of, view_of};
+ghost use Rattle.startup_law.specs.Played.{AreMade, AreMeant, ArePlaced, Begins, CanMeet, IsRunOf, last_world, viewed};
+
+use codec_laws::blocks_are_read;
+use connect_laws::connect_is_taken;
+use connect_requests::ConnectRequest;
+use controller_frames::Setup;
+use end_laws::{controller_goes_on, device_goes_on, device_sends_what_it_owes, start_up_is_kept};
+use flash_model::Flash;
+use frame_codec::formats_are_sound;
+use message_laws::{
+    calls_are_heard, calls_can_be_sent, datagrams_alone_are_calls, frames_are_messages,
+    messages_are_addressed, packets_are_heard, ready_answers_are_heard, ready_calls_are_heard,
+    responses_are_heard, stations_are_real,
+};
+use plans::{Plan, PlanRecord};
+use pn_values::Identity;
+use records::TakenRecord;
+
+/// A number of 16 bits is one.
+fn has_16_bits(number: u16)
+    ensures { number < 65536 }
+{
+    let _number = number;
+}
+
+/// The slot and the subslot of each record have 16 bits.
+fn are_placed(records: &[PlanRecord])
+    ensures { ArePlaced records.now }
+{
+    for entry in records {
+        has_16_bits(entry.slot);
+        has_16_bits(entry.subslot);
+    }
+}
+
+/// So have those of a plan's records.
+fn plan_is_placed(plan: &Plan)
+    ensures { ArePlaced plan.now.records.items }
+{
+    are_placed(plan.records());
+}
+
+/// A start-up of this set-up with this device, over the worlds of any moves, whatever the flash of the device does.
+pub fn worlds_start_up<F: Flash<S>, const S: usize>(setup: &Setup, identity: &Identity)
+    // Moves that were played are a run: each one happens in the world behind the one before it.
+    ensures run { (before after : World F) (moves : List Move) → Played F.Flash before moves after
+        → IsRunOf F.Flash before moves after }
+    // Whatever comes and is sent with each move is heard as it is meant: the device hears no calls but those of the plan, in octets that
+    // say so, and either end hears what the other says, or nothing.
+    ensures meant { CanMeet setup.now identity.now →
+        (first : World F) (run : List (Move × World F)) → Begins setup.now identity.now first
+        → AreMade F.Flash first run → AreMeant first run }
+    // A controller that exchanges data was handed an ApplicationReady, which the device had sent at an earlier point: at that point it had
+    // accepted the plan's Connect, and had taken the plan's records, in their order, each once.
+    ensures controller { CanMeet setup.now identity.now →
+        (first : World F) (run : List (Move × World F)) → Begins setup.now identity.now first
+        → AreMade F.Flash first run → (last_world first run).controller.live.phase ≡ Exchanging
+        → WasHanded (rules_of first.controller.setup first.device.station) (view_of first) (viewed run) }
+    // Where a device exchanges data, its controller did so at an earlier point.
+    ensures device { CanMeet setup.now identity.now →
+        (first : World F) (run : List (Move × World F)) → Begins setup.now identity.now first
+        → AreMade F.Flash first run
+        → (link : Link) → (last_world first run).device.live.rest.link ≡ Some link → link.phase ≡ in_exchange
+        → WasExchanging (viewed run) }
+    // A relation that a device has is the plan's.
+    ensures relation { CanMeet setup.now identity.now →
+        (first : World F) (run : List (Move × World F)) → Begins setup.now identity.now first
+        → AreMade F.Flash first run
+        → (link : Link) → (last_world first run).device.live.rest.link ≡ Some link
+        → link.request ≡ request_for setup.now.plan setup.now.ar }
+{
+    connect_is_taken(&setup.plan, &setup.ar);
+    stations_are_real(setup, identity);
+    plan_is_placed(&setup.plan);
+    formats_are_sound();
+    datagrams_alone_are_calls();
+    packets_are_heard();
+    calls_can_be_sent();
+    calls_are_heard();
+    responses_are_heard();
+    ready_calls_are_heard();
+    ready_answers_are_heard();
+    blocks_are_read();
+    messages_are_addressed();
+    frames_are_messages();
+    controller_goes_on();
+    device_goes_on();
+    device_sends_what_it_owes();
+    start_up_is_kept::<TakenRecord, ConnectRequest>();
+}

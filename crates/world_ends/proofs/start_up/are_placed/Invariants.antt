@@ -1,7 +1,0 @@
--- each of those so far
-use Rattle.std.proofs.Common.{take}
-use Rattle.world_ends.specs.Played.{ArePlaced}
-use Rattle.world_ends.proofs.start_up.are_placed.Given as goal
-
-abbrev pub invariant-loop-entry : goal.invariant-loop-entry
-invariant-loop-entry l = ArePlaced (take l.entry-index l.records)
