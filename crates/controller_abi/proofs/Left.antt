@@ -1,16 +1,12 @@
 -- The frames that are left behind a place.
-use Rattle.std.proofs.Common.{◌≡◌, ◌+◌, ◌<◌, ◌≤◌, ℕ, suc, Bool, true, false, List, [], ◌∷◌, length, map, drop, take, get_or, sym, ap, subst, ◌∙◌, inl, inr, arith}
+use Rattle.std.proofs.Common.{◌≡◌, ◌+◌, ◌<◌, ◌≤◌, ℕ, suc, Bool, true, false, List, [], ◌∷◌, length, map, drop, get_or, sym, ap, subst, ◌∙◌, inl, inr, arith}
 use Rattle.std.specs.Prelude.{nat_lt}
 use Rattle.std.proofs.lemmas.Bool.{cases_Bool, ltb-true, ltb-false}
 use Rattle.std.proofs.Math.ListN.{get_or-map}
-use Rattle.std.proofs.lemmas.List.{drop_more, drop_all, drop-drop, length-map, take_all}
+use Rattle.std.proofs.lemmas.List.{drop_more, drop_all, drop-drop, length-map}
 use Rattle.controller_core.specs.declared.event.Event.TheVariants.{Tick}
 use Rattle.controller_abi.specs.State.{State, after, has_frames, is_stopped}
 use Rattle.controller_abi.specs.Steps.{Ticks}
-
--- so few octets are all of them
-pub all_of : (most : ℕ) (octets : List ℕ) → length octets ≤ most → take most octets ≡ octets
-all_of most octets few = take_all most octets few
 
 pub some_left : (n : ℕ) (frames : List (List ℕ)) → n < length frames → has_frames (drop n frames) ≡ true
 some_left n frames some = ap has_frames (drop_more frames n [] some)

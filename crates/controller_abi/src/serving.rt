@@ -1,5 +1,5 @@
 //! One operation of the host.
-ghost use Rattle.std.specs.Prelude.{◌≡◌, ◌≤◌, length, take};
+ghost use Rattle.std.specs.Prelude.{◌≡◌, take};
 ghost use Rattle.cyclic_exchange.specs.Process.{value_at};
 ghost use Rattle.controller_core.specs.declared.event.Event.TheVariants.{Frame as Framed};
 ghost use Rattle.c_layout.specs.Places.{place_in};
@@ -14,6 +14,7 @@ use block_codec::AlarmNotification;
 use c_layout::{Op, place_of, put};
 use controller_core::{Event, State};
 use frame_codec::Bytes;
+use wire::at_most;
 
 /// What an operation is answered with that is none.
 const UNKNOWN: u32 = 10;
@@ -102,20 +103,8 @@ fn first_of(octets: &[u8]) -> Bytes
     ensures { result ≡ record { items = take 1519 octets.now } }
 {
     let mut bytes = Bytes::new();
-    let _ = bytes.try_extend_from_slice(front_of(octets, 1519));
+    let _ = bytes.try_extend_from_slice(at_most(octets, 1519));
     bytes
-}
-
-// These octets, or the front of them where they are more than so many.
-#[tactic(auto, using(crate::proofs::Left::all_of))]
-fn front_of(octets: &[u8], most: usize) -> &[u8]
-    ensures value { result.now ≡ take most octets.now }
-    ensures few { length result.now ≤ most }
-{
-    if octets.len() <= most {
-        return octets;
-    }
-    &octets[..most]
 }
 
 // ---- frames
@@ -224,5 +213,5 @@ fn tell_alarm(alarm: &AlarmNotification<'_>, op: &mut Op)
     op.slot = u32::from(alarm.slot_number);
     op.subslot = u32::from(alarm.subslot_number);
     op.units = u32::from(alarm.alarm_specifier);
-    put(op, front_of(alarm.alarm_data.octets(), 1520));
+    put(op, at_most(alarm.alarm_data.octets(), 1520));
 }

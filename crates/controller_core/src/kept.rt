@@ -1,24 +1,13 @@
 // The last alarm, as a controller keeps it.
-ghost use Rattle.std.specs.Prelude.{◌≡◌, ◌≤◌, length, take};
+ghost use Rattle.std.specs.Prelude.{◌≡◌};
 ghost use Rattle.controller_core.specs.Alarms.{ack_of, alarm_in, kept_alarm};
 
 use arrayvec::ArrayVec;
 use block_codec::{AlarmAck, AlarmData, AlarmNotification};
+use wire::at_most;
 
 /// How much of an alarm's data is kept: more than a frame holds.
 const MOST_DATA: usize = 1500;
-
-/// These octets, or the front of them where they are more than so many.
-#[tactic(auto, using(crate::proofs::Fronts::all_of))]
-fn front_of(octets: &[u8], most: usize) -> &[u8]
-    ensures value { result.now ≡ take most octets.now }
-    ensures few { length result.now ≤ most }
-{
-    if octets.len() <= most {
-        return octets;
-    }
-    &octets[..most]
-}
 
 /// An alarm, away from the frame in which it came.
 #[derive(Drop)]
@@ -39,7 +28,7 @@ impl KeptAlarm {
         ensures { alarm_in result ≡ kept_alarm alarm.now }
     {
         let mut alarm_data = ArrayVec::new();
-        let _ = alarm_data.try_extend_from_slice(front_of(alarm.alarm_data.octets(), MOST_DATA));
+        let _ = alarm_data.try_extend_from_slice(at_most(alarm.alarm_data.octets(), MOST_DATA));
         KeptAlarm {
             alarm_type: alarm.alarm_type,
             api: alarm.api,

@@ -13,6 +13,7 @@ mod received;
 mod status;
 mod tail;
 mod timing;
+mod zeros;
 
 pub use fault::LayoutFault;
 pub use image::Image;
@@ -22,3 +23,4 @@ pub use received::ReceivedImage;
 pub use status::{DataStatus, GOOD};
 pub use tail::{CyclicTail, ShortFrame, put_cyclic, read_cyclic};
 pub use timing::{Consumer, Provider};
+pub use zeros::zeros;

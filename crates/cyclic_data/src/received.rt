@@ -1,5 +1,5 @@
 //! Images of cyclic data that is received.
-ghost use Rattle.std.specs.Prelude.{◌≡◌, ◌≤◌, [], length, map, replicate, option_map, IfSome};
+ghost use Rattle.std.specs.Prelude.{◌≡◌, ◌≤◌, [], length, map, option_map, IfSome};
 ghost use Rattle.cyclic_data.specs.declared.place.PlaceKind.TheVariants.{Data};
 ghost use Rattle.cyclic_data.specs.Image.{zero_cell, cell_at, with_frame, output_of};
 
@@ -8,10 +8,8 @@ use crate::layout::Layout;
 use crate::octets::write_at;
 use crate::place::PlaceKind;
 use crate::status::GOOD;
+use crate::zeros::zeros;
 use std::marker::Model;
-
-/// As many zeros as the longest data has, and more.
-static ZEROS: [u8; 1440] = [0; 1440];
 
 /// What the last frame of a layout held that was taken: the data and the status at each place. It is kept apart from what is sent, so
 /// that no octet that came in is ever sent.
@@ -36,15 +34,6 @@ impl Model for ReceivedImage {
     } };
 
     ghost invariant = { λ image. IsReceived image.laid_out.data_length image.laid_out.places.items image.laid_out.octets };
-}
-
-/// So many zeros.
-fn zeros(size: usize) -> &'static [u8]
-    requires { size ≤ 1440 }
-    ensures value { result.now ≡ replicate size 0 }
-    ensures short { length result.now ≤ 1440 }
-{
-    &ZEROS[..size]
 }
 
 impl ReceivedImage {

@@ -1,5 +1,5 @@
 //! One end of cyclic data.
-ghost use Rattle.std.specs.Prelude.{◌≡◌, ◌≤◌, ◌++◌, IfSome, [], false, is_some, length, option_map, replicate, unwrap_or};
+ghost use Rattle.std.specs.Prelude.{◌≡◌, ◌≤◌, ◌++◌, IfSome, [], false, is_some, length, option_map, unwrap_or};
 ghost use Rattle.arrayvec.specs.ArrayVec.{array_vec_len};
 ghost use Rattle.cyclic_exchange.specs.Frames.{cyclic_body};
 ghost use Rattle.cyclic_exchange.specs.Opening.{begun_of, ended_of, opened, related};
@@ -8,19 +8,10 @@ ghost use Rattle.cyclic_exchange.specs.Process.{given_at, provided_at, value_at}
 use crate::opening::fill;
 use crate::{Route, Statuses};
 use arrayvec::ArrayVec;
-use cyclic_data::{Consumer, CyclicTail, GOOD, Image, Layout, PlaceKind, Provider, ReceivedImage};
+use cyclic_data::{
+    Consumer, CyclicTail, GOOD, Image, Layout, PlaceKind, Provider, ReceivedImage, zeros,
+};
 use std::marker::Model;
-
-/// As many zeros as the longest frame has octets of data.
-static ZEROS: [u8; 1440] = [0; 1440];
-
-/// So many zeros.
-fn zeros(size: usize) -> &'static [u8]
-    requires { size ≤ 1440 }
-    ensures { result.now ≡ replicate size 0 }
-{
-    &ZEROS[..size]
-}
 
 /// One end of the cyclic data of a relation. It is large, and stays in its place: what was exchanged is filled anew as the next relation
 /// opens it.

@@ -1,22 +1,11 @@
 //! The outputs of submodules: of those that have no place in cyclic frames, zeros.
-ghost use Rattle.std.specs.Prelude.{◌≡◌, ◌≤◌, IfSome, length, option_map, replicate};
+ghost use Rattle.std.specs.Prelude.{◌≡◌, ◌≤◌, IfSome, length, option_map};
 ghost use Rattle.relations.specs.Exchanged.{output_in};
 ghost use Rattle.relations.specs.Outputs.{output_of, output_part, zero_output, zeros_of};
 
 use crate::Relation;
+use cyclic_data::zeros;
 use pn_values::{Real, RealModule, RealSubmodule};
-
-/// As many zeros as the longest output has.
-static ZEROS: [u8; 1440] = [0; 1440];
-
-/// So many zeros.
-fn zeros(size: usize) -> &'static [u8]
-    requires { size ≤ 1440 }
-    ensures value { result.now ≡ replicate size 0 }
-    ensures short { length result.now ≤ 1440 }
-{
-    &ZEROS[..size]
-}
 
 /// As many zeros as the output of a submodule has.
 fn zeros_of(part: &RealSubmodule) -> &'static [u8]

@@ -1,5 +1,5 @@
 // The store: what runs beside what is stored.
-ghost use Rattle.std.specs.Prelude.{◌≡◌, ◌≤◌, ℕ, true, false, IsErr, IfOk, IfErr, OnOk, OnErr, MatchResult, length, [], ◌∷◌};
+ghost use Rattle.std.specs.Prelude.{◌≡◌, ◌≤◌, ℕ, true, false, IsErr, IfErr, OnOk, OnErr, MatchResult, length, [], ◌∷◌};
 ghost use Rattle.flash_model.specs.Calls.{Arms};
 ghost use Rattle.flash_model.specs.Image.{Image, erased};
 ghost use Rattle.pn_values.specs.Settings.{factory_settings};
@@ -44,42 +44,6 @@ impl<F: Flash<S>, const S: usize> Model for Store<F, S> {
 }
 
 impl<F: Flash<S>, const S: usize> Store<F, S> {
-    /// Starts from what the flash keeps, and writes nothing. A refusal hands the flash back.
-    pub fn boot(flash: F) -> Result<Store<F, S>, (BootFault, F)>
-        // What is stored runs, and nothing else.
-        ensures starts { IfOk result (λ store. StartsWith (F.image flash) store.values.stored store.values.room) }
-        ensures running { IfOk result (λ store. store.values.running ≡ store.values.stored) }
-        ensures fresh { IfOk result (λ store. (store.values.has_failed ≡ false) × (store.values.is_lost ≡ false)) }
-
-        // What can be read is given, unless a read fails.
-        ensures known { (settings : Settings) (room : ℕ) → StartsWith (F.image flash) settings room →
-            MatchResult result (λ store. (store.values.stored ≡ settings)
-            × (store.values.room ≡ room)) (λ refused. refused.0 ≡ BootFault.FlashFault) }
-        ensures left { LeftByDevice (F.image flash) → IfErr result (λ refused. refused.0 ≡ BootFault.FlashFault) }
-        ensures blank { F.image flash ≡ record { first = erased S; second = erased S } →
-            LeftByDevice (F.image flash) × StartsWith (F.image flash) factory_settings (capacity S) }
-        ensures ample { IsAmple S }
-
-        // Foreign is what cannot be read, and nothing else.
-        ensures foreign { IfErr result (λ refused. refused.0 ≡ BootFault.Foreign → IsForeign (F.image flash)) }
-        ensures strange { IsForeign (F.image flash) → IsErr result }
-
-        // Nothing is written, and FlashFault is answered where a read fails and only there.
-        ensures same { MatchResult result (λ store. F.image store.flash ≡ F.image flash) (λ refused. F.image refused.1 ≡ F.image flash) }
-        ensures calls { MatchResult result (λ store. F.asked flash [] store.flash) (λ refused. F.asked flash [] refused.1) }
-        ensures cause { MatchResult result (λ store. F.failures store.flash ≡ F.failures flash)
-            (λ refused. HasBootCause refused.0 (F.failures flash) (F.failures refused.1)) }
-        ensures stays_lost { IfErr result (λ refused. F.is_lost flash ≡ true → F.is_lost refused.1 ≡ true) }
-        ensures reliable { F.is_reliable flash →
-            MatchResult result (λ store. F.is_reliable store.flash) (λ refused. F.is_reliable refused.1 × (refused.0 ≡ BootFault.Foreign)) }
-    {
-        let mut store = Store::unstarted(flash);
-        match store.load() {
-            Ok(()) => Ok(store),
-            Err(fault) => Err((fault, store.into_flash())),
-        }
-    }
-
     /// A store that did not start: it stores nothing, and has read nothing yet.
     pub fn unstarted(flash: F) -> Self
         ensures flash { result.flash ≡ flash }

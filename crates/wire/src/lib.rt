@@ -110,5 +110,5 @@
 mod reading;
 mod writing;
 
-pub use reading::{front, octets_at, skip, split, u8_at, u16_at, u32_at};
+pub use reading::{at_most, front, octets_at, skip, split, u8_at, u16_at, u32_at};
 pub use writing::{append, append_u8, append_u16, append_u32, join};

@@ -1,5 +1,5 @@
 //! Readers of the fields that formats are made of.
-ghost use Rattle.std.specs.Prelude.{◌≡◌, drop};
+ghost use Rattle.std.specs.Prelude.{◌≡◌, ◌≤◌, drop, length, take};
 ghost use Rattle.wire.specs.Codec.{Gives};
 ghost use Rattle.wire.specs.Formats.{number, raw};
 ghost use Rattle.wire.specs.Kept.{front_of};
@@ -18,6 +18,19 @@ pub fn skip(bytes: &[u8], most: usize) -> &[u8]
     ensures { result.now ≡ drop most bytes.now }
 {
     &bytes[most.min(bytes.len())..]
+}
+
+/// The first `most` octets, or all of them if there are fewer.
+pub fn at_most(bytes: &[u8], most: usize) -> &[u8]
+    // No octet is changed or left out.
+    ensures value { result.now ≡ take most bytes.now }
+    ensures few { length result.now ≤ most }
+{
+    if bytes.len() > most {
+        &bytes[..most]
+    } else {
+        bytes
+    }
 }
 
 /// The octets in front of `rest`, which is what is left of them.

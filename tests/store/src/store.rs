@@ -17,10 +17,9 @@ fn date(byte: u8) -> SetItem {
 }
 
 fn start(flash: &mut MemoryFlash<SIZE>) -> Result<Kept<'_>, BootFault> {
-    match Store::boot(Lent::new(flash)) {
-        Ok(store) => Ok(store),
-        Err((fault, _)) => Err(fault),
-    }
+    let mut store = Store::unstarted(Lent::new(flash));
+    store.load()?;
+    Ok(store)
 }
 
 /// An item is carried out, and answered so.

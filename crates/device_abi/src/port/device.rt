@@ -21,6 +21,7 @@ use records::TakenRecord;
 use relations::Phase;
 use settings_journal::Fill;
 use std::marker::Model;
+use wire::at_most;
 
 /// Octets of each of both sectors.
 pub const SECTOR_SIZE: usize = 4096;
@@ -417,20 +418,8 @@ fn first_of(octets: &[u8]) -> Bytes
     ensures { result ≡ record { items = take 1519 octets.now } }
 {
     let mut bytes = Bytes::new();
-    let _ = bytes.try_extend_from_slice(front_of(octets));
+    let _ = bytes.try_extend_from_slice(at_most(octets, 1519));
     bytes
-}
-
-// As many of them as an event has.
-fn front_of(octets: &[u8]) -> &[u8]
-    ensures value { result.now ≡ take 1519 octets.now }
-    ensures few { length result.now ≤ 1519 }
-{
-    if octets.len() < 1519 {
-        octets
-    } else {
-        &octets[..1519]
-    }
 }
 
 // How many calls a flash ever recorded, modulo 2 to the 32.

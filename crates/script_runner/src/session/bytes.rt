@@ -1,4 +1,4 @@
-ghost use Rattle.std.specs.Prelude.{◌≡◌, ◌≤◌, length, take};
+ghost use Rattle.std.specs.Prelude.{◌≡◌, ◌≤◌, length};
 
 use arrayvec::ArrayVec;
 
@@ -10,16 +10,4 @@ pub(crate) fn copied<const N: usize>(bytes: &[u8]) -> ArrayVec<u8, N>
     let mut copy = ArrayVec::new();
     let _ = copy.try_extend_from_slice(bytes);
     copy
-}
-
-/// The first of some bytes, at most so many.
-pub(crate) fn front(bytes: &[u8], most: usize) -> &[u8]
-    ensures value { result.now ≡ take most bytes.now }
-    ensures most { length result.now ≤ most }
-{
-    if bytes.len() > most {
-        &bytes[..most]
-    } else {
-        bytes
-    }
 }

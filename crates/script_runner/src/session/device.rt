@@ -7,19 +7,20 @@ ghost use Rattle.script_runner.specs.session.Said.{handed};
 ghost use Rattle.script_runner.specs.session.Power.{Runs};
 ghost use Rattle.script_runner.specs.session.Session.{IsHandedTo, IsStepped};
 
-use crate::session::bytes::{copied, front};
+use crate::session::bytes::copied;
 use crate::session::power::DemoDevice;
 use crate::session::waiting::append;
 use device_core::{Event, Note};
 use flash_model::Flash;
 use frame_codec::{Frame, Outbox};
 use std::alloc::AllocError;
+use wire::at_most;
 
 /// Makes the event of bytes that come from the network, in the room of the last one. At most 1,519 of them: no frame is so long.
 pub(crate) fn receive(received: &mut Event, bytes: &[u8])
     ensures { received.new ≡ event.Frame (handed bytes.now) }
 {
-    let bytes = front(bytes, 1519);
+    let bytes = at_most(bytes, 1519);
     match received {
         Event::Frame(room) => {
             room.clear();

@@ -11,7 +11,7 @@ ghost use Rattle.script_runner.specs.session.Off.{TellsLoss, is_heard_off};
 ghost use Rattle.script_runner.specs.session.Session.{IsObeyed};
 
 use crate::session::both::{exchange, respond, ticks};
-use crate::session::bytes::{copied, front};
+use crate::session::bytes::copied;
 use crate::session::device::receive;
 use crate::session::other_end::OtherEnd;
 use crate::session::outputs::outputs;
@@ -26,6 +26,7 @@ use std::alloc::{AllocError, Global};
 use std::marker::Model;
 use std::mem;
 use uuid::Uuid;
+use wire::at_most;
 
 /// A run between two lines: the device, the other end, the last event that came from the network, and the frames that the device
 /// sends at a time. A clause sees both ends.
@@ -421,7 +422,7 @@ fn output(slot: u16, subslot: u16, bytes: &[u8]) -> ControllerEvent
 fn handed(bytes: &[u8]) -> Bytes
     ensures { result ≡ handed bytes.now }
 {
-    copied(front(bytes, 1519))
+    copied(at_most(bytes, 1519))
 }
 
 /// Whether a line is more than `off` while there is no power: it is skipped, is none that a script may have, or gives
