@@ -12,7 +12,7 @@ pub ends : (more most : ℕ) (bytes : List ℕ) (found : Found) → more ≡ suc
 unfolding found_in
 ends more most bytes found count empty = rw (count, empty) refl
 
--- one more block
+-- One more block.
 abbrev go_on : Option (Found × List ℕ) → (List ℕ → Found → Option Found) → Option Found
 go_on (Some x) go = go x.1 x.0
 go_on None go = None

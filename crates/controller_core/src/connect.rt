@@ -22,7 +22,7 @@ pub(crate) struct Found {
 }
 
 impl Found {
-    /// Nothing.
+    /// Nothing is due.
     pub(crate) fn nothing() -> Found
         ensures { result ≡ nothing }
     {

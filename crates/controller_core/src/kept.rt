@@ -52,7 +52,7 @@ impl KeptAlarm {
         }
     }
 
-    /// Its block.
+    /// The block of this alarm.
     pub(crate) fn notification(&self) -> AlarmNotification<'_>
         ensures { result ≡ alarm_in self.now }
     {

@@ -1,4 +1,4 @@
--- Which cyclic frames are taken (IEC 61158-6-10, 4.7).
+-- Which cyclic frames are accepted (IEC 61158-6-10, 4.7).
 use Rattle.std.specs.Prelude.{ℕ, List}
 use Rattle.pn_values.specs.declared.mac.Mac.{Mac}
 use Rattle.cyclic_exchange.specs.declared.received.Received.{Received}

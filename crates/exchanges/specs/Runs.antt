@@ -30,7 +30,7 @@ pub data Event : Type 0 where
   Raises : (real : List RealModule) → (slot : ℕ) → (subslot : ℕ) → (octets : List ℕ) → Event
   Says : (message : ToDevice) → Event
 
--- behind it, and behind several in order
+-- The state after an event, and after several events in order.
 abbrev pub behind : Event → Flow → Flow
 behind Begins flow = begun_of flow
 behind Passes flow = flow_later flow
@@ -55,7 +55,7 @@ cyclic_event (Says message) = core.Rests
 abbrev pub cyclic_events : List Event → List core.Event
 cyclic_events events = map cyclic_event events
 
--- how many units passed
+-- How many units passed.
 abbrev pub units_in : List Event → ℕ
 units_in events = core.units_in (cyclic_events events)
 
@@ -108,8 +108,8 @@ AreStillTheStatuses = (request : Request) (rows : Listed DiffModule DiffSubmodul
     → option_map (λ cell. cell.status) (cell_at kind slot subslot (behind_all events (opened request rows)).cyclic.shown.cells)
     ≡ option_map (λ place. status_of rows place.slot place.subslot) (place_at kind slot subslot request.input.layout.places)
 
--- Once data is exchanged, and behind a frame that is taken, the data hold time is over with the unit that completes it, and with none
--- before, unless a frame is taken.
+-- While data is exchanged, and counted from its start, the data hold time is over from the unit on that completes it,
+-- and not before, unless meanwhile a frame is accepted, or the exchange begins again or ends.
 abbrev pub IsHeldSoLong : Type 0
 IsHeldSoLong = (events : List Event) (flow : Flow) → flow.cyclic.begun ≡ true → flow.cyclic.hearing.held ≡ 0 → AreNoRenewals events flow
     → is_silent (behind_all events flow) ≡ nat_le flow.cyclic.hearing.limit (units_in events + 1)

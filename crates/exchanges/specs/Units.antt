@@ -8,7 +8,7 @@ use Rattle.cyclic_exchange.specs.Units.{cyclic_later}
 use Rattle.cyclic_exchange.specs.Units.{Brought, ending_of as cyclic_ending, is_silent as is_cyclic_silent, tick_of as cyclic_tick}
 use Rattle.exchanges.specs.Flow.{Flow}
 
--- whether the data hold time is over with this unit: it runs while data is exchanged
+-- Whether the data hold time is over with this unit. It runs while data is exchanged.
 abbrev pub is_silent : Flow → Bool
 is_silent flow = is_cyclic_silent flow.cyclic
 
@@ -24,6 +24,6 @@ ending_of flow = cyclic_ending flow.cyclic (alarm_due flow)
 abbrev pub tick_of : Flow → Brought
 tick_of flow = cyclic_tick flow.cyclic (alarm_due flow)
 
--- a unit later
+-- The state after a unit of time.
 abbrev pub flow_later : Flow → Flow
 flow_later flow = record { cyclic = cyclic_later flow.cyclic; alarms = end_later flow.alarms }

@@ -9,11 +9,11 @@ use pn_alarms::Due;
 use pn_values::Mac;
 
 impl DataExchange {
-    /// A cyclic frame comes: from this station, of this FrameID, and all that follows it.
+    /// Receives a cyclic frame: its source, its FrameID, and the octets that follow it.
     pub fn receive(&mut self, source: Mac, frame_id: u16, body: &[u8]) -> Received
         ensures received { result ≡ received_as self.old source frame_id body.now }
         ensures state { self.new ≡ behind_frame self.old source frame_id body.now }
-        // One that is not taken changes nothing.
+        // A frame that is not accepted changes nothing.
         ensures refused { result ≢ Received.Taken → self.new ≡ self.old }
     {
         self.cyclic.receive(source, frame_id, body)

@@ -13,7 +13,8 @@ pub fn exchange_is_kept()
     ensures given { AreTheLastGiven }
     // What is sent of IOPS and IOCS is that of the answer to the Connect.
     ensures statuses { AreStillTheStatuses }
-    // The data hold time is over with the unit that completes it, unless a frame is taken before.
+    // Counted from its start, the data hold time is over from the unit on that completes it, and not before, unless
+    // meanwhile a frame is accepted, or the exchange begins again or ends.
     ensures hold { IsHeldSoLong }
 {
     cyclic_data_is_kept();

@@ -43,7 +43,7 @@ is_unheard link = (held_on link.flow.cyclic.hearing).held == link.flow.cyclic.he
 abbrev pub is_again : Link → Bool
 is_again link = is_awaiting link.phase && (link.waited + 1 == 32000)
 
--- a unit later
+-- The state after a unit of time.
 abbrev pub quiet_later : Link → ℕ
 quiet_later link = if is_timed link.phase then link.quiet + 1 else link.quiet
 

@@ -44,7 +44,7 @@ impl Farewell {
     /// Its PDU.
     pub fn pdu(&self) -> Pdu<'static>
         ensures exact { said result ≡ said_by self.now }
-        // It can be written.
+        // It can be encoded: its body has 4 octets, which is long enough for its type.
         ensures few { length result.body.now ≡ 4 }
         ensures long { is_long result.header.kind (length result.body.now) ≡ true }
     {

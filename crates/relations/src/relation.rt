@@ -60,7 +60,7 @@ impl Model for Relation {
 }
 
 impl Relation {
-    /// None.
+    /// An empty value, to be overwritten.
     pub fn new() -> Relation
         ensures { result ≡ None }
     {
