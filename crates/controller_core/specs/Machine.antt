@@ -267,7 +267,7 @@ is_again live = live.waited + 1 == 32000
 abbrev pub later : Live → Live
 later live = record live { waited = if is_again live then 0 else live.waited + 1; units = (live.units + 1) % 65536 }
 
--- what is sent where it is due
+-- What is sent if it is due.
 abbrev pub where_due : Bool → List Sent → List Sent
 where_due is_due sent = if is_due then sent else []
 

@@ -3,7 +3,8 @@ use frame_codec::Bytes;
 /// What happens to a controller.
 #[derive(Drop)]
 pub enum Event {
-    /// These bytes came from the network. Of a longer byte string its first 1,519 bytes stand here, which are refused alike.
+    /// These octets came from the network. Of a longer frame only the first 1,519 octets are given, which are refused
+    /// in the same way.
     Frame(Bytes),
     /// A unit of 31.25 microseconds is over.
     Tick,

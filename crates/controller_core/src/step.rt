@@ -531,7 +531,7 @@ impl Controller {
         self.bring(&tick, true, outbox);
     }
 
-    // What a unit of time brings: a timeout ends the relation, and else what is due is sent.
+    // What a unit of time brings: a timeout ends the relation, otherwise what is due is sent.
     #[inline(never)]
     fn bring(&mut self, tick: &Tick, is_request: bool, outbox: &mut Outbox)
         requires empty { outbox.old.items ≡ [] }

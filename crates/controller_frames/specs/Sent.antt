@@ -105,7 +105,7 @@ end_frame setup route pdu =
 
 -- ----
 
--- the octets of a message
+-- The octets of a message.
 abbrev pub bytes_of : Setup → Sent → List ℕ
 bytes_of setup (Requests device request) = request_frame setup device request
 bytes_of setup (Agrees caller answer) = answer_frame setup caller answer

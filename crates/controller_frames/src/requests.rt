@@ -17,7 +17,7 @@ use dcp_core::{Block, Kind, Service, write_request};
 use frame_codec::{DCP_GET_SET, DCP_IDENTIFY_REQUEST, Layered, Outbox, Payload};
 use pn_values::{IpSuite, Mac};
 
-/// The address of all stations for Identify requests (IEC 61158-6-10, 4.3.1.3.1).
+/// The multicast address of Identify requests (IEC 61158-6-10, 4.3.1.3.1).
 const IDENTIFY_MULTICAST: Mac = Mac {
     octets: [0x01, 0x0E, 0xCF, 0x00, 0x00, 0x00],
 };

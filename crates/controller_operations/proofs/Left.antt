@@ -25,7 +25,7 @@ left_is n frames = elim (cases_Bool (nat_lt n (length frames))) [
   | inr gone ↦ none_left n frames (ltb-false n (length frames) gone) ∙ sym gone
 ]
 
--- the one at a place in what a list is seen as is what stands in front there
+-- The item at a position of a mapped list is the first item after dropping the items before it.
 pub next_of : {A B : Type 0} (f : A → B) (known : List A) (all : List B) (n : ℕ) (one : A) → map f known ≡ all → n < length known → one ≡ get_or known n one → (rest : List B) × (drop n all ≡ f one ∷ rest)
 next_of f known all n one is some at =
     let long = length-map known f in
@@ -40,7 +40,7 @@ taken n frames = sym (drop-drop 1 n frames)
 pub none_taken : (n : ℕ) (frames : List (List ℕ)) → length frames ≤ n → drop n frames ≡ drop 1 (drop n frames)
 none_taken n frames none = drop_all n frames none ∙ sym (ap (drop 1) (drop_all n frames none))
 
--- one more unit
+-- One more unit.
 pub one_more : (was_over : Bool) (units : ℕ) (old between new : State) → Ticks was_over units old between → is_stopped was_over between ≡ false → new ≡ after between Tick
     → Ticks was_over (units + 1) old new
 one_more was_over units old between new ticks free takes =

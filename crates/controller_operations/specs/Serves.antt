@@ -17,7 +17,7 @@ use Rattle.controller_operations.specs.declared.operation.Operation.TheVariants 
 use Rattle.controller_operations.specs.State.{State, advanced, after, has_frames}
 use Rattle.controller_operations.specs.Steps.{Passes}
 
--- the operation of a number
+-- The operation of a number.
 abbrev pub operation_of : ℕ → Option Operation
 operation_of what =
     if what == 3 then Some operation.Frame else
@@ -120,7 +120,7 @@ IsAlarm None asked answer told = (answer ≡ 9) × (told ≡ asked)
 
 -- ---- all of them
 
--- What an operation comes to: 10 if there is no such operation.
+-- The result of an operation: 10 if there is no such operation.
 abbrev pub Serves : Option Operation → State → Op → List ℕ → ℕ → State → Op → Type 0
 Serves (Some operation.Frame) old asked given answer new told =
     (told ≡ asked) × IsEvent (has_frames old.frames) old (event.Frame (record { items = take 1519 given })) answer new

@@ -29,10 +29,10 @@ use uuid::Uuid;
 /// The version of the header.
 const ABI: u32 = 1;
 
-/// Octets of a room.
+/// The number of octets of the memory for a port.
 const ROOM: usize = 40960;
 
-/// Octets of an operation.
+/// The number of octets of an operation.
 const OP_SIZE: usize = 1560;
 
 // The faults of a plan, with the numbers that they have where a catalogue has them.
@@ -532,7 +532,7 @@ fn times_of(written: &WrittenPlan) -> Times
     }
 }
 
-// What is plugged in.
+// The modules that are plugged.
 #[inline(never)]
 fn real_in(written: &WrittenPlan) -> Real
     requires few { written.now.module_count ≤ 16 }

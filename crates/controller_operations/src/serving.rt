@@ -15,7 +15,7 @@ use controller_core::{Event, State};
 use frame_codec::Bytes;
 use host_values::{Op, place_of, put};
 
-/// What an operation is answered with that is none.
+/// The result if there is no such operation.
 const UNKNOWN: u32 = 10;
 
 /// What is answered where there is no such place, and of an alarm that never was.
@@ -24,7 +24,7 @@ const NO_SLOT: u32 = 9;
 /// What an event is answered with while frames of the step before are left.
 const HAS_WORK: u32 = 7;
 
-/// Carries one operation out, with the octets that are given. The answer is 0, or why nothing changed.
+/// Carries out one operation, with the given octets. Returns 0, or why nothing changed.
 pub fn serve(port: &mut Port, op: &mut Op, given: &[u8]) -> u32
     ensures { Serves (operation_in op.old.what) port.old op.old given.now result port.new op.new }
 {
@@ -34,7 +34,7 @@ pub fn serve(port: &mut Port, op: &mut Op, given: &[u8]) -> u32
     }
 }
 
-// Carries out what is an operation.
+// Carries out a known operation.
 fn perform(operation: Operation, port: &mut Port, op: &mut Op, given: &[u8]) -> u32
     ensures { Serves (Some operation) port.old op.old given.now result port.new op.new }
 {
@@ -97,7 +97,7 @@ fn tick(port: &mut Port, op: &mut Op) -> u32
     0
 }
 
-// The first octets of those that are given, as many as an event has.
+// The given octets, cut to the most that an event has.
 fn first_of(octets: &[u8]) -> Bytes
     ensures { result ≡ record { items = take 1519 octets.now } }
 {
@@ -145,7 +145,7 @@ fn hand_out(port: &Port, op: &mut Op)
     }
 }
 
-// ---- what is told
+// ---- values that are reported
 
 fn value(port: &Port, op: &mut Op) -> u32
     ensures { IsInput (place_in op.old.slot op.old.subslot) port.now op.old result op.new }

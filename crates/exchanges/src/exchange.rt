@@ -92,8 +92,8 @@ impl DataExchange {
         self.cyclic.give(slot, subslot, value)
     }
 
-    /// The output of a submodule, if it has one: what the last frame that was taken holds, and zeros where none was taken or its IOPS
-    /// is not good.
+    /// The output of a submodule, if it has one: its data in the last accepted frame. All zeros if no frame was
+    /// accepted yet, or if the IOPS is not good.
     pub fn output(&self, slot: u16, subslot: u16) -> Option<&[u8]>
         ensures value { option_map (λ value. value.now) result ≡ output_at self.now slot subslot }
         ensures short { IfSome result (λ value. length value.now ≤ 1440) }

@@ -1,17 +1,18 @@
-//! What holds of exchanges over many events.
+//! What holds for exchanges over many events.
 ghost use Rattle.exchanges.specs.Runs.{AreOfTheLast, AreStillTheStatuses, AreTheLastGiven, IsDueEachInterval, IsHeldSoLong};
 
 use cyclic_exchange::cyclic_data_is_kept;
 
-/// What is exchanged, over any list of events: laws of the definitions by which `DataExchange` is stated, and no code.
+/// How data is exchanged over any list of events. These are laws of the definitions that state `DataExchange`; the
+/// function has no code.
 pub fn exchange_is_kept()
-    // A frame of inputs is due each interval, counted from the answer to the Connect, whatever happens meanwhile.
+    // A frame of inputs is due each interval, counted from the answer to the Connect, for any events.
     ensures interval { IsDueEachInterval }
-    // The outputs are those of the last frame that was taken.
+    // The outputs are those of the last accepted frame.
     ensures last { AreOfTheLast }
-    // The inputs are those that were given last, and zeros where none was.
+    // The inputs are the values that were given last, and zeros if none was given.
     ensures given { AreTheLastGiven }
-    // What is sent of IOPS and IOCS is that of the answer to the Connect.
+    // The IOPS and IOCS that are sent are those of the answer to the Connect.
     ensures statuses { AreStillTheStatuses }
     // Counted from its start, the data hold time is over from the unit on that completes it, and not before, unless
     // meanwhile a frame is accepted, or the exchange begins again or ends.

@@ -13,7 +13,7 @@ pub struct Op {
     pub subslot: u32,
     /// Units of time: those that go by, then those that are left; or for how many the lamp still flashes.
     pub units: u32,
-    /// What became of an event.
+    /// The outcome of an event.
     pub note: u32,
     /// What the application relation waits for, 0 where there is none.
     pub phase: u32,

@@ -1,4 +1,4 @@
--- the host stands behind the events of the operations so far
+-- The host is in the state after the events of the operations so far.
 use Rattle.std.proofs.Common.{take}
 use Rattle.device_port.specs.Host.{Stands, begun_by, events_of}
 use Rattle.device_port.proofs.host.play.Given as goal

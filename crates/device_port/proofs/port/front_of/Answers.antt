@@ -1,4 +1,4 @@
--- All octets, where they are few enough.
+-- All octets, if there are few enough.
 use Rattle.std.proofs.Common.{sym, arith}
 use Rattle.std.proofs.lemmas.List.{take_all}
 use Rattle.device_port.proofs.port.front_of.Goals as goal

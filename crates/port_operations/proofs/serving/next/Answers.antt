@@ -1,4 +1,4 @@
--- The piece of work that is next.
+-- The next piece of work.
 use Rattle.std.proofs.Common.{refl}
 use Rattle.port_operations.proofs.Told.{handed}
 use Rattle.port_operations.proofs.serving.next.Goals as goal

@@ -1,4 +1,4 @@
--- Settings, or why they are not told.
+-- Settings, or why they are not reported.
 use Rattle.std.proofs.Common.{refl, ap, ◌∙◌}
 use Rattle.host_values.specs.Told.{with_octets}
 use Rattle.port_operations.specs.Serves.{settings_octets}

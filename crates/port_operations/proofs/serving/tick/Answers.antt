@@ -1,4 +1,4 @@
--- Units go by, or none does.
+-- Units pass, or none does.
 use Rattle.port_operations.proofs.serving.tick.Goals as goal
 
 pub returns : goal.returns

@@ -1,4 +1,4 @@
--- What is judged of a Write is carried out.
+-- The outcome of a Write is carried out.
 use Rattle.std.proofs.Common.{◌≡◌, Ok, Err, refl, sym, ap, ◌∙◌}
 use Rattle.rpc_core.specs.Call.{asked}
 use Rattle.record_writes.specs.Judged.{write_of}
