@@ -8,7 +8,7 @@ pub enum Event {
     Frame(Bytes),
     /// A unit of 31.25 microseconds is over.
     Tick,
-    /// The application gives the output of the submodule in this slot and subslot.
+    /// The application sets the output of the submodule in this slot and subslot.
     Give(u16, u16, Bytes),
     /// The application stops the controller.
     Stop,

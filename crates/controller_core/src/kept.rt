@@ -1,14 +1,14 @@
-// The last alarm, as a controller keeps it.
+// The last alarm, as a controller stores it.
 ghost use Rattle.std.specs.Prelude.{◌≡◌, ◌≤◌, length, take};
 ghost use Rattle.controller_core.specs.Alarms.{ack_of, alarm_in, kept_alarm};
 
 use arrayvec::ArrayVec;
 use block_codec::{AlarmAck, AlarmData, AlarmNotification};
 
-/// How much of an alarm's data is kept: more than a frame holds.
+/// The maximum number of octets of an alarm's data that are stored: more than a frame holds.
 const MOST_DATA: usize = 1500;
 
-/// These octets, or the front of them where they are more than so many.
+/// These octets, or the first `most` of them if there are more.
 #[tactic(auto, using(crate::proofs::Fronts::all_of))]
 fn front_of(octets: &[u8], most: usize) -> &[u8]
     ensures value { result.now ≡ take most octets.now }
@@ -20,7 +20,7 @@ fn front_of(octets: &[u8], most: usize) -> &[u8]
     &octets[..most]
 }
 
-/// An alarm, away from the frame in which it came.
+/// An alarm, copied out of its frame.
 #[derive(Drop)]
 pub(crate) struct KeptAlarm {
     alarm_type: u16,

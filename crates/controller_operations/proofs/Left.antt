@@ -1,4 +1,4 @@
--- The frames that are left behind a place.
+-- The frames that remain after a position.
 use Rattle.std.proofs.Common.{◌≡◌, ◌+◌, ◌<◌, ◌≤◌, ℕ, suc, Bool, true, false, List, [], ◌∷◌, length, map, drop, take, get_or, sym, ap, subst, ◌∙◌, inl, inr, arith}
 use Rattle.std.specs.Prelude.{nat_lt}
 use Rattle.std.proofs.lemmas.Bool.{cases_Bool, ltb-true, ltb-false}
@@ -8,7 +8,7 @@ use Rattle.controller_core.specs.declared.event.Event.TheVariants.{Tick}
 use Rattle.controller_operations.specs.State.{State, after, has_frames, is_stopped}
 use Rattle.controller_operations.specs.Steps.{Ticks}
 
--- so few octets are all of them
+-- If there are at most this many octets, the prefix is all of them.
 pub all_of : (most : ℕ) (octets : List ℕ) → length octets ≤ most → take most octets ≡ octets
 all_of most octets few = take_all most octets few
 
@@ -18,7 +18,7 @@ some_left n frames some = ap has_frames (drop_more frames n [] some)
 pub none_left : (n : ℕ) (frames : List (List ℕ)) → length frames ≤ n → has_frames (drop n frames) ≡ false
 none_left n frames none = ap has_frames (drop_all n frames none)
 
--- whether one is left
+-- Whether one remains.
 pub left_is : (n : ℕ) (frames : List (List ℕ)) → has_frames (drop n frames) ≡ nat_lt n (length frames)
 left_is n frames = elim (cases_Bool (nat_lt n (length frames))) [
   | inl there ↦ some_left n frames (ltb-true n (length frames) there) ∙ sym there
@@ -32,11 +32,11 @@ next_of f known all n one is some at =
     let here = drop_more (map f known) n (f one) (omega (arith, some, long)) in
     (drop (n + 1) (map f known), ap (drop n) (sym is) ∙ here ∙ ap (λ x. x ∷ drop (n + 1) (map f known)) (get_or-map f known n one ∙ ap f (sym at)))
 
--- one more is taken
+-- One more is fetched.
 pub taken : (n : ℕ) (frames : List (List ℕ)) → drop (n + 1) frames ≡ drop 1 (drop n frames)
 taken n frames = sym (drop-drop 1 n frames)
 
--- where none is left, none is taken
+-- If none remains, none is fetched.
 pub none_taken : (n : ℕ) (frames : List (List ℕ)) → length frames ≤ n → drop n frames ≡ drop 1 (drop n frames)
 none_taken n frames none = drop_all n frames none ∙ sym (ap (drop 1) (drop_all n frames none))
 

@@ -18,10 +18,10 @@ use host_values::{Op, place_of, put};
 /// The result if there is no such operation.
 const UNKNOWN: u32 = 10;
 
-/// What is answered where there is no such place, and of an alarm that never was.
+/// The result if there is no such place, and if no alarm was accepted yet.
 const NO_SLOT: u32 = 9;
 
-/// What an event is answered with while frames of the step before are left.
+/// The result of an event while frames of the step before remain.
 const HAS_WORK: u32 = 7;
 
 /// Carries out one operation, with the given octets. Returns 0, or why nothing changed.
@@ -52,7 +52,7 @@ fn perform(operation: Operation, port: &mut Port, op: &mut Op, given: &[u8]) -> 
 
 // ---- events
 
-// Takes an event, where no frames of the step before are left.
+// Handles an event, if no frames of the step before remain.
 fn offer(port: &mut Port, event: &Event) -> u32
     ensures { IsEvent (has_frames port.old.frames) port.old event.now result port.new }
 {
@@ -80,7 +80,7 @@ fn give(port: &mut Port, op: &Op, given: &[u8]) -> u32
     }
 }
 
-// Why nothing is given to a place that is none.
+// Why no output is set at an invalid place.
 fn no_place(port: &Port) -> u32
     ensures { result ≡ why_no_place (has_frames port.now.frames) }
 {
@@ -106,7 +106,7 @@ fn first_of(octets: &[u8]) -> Bytes
     bytes
 }
 
-// These octets, or the front of them where they are more than so many.
+// These octets, or the first `most` of them if there are more.
 #[tactic(auto, using(crate::proofs::Left::all_of))]
 fn front_of(octets: &[u8], most: usize) -> &[u8]
     ensures value { result.now ≡ take most octets.now }
@@ -120,7 +120,7 @@ fn front_of(octets: &[u8], most: usize) -> &[u8]
 
 // ---- frames
 
-// The next frame, which is taken with that.
+// The next frame, which is marked as fetched.
 fn next(port: &mut Port, op: &mut Op) -> u32
     ensures { IsHandOut port.old op.old result port.new op.new }
 {
@@ -156,7 +156,7 @@ fn value(port: &Port, op: &mut Op) -> u32
     }
 }
 
-// The input of a submodule, or that there is none.
+// The input of a submodule, or that it has none.
 fn tell_value(port: &Port, slot: u16, subslot: u16, op: &mut Op) -> u32
     ensures { IsValue (value_at port.now.controller.live.cyclic slot subslot) op.old result op.new }
 {
@@ -203,7 +203,7 @@ fn number_of_cause(reached: State) -> u32
     }
 }
 
-// The last alarm that was taken.
+// The last alarm that was accepted.
 fn alarm(port: &Port, op: &mut Op) -> u32
     ensures { IsAlarm port.now.controller.live.alarm op.old result op.new }
 {
@@ -216,7 +216,7 @@ fn alarm(port: &Port, op: &mut Op) -> u32
     }
 }
 
-// An alarm.
+// Reports an alarm.
 fn tell_alarm(alarm: &AlarmNotification<'_>, op: &mut Op)
     ensures { op.new ≡ with_alarm alarm.now op.old }
 {

@@ -1,4 +1,4 @@
--- those so far, and those that are left
+-- The items so far, and the remaining ones.
 use Rattle.std.proofs.Common.{◌≡◌, ◌++◌, drop, length, map}
 use Rattle.host_values.specs.Modules.{parameter_of}
 use Rattle.host_values.proofs.plugged.parameters.Given as goal

@@ -1,4 +1,4 @@
--- One more unit goes by, or what is left of them stays.
+-- One more unit passes, or the rest of them remains.
 use Rattle.std.proofs.Common.{◌≡◌, ℕ, Bool, true, sym, ap, subst, ◌∙◌, arith}
 use Rattle.controller_operations.specs.State.{is_over, is_stopped}
 use Rattle.controller_operations.specs.Steps.{Ticks}
