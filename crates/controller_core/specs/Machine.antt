@@ -87,7 +87,7 @@ next_sequence plan (Some asks.Connect) = 1
 next_sequence plan (Some (asks.Write number)) = number + 2
 next_sequence plan request = length plan.records.items + 2
 
--- The same, and the device is informed.
+-- The controller has ended, and the device is informed by a Release.
 abbrev pub released : Setup → Cause → Live → Turn
 released setup cause live = asking (Ended cause) (asks.Release (next_sequence setup.plan live.asked)) (over cause live)
 
@@ -145,8 +145,8 @@ standing setup live frame_id = record live {
   cyclic = related live.cyclic (route_of live.device frame_id) (sending_of setup.plan.times);
 }
 
--- After a positive answer to the Connect: an answer without all of its blocks is dropped; if modules differ there is no
--- relation.
+-- After a positive answer to the Connect: an answer without all of its blocks is dropped; if modules differ the relation
+-- is released.
 abbrev pub related_by : Setup → Live → Option ℕ → Turn
 related_by setup live (Some frame_id) = writing (writing_from setup.plan 0) (standing setup live frame_id)
 related_by setup live None = stays live
@@ -244,7 +244,7 @@ noticed live notice.Abort = stays (over cause.Aborted live)
 abbrev pub alarmed : Live → Mac → Header → ToController → Turn
 alarmed live source header notice = if live.stands && is_alarm live.cyclic.route source header then noticed live notice else stays live
 
--- ---- what was heard
+-- ---- what was received
 
 -- A cyclic frame counts while the relation is established.
 abbrev pub come : Live → Mac → ℕ → List ℕ → Live
@@ -290,7 +290,7 @@ outputs_of live = Cycles live.cyclic.route live.cyclic.shown live.units ∷ []
 abbrev pub exchange_later : Live → Live
 exchange_later live = record live { cyclic = cyclic_later live.cyclic; alarms = controller_later live.alarms }
 
--- Both a unit later.
+-- The exchange and the timer of the request a unit later.
 abbrev pub flow_later : Live → Live
 flow_later live = exchange_later (later live)
 

@@ -139,7 +139,7 @@ fn put_blocks(setup: &Setup, request: Request, blocks: &mut ArrayVec<u8, 1372>)
     }
 }
 
-/// Puts a call to the device into the box, behind what is in it.
+/// Appends a call to the device to the outbox.
 pub(crate) fn send_call(setup: &Setup, device: Mac, request: Request, outbox: &mut Outbox)
     requires room { array_vec_len outbox.old < 4 }
     ensures frames { boxed outbox.new

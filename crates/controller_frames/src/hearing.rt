@@ -124,7 +124,7 @@ fn heard_datagram<'a>(controller: &Controller, source: Mac, content: &'a [u8]) -
 pub fn real_time_in<'a>(controller: &Controller, bytes: &'a Bytes) -> Option<RealTimeFrame<'a>>
     ensures found { IfSome result (λ frame.
         heard_of controller.now bytes.now.items ≡ heard_real_time frame.source frame.frame_id frame.body.now) }
-    // If the octets are such a frame, it is found.
+    // `None` is returned only for octets that are not a frame of real-time data to this controller.
     ensures none { IfNone result (IsNoRealTimeTo controller.now (frame_of bytes.now.items)) }
 {
     let frame = read_real_time(bytes.as_slice())?;

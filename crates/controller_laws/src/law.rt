@@ -1,4 +1,4 @@
-//! The laws.
+//! The laws of a controller.
 ghost use Rattle.controller_laws.specs.Alarms.{AreTakenInOrder, LackAtMostTheLast, ShowsTheLast};
 ghost use Rattle.controller_laws.specs.Ended.{CountsUnits, DropsWhatComes, IsSilent, KeepsItsCause, RepeatsItsRelease};
 

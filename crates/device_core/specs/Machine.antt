@@ -107,7 +107,7 @@ pub record Finished : Type 0 where
   pub sent : List Sent
   pub note : Note
 
--- The result of an outcome, given the answers to its items. A Set can make the lamp flash, and its resets that are done
+-- The result of an event with this outcome, given the answers to its items. A Set can make the lamp flash, and its resets that are done
 -- end the relation. A Write is answered by the outcome of its command, and the answer is stored; a Write that is done
 -- shows that the controller is alive.
 abbrev pub finished : Identity → Rest → Judged → List BlockError → Finished
@@ -139,7 +139,7 @@ pub record Stepped : Type 0 where
   pub note : Note
   pub accepted : List Accepted
 
--- The outcome is asked of the settings, and finished with their answers.
+-- The settings carry out what is asked of them, and the step is finished with their answers.
 unfoldable pub judged_step : List Outcome → Station → Live → Judged → Stepped
 judged_step outcomes station live what =
     let settled = carried outcomes live.values (items_in what) in

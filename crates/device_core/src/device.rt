@@ -61,12 +61,14 @@ impl<F: Flash<S>, const S: usize> Model for Device<F, S> {
 impl<F: Flash<S>, const S: usize> Device<F, S> {
     /// Starts a device from the content of the flash, and writes nothing. A refusal returns the flash.
     pub fn boot(identity: Identity, real: Real, flash: F) -> Result<Device<F, S>, (BootFault, F)>
-        // The stored settings are active, and nothing remains of an earlier cycle.
+        // After a successful start the stored settings are active, and nothing remains of an earlier cycle.
         ensures starts { IfOk result (λ device. StartsWith (F.image flash) device.live.values.stored device.live.values.room) }
         ensures fresh { IfOk result (λ device. device.live ≡ started device.live.values.stored device.live.values.room) }
         ensures station { IfOk result (λ device. device.station ≡ record { identity = identity; real = real }) }
 
-        // Settings that can be read are found, unless a read fails. A blank flash gives the factory settings.
+        // If the settings can be read, the start succeeds with them, or it fails with FlashFault. Content that this device
+        // wrote is refused only with FlashFault. A blank flash counts as such, with the factory settings and room for at
+        // least 65,535 commits.
         ensures known { (settings : Settings) (room : ℕ) → StartsWith (F.image flash) settings room →
             MatchResult result (λ device. device.live ≡ started settings room) (λ refused. refused.0 ≡ BootFault.FlashFault) }
         ensures left { LeftByDevice (F.image flash) → IfErr result (λ refused. refused.0 ≡ BootFault.FlashFault) }
@@ -74,7 +76,7 @@ impl<F: Flash<S>, const S: usize> Device<F, S> {
             LeftByDevice (F.image flash) × StartsWith (F.image flash) factory_settings (capacity S) }
         ensures ample { IsAmple S }
 
-        // `Foreign` is returned only if the content cannot be read, and such content never starts.
+        // `Foreign` is returned only if the content cannot be read, and a start on such content always fails.
         ensures foreign { IfErr result (λ refused. refused.0 ≡ BootFault.Foreign → IsForeign (F.image flash)) }
         ensures strange { IsForeign (F.image flash) → IsErr result }
 
@@ -151,8 +153,8 @@ impl<F: Flash<S>, const S: usize> Device<F, S> {
     }
 
     /// The output of a submodule, from the last accepted cyclic frame. All zeros if no frame was accepted yet, if the
-    /// IOPS is not GOOD, or if the submodule has no IODataObject (then as many as the plugged submodule has). `None` if
-    /// it has no IODataObject and no submodule with outputs is plugged there.
+    /// IOPS is not GOOD, or if there is no relation or no IODataObject of the submodule in it (then as many as the
+    /// plugged submodule has). `None` if also no submodule with outputs is plugged there.
     pub fn output(&self, slot: u16, subslot: u16) -> Option<&[u8]>
         ensures value { option_map (λ value. value.now) result
             ≡ output_of self.now.station.real slot subslot (output_in slot subslot self.now.live.rest.link) }

@@ -24,9 +24,9 @@ pub fn cycle<F: Flash<S>, const S: usize, K: Sink, P: FnOnce(F) -> F>(
     requires powers { P.IsAlwaysCallable power_up }
     requires keeps { (lost flash : F) → P.post power_up lost flash → F.image flash ≡ F.image lost }
 
-    // For any frames, ticks and flash faults, even if power is lost inside a flash call: the settings of the restarted
-    // device are the first values of the cycle changed by all accepted commands of the cycle, or by all but a last one
-    // that was not answered positively.
+    // If this device wrote the content of the flash, then for any frames, ticks and flash faults, even if power is lost
+    // inside a flash call: the settings of the restarted device are the first values of the cycle changed by all accepted
+    // commands of the cycle, or by all but a last one that was not answered positively.
     ensures headline { LeftByDevice (F.image flash) → (first : Settings) (room : ℕ) → StartsWith (F.image flash) first room →
         IfOk result (λ device. Restarts F.Flash (P.post power_up) (record { identity = identity; real = real }) flash
         first room events.now (K.taken sink.old) (K.taken sink.new) device) }
@@ -35,8 +35,8 @@ pub fn cycle<F: Flash<S>, const S: usize, K: Sink, P: FnOnce(F) -> F>(
     ensures fresh { IfOk result (IsStarted F.Flash (record { identity = identity; real = real })) }
 
     // If this device wrote the content of the flash, a start fails only with FlashFault, and FlashFault means that the
-    // flash's failure counter rose during the start or is saturated. A reliable flash that this device wrote always
-    // starts.
+    // flash's failure counter rose during the start or is saturated. If the flash is also reliable, and `power_up` keeps
+    // it so, no start fails.
     ensures left { LeftByDevice (F.image flash) → IfErr result (λ refused. refused.0 ≡ BootFault.FlashFault) }
     ensures refused { IfErr result (λ refused. IsRefused F.Flash (P.post power_up)
         (record { identity = identity; real = real }) flash events.now (K.taken sink.old) (K.taken sink.new) refused.0 refused.1) }

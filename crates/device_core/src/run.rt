@@ -24,7 +24,8 @@ impl<F: Flash<S>, const S: usize> Device<F, S> {
         // For any flash faults, while there is power: each event goes on, and all its frames are handed on.
         ensures goes_on { self.new.live.values.is_lost ≡ false →
             RunGoesOn self.old events.now (K.taken sink.old) (K.taken sink.new) self.new }
-        // Only calls change the stored answers: what `CallCache::look` says of repeated calls holds over the run.
+        // Only calls change the stored answers: what `CallCache::look` says of repeated calls holds over the run. If no
+        // commit failed, each accepted command used one of the remaining commits, and nothing else did.
         ensures calls { IsBehindCalls self.old.live.rest.calls self.new.live.rest.calls }
         ensures room { self.new.live.values.has_failed ≡ false → TakesRoom self.old events.now self.new }
     {

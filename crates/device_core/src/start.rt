@@ -53,13 +53,15 @@ impl<F: Flash<S>, const S: usize> Device<F, S> {
 
     /// Starts in place, from the content of the flash, and writes nothing. After a refusal nothing is stored.
     pub fn load(&mut self) -> Result<(), BootFault>
-        // The stored settings are active, and nothing remains of an earlier cycle.
+        // After a successful start the stored settings are active, and nothing remains of an earlier cycle.
         ensures starts { OnOk result (StartsWith (F.image self.old.flash) self.new.live.values.stored self.new.live.values.room) }
         ensures fresh { OnOk result (self.new.live ≡ started self.new.live.values.stored self.new.live.values.room) }
         ensures refused { OnErr result (self.new.live.values.has_failed ≡ true) }
         ensures station { self.new.station ≡ self.old.station }
 
-        // Settings that can be read are found, unless a read fails. A blank flash gives the factory settings.
+        // If the settings can be read, the start succeeds with them, or it fails with FlashFault. Content that this device
+        // wrote is refused only with FlashFault. A blank flash counts as such, with the factory settings and room for at
+        // least 65,535 commits.
         ensures known { (settings : Settings) (room : ℕ) → StartsWith (F.image self.old.flash) settings room →
             MatchResult result (λ _. self.new.live ≡ started settings room) (λ fault. fault ≡ BootFault.FlashFault) }
         ensures left { LeftByDevice (F.image self.old.flash) → IfErr result (λ fault. fault ≡ BootFault.FlashFault) }
@@ -67,7 +69,7 @@ impl<F: Flash<S>, const S: usize> Device<F, S> {
             LeftByDevice (F.image self.old.flash) × StartsWith (F.image self.old.flash) factory_settings (capacity S) }
         ensures ample { IsAmple S }
 
-        // `Foreign` is returned only if the content cannot be read, and such content never starts.
+        // `Foreign` is returned only if the content cannot be read, and a start on such content always fails.
         ensures foreign { IfErr result (λ fault. fault ≡ BootFault.Foreign → IsForeign (F.image self.old.flash)) }
         ensures strange { IsForeign (F.image self.old.flash) → IsErr result }
 

@@ -30,7 +30,7 @@ pub fn real_time_in(bytes: &Bytes) -> Option<RealTimeFrame<'_>>
     ensures found { IfSome result (λ frame. (identity : Identity) →
         heard_of identity (Frame bytes.now)
         ≡ heard_content identity frame.destination frame.source (RealTime frame.frame_id frame.body.now)) }
-    // If the octets are such a frame, it is found.
+    // `None` is returned only for octets that are not a frame of real-time data.
     ensures none { IfNone result (IsNoRealTime (frame_of bytes.now.items)) }
 {
     read_real_time(bytes.as_slice())
@@ -41,7 +41,7 @@ pub fn real_time_in(bytes: &Bytes) -> Option<RealTimeFrame<'_>>
 #[tactic(auto, using(crate::proofs::Unread::other_is_unread), unfolding(crate::specs::Heard::heard_of))]
 pub fn open_frame(bytes: &Bytes) -> Option<OpenFrame<'_>>
     ensures said { (identity : Identity) → heard_of identity (Frame bytes.now) ≡ heard_in identity result }
-    // If it has the EtherType of real-time data but is not such a frame, its FrameID is incomplete.
+    // A frame with EtherType 0x8892 that carries no real-time data cannot be read: its FrameID is incomplete.
     ensures short { IfSome result (λ frame. IsNoRealTime (frame_of bytes.now.items) → frame.kind ≡ kind.RealTime →
         (identity : Identity) → heard_of identity (Frame bytes.now) ≡ Unreadable) }
 {

@@ -127,7 +127,7 @@ impl Port {
 
     // ---- a start
 
-    /// Sets the content of a sector of the chip, before a start: 4,096 octets.
+    /// Sets the content of a sector of the chip, before a start. Returns `BadLength` if it does not have 4,096 octets.
     pub fn fill(&mut self, sector: Sector, octets: &[u8]) -> Result<(), Refusal>
         ensures { KnowsOrNot self.old sector octets.now result self.new }
     {
@@ -141,7 +141,7 @@ impl Port {
         Ok(())
     }
 
-    /// Starts from the content of the chip, and writes nothing.
+    /// Starts from the content of the chip, and writes nothing. Returns `Foreign` if the content cannot be read.
     pub fn boot(&mut self) -> Result<(), Refusal>
         ensures { StartsOrNot self.old result self.new }
     {

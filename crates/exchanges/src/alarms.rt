@@ -1,4 +1,4 @@
-//! Alarms.
+//! The alarms of a relation.
 ghost use Rattle.std.specs.Prelude.{◌≡◌, ◌+◌, ◌≤◌, ◌++◌, IfSome, is_some, length, unwrap_or};
 ghost use Rattle.pn_alarms.specs.Device.{heard_as};
 ghost use Rattle.exchanges.specs.Frames.{alarm_frame, body_in, body_of, reply_frame};

@@ -8,11 +8,12 @@ use cyclic_exchange::cyclic_data_is_kept;
 pub fn exchange_is_kept()
     // A frame of inputs is due each interval, counted from the answer to the Connect, for any events.
     ensures interval { IsDueEachInterval }
-    // The outputs are those of the last accepted frame.
+    // For any events, the outputs are those of the last accepted frame, and are unchanged if there was none.
     ensures last { AreOfTheLast }
-    // The inputs are the values that were given last, and zeros if none was given.
+    // For any events, the input of a submodule is the value that was given last since the answer to the Connect, and
+    // zeros if none was given.
     ensures given { AreTheLastGiven }
-    // The IOPS and IOCS that are sent are those of the answer to the Connect.
+    // For any events, the IOPS and IOCS that are sent are those of the answer to the Connect.
     ensures statuses { AreStillTheStatuses }
     // Counted from its start, the data hold time is over from the unit on that completes it, and not before, unless
     // meanwhile a frame is accepted, or the exchange begins again or ends.

@@ -24,7 +24,7 @@ is_submodule submodule = nat_le submodule.parameter_count 2
 abbrev pub is_module : Module → Bool
 is_module plugged = nat_le plugged.submodule_count 4 && list_all is_submodule (submodules_in plugged)
 
--- ---- the values that they stand for
+-- ---- the values
 
 abbrev pub parameter_of : Parameter → ParameterRecord
 parameter_of parameter = record { index = parameter.index; length = parameter.length }

@@ -87,7 +87,7 @@ pub fn read_pdu(bytes: &[u8]) -> Result<Pdu<'_>, AlarmFault>
     ensures found { IfOk result (λ found. IsPdu bytes.now (said found)) }
     // Octets that encode a value are read as that value, and as no other.
     ensures only { (meaning : Said) → IsPdu bytes.now meaning → Gives said result (Ok meaning) }
-    // This also holds if any octets follow the encoding.
+    // Octets that encode a value, followed by any others, are read as that value.
     ensures behind { (first more : List ℕ) (meaning : Said) → IsPdu first meaning → bytes.now ≡ first ++ more →
         Gives said result (Ok meaning) }
     // The result is the PDU or the fault that the format defines for these octets.

@@ -52,9 +52,9 @@ pub fn pdu_front(pdu: &Pdu) -> [u8; 12]
     // These octets followed by the body are the encoding of the PDU.
     ensures exact { result ++ pdu.now.body.now ≡ pdu_bytes (said pdu.now) }
     ensures len { length result ≡ 12 }
-    // The encoding encodes the PDU that was given.
+    // The octets encode the PDU that was given.
     ensures spelled { IsPdu (pdu_bytes (said pdu.now)) (said pdu.now) }
-    // Followed by any octets, it is read as this PDU.
+    // Followed by any octets, they are read as this PDU.
     ensures behind { (more : List ℕ) → pdu_of (pdu_bytes (said pdu.now) ++ more) ≡ Ok (said pdu.now) }
 {
     header_octets(&pdu.header, pdu.body.len() as u16)
@@ -69,7 +69,7 @@ pub fn alarm_front(header: &Header, alarm: &AlarmNotification) -> [u8; 40]
     // These octets followed by the alarm's data are the encoding of the PDU.
     ensures exact { result ++ alarm.now.alarm_data ≡ pdu_bytes (alarm_pdu header.now alarm.now) }
     ensures len { length result ≡ 40 }
-    // Followed by any octets, it is read as this PDU, and the block that it carries is read as the alarm.
+    // Followed by any octets, they are read as this PDU, and the block that it carries is read as the alarm.
     ensures behind { (more : List ℕ) → pdu_of (pdu_bytes (alarm_pdu header.now alarm.now) ++ more) ≡ Ok (alarm_pdu header.now alarm.now) }
     ensures carried { notification_of (alarm_pdu header.now alarm.now).body ≡ Ok alarm.now }
 {

@@ -16,7 +16,7 @@ modules_in station = take station.module_count station.modules
 abbrev pub is_station : Station → Bool
 is_station station = nat_le station.station_type_length 25 && (nat_le station.module_count 16 && list_all is_module (modules_in station))
 
--- ---- the values that they stand for
+-- ---- the values
 
 abbrev pub identity_of : Station → Identity
 identity_of station = record {

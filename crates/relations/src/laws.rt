@@ -5,18 +5,21 @@ ghost use Rattle.relations.specs.Runs.{IsHeldFor};
 /// The timers over any number of units without other events, and ApplicationReady with other events between. These are
 /// laws of the definitions that state `Relation::elapse`; the function has no code.
 pub fn time_is_kept()
-    // A relation that hears nothing exists until the last unit of its activity timer, which ends it with ERR.
+    // Before data is exchanged, a relation that receives nothing exists until the last unit of its activity timer, which
+    // ends it with ERR.
     ensures stands { StandsUntil }
     ensures ends { EndsAt }
-    // While a relation waits for the answer to ApplicationReady and hears nothing, ApplicationReady is sent again with
-    // each 32,000th unit, and with no other unit, as long as the activity timer is not over.
+    // While a relation waits for the answer to ApplicationReady and receives nothing, ApplicationReady is sent again with
+    // each 32,000th unit since it was sent, and with no other unit, as long as the activity timer is not over.
     ensures again { IsDueEachSecond }
-    // The same holds if calls and frames come between.
+    // While a relation waits for the answer to ApplicationReady, ApplicationReady is due again with each 32,000th unit
+    // since it was sent, and with no other unit, for any calls and frames between.
     ensures whatever { IsDueWhateverComes }
-    // Once data is exchanged, a relation that hears nothing exists until the last unit of its data hold time, which
+    // While data is exchanged, a relation that receives nothing exists until the last unit of its data hold time, which
     // ends it with ERR, if no alarm is given up before.
     ensures hold { IsHeldFor }
-    // An alarm without an ACK that is given up before the data hold time is over ends the relation with ERR.
+    // While data is exchanged and nothing is received, an alarm without an ACK that is given up before the data hold time
+    // is over ends the relation with ERR.
     ensures spent { IsGivenUp }
 {}
 

@@ -54,8 +54,8 @@ fn zero_output(real: &Real, slot: u16, subslot: u16) -> Option<&'static [u8]>
 
 impl Relation {
     /// The output of a submodule, from the last accepted cyclic frame. All zeros if no frame was accepted yet, if the
-    /// IOPS is not GOOD, or if the submodule has no IODataObject (then as many as the plugged submodule has). `None` if
-    /// it has no IODataObject and no submodule with outputs is plugged there.
+    /// IOPS is not GOOD, or if there is no relation or no IODataObject of the submodule in it (then as many as the
+    /// plugged submodule has). `None` if also no submodule with outputs is plugged there.
     pub fn output(&self, real: &Real, slot: u16, subslot: u16) -> Option<&[u8]>
         ensures value { option_map (λ value. value.now) result ≡ output_of real.now slot subslot (output_in slot subslot self.now) }
         ensures short { IfSome result (λ value. length value.now ≤ 1440) }

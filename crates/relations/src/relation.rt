@@ -82,7 +82,7 @@ impl Relation {
     /// The phase of the relation, if there is one.
     pub fn phase(&self) -> Option<Phase>
         ensures phase { result ≡ phase_of self.now }
-        // Data is exchanged exactly if the phase is the last one.
+        // If there is a relation, its exchange has begun exactly if the phase is `Exchanging`.
         ensures step { IsInStep self.now }
     {
         self.phase

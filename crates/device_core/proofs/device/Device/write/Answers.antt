@@ -1,4 +1,4 @@
--- The outcome of a Write is carried out.
+-- What a Write asks for is carried out.
 use Rattle.std.proofs.Common.{◌≡◌, Ok, Err, refl, sym, ap, ◌∙◌}
 use Rattle.rpc_core.specs.Call.{asked}
 use Rattle.record_writes.specs.Judged.{write_of}
