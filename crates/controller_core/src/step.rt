@@ -91,7 +91,7 @@ impl Controller {
         ensures frames { boxed outbox.new ≡ map (bytes_of self.old.setup) (stopped self.old.setup self.old.live self.old.live.phase).sent }
     {
         match self.phase {
-            // No relation was asked for yet, so no device must be informed.
+            // No relation was asked for yet, so there is no device to inform.
             State::Looking | State::Addressing => self.end(Cause::Stopped),
             // The first cause is kept: an engineer looks for what ended the relation.
             State::Ended(_) => {}

@@ -61,7 +61,7 @@ request_called station live answers asker service.Identify request =
 request_called station live answers asker service.Get request = ([], refl)
 request_called station live answers asker service.Set request = ([], refl)
 
--- A new call that is answered so stores its answer.
+-- A new call with this answer stores it.
 kept_called : (station : Station) (live : Live) (call : Called) (answer : Sent) → looked call.header.activity call.header.sequence live.rest.calls ≡ new
     → IsBehindCalls live.rest.calls (behind_told 4 (kept_for station.identity call answer) live.rest.calls new)
 kept_called station live call answer is_new =

@@ -81,7 +81,7 @@ cycled_from as_flash station flash begun first room events before now ran same_i
       untouched = runs.stretch.untouched;
     }
 
--- The run of a device that started so.
+-- The run of this device.
 run_from : {F : Type 0} {S : ℕ} (as_flash : Flash F S) (station : Station) (first : Settings) (room : ℕ) (events : List Event)
     (before now : List (List ℕ)) (begun ran : State F) → begun.live ≡ started first room → begun.station ≡ station
     → Runs as_flash begun events before now ran → Runs as_flash (device_of begun.flash station first room) events before now ran

@@ -121,7 +121,7 @@ came_with (Err fault) blocks = Err fault
 abbrev pub kept_for : Identity → Call → Sent → Kept
 kept_for identity call answer = record { activity = call.header.activity; sequence = call.header.sequence; frame = bytes_of identity answer }
 
--- The state after a call that was answered so and left this relation. The last answer of each of the last four
+-- The state after a call that had this answer and left this relation. The last answer of each of the last four
 -- activities is kept.
 abbrev pub kept_behind : Identity → Rest → Call → Sent → Option Link → Rest
 kept_behind identity rest call answer link =

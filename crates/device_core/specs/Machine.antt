@@ -86,7 +86,7 @@ farewells_at false link = []
 
 -- ---- an I&M text that is written
 
--- The outcome of a Write whose command is answered so: there is no room for it, the flash failed, or it is done.
+-- The outcome of a Write whose command has this answer: there is no room for it, the flash failed, or it is done.
 abbrev pub written_as : IodWriteReq → BlockError → Result (List ℕ) CallFault
 written_as header error.Done = Ok (answer_of header)
 written_as header error.Exhausted = Err fault.JournalExhausted

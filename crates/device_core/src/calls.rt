@@ -117,7 +117,7 @@ impl<F: Flash<S>, const S: usize> Device<F, S> {
         }
     }
 
-    // A call whose lengths of blocks are wrong.
+    // A call with wrong lengths of its blocks.
     fn refuse_arguments(
         &self,
         operation: Operation,
@@ -419,7 +419,7 @@ fn settle(operation: Operation, came: Result<(), CallFault>, blocks: &mut Blocks
     }
 }
 
-// The outcome of a Write whose command is answered so.
+// The outcome of a Write whose command has this answer.
 fn written_as(answer: BlockError) -> Result<(), CallFault>
     ensures { (header : Header) → came_with result (answer_of header) ≡ comes_out header answer }
 {
