@@ -67,7 +67,7 @@ impl<F: Flash<S>, const S: usize> Device<F, S> {
             looked call.header.activity call.header.sequence self.old.live.rest.calls ≡ again frame →
             IsAgain self.old frame (boxed outbox.new) result self.new }
     {
-        outbox.clear(); // the frames of the previous event
+        outbox.clear(); // of what the event before sent
         self.respond(event, outbox)
     }
 
