@@ -97,7 +97,7 @@ fn is_further(number: u16) -> bool
 }
 
 impl<'a> Draft<'a> {
-    /// Nothing is due.
+    /// An empty draft.
     pub(crate) fn new() -> Draft<'a>
         ensures nothing { (expected : Expected) → sofar_of result expected ≡ record nothing { expected = expected } }
         ensures accepted { AreAccepted result }

@@ -6,7 +6,7 @@ ghost use Rattle.cyclic_data.specs.declared.place.ExpectedData.{ExpectedData};
 ghost use Rattle.cyclic_data.specs.Layout.{IsLayout};
 ghost use Rattle.connect_requests.specs.Layouts.{layout_at};
 
-/// How places are checked. This is a law of the definitions that state `ConnectRequest::read`; the function has no
+/// How places are checked. This is a law of the definitions that specify `ConnectRequest::read`; the function has no
 /// code.
 #[tactic(auto, using(crate::proofs::Judged::layout_good))]
 pub fn layouts_are_taken()

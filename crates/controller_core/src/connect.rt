@@ -22,7 +22,7 @@ pub(crate) struct Found {
 }
 
 impl Found {
-    /// Nothing is due.
+    /// Nothing found yet.
     pub(crate) fn nothing() -> Found
         ensures { result ≡ nothing }
     {

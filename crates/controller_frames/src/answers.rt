@@ -40,8 +40,8 @@ fn done_block(block: &ControlBlock) -> ArrayVec<u8, 32>
     octets
 }
 
-/// Appends the answer to the call ApplicationReady with this block to the outbox: to the station, the address and the
-/// port that it came from. ControlBlockProperties is repeated.
+/// Appends the answer to the call ApplicationReady with this block to the outbox. It goes to the station, the address
+/// and the port that the call came from. ControlBlockProperties is repeated.
 pub fn send_ready_answer(
     setup: &Setup,
     caller: &Caller,

@@ -125,7 +125,7 @@ fn put_release(setup: &Setup, blocks: &mut ArrayVec<u8, 1372>)
     write_block(blocks, &Block::Release(block));
 }
 
-/// The blocks of a call.
+/// Writes the blocks of the call for this request into an empty list.
 fn put_blocks(setup: &Setup, request: Request, blocks: &mut ArrayVec<u8, 1372>)
     requires empty { blocks.old.items ≡ [] }
     ensures { blocks.new.items ≡ blocks_of setup.now request }
@@ -139,7 +139,7 @@ fn put_blocks(setup: &Setup, request: Request, blocks: &mut ArrayVec<u8, 1372>)
     }
 }
 
-/// Appends a call to the device to the outbox.
+/// Appends a call, addressed to the device, to the outbox.
 pub(crate) fn send_call(setup: &Setup, device: Mac, request: Request, outbox: &mut Outbox)
     requires room { array_vec_len outbox.old < 4 }
     ensures frames { boxed outbox.new

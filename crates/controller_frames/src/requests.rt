@@ -125,7 +125,7 @@ fn send_address(setup: &Setup, device: Mac, outbox: &mut Outbox)
     );
 }
 
-/// Appends this request to the device to the outbox. An Identify goes to all stations.
+/// Appends this request, addressed to the device, to the outbox. An Identify goes to all stations.
 pub fn send_request(setup: &Setup, device: Mac, request: Request, outbox: &mut Outbox)
     requires room { array_vec_len outbox.old < 4 }
     ensures frames { boxed outbox.new

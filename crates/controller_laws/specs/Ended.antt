@@ -85,7 +85,8 @@ abbrev pub IsSilent : Type 0
 IsSilent = (controller : Controlling) (cause : Cause) (events : List Event) → HasEnded cause controller → may_release cause ≡ false
     → frames_of events controller ≡ []
 
--- An event other than a unit of time is dropped, and no frame is sent for it.
+-- For an event other than a unit of time no frame is sent. It changes nothing, except that the response to the active
+-- Release ends that, and that an output is stored.
 abbrev pub DropsWhatComes : Type 0
 DropsWhatComes = (controller : Controlling) (cause : Cause) (event : Event) → HasEnded cause controller → is_unit event ≡ false
     → ((step_of controller event).frames ≡ []) × IsDropped controller.setup event controller.live (step_of controller event).controller.live

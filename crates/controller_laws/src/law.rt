@@ -2,8 +2,8 @@
 ghost use Rattle.controller_laws.specs.Alarms.{AreTakenInOrder, LackAtMostTheLast, ShowsTheLast};
 ghost use Rattle.controller_laws.specs.Ended.{CountsUnits, DropsWhatComes, IsSilent, KeepsItsCause, RepeatsItsRelease};
 
-/// What remains of a controller that ended, for any events after its end. These are laws of the definition that states
-/// `Controller::step`; the function has no code.
+/// What remains of a controller that ended, for any events after its end. These are laws of the definition that
+/// specifies `Controller::step`; the function has no code.
 pub fn ended_is_kept()
     // For any events, an ended controller stays ended, for the same cause.
     ensures cause { KeepsItsCause }
@@ -12,14 +12,15 @@ pub fn ended_is_kept()
     ensures release { RepeatsItsRelease }
     // A controller that ended for another cause than modules that differ or a stop by the application sends nothing.
     ensures silent { IsSilent }
-    // An event other than a unit of time is dropped, and no frame is sent for it.
+    // For an event other than a unit of time no frame is sent. It changes nothing, except that the response to the
+    // active Release ends that, and that an output is stored.
     ensures dropped { DropsWhatComes }
     // A unit is counted, and the active Release is sent when the units since it was last sent reach 32,000.
     ensures units { CountsUnits }
 {}
 
-/// The alarms of a relation, between a device's end, which states `DeviceAlarms`, and a controller, over a network that
-/// may lose, repeat or reorder frames. These are laws of the definitions; the function has no code.
+/// The alarms of a relation between a device's end, by the definition that specifies `DeviceAlarms`, and a controller,
+/// over a network that may lose, repeat or reorder frames. These are laws of the definitions; the function has no code.
 pub fn alarms_are_taken_in_order()
     // While at most 32,768 alarms are raised, the alarms that the controller accepted are a prefix of those that were
     // raised.

@@ -1,5 +1,5 @@
 //! What holds for a controller over any events (IEC 61158-6-10, 5.2; protocol machine CMCTL). These are laws of the
-//! machine that states `controller_core::Controller`; the functions have no code.
+//! machine that specifies `controller_core::Controller`; the functions have no code.
 #![tactic(auto)]
 
 mod law;

@@ -7,7 +7,7 @@ ghost use Rattle.controller_laws.specs.Turns.{Came, IsTurn, came_by, turn_for};
 
 /// Each turn of a controller's machine is of one of eighteen kinds. Each kind says what the next state is, what is
 /// sent, and when the turn occurs. What holds for the turns of each kind holds for all turns. This is a law of the
-/// definition that states `Controller::step`; the function has no code.
+/// definition that specifies `Controller::step`; the function has no code.
 pub fn turns_are_of_a_kind()
     // The turn for anything that comes is of one of the kinds.
     ensures came { (setup : Setup) (live : Live) (came : Came) → IsTurn setup live came (turn_for setup live came) }

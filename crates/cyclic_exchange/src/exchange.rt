@@ -14,7 +14,7 @@ use std::marker::Model;
 /// As many zeros as the longest frame has octets of data.
 static ZEROS: [u8; 1440] = [0; 1440];
 
-/// This many zeros.
+/// `size` zeros.
 fn zeros(size: usize) -> &'static [u8]
     requires { size ≤ 1440 }
     ensures { result.now ≡ replicate size 0 }
@@ -27,7 +27,7 @@ fn zeros(size: usize) -> &'static [u8]
 #[derive(Drop)]
 pub struct CyclicExchange {
     pub(crate) route: Route,
-    /// Data is exchanged.
+    /// Whether data is exchanged.
     pub(crate) begun: bool,
     pub(crate) provider: Provider,
     pub(crate) consumer: Consumer,
@@ -98,7 +98,7 @@ impl CyclicExchange {
         self.provider = provider;
     }
 
-    /// Data is exchanged, and the data hold time runs from now on.
+    /// Begins the exchange: data is exchanged, and the data hold time runs from now on.
     pub fn begin(&mut self)
         ensures { self.new ≡ begun_of self.old }
     {
@@ -106,7 +106,7 @@ impl CyclicExchange {
         self.consumer.restart();
     }
 
-    /// Data is no longer exchanged, and the received data becomes zeros.
+    /// Ends the exchange: data is no longer exchanged, and the received data becomes zeros.
     pub fn end(&mut self)
         ensures { self.new ≡ ended_of self.old }
     {

@@ -1,7 +1,7 @@
 //! What holds for one end over many events.
 ghost use Rattle.cyclic_exchange.specs.Runs.{AreOfTheLast, IsDueEachInterval, IsHeldSoLong};
 
-/// How data is exchanged over any list of events. These are laws of the definitions that state `CyclicExchange`; the
+/// How data is exchanged over any list of events. These are laws of the definitions that specify `CyclicExchange`; the
 /// function has no code.
 pub fn cyclic_data_is_kept()
     // A frame is due each interval, counted from the opening, for any events.

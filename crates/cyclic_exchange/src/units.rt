@@ -38,7 +38,7 @@ impl Model for Tick {
 const _: () = prove!(size_of::<Tick>() == 1);
 
 impl Tick {
-    /// Nothing is due.
+    /// A tick with which nothing is due.
     #[inline(always)]
     pub fn nothing() -> Tick
         ensures { result ≡ record { ending = None; is_alarm = false; is_cyclic = false } }

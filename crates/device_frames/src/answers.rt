@@ -15,7 +15,7 @@ use frame_codec::{Arp, ArpOperation, Endpoint, Holder, Layered, Outbox, Payload,
 use pn_values::{Identity, Mac};
 use rpc_core::{Datagram, Response, write_response};
 
-/// Appends a DCP answer to the station that asked to the outbox.
+/// Appends a DCP answer, addressed to the station that asked, to the outbox.
 pub fn send_dcp_answer(
     identity: &Identity,
     asker: Mac,
@@ -40,7 +40,7 @@ pub fn send_dcp_answer(
     outbox.put(&layered);
 }
 
-/// Appends the reply that the device holds this address to the outbox.
+/// Appends an ARP reply, which says that the device holds this address, to the outbox.
 pub fn send_arp_reply(
     identity: &Identity,
     asker: Mac,
@@ -70,7 +70,7 @@ pub fn send_arp_reply(
     outbox.put(&layered);
 }
 
-/// Appends the response to a call to the outbox.
+/// Appends the response to a call, addressed to its caller, to the outbox.
 pub fn send_response(
     identity: &Identity,
     address: [u8; 4],

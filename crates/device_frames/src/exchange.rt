@@ -101,7 +101,7 @@ pub fn send_alarm_again(identity: &Identity, is_due: bool, relation: &Relation, 
     }
 }
 
-/// Appends the response to the data of an alarm with this outcome to the outbox, if there is a relation.
+/// Appends the ACK or NACK for data with this outcome to the outbox, if there is a relation.
 pub fn send_alarm_reply(identity: &Identity, taken: Taken, relation: &Relation, outbox: &mut Outbox)
     requires room { array_vec_len outbox.old < 4 }
     ensures frames { boxed outbox.new

@@ -43,8 +43,9 @@ impl DataExchange {
         }
     }
 
-    /// Opens the exchange when a Connect is answered, with these modules and submodules that differ. No data was given
-    /// and none accepted, and the interval of the inputs is counted from now. Nothing of an earlier relation remains.
+    /// Opens the exchange when a Connect is answered; `rows` lists the modules and submodules that differ. No data was
+    /// given and none accepted, and the interval of the inputs is counted from now. Nothing of an earlier relation
+    /// remains.
     pub fn open(&mut self, request: &ConnectRequest, rows: &DiffRows)
         ensures { self.new ≡ opened request.now rows.now }
     {

@@ -3,7 +3,7 @@ ghost use Rattle.exchanges.specs.Runs.{AreOfTheLast, AreStillTheStatuses, AreThe
 
 use cyclic_exchange::cyclic_data_is_kept;
 
-/// How data is exchanged over any list of events. These are laws of the definitions that state `DataExchange`; the
+/// How data is exchanged over any list of events. These are laws of the definitions that specify `DataExchange`; the
 /// function has no code.
 pub fn exchange_is_kept()
     // A frame of inputs is due each interval, counted from the answer to the Connect, for any events.

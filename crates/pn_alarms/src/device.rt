@@ -131,7 +131,7 @@ impl DeviceAlarms {
         taken
     }
 
-    /// Receives an ACK.
+    /// Receives an ACK. Returns what happens to it.
     fn hear_ack(&mut self, number: u16) -> PduFate
         ensures heard { result ≡ (if is_last self.old.sender.sending.last number then Done else Ignored) }
         ensures state { self.new ≡ record { sender = answered self.old.sender (Ack number); seen = self.old.seen } }

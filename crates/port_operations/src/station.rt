@@ -19,7 +19,7 @@ const ROOM: usize = 81920;
 /// The number of octets of an operation.
 const OP_SIZE: usize = 1560;
 
-/// The factory properties of a device, and the modules that are plugged, at most 16.
+/// The identity that a device has from the factory, and the modules that are plugged, at most 16.
 #[repr(C)]
 #[derive(Drop)]
 pub struct Station {

@@ -93,11 +93,11 @@ due_behind elapsed link = record {
   is_cyclic = elapsed.tick.is_cyclic;
 }
 
--- Whether nothing must be sent.
+-- Whether nothing is due.
 abbrev pub brings_nothing : Elapsed → Bool
 brings_nothing elapsed = is_none elapsed.tick.ending && (not elapsed.tick.is_alarm && (not elapsed.is_ready && not elapsed.tick.is_cyclic))
 
--- Whether only inputs must be sent.
+-- Whether only inputs are due.
 abbrev pub brings_inputs : Elapsed → Bool
 brings_inputs elapsed = is_none elapsed.tick.ending && (not elapsed.tick.is_alarm && (not elapsed.is_ready && elapsed.tick.is_cyclic))
 

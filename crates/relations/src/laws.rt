@@ -3,7 +3,7 @@ ghost use Rattle.relations.specs.Runs.{StandsUntil, EndsAt, IsByPrmEnd, IsByRead
 ghost use Rattle.relations.specs.Runs.{IsHeldFor};
 
 /// The timers over any number of units without other events, and ApplicationReady with other events between. These are
-/// laws of the definitions that state `Relation::elapse`; the function has no code.
+/// laws of the definitions that specify `Relation::elapse`; the function has no code.
 pub fn time_is_kept()
     // Before data is exchanged, a relation that receives nothing exists until the last unit of its activity timer, which
     // ends it with ERR.
@@ -23,8 +23,8 @@ pub fn time_is_kept()
     ensures spent { IsGivenUp }
 {}
 
-/// How a relation moves from phase to phase. This is a law of the definition that states each call of a relation; the
-/// function has no code.
+/// How a relation moves from phase to phase. This is a law of the definition that specifies each call of a relation;
+/// the function has no code.
 pub fn phases_are_kept()
     // Only an accepted PrmEnd moves a relation from Started to Awaiting.
     ensures ready { IsByPrmEnd }

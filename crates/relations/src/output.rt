@@ -9,7 +9,7 @@ use pn_values::{Real, RealModule, RealSubmodule};
 /// As many zeros as the longest output has octets.
 static ZEROS: [u8; 1440] = [0; 1440];
 
-/// This many zeros.
+/// `size` zeros.
 fn zeros(size: usize) -> &'static [u8]
     requires { size ≤ 1440 }
     ensures value { result.now ≡ replicate size 0 }

@@ -60,7 +60,7 @@ impl Model for Relation {
 }
 
 impl Relation {
-    /// An empty value, to be overwritten.
+    /// No relation.
     pub fn new() -> Relation
         ensures { result ≡ None }
     {

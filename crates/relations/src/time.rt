@@ -28,12 +28,12 @@ pub struct Elapsed {
     /// What is due of the exchange: the active alarm again, or a frame of inputs. Or the relation must end, also
     /// because of the activity timer, and nothing else is sent.
     pub tick: Tick,
-    /// ApplicationReady is sent again.
+    /// Whether ApplicationReady is due again.
     pub is_ready: bool,
 }
 
 impl Elapsed {
-    /// Whether nothing must be sent.
+    /// Whether nothing is due.
     #[inline(always)]
     pub fn is_nothing(&self) -> bool
         ensures value { result ≡ brings_nothing self.now }
@@ -44,7 +44,7 @@ impl Elapsed {
         !self.is_ready && self.tick.is_nothing()
     }
 
-    /// Whether only inputs must be sent.
+    /// Whether only inputs are due.
     #[inline(always)]
     pub fn is_inputs(&self) -> bool
         ensures value { result ≡ brings_inputs self.now }
