@@ -20,7 +20,7 @@ use Rattle.relations.specs.Outputs.{output_of}
 use Rattle.device_core.specs.Machine.{step_of}
 use Rattle.device_core.proofs.Steps.{same_state, identify_heard}
 
--- A device with these active settings answers Identify with them.
+-- A device with these running settings answers Identify with them.
 answers_by : (station : Station) (live : Live) → live.values.running ≡ live.values.stored → AnswersBy station live.values.stored live
 answers_by station live runs outcomes event asker request is identify =
     subst (λ settings. IsIdentified station.identity settings live asker request (step_of outcomes station live event)) runs

@@ -16,8 +16,8 @@ use Rattle.device_core.specs.Machine.{Ran, run_of}
 use Rattle.relations.specs.Outputs.{output_of, zero_output}
 use Rattle.device_core.specs.Steps.{EventByEvent, AnswersBy}
 
--- A device as it starts: the stored settings are active, no commit failed, there is power, the lamp is off, no answer
--- is kept, and there is no relation.
+-- A device as it starts: the stored settings are the running settings, no commit failed, there is power, the lamp is
+-- off, no answer is kept, and there is no relation.
 abbrev pub started : Settings → ℕ → Live
 started settings room = record {
   values = record { running = settings; stored = settings; room = room; has_failed = false; is_lost = false };
@@ -47,8 +47,8 @@ pub record Cycled {F : Type 0} {S : ℕ} (as_flash : Flash F S) (station : Stati
   pub safe : CrashSafe false first (cycle_of outcomes station first room events).accepted (as_flash.image flash) (as_flash.image lost)
   pub untouched : (cycle_of outcomes station first room events).accepted ≡ [] → lost ≡ begun
 
--- A device that has just started, on any image: it has the given identity and modules, exactly the settings that the
--- image is read as are active, Identify is answered only with them, and each output is zeros.
+-- A device that has just started, on any image: it has the given identity and modules, its running settings are exactly
+-- those that the image is read as, Identify is answered only with them, and each output is zeros.
 pub record IsStarted {F : Type 0} {S : ℕ} (as_flash : Flash F S) (station : Station) (device : State F) : Type 0 where
   pub station_is : device.station ≡ station
   pub nothing_else : device.live ≡ started device.live.values.stored device.live.values.room
@@ -56,7 +56,7 @@ pub record IsStarted {F : Type 0} {S : ℕ} (as_flash : Flash F S) (station : St
   pub answers : AnswersBy station device.live.values.stored device.live
   pub shows : (slot subslot : ℕ) → output_of station.real slot subslot (output_in slot subslot device.live.rest.link) ≡ zero_output station.real slot subslot
 
--- The headline. The cycle ran the events, with any outcomes of its flash for the calls that store. The active and
+-- The headline. The cycle ran the events, with any outcomes of its flash for the calls that store. The running and
 -- stored settings of the restarted device are the first settings changed by all accepted commands of the cycle, or by
 -- all but a last one that was not answered 'done'; if no commit failed, they are exactly what the cycle stored. Nothing
 -- else remains of the cycle, Identify is answered only with those settings and the identity, and the image is again one

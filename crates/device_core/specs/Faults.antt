@@ -27,9 +27,9 @@ pub record IsAsIn (step : Stepped) (sent : List (List ℕ)) (said : Note) (next 
 
 -- The outcome of an event, for any behaviour of the flash. Its commands before the first in which a flash call failed
 -- are carried out as if none failed. That one and each later one, until the next start, is answered with a local fault
--- and changes neither the active nor the stored settings. Everything else is the outcome of the event with these
+-- and changes neither the running nor the stored settings. Everything else is the outcome of the event with these
 -- answers. An event that asks for nothing to be stored has exactly the outcome that it has, if no flash call fails, at
--- any device with the same active settings and the same rest: a failed commit shows in nothing else.
+-- any device with the same running settings and the same rest: a failed commit shows in nothing else.
 pub record StepGoesOn (station : Station) (live : Live) (heard : Heard) (sent : List (List ℕ)) (said : Note) (next : Live) : Type 0 where
   pub answers : List BlockError
   pub settings : GoesOn live.values (items_of station live heard) answers next.values

@@ -69,7 +69,8 @@ pub data Judged : Type 0 where
 
 -- ---- DCP
 
--- An Identify request that matches is answered with the identity and the active settings; otherwise it is not answered.
+-- An Identify request that matches is answered with the identity and the running settings; otherwise it is not
+-- answered.
 abbrev pub identified : Station → Live → Mac → Asked → Judged
 identified station live asker request =
     if matches station.identity live.values.running request
@@ -84,7 +85,7 @@ judged_request station live asker service.Set request = Sets asker request (is_s
 
 -- ---- ARP (RFC 826)
 
--- Whether this address is active and not all zeros.
+-- Whether this is the running address, and not all zeros.
 abbrev pub is_running : Settings → List ℕ → Bool
 is_running running address = pointwise nat_eq address running.suite.address && not (is_zero address)
 
@@ -92,7 +93,7 @@ abbrev pub is_request : ArpOperation → Bool
 is_request arp.Request = true
 is_request arp.Reply = false
 
--- A request for the active address is answered, and no other packet is.
+-- A request for the running address is answered, and no other packet is.
 abbrev pub judged_arp : Live → Mac → Arp → Judged
 judged_arp live asker packet =
     if is_request packet.operation && is_running live.values.running packet.target.address

@@ -47,7 +47,7 @@ abbrev pub StaysReliable : {F : Type 0} {S : ℕ} → Flash F S → State F → 
 StaysReliable as_flash old new =
     as_flash.is_reliable old.flash → as_flash.is_reliable new.flash × (new.live.values.has_failed ≡ old.live.values.has_failed)
 
--- An Identify request changes nothing. If it matches, it is answered, only with the identity and the active settings.
+-- An Identify request changes nothing. If it matches, it is answered, only with the identity and the running settings.
 pub record Identifies {F : Type 0} (old : State F) (asker : Mac) (request : Asked) (sent : List (List ℕ)) (said : Note) (new : State F) : Type 0 where
   pub unchanged : new ≡ old
   pub answered : matches old.station.identity old.live.values.running request ≡ true →
@@ -70,7 +70,7 @@ AnswersBy station settings live = (outcomes : List Outcome) (event : Event) (ask
     → heard_of station.identity event ≡ Asks asker request → request.service ≡ Identify
     → IsIdentified station.identity settings live asker request (step_of outcomes station live event)
 
--- A call that is handled was received: to the active address, of an operation of a device, with the right lengths of
+-- A call that is handled was received: to the running address, of an operation of a device, with the right lengths of
 -- its blocks.
 pub record IsServed (live : Live) (heard : Heard) (call : Called) : Type 0 where
   pub caller : Caller

@@ -12,7 +12,7 @@ use frame_codec::{Arp, ArpOperation, Outbox};
 use pn_values::{Mac, Settings};
 
 impl<F: Flash<S>, const S: usize> Device<F, S> {
-    // An ARP packet: a request for the active address is answered.
+    // An ARP packet: a request for the running address is answered.
     #[inline(never)]
     pub(crate) fn resolve(&self, asker: Mac, packet: &Arp, outbox: &mut Outbox) -> Note
         requires empty { outbox.old.items ≡ [] }
@@ -41,7 +41,7 @@ fn is_request(operation: ArpOperation) -> bool
     }
 }
 
-/// Whether this address is active and not all zeros.
+/// Whether this is the running address, and not all zeros.
 pub(crate) fn is_running(running: &Settings, address: [u8; 4]) -> bool
     ensures { result ≡ runs running.now address }
 {

@@ -61,7 +61,8 @@ impl<F: Flash<S>, const S: usize> Model for Device<F, S> {
 impl<F: Flash<S>, const S: usize> Device<F, S> {
     /// Starts a device from the content of the flash, and writes nothing. A refusal returns the flash.
     pub fn boot(identity: Identity, real: Real, flash: F) -> Result<Device<F, S>, (BootFault, F)>
-        // After a successful start the stored settings are active, and nothing remains of an earlier cycle.
+        // After a successful start the stored settings are the running settings, and nothing remains of an earlier
+        // cycle.
         ensures starts { IfOk result (λ device. StartsWith (F.image flash) device.live.values.stored device.live.values.room) }
         ensures fresh { IfOk result (λ device. device.live ≡ started device.live.values.stored device.live.values.room) }
         ensures station { IfOk result (λ device. device.station ≡ record { identity = identity; real = real }) }
@@ -97,7 +98,7 @@ impl<F: Flash<S>, const S: usize> Device<F, S> {
         }
     }
 
-    /// The active settings.
+    /// The running settings.
     pub fn running(&self) -> &Settings
         ensures { result.now ≡ self.now.live.values.running }
     {

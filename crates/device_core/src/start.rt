@@ -53,7 +53,8 @@ impl<F: Flash<S>, const S: usize> Device<F, S> {
 
     /// Starts in place, from the content of the flash, and writes nothing. After a refusal nothing is stored.
     pub fn load(&mut self) -> Result<(), BootFault>
-        // After a successful start the stored settings are active, and nothing remains of an earlier cycle.
+        // After a successful start the stored settings are the running settings, and nothing remains of an earlier
+        // cycle.
         ensures starts { OnOk result (StartsWith (F.image self.old.flash) self.new.live.values.stored self.new.live.values.room) }
         ensures fresh { OnOk result (self.new.live ≡ started self.new.live.values.stored self.new.live.values.room) }
         ensures refused { OnErr result (self.new.live.values.has_failed ≡ true) }

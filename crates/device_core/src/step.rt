@@ -55,8 +55,8 @@ impl<F: Flash<S>, const S: usize> Device<F, S> {
         ensures goes_on { StepGoesOn self.old.station self.old.live (heard_of self.old.station.identity event.now) (boxed outbox.new) result
             self.new.live }
 
-        // An event that is not `Done` changes nothing and sends nothing. An Identify request changes nothing; if it matches,
-        // it is answered, only with the identity and the active settings.
+        // An event that is not `Done` changes nothing and sends nothing. An Identify request changes nothing; if it
+        // matches, it is answered, only with the identity and the running settings.
         ensures refused { result ≢ Note.Done → (self.new ≡ self.old) × (outbox.new.items ≡ []) }
         ensures identify { (asker : Mac) (request : Asked) → heard_of self.old.station.identity event.now ≡ Asks asker request →
             request.service ≡ Service.Identify →

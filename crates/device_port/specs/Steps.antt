@@ -67,7 +67,8 @@ pub record Leaves (old new : State) : Type 0 where
   pub station : new.device.station ≡ old.device.station
   pub idle : IsIdle new
 
--- The device started: the settings that the chip is read as are active, and nothing else remains of an earlier cycle.
+-- The device started: the running settings are those that the chip is read as, and nothing else remains of an earlier
+-- cycle.
 pub record Starts (old new : State) : Type 0 where
   pub stage : new.stage ≡ Booted
   pub leaves : Leaves old new

@@ -257,7 +257,7 @@ impl Port {
 
     // ---- what it reports
 
-    /// The active settings.
+    /// The running settings.
     pub fn running(&self) -> Result<&Settings, Refusal>
         ensures { MatchResult result (λ settings. (closed self.now.stage ≡ None)
             × (settings.now ≡ self.now.device.live.values.running)) (λ refusal. closed self.now.stage ≡ Some refusal) }
