@@ -264,7 +264,7 @@ turned setup live (Alarms source header notice) = alarmed live source header not
 abbrev pub is_again : Live → Bool
 is_again live = live.waited + 1 == 32000
 
--- The state after a unit of time.
+-- The timer of the request and CycleCounter a unit later.
 abbrev pub later : Live → Live
 later live = record live { waited = if is_again live then 0 else live.waited + 1; units = (live.units + 1) % 65536 }
 
