@@ -5,7 +5,7 @@ use Rattle.std.proofs.lemmas.Slice.{drop-append-drop}
 use Rattle.c_layout.specs.declared.op.Op.{Op}
 use Rattle.c_layout.specs.Told.{with_octets}
 
--- the room, where octets stand in front already
+-- The memory, if it already begins with octets.
 pub both : (before octets room : List ℕ)
     → (take (length before) (before ++ drop (length before) room) ++ octets) ++ drop (length before + length octets) (before ++ drop (length before) room)
     ≡ (before ++ octets) ++ drop (length before + length octets) room
@@ -16,7 +16,7 @@ both before octets room =
     ap (λ xs. (xs ++ octets) ++ drop (length before + length octets) (before ++ drop (length before) room)) front
     ∙ ap (λ xs. (before ++ octets) ++ xs) rest
 
--- so the operation has both
+-- The operation has both.
 pub more : (before octets : List ℕ) (asked old new : Op)
     → new ≡ record old { length = old.length + length octets; octets = (take old.length old.octets ++ octets) ++ drop (old.length + length octets) old.octets }
     → old ≡ with_octets before asked → new ≡ with_octets (before ++ octets) asked

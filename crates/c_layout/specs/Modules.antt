@@ -1,4 +1,4 @@
--- What is plugged in a station, as a host writes it down.
+-- The modules that are plugged in a station, as a host writes them.
 use Rattle.std.specs.Prelude.{◌&&◌, Bool, nat_le, List, take, map}
 use Rattle.std.specs.List.{list_all}
 use Rattle.pn_values.specs.declared.real.ParameterRecord.{ParameterRecord}
@@ -8,7 +8,7 @@ use Rattle.c_layout.specs.declared.plugged.Module.{Module}
 use Rattle.c_layout.specs.declared.plugged.Parameter.{Parameter}
 use Rattle.c_layout.specs.declared.plugged.Submodule.{Submodule}
 
--- ---- lists of which the first so many count
+-- ---- lists in which only the counted items are valid
 
 abbrev pub parameters_in : Submodule → List Parameter
 parameters_in submodule = take submodule.parameter_count submodule.parameters
@@ -16,7 +16,7 @@ parameters_in submodule = take submodule.parameter_count submodule.parameters
 abbrev pub submodules_in : Module → List Submodule
 submodules_in plugged = take plugged.submodule_count plugged.submodules
 
--- ---- no count is more than its list holds
+-- ---- no count is greater than its list can hold
 
 abbrev pub is_submodule : Submodule → Bool
 is_submodule submodule = nat_le submodule.parameter_count 2
@@ -24,7 +24,7 @@ is_submodule submodule = nat_le submodule.parameter_count 2
 abbrev pub is_module : Module → Bool
 is_module plugged = nat_le plugged.submodule_count 4 && list_all is_submodule (submodules_in plugged)
 
--- ---- what they are
+-- ---- the values
 
 abbrev pub parameter_of : Parameter → ParameterRecord
 parameter_of parameter = record { index = parameter.index; length = parameter.length }

@@ -1,4 +1,4 @@
-//! What lies in a host's memory where C calls a library: one operation, and what is plugged in a station.
+//! The values in a host's memory when C calls a library: one operation, and the modules that are plugged in a station.
 #![tactic(auto)]
 
 mod op;

@@ -3,32 +3,33 @@ ghost use Rattle.std.specs.Prelude.{◌≡◌, ◌+◌, ◌≤◌, ◌++◌, ℕ
 ghost use Rattle.c_layout.specs.Places.{place_in};
 ghost use Rattle.c_layout.specs.Told.{with_octets};
 
-/// One operation: what is asked, and what is answered.
+/// One operation: what is asked, and what is returned.
 #[repr(C)]
 #[derive(Drop)]
 pub struct Op {
-    /// Which operation.
+    /// The number of the operation.
     pub what: u32,
     pub slot: u32,
     pub subslot: u32,
-    /// Units of time: those that go by, then those that are left; or for how many the lamp still flashes.
+    /// Units of time: the number that must pass, then the number that remains; or the number for which the lamp still
+    /// flashes.
     pub units: u32,
-    /// What became of an event.
+    /// The outcome of an event.
     pub note: u32,
-    /// What the application relation waits for, 0 where there is none.
+    /// The phase of the application relation, 0 if there is none.
     pub phase: u32,
     /// The kind of a piece of work.
     pub work: u32,
-    /// 0 or 1.
+    /// The sector, 0 or 1.
     pub sector: u32,
     /// The first octet of a program call in its sector.
     pub place: u32,
-    /// How many of the octets count.
+    /// The number of valid octets in `octets`.
     pub length: u32,
     pub octets: [u8; 1520],
 }
 
-/// The slot and subslot that are asked for, where they are numbers of 16 bits.
+/// The slot and subslot that are asked for, if both are numbers of 16 bits.
 pub fn place_of(op: &Op) -> Option<(u16, u16)>
     ensures { result ≡ place_in op.now.slot op.now.subslot }
 {
@@ -39,7 +40,7 @@ pub fn place_of(op: &Op) -> Option<(u16, u16)>
     }
 }
 
-/// Octets that an operation is answered with. Those after them are unchanged.
+/// Sets the octets that an operation returns. Those after them are unchanged.
 pub fn put(op: &mut Op, octets: &[u8])
     requires { length octets.now ≤ 1520 }
     ensures { op.new ≡ with_octets octets.now op.old }
@@ -48,7 +49,7 @@ pub fn put(op: &mut Op, octets: &[u8])
     put_more(op, octets);
 }
 
-/// Octets after those that an operation is answered with already.
+/// Appends octets to those that an operation returns already.
 pub fn put_more(op: &mut Op, octets: &[u8])
     requires { op.old.length + length octets.now ≤ 1520 }
     ensures { (before : List ℕ) (asked : Op) → op.old ≡ with_octets before asked → op.new ≡ with_octets (before ++ octets.now) asked }
@@ -59,7 +60,7 @@ pub fn put_more(op: &mut Op, octets: &[u8])
     op.length = end as u32;
 }
 
-// Writes octets from a place on, and leaves those before and after them.
+// Writes octets at a position, and leaves those before and after them.
 fn write_at(room: &mut [u8], start: usize, octets: &[u8])
     requires { start + length octets.now ≤ length room.old }
     ensures { room.new ≡ (take start room.old ++ octets.now) ++ drop (start + length octets.now) room.old }

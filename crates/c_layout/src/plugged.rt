@@ -1,4 +1,4 @@
-//! What is plugged in a station, as it lies in the memory of the host.
+//! The modules that are plugged in a station, as they lie in the memory of the host.
 ghost use Rattle.std.specs.Prelude.{◌≡◌, ◌≤◌, true, length, map};
 ghost use Rattle.std.specs.List.{list_all};
 ghost use Rattle.c_layout.specs.Modules.{is_module, is_submodule, module_of, parameter_of, submodule_of, submodules_in};
@@ -6,7 +6,7 @@ ghost use Rattle.c_layout.specs.Modules.{is_module, is_submodule, module_of, par
 use arrayvec::ArrayVec;
 use pn_values::{ParameterRecord, RealModule, RealSubmodule};
 
-/// A parameter record that a submodule takes.
+/// A parameter record that a submodule accepts.
 #[repr(C)]
 #[derive(Drop)]
 pub struct Parameter {
@@ -36,7 +36,7 @@ pub struct Module {
     pub submodules: [Submodule; 4],
 }
 
-/// Whether no count of these modules is more than its list holds.
+/// Whether no count of these modules is greater than its list can hold.
 pub fn are_modules(modules: &[Module]) -> bool
     ensures { result ≡ list_all is_module modules.now }
 {
@@ -66,7 +66,7 @@ fn are_submodules(submodules: &[Submodule]) -> bool
     true
 }
 
-/// What these modules are.
+/// The modules as values. There are at most 16, and no count is greater than its list can hold.
 pub fn modules(written: &[Module]) -> ArrayVec<RealModule, 16>
     requires few { length written.now ≤ 16 }
     requires small { list_all is_module written.now ≡ true }

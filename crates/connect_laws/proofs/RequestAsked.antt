@@ -44,7 +44,7 @@ use Rattle.connect_laws.proofs.RequestFold.{AreTaken, IsTaken, as_many, block_le
 
 -- ---- what was read so far
 
--- with these communication relations, and these modules expected
+-- With these communication relations, and these modules expected.
 abbrev sofar_with : Option IocrBlockReq → Option IocrBlockReq → Bool → Option AlarmCr → Bool → List ExpectedModule → List ExpectedSubmodule → Sofar
 sofar_with input output first alarm has modules submodules = record {
   input = input;
@@ -57,7 +57,7 @@ sofar_with input output first alarm has modules submodules = record {
 
 -- ---- what is expected, slot by slot
 
--- no module is expected in the slot yet
+-- No module is expected in the slot yet.
 abbrev IsFree : List ExpectedModule → RealModule → Type 0
 IsFree before entry = list_any (λ (other : ExpectedModule). other.slot_number == entry.slot) before ≡ false
 
@@ -142,7 +142,7 @@ data_counted entry modules =
     length-append (data_in_slot entry.slot entry.submodules.items) (data_of modules)
     ∙ ap (λ (n : ℕ). n + length (data_of modules)) (counted_in_slot entry.slot entry.submodules.items)
 
--- some are expected where there is a module
+-- Some module is expected if there is a module.
 abbrev has_some : List RealModule → Bool → Bool
 has_some [] has = has
 has_some (entry ∷ modules) has = true
@@ -216,7 +216,7 @@ module _ (parts : Parts) (ar : List ℕ) where
   abbrev others : List Block
   others = is.IocrBlockReq input ∷ is.IocrBlockReq output ∷ is.AlarmCrBlockReq alarm_block ∷ expected_blocks modules
 
-  -- all that is read behind the ARBlockReq
+  -- All that is read after the ARBlockReq.
   abbrev last : Sofar
   last = sofar_with (Some input) (Some output) true (Some (alarm_of alarm_block)) true (map module_of modules) (submodules_in modules)
 
@@ -341,13 +341,13 @@ module _ (parts : Parts) (ar : List ℕ) where
 
 -- ---- by the laws of the crates below
 
--- places that are a layout are taken as they are
+-- Places that are a layout are accepted as they are.
 abbrev AreTakenAsLayouts : Type 0
 AreTakenAsLayouts =
     (size : ℕ) (direction : IocrType) (expected : List ExpectedData) (places : List Place) → IsLayout size direction expected places
     → layout_at size direction expected places ≡ Ok (record { data_length = size; places = places })
 
--- a plan asks for its packed places
+-- A plan asks for its packed places.
 abbrev ArePacked : Type 0
 ArePacked =
     (direction : IocrType) (modules : List RealModule) → AreOrdered modules
@@ -355,7 +355,7 @@ ArePacked =
     (map object_of (packed direction Iocs (octets_of direction Data (data_of modules)) (data_of modules)))
     ≡ packed_places direction (data_of modules)
 
--- they are a layout
+-- They are a layout.
 abbrev AreLayouts : Type 0
 AreLayouts =
     (direction : IocrType) (modules : List RealModule) → AreOrdered modules

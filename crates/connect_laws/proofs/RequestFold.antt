@@ -1,4 +1,4 @@
--- Octets that are blocks, one behind the other, are taken block by block.
+-- Octets that are a sequence of blocks are read block by block.
 use Rattle.std.proofs.Common.{◌≡◌, ℕ, zero, suc, ◌<◌, ◌≤◌, ◌^◌, ◌==◌, ◌&&◌, Bool, false, not, List, [], ◌∷◌, ◌++◌, length, is_some, Result, Ok, append_assoc, length-append, refl, ap, ◌∙◌, arith}
 use Rattle.std.proofs.lemmas.Bool.{eqb-true, false_from_ne_true, le-ltb}
 use Rattle.byteorder.specs.Endian.{big_bytes, big_number}
@@ -14,7 +14,7 @@ use Rattle.connect_requests.specs.Pieces.{Piece, behind, block_in, piece_at, pie
 use Rattle.connect_requests.specs.Judged.{Sofar, is_further, well_formed, with_block, with_piece, with_pieces}
 use Rattle.plans.specs.Connect.{IsRead, bytes_of}
 
--- ---- what stands in front of a block
+-- ---- what a block begins with
 
 front_of : (value : Block) → (tail : List ℕ) × (block_bytes value ≡ big_bytes 2 (number_of (kind_of value)) ++ (big_bytes 2 ((body_of (type_of (number_of (kind_of value)))).size value) ++ tail))
 unfolding block_bytes block
@@ -40,7 +40,7 @@ four_at_least value rest =
     let e = ap (λ (xs : List ℕ). length xs) front.1 in
     omega (arith, all, one, two, a, b, e)
 
--- so there are at least as many octets as blocks
+-- There are at least as many octets as blocks.
 pub as_many : (blocks : List Block) → length blocks ≤ length (bytes_of blocks)
 as_many [] = omega arith
 as_many (value ∷ blocks) =
@@ -56,7 +56,7 @@ passes : {A : Type 0} (a b c : Bool) (x y z : CallFault) (otherwise : Result A C
     → judged ((a, x) ∷ (b, y) ∷ (c, z) ∷ []) otherwise ≡ otherwise
 passes a b c x y z otherwise e f g = rw (e, f, g) refl
 
--- a block that is taken: it is read as it, it may stand there, and with it what was read so far becomes this
+-- A block that is accepted: it is read as it was written, it may occur there, and the state with it becomes this.
 pub record IsTaken (sofar : Sofar) (value : Block) (next : Sofar) : Type 0 where
   pub read : IsRead value
   pub short : number_of (kind_of value) < 256 ^ 2
@@ -105,7 +105,7 @@ pub block_left : (most : ℕ) (value : Block) (rest : List ℕ) → IsRead value
 block_left most value rest read =
     one_left most (block_bytes value ++ rest) rest (some_octets (block_bytes value ++ rest) (four_at_least value rest)) (let e = read rest in rw e refl)
 
--- each block is taken in its turn
+-- Each block is accepted in its turn.
 abbrev pub AreTaken : Sofar → List Block → Sofar → Type 0
 AreTaken sofar [] last = sofar ≡ last
 AreTaken sofar (value ∷ blocks) last = (next : Sofar) × IsTaken sofar value next × AreTaken next blocks last

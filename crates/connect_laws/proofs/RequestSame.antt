@@ -17,7 +17,7 @@ use Rattle.connect_requests.specs.Layouts.{data_in_slot as asked_in_slot, data_o
 use Rattle.plans.specs.Parts.{AreOrdered, IsRising, data_in_slot, data_of, io_data_of, module_of, submodule_of, subslots_of}
 use Rattle.connect_laws.specs.request.Request.{expected_of, no_rows, submodules_in}
 
--- ---- its own submodules stand in front of those of the modules behind it
+-- ---- its own submodules come before those of the modules after it
 
 pub own_taken : (parts : List RealSubmodule) (behind : List ExpectedSubmodule) → take (length parts) (map submodule_of parts ++ behind) ≡ map submodule_of parts
 own_taken parts behind =

@@ -1,5 +1,5 @@
-//! What a device reads of the Connect of a plan (IEC 61158-6-10, 5.2.4): exactly what the plan asks for, and where the device has
-//! the plan's modules, none of them differs.
+//! What a device reads from the Connect of a plan (IEC 61158-6-10, 5.2.4): exactly what the plan asks for. If the
+//! device has the plan's modules, none of them differs.
 
 mod law;
 

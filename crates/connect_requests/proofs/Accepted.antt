@@ -1,4 +1,4 @@
--- What is taken of a block that is accepted is in its ranges.
+-- The values from a block that is accepted are in their ranges.
 use Rattle.std.proofs.Common.{◌≡◌, ◌==◌, ◌||◌, ◌&&◌, ◌*◌, ◌≤◌, ℕ, Bool, true, false, inl, inr, refl, sym, ◌∙◌}
 use Rattle.std.specs.Prelude.{nat_le}
 use Rattle.std.proofs.lemmas.Bool.{cases_Bool, true≢false}
@@ -23,7 +23,7 @@ ar_in_range block is = record { timeout_least = is.least; timeout_greatest = is.
 pub alarm_in_range : (block : AlarmCrBlockReq) → IsAlarmCrBlockReq block → IsAlarmCr (alarm_of block)
 alarm_in_range block is = record { timeout = is.timeout; retries_least = is.retries_least; retries_greatest = is.retries_greatest }
 
--- one of two that is not the last is the first
+-- If one of two holds and it is not the last, it is the first.
 first_of_two : (a b : Bool) → (a || b) ≡ true → b ≡ false → a ≡ true
 first_of_two true b some none = refl
 first_of_two false b some none = absurd (true≢false (sym some ∙ none))
@@ -32,7 +32,7 @@ chosen_cyclic : (class : RtClass) → is_frame_id Input (chosen_id class) ≡ tr
 chosen_cyclic Class1 = refl
 chosen_cyclic Class2 = refl
 
--- a FrameID that is given is one of cyclic frames
+-- A FrameID that is assigned is one of cyclic frames.
 given_cyclic : (kind : IocrType) (class : RtClass) (id : ℕ) → is_frame_id kind id ≡ true → is_frame_id Input (given_id kind class id) ≡ true
 given_cyclic Input class id is = is
 given_cyclic Output class id is =
@@ -52,6 +52,6 @@ iocr_in_range block layout is = record {
   hold_greatest = is.hold_greatest;
 }
 
--- the interval, in units of 31.25 microseconds
+-- The interval, in units of 31.25 microseconds.
 pub interval_few : (clock ratio : ℕ) → clock ≤ 128 → ratio ≤ 512 → clock * ratio ≤ 65536
 interval_few clock ratio short few = mul-le clock ratio 128 512 short few

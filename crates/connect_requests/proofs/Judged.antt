@@ -1,4 +1,4 @@
--- Places that were judged.
+-- Places that were checked.
 use Rattle.std.proofs.Common.{◌≡◌, inl, inr, ℕ, ◌+◌, ◌-◌, ◌<◌, ◌≤◌, ◌==◌, ◌&&◌, ◌||◌, Bool, true, false, cond, List, [], ◌∷◌, Option, Some, None, is_some, option_and_then, Ok, Err, min, max, refl, arith}
 use Rattle.std.specs.List.{list_any, AllByRecursion}
 use Rattle.std.proofs.lemmas.Bool.{cases_Bool, false≢true, and_parts, or_left, or_right, or_from, eqb-true, lt-ltb, le-ltb, ltb-true, false_from_ne_true}

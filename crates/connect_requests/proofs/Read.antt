@@ -20,7 +20,7 @@ pub one_left : (most : ℕ) (bytes : List ℕ) → (length bytes == 0) ≡ false
 unfolding pieces_in
 one_left most bytes some = rw some refl
 
--- nothing is left: what was read is all
+-- No octet remains: what was read is all.
 pub ends : (sofar : Sofar) (most : ℕ) (bytes : List ℕ) → (length bytes == 0) ≡ true → with_pieces sofar (pieces_in most bytes) ≡ Ok sofar
 unfolding with_pieces
 ends sofar most bytes empty = rw (none_left most bytes empty) refl
@@ -29,7 +29,7 @@ pub out_of : (sofar : Sofar) (most : ℕ) (bytes : List ℕ) → most ≡ 0 → 
 unfolding with_pieces pieces_in
 out_of sofar most bytes none = rw none refl
 
--- one more block
+-- One more block.
 pub goes_on : (sofar next : Sofar) (more most : ℕ) (bytes : List ℕ) → more ≡ suc most → (length bytes == 0) ≡ false → with_piece sofar (piece_at bytes) ≡ Ok next
     → with_pieces sofar (pieces_in more bytes) ≡ with_pieces next (pieces_in most (behind (block_of bytes)))
 unfolding with_pieces
@@ -40,9 +40,9 @@ pub stops : (sofar : Sofar) (fault : CallFault) (more most : ℕ) (bytes : List 
 unfolding with_pieces
 stops sofar fault more most bytes count some refused = rw (count, one_left most bytes some, refused) refl
 
--- ---- behind the first block
+-- ---- after the first block
 
--- a draft of nothing beside an empty table
+-- An empty draft and an empty table.
 pub from_nothing : (draft : Draft) (expected : Expected) → ((e : Expected) → sofar_of draft e ≡ record nothing { expected = e }) → expected ≡ nothing.expected
     → sofar_of draft expected ≡ nothing
 from_nothing draft expected h e = h expected ∙ ap (λ (x : Expected). record nothing { expected = x }) e

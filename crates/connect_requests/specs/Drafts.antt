@@ -1,4 +1,4 @@
--- What was read of a Connect so far, where it lies.
+-- What was read of a Connect so far, in place.
 use Rattle.std.specs.Prelude.{IfSome}
 use Rattle.connect_blocks.specs.Iocr.{IsIocrBlockReq}
 use Rattle.module_diff.specs.declared.expected.Expected.{Expected}
@@ -6,7 +6,7 @@ use Rattle.connect_requests.specs.declared.draft.Draft.{Draft}
 use Rattle.connect_requests.specs.Judged.{Sofar}
 use Rattle.connect_requests.specs.Request.{IsAlarmCr}
 
--- what the blocks behind the ARBlockReq said so far
+-- What the blocks after the ARBlockReq contained so far.
 abbrev pub sofar_of : Draft → Expected → Sofar
 sofar_of draft expected = record {
   input = draft.input;
@@ -17,7 +17,7 @@ sofar_of draft expected = record {
   expected = expected;
 }
 
--- what was read so far is in its ranges
+-- What was read so far is in its ranges.
 pub record AreAccepted (draft : Draft) : Type 0 where
   pub input : IfSome draft.input (λ block. IsIocrBlockReq block)
   pub output : IfSome draft.output (λ block. IsIocrBlockReq block)

@@ -1,5 +1,5 @@
--- In which order the blocks of a Connect are judged (IEC 61158-6-10, 5.2.4 and 5.2.6): the ARBlockReq first, then the others as
--- they stand, then which are missing, and then the layouts.
+-- The order in which the blocks of a Connect are checked (IEC 61158-6-10, 5.2.4 and 5.2.6): the ARBlockReq first, then
+-- the others in their order, then which are missing, and then the layouts.
 use Rattle.std.specs.Prelude.{◌+◌, ◌==◌, ◌&&◌, ◌||◌, ℕ, Bool, true, false, not, List, [], ◌∷◌, ◌++◌, length, nat_eq, nat_lt, Option, Some, None, is_some, Result, Ok, Err, if◌then◌else◌}
 use Rattle.std.specs.List.{list_any}
 use Rattle.std.specs.Cmp.Lexicographic.{pointwise}
@@ -30,8 +30,8 @@ use Rattle.connect_requests.specs.Request.{Request, ar_of, alarm_of, iocr_of}
 
 -- ---- the form of a block
 
--- the field that a block's fault is one of: the version and each field are counted, and BlockLength is field 1, which is wrong too
--- where octets or entries are more or fewer than there may be
+-- The number of the field that a block's fault is in. The version and each field are counted. BlockLength is field 1;
+-- it is also wrong if there are more or fewer octets or entries than allowed.
 abbrev pub field_of : BlockFault → ℕ
 field_of (form.Version field) = field
 field_of (form.Field field) = field
@@ -40,7 +40,7 @@ field_of form.Kind = 1
 field_of form.Length = 1
 field_of form.Count = 1
 
--- the fault of a call one of whose blocks, of this BlockType, has this fault
+-- The fault of a call if one of its blocks, of this BlockType, has this fault.
 abbrev pub faulty : ℕ → BlockFault → CallFault
 faulty number form =
     if number == number_of kind.ArBlockReq then fault.ArField (field_of form)
@@ -48,23 +48,23 @@ faulty number form =
     else if number == number_of kind.AlarmCrBlockReq then fault.AlarmCrField (field_of form)
     else fault.ExpectedField (field_of form)
 
--- a block, or the fault of the call
+-- A block, or the fault of the call.
 abbrev pub well_formed : ℕ → Result Block BlockFault → Result Block CallFault
 well_formed number (Ok block) = Ok block
 well_formed number (Err form) = Err (faulty number form)
 
 -- ---- the first block
 
--- the relation that stands is the one that is asked for, or another one
+-- The existing relation is the one that is asked for, or another one.
 abbrev pub conflict : List ℕ → List ℕ → CallFault
 conflict standing asked = if pointwise nat_eq asked standing then fault.RelationExists else fault.OtherRelationExists
 
--- no relation is made while one stands
+-- No relation is established while one exists.
 abbrev pub admitted : Option (List ℕ) → Ar → Result (Unit {0}) CallFault
 admitted None ar = Ok tt
 admitted (Some standing) ar = Err (conflict standing ar.uuid)
 
--- an ARBlockReq
+-- An ARBlockReq.
 unfoldable pub ar_in : Piece → Result Ar CallFault
 ar_in piece = judged
     ((nat_lt piece.left 4, fault.BlockHeader)
@@ -74,7 +74,7 @@ ar_in piece = judged
 
 -- ---- the other blocks
 
--- what the blocks behind the ARBlockReq said so far
+-- What the blocks after the ARBlockReq contained so far.
 pub record Sofar : Type 0 where
   pub input : Option IocrBlockReq
   pub output : Option IocrBlockReq
@@ -83,7 +83,7 @@ pub record Sofar : Type 0 where
   pub has_expected : Bool
   pub expected : Expected
 
--- before the first of them
+-- The state before the first of them.
 abbrev pub nothing : Sofar
 nothing = record {
   input = None;
@@ -94,12 +94,12 @@ nothing = record {
   expected = record { modules = record { items = [] }; submodules = record { items = [] } };
 }
 
--- the types that there are
+-- The types that may follow.
 abbrev pub is_further : ℕ → Bool
 is_further number =
     number == number_of kind.IocrBlockReq || number == number_of kind.AlarmCrBlockReq || number == number_of kind.ExpectedSubmoduleBlockReq
 
--- whether there was an IOCRBlockReq of this type, and one more
+-- Whether there was an IOCRBlockReq of this type, and the state with one more.
 abbrev pub has_iocr : Sofar → IocrType → Bool
 has_iocr sofar Input = is_some sofar.input
 has_iocr sofar Output = is_some sofar.output
@@ -108,11 +108,12 @@ abbrev pub with_iocr : Sofar → IocrBlockReq → IocrType → Sofar
 with_iocr sofar block Input = record sofar { input = Some block; input_first = not (is_some sofar.output) }
 with_iocr sofar block Output = record sofar { output = Some block }
 
--- whether one of these modules is in a slot in which one is expected already
+-- Whether one of these modules is in a slot for which a module is already expected.
 abbrev pub repeats_slot : List ExpectedModule → List ExpectedModule → Bool
 repeats_slot before modules = list_any (λ entry. list_any (λ other. other.slot_number == entry.slot_number) before) modules
 
--- what is expected with one more ExpectedSubmoduleBlockReq: each slot once, and at most 64 modules and 64 submodules in all
+-- What is expected with one more ExpectedSubmoduleBlockReq: each slot once, and at most 64 modules and 64 submodules in
+-- all.
 abbrev pub expected_with : Expected → Listed ExpectedModule ExpectedSubmodule → Result Expected CallFault
 expected_with before block = judged
     ((repeats_slot before.modules.items block.modules, fault.ExpectedField 6)
@@ -124,7 +125,7 @@ expected_with before block = judged
       submodules = record { items = before.submodules.items ++ block.submodules };
     }))
 
--- with one more block that reads; each IOCRType stands once
+-- The state with one more block that was read without a fault. Each IOCRType may occur once.
 abbrev pub with_block : Sofar → Block → Result Sofar CallFault
 with_block sofar (is.IocrBlockReq block) =
     judged ((has_iocr sofar block.iocr_type, fault.IocrField 4) ∷ []) (Ok (with_iocr sofar block block.iocr_type))
@@ -133,7 +134,8 @@ with_block sofar (is.ExpectedSubmoduleBlockReq block) =
     expected_with sofar.expected block.modules >>= λ expected. Ok (record sofar { has_expected = true; expected = expected })
 with_block sofar _ = Err fault.BlockType
 
--- one more block: its header, its type, that it may stand there, its form, and then what it says
+-- One more block. Its header is checked first, then its type, then whether it may occur there, its form, and last its
+-- content.
 unfoldable pub with_piece : Sofar → Piece → Result Sofar CallFault
 with_piece sofar piece = judged
     ((nat_lt piece.left 4, fault.BlockHeader)
@@ -142,14 +144,14 @@ with_piece sofar piece = judged
     ∷ [])
     (well_formed piece.number piece.found >>= λ block. with_block sofar block)
 
--- all of them
+-- All blocks.
 unfoldable pub with_pieces : Sofar → List Piece → Result Sofar CallFault
 with_pieces sofar [] = Ok sofar
 with_pieces sofar (piece ∷ pieces) = with_piece sofar piece >>= λ next. with_pieces next pieces
 
--- ---- behind the last block
+-- ---- after the last block
 
--- which blocks are missing, and the layouts, that of the first IOCRBlockReq before that of the second
+-- Which blocks are missing, and the layouts, that of the first IOCRBlockReq before that of the second.
 unfoldable pub request_with : Ar → Sofar → Result Request CallFault
 request_with ar sofar =
     judged ((not sofar.has_expected, fault.BlockMissing) ∷ []) (or_fault fault.IocrMissing sofar.input) >>= λ input.
@@ -167,16 +169,17 @@ request_with ar sofar =
 
 -- ---- the whole
 
--- the blocks behind the ARBlockReq
+-- The blocks after the ARBlockReq.
 unfoldable pub request_behind : Ar → List Piece → Result Request CallFault
 request_behind ar pieces = with_pieces nothing pieces >>= λ sofar. request_with ar sofar
 
--- all blocks
+-- All blocks.
 unfoldable pub request_in : Option (List ℕ) → List Piece → Result Request CallFault
 request_in standing [] = Err fault.BlockMissing
 request_in standing (piece ∷ pieces) =
     ar_in piece >>= λ ar. admitted standing ar >>= λ _. request_behind ar pieces
 
--- what the blocks of a Connect ask for, while the relation of this ARUUID stands, if any, or their first fault
+-- What the blocks of a Connect ask for, or their first fault. The first argument is the ARUUID of the existing
+-- relation, if any.
 unfoldable pub request_of : Option (List ℕ) → List ℕ → Result Request CallFault
 request_of standing blocks = request_in standing (pieces_of blocks)

@@ -14,8 +14,8 @@ use Rattle.connect_requests.specs.declared.parts.Ar.{Ar}
 use Rattle.connect_requests.specs.declared.parts.Iocr.{Iocr}
 use Rattle.connect_requests.specs.declared.parts.AlarmCr.{AlarmCr}
 
--- what is asked for: the relation, the communication relations of inputs, of outputs and of alarms, which of the first two was
--- asked for first, and what is expected to be plugged
+-- What is asked for: the relation, the communication relations of inputs, of outputs and of alarms, which of the first
+-- two was asked for first, and the modules and submodules that are expected.
 pub record Request : Type 0 where
   pub ar : Ar
   pub input_first : Bool
@@ -24,7 +24,7 @@ pub record Request : Type 0 where
   pub alarm : AlarmCr
   pub expected : Expected
 
--- ---- what is wanted of each block
+-- ---- the fields of each block that are used
 
 abbrev pub ar_of : ArBlockReq → Ar
 ar_of block = record {
@@ -44,12 +44,12 @@ alarm_of block = record {
   tag_low = block.tag_header_low;
 }
 
--- the FrameID that the device chooses for a class
+-- The FrameID that the device chooses for a class.
 abbrev pub chosen_id : RtClass → ℕ
 chosen_id Class1 = 0xC000
 chosen_id Class2 = 0x8000
 
--- the FrameID that is given: an output may leave the choice to the device
+-- The FrameID that is assigned: an output may leave the choice to the device.
 abbrev pub given_id : IocrType → RtClass → ℕ → ℕ
 given_id Input class id = id
 given_id Output class id = if id == 0xFFFF then chosen_id class else id
@@ -85,7 +85,7 @@ pub record IsAlarmCr (alarm : AlarmCr) : Type 0 where
   pub retries_least : 1 ≤ alarm.retries
   pub retries_greatest : alarm.retries ≤ 15
 
--- all of a request
+-- All parts of a request.
 pub record IsRequest (request : Request) : Type 0 where
   pub ar : IsAr request.ar
   pub input : IsIocr request.input

@@ -1,4 +1,4 @@
-//! The blocks behind the ARBlockReq, one behind the other.
+//! The blocks that follow the ARBlockReq.
 ghost use Rattle.std.specs.Prelude.{◌≡◌, IfOk};
 ghost use Rattle.wire.specs.Codec.{Gives};
 ghost use Rattle.wire.specs.Formats.{big_number};
@@ -17,7 +17,7 @@ use module_diff::Expected;
 use records::CallFault;
 use wire::u16_at;
 
-/// What was read so far, but for what is expected to be plugged.
+/// What was read so far, except for the modules and submodules that are expected.
 #[derive(Drop)]
 pub(crate) struct Draft<'a> {
     pub(crate) input: Option<IocrBlockReq<'a>>,
@@ -27,18 +27,18 @@ pub(crate) struct Draft<'a> {
     pub(crate) has_expected: bool,
 }
 
-/// The field that a block's fault is one of.
+/// The number of the field that a block's fault is in.
 fn field_of(fault: BlockFault) -> u8
     ensures { result ≡ field_of fault }
 {
     match fault {
         BlockFault::Version(field) | BlockFault::Field(field) => field,
-        // A fault of no single field is told as one of BlockLength, field 1, which counts all of them.
+        // A fault that belongs to no single field is reported as one of BlockLength, field 1, which counts all of them.
         BlockFault::Truncated | BlockFault::Kind | BlockFault::Length | BlockFault::Count => 1,
     }
 }
 
-/// The fault of a Connect one of whose blocks, of this BlockType, has this fault.
+/// The fault of a Connect if one of its blocks, of this BlockType, has this fault.
 pub(crate) fn faulty(number: u16, fault: BlockFault) -> CallFault
     ensures { result ≡ faulty number fault }
 {
@@ -54,7 +54,7 @@ pub(crate) fn faulty(number: u16, fault: BlockFault) -> CallFault
     }
 }
 
-/// The block at the front, whose BlockType is this, and what is behind it.
+/// Reads the block at the start of the octets, which has this BlockType. Returns it and the octets after it.
 pub(crate) fn block_at(number: u16, bytes: &[u8]) -> Result<(Block<'_>, &[u8]), CallFault>
     ensures block { Gives (λ x. x.0) result (well_formed number (block_in (block_of bytes.now))) }
     ensures behind { IfOk result (λ x. x.1.now ≡ behind (block_of bytes.now)) }
@@ -66,7 +66,8 @@ pub(crate) fn block_at(number: u16, bytes: &[u8]) -> Result<(Block<'_>, &[u8]), 
     }
 }
 
-/// The same with room for an ExpectedSubmoduleBlockReq, which is made once for all blocks: one for each costs ten times as much.
+/// The same, with room for an ExpectedSubmoduleBlockReq. The room is made once for all blocks: one for each block costs
+/// ten times as much.
 fn block_within<'a>(
     number: u16,
     bytes: &'a [u8],
@@ -86,7 +87,7 @@ fn block_within<'a>(
     }
 }
 
-/// Whether a block of this type stands behind the ARBlockReq.
+/// Whether a block of this type may follow the ARBlockReq.
 fn is_further(number: u16) -> bool
     ensures { result ≡ is_further number }
 {
@@ -96,7 +97,7 @@ fn is_further(number: u16) -> bool
 }
 
 impl<'a> Draft<'a> {
-    /// Nothing.
+    /// An empty draft.
     pub(crate) fn new() -> Draft<'a>
         ensures nothing { (expected : Expected) → sofar_of result expected ≡ record nothing { expected = expected } }
         ensures accepted { AreAccepted result }
@@ -120,13 +121,13 @@ impl<'a> Draft<'a> {
         }
     }
 
-    /// One more IOCRBlockReq: each type stands once.
+    /// Adds one more IOCRBlockReq. Each type may occur once.
     fn add_iocr(&mut self, block: IocrBlockReq<'a>) -> Result<(), CallFault>
         ensures added { (expected : Expected) →
             Gives (λ _. sofar_of self.new expected) result (with_block (sofar_of self.old expected) (Block.IocrBlockReq block.entry)) }
         ensures accepted { AreAccepted self.old → IsAccepted (Block.IocrBlockReq block.entry) → AreAccepted self.new }
     {
-        // One input and one output: a relation here has no multicast and no further data.
+        // One input and one output: this device supports no multicast and no further data in a relation.
         if self.has_iocr(block.iocr_type) {
             return Err(CallFault::IocrField(4));
         }
@@ -140,7 +141,7 @@ impl<'a> Draft<'a> {
         Ok(())
     }
 
-    /// One more block that reads.
+    /// Adds one more block that was read without a fault.
     #[tactic(auto, using(crate::proofs::Accepted::alarm_in_range))]
     fn add_block(
         &mut self,
@@ -165,7 +166,7 @@ impl<'a> Draft<'a> {
         }
     }
 
-    /// Takes the block at the front of octets, and gives what is behind it.
+    /// Adds the block at the start of the octets. Returns the octets after it.
     #[tactic(auto, unfolding(crate::specs::Judged::with_piece))]
     fn add_piece(
         &mut self,
@@ -185,7 +186,7 @@ impl<'a> Draft<'a> {
         if !is_further(number) {
             return Err(CallFault::BlockType);
         }
-        // Before the block is read: a second one is refused whatever it says.
+        // This is checked before the block is read: a second one is refused whatever it contains.
         if number == BlockType::AlarmCrBlockReq.number() && self.alarm.is_some() {
             return Err(CallFault::AlarmCrRepeated);
         }
@@ -194,7 +195,7 @@ impl<'a> Draft<'a> {
         Ok(rest)
     }
 
-    /// Takes all the blocks in octets, at most so many.
+    /// Adds all blocks in the octets, at most `most`.
     pub(crate) fn add_pieces(
         &mut self,
         bytes: &'a [u8],

@@ -1,4 +1,4 @@
-//! What is expected to be plugged.
+//! The modules and submodules that are expected.
 ghost use Rattle.std.specs.Prelude.{◌≡◌, ◌==◌, ◌+◌, ◌≤◌, ◌++◌, [], drop, length, take};
 ghost use Rattle.std.specs.List.{list_any};
 ghost use Rattle.arrayvec.specs.ArrayVec.{array_vec_len};
@@ -20,7 +20,7 @@ pub(crate) struct Room {
 }
 
 impl Room {
-    /// Room, in which nothing is.
+    /// An empty room.
     pub(crate) fn new() -> Room {
         Room {
             modules: ArrayVec::new(),
@@ -29,7 +29,7 @@ impl Room {
     }
 }
 
-/// Nothing is expected any more.
+/// Removes all modules and submodules.
 pub(crate) fn clear(expected: &mut Expected)
     ensures { expected.new ≡ nothing.expected }
 {
@@ -37,14 +37,14 @@ pub(crate) fn clear(expected: &mut Expected)
     expected.submodules.clear();
 }
 
-/// Whether one of these modules is expected in a slot.
+/// Whether one of these modules is expected in this slot.
 fn has_slot(modules: &[ExpectedModule], slot: u16) -> bool
     ensures { result ≡ list_any (λ other. other.slot_number == slot) modules.now }
 {
     modules.iter().any(|other| other.slot_number == slot)
 }
 
-/// Whether one of these modules is in a slot in which one is expected already.
+/// Whether one of these modules is in a slot for which a module is already expected.
 fn repeats_slot(before: &[ExpectedModule], modules: &[ExpectedModule]) -> bool
     ensures { result ≡ repeats_slot before.now modules.now }
 {
@@ -53,8 +53,8 @@ fn repeats_slot(before: &[ExpectedModule], modules: &[ExpectedModule]) -> bool
         .any(|entry| has_slot(before, entry.slot_number))
 }
 
-/// Appends the modules of one more ExpectedSubmoduleBlockReq, if each slot stands once, and there are at most 64 modules and 64
-/// submodules in all.
+/// Appends the modules of one more ExpectedSubmoduleBlockReq, if each slot occurs once and there are at most 64 modules
+/// and 64 submodules in all.
 pub(crate) fn add_modules(
     block: &ExpectedSubmoduleBlockReq,
     room: &mut Room,
@@ -72,7 +72,8 @@ pub(crate) fn add_modules(
     )
 }
 
-/// Appends modules and their submodules, if each slot stands once, and there are at most 64 modules and 64 submodules in all.
+/// Appends modules and their submodules, if each slot occurs once and there are at most 64 modules and 64 submodules in
+/// all.
 fn append_modules(
     modules: &[ExpectedModule],
     submodules: &[ExpectedSubmodule],
@@ -83,7 +84,7 @@ fn append_modules(
     ensures { Gives (λ _. expected.new) result
         (expected_with expected.old (record { modules = modules.now; submodules = submodules.now })) }
 {
-    // Each block says all of its slots: a slot in two blocks would have two modules.
+    // Each block lists all of its slots: a slot in two blocks would have two modules.
     if repeats_slot(expected.modules.as_slice(), modules) {
         return Err(CallFault::ExpectedField(6));
     }
@@ -98,7 +99,7 @@ fn append_modules(
     Ok(())
 }
 
-/// So many submodules, or all where there are fewer, and those behind them.
+/// Splits off the first `count` submodules, or all if there are fewer. Returns these and the rest.
 fn split_own(
     submodules: &[ExpectedSubmodule],
     count: u16,
@@ -110,7 +111,7 @@ fn split_own(
     submodules.split_at(submodules.len().min(count as usize))
 }
 
-/// Appends what submodules in a slot have in cyclic frames. There must be room.
+/// Appends what the submodules in a slot have in cyclic frames. There must be room.
 fn push_data(parts: &mut ArrayVec<ExpectedData, 64>, slot: u16, own: &[ExpectedSubmodule])
     requires { array_vec_len parts.old + length own.now ≤ 64 }
     ensures items { parts.new.items ≡ parts.old.items ++ data_in_slot slot own.now }
@@ -125,7 +126,7 @@ fn push_data(parts: &mut ArrayVec<ExpectedData, 64>, slot: u16, own: &[ExpectedS
     }
 }
 
-/// Puts what all the submodules that are expected have in cyclic frames into an empty list.
+/// Fills an empty list with what all expected submodules have in cyclic frames.
 pub(crate) fn fill_data(parts: &mut ArrayVec<ExpectedData, 64>, expected: &Expected)
     requires { parts.old.items ≡ [] }
     ensures { parts.new.items ≡ data_of expected.now }

@@ -7,7 +7,7 @@ use block_codec::IocrBlockReq;
 use cyclic_data::{ExpectedData, Layout, LayoutFault};
 use records::CallFault;
 
-/// The fault of a Connect whose places have this fault.
+/// The fault of a Connect if its places have this fault.
 fn fault_of(fault: LayoutFault) -> CallFault
     ensures { result ≡ fault_of fault }
 {
@@ -19,7 +19,7 @@ fn fault_of(fault: LayoutFault) -> CallFault
     }
 }
 
-/// Puts the layout that an IOCRBlockReq asks for into its place, by what the submodules that are expected have in cyclic frames.
+/// Fills the layout that an IOCRBlockReq asks for, from what the expected submodules have in cyclic frames.
 #[inline(never)]
 fn fill_layout(
     block: &IocrBlockReq,
@@ -46,7 +46,7 @@ fn fill_layout(
     }
 }
 
-/// Puts the layouts of inputs and of outputs into their places, that of the first IOCRBlockReq before that of the second.
+/// Fills the layouts of inputs and of outputs, that of the first IOCRBlockReq before that of the second.
 pub(crate) fn fill_layouts(
     input_first: bool,
     input: &IocrBlockReq,
@@ -60,7 +60,7 @@ pub(crate) fn fill_layouts(
     ensures { Gives (λ _. (inputs.new, outputs.new)) result
         (in_order input_first (layout_of parts.now input.now) (layout_of parts.now output.now)) }
 {
-    // The first fault counts in the order of the blocks, and so does the fault of the layout that was asked for first.
+    // The first fault in the order of the blocks counts, so the layout that was asked for first is filled first.
     if input_first {
         fill_layout(input, parts, inputs)?;
         fill_layout(output, parts, outputs)?;

@@ -1,7 +1,8 @@
-//! What a Connect asks for (IEC 61158-6-10, 5.2.4): its blocks, judged in the order of the statuses (5.2.6). The ARBlockReq is
-//! first; behind it stand, in any order, the IOCRBlockReq of inputs and that of outputs, the AlarmCRBlockReq, and one or more
-//! ExpectedSubmoduleBlockReq. The first fault counts, and only behind all blocks it is judged which of them are missing, and
-//! whether each IOCRBlockReq has a place for what the submodules have.
+//! What a Connect asks for (IEC 61158-6-10, 5.2.4): its blocks, checked in the order of the statuses (5.2.6). The
+//! ARBlockReq is first. After it follow, in any order, the IOCRBlockReq of inputs and that of outputs, the
+//! AlarmCRBlockReq, and one or more ExpectedSubmoduleBlockReq. The first fault counts. Only after all blocks are read
+//! are two things checked: which blocks are missing, and whether each IOCRBlockReq has a place for the data of each
+//! submodule.
 #![tactic(auto)]
 
 mod draft;

@@ -1,4 +1,4 @@
-//! What is wanted of each block.
+//! The fields of each block that are used.
 ghost use Rattle.std.specs.Prelude.{◌≡◌, ◌≤◌, ◌*◌};
 ghost use Rattle.connect_requests.specs.Request.{alarm_of, ar_of, given_id, iocr_of, IsAlarmCr, IsAr, IsIocr};
 
@@ -7,14 +7,14 @@ use block_fields::Uuid;
 use cyclic_data::Layout;
 use pn_values::Mac;
 
-/// The application relation that is asked for.
+/// The application relation that a Connect asks for.
 #[derive(Clone, Copy)]
 pub struct Ar {
     /// ARUUID.
     pub uuid: Uuid,
     /// SessionKey.
     pub session_key: u16,
-    /// CMInitiatorMacAdd: the controller.
+    /// CMInitiatorMacAdd: the MAC address of the controller.
     pub initiator: Mac,
     /// CMInitiatorObjectUUID.
     pub object: Uuid,
@@ -27,7 +27,8 @@ pub struct Ar {
 pub struct Iocr {
     /// IOCRReference.
     pub reference: u16,
-    /// The FrameID that is given, one of cyclic frames: where an output leaves the choice to the device, one of its class.
+    /// The FrameID that is assigned, one of cyclic frames. If an output leaves the choice to the device, it is one of
+    /// its class.
     pub frame_id: u16,
     /// SendClockFactor, 1 to 128, in units of 31.25 microseconds.
     pub send_clock_factor: u16,
@@ -37,7 +38,7 @@ pub struct Iocr {
     pub data_hold_factor: u16,
     /// IOCRTagHeader.
     pub tag: u16,
-    /// Where each submodule has its place.
+    /// The place of each submodule.
     pub layout: Layout,
 }
 
@@ -48,7 +49,7 @@ pub struct AlarmCr {
     pub timeout_factor: u16,
     /// RTARetries, 1 to 15.
     pub retries: u16,
-    /// LocalAlarmReference: the controller's end.
+    /// LocalAlarmReference: the controller's endpoint.
     pub reference: u16,
     /// AlarmCRTagHeaderHigh.
     pub tag_high: u16,
@@ -57,7 +58,7 @@ pub struct AlarmCr {
 }
 
 impl Ar {
-    /// None.
+    /// An empty value, to be overwritten.
     pub(crate) fn blank() -> Ar
         ensures { IsAr result }
     {
@@ -72,7 +73,7 @@ impl Ar {
 }
 
 impl AlarmCr {
-    /// None.
+    /// An empty value, to be overwritten.
     pub(crate) fn blank() -> AlarmCr
         ensures { IsAlarmCr result }
     {
@@ -86,7 +87,7 @@ impl AlarmCr {
     }
 }
 
-/// What is wanted of an ARBlockReq.
+/// The fields of an ARBlockReq that are used.
 pub(crate) fn ar_of(block: &ArBlockReq) -> Ar
     ensures { result ≡ ar_of block.now }
 {
@@ -99,7 +100,7 @@ pub(crate) fn ar_of(block: &ArBlockReq) -> Ar
     }
 }
 
-/// What is wanted of an AlarmCRBlockReq.
+/// The fields of an AlarmCRBlockReq that are used.
 pub(crate) fn alarm_of(block: &AlarmCrBlockReq) -> AlarmCr
     ensures { result ≡ alarm_of block.now }
 {
@@ -112,12 +113,12 @@ pub(crate) fn alarm_of(block: &AlarmCrBlockReq) -> AlarmCr
     }
 }
 
-/// The FrameID that is given where an IOCRBlockReq of this type and class asks for this one.
+/// The FrameID that is assigned if an IOCRBlockReq of this type and class asks for `id`.
 fn given_id(iocr_type: IocrType, class: RtClass, id: u16) -> u16
     ensures { result ≡ given_id iocr_type class id }
 {
     match (iocr_type, class) {
-        // 0xFFFF leaves the number of outputs to the device, which takes the first of the class.
+        // 0xFFFF leaves the FrameID of outputs to the device, which chooses the first of the class.
         (IocrType::Output, RtClass::Class1) if id == 0xFFFF => 0xC000,
         (IocrType::Output, RtClass::Class2) if id == 0xFFFF => 0x8000,
         _ => id,
@@ -125,7 +126,7 @@ fn given_id(iocr_type: IocrType, class: RtClass, id: u16) -> u16
 }
 
 impl Iocr {
-    /// None.
+    /// An empty value, to be overwritten.
     pub(crate) fn blank() -> Iocr
         ensures { IsIocr result }
     {
@@ -140,7 +141,7 @@ impl Iocr {
         }
     }
 
-    /// Takes all from an IOCRBlockReq but the layout, which stays.
+    /// Takes all fields of an IOCRBlockReq except the layout, which is not changed.
     pub(crate) fn fill(&mut self, block: &IocrBlockReq)
         ensures { self.new ≡ iocr_of block.now self.old.layout }
     {
@@ -152,8 +153,8 @@ impl Iocr {
         self.tag = block.iocr_tag_header;
     }
 
-    /// How long it is from one frame to the next, SendClockFactor times ReductionRatio, in units of 31.25 microseconds: at most
-    /// 65,536.
+    /// The interval from one frame to the next, SendClockFactor times ReductionRatio, in units of 31.25 microseconds:
+    /// at most 65,536.
     #[tactic(auto, using(crate::proofs::Accepted::interval_few))]
     pub fn interval(&self) -> u32
         requires { IsIocr self.now }

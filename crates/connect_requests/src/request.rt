@@ -1,4 +1,4 @@
-//! What a Connect asks for, held in place.
+//! What a Connect asks for, stored in place.
 ghost use Rattle.std.specs.Prelude.{◌≡◌, None, Some, Err, IfOk};
 ghost use Rattle.wire.specs.Codec.{Gives};
 ghost use Rattle.block_codec.specs.Block.{block_of};
@@ -19,7 +19,7 @@ use records::CallFault;
 use std::marker::Model;
 use wire::u16_at;
 
-/// What a Connect asks for, each number in the range that its field may have. It is large, and filled where it lies.
+/// What a Connect asks for, with each number in the range of its field. It is large and is filled in place.
 #[derive(Drop)]
 pub struct ConnectRequest {
     ar: Ar,
@@ -56,7 +56,7 @@ impl Model for ConnectRequest {
     }) };
 }
 
-/// The ARBlockReq, which is the first block, and what is behind it.
+/// Reads the ARBlockReq, which is the first block. Returns it and the octets after it.
 #[tactic(auto, using(crate::proofs::Accepted::ar_in_range), unfolding(crate::specs::Judged::ar_in))]
 fn first_block(bytes: &[u8]) -> Result<(Ar, &[u8]), CallFault>
     ensures ar { Gives (λ x. x.0) result (ar_in (piece_at bytes.now)) }
@@ -77,11 +77,11 @@ fn first_block(bytes: &[u8]) -> Result<(Ar, &[u8]), CallFault>
     }
 }
 
-/// The fault of a Connect that asks for a relation while one stands: it is the same, or another one.
+/// The fault of a Connect that asks for a relation while one exists: the same relation, or another one.
 fn conflict(standing: &Uuid, asked: &Uuid) -> CallFault
     ensures { result ≡ conflict standing.now asked.now }
 {
-    // The same ARUUID is a Connect that was made twice; another one is a second controller.
+    // The same ARUUID means that the Connect was sent twice; another one means a second controller.
     if asked.into_bytes() == standing.into_bytes() {
         CallFault::RelationExists
     } else {
@@ -89,7 +89,7 @@ fn conflict(standing: &Uuid, asked: &Uuid) -> CallFault
     }
 }
 
-/// Why a Connect with these blocks is refused while the relation of an ARUUID stands.
+/// Why a Connect with these blocks is refused while the relation with this ARUUID exists.
 pub fn refuse(standing: &Uuid, blocks: &[u8]) -> CallFault
     ensures { request_of (Some standing.now) blocks.now ≡ Err result }
 {
@@ -103,7 +103,7 @@ pub fn refuse(standing: &Uuid, blocks: &[u8]) -> CallFault
 }
 
 impl ConnectRequest {
-    /// A request of nothing, to be read into.
+    /// An empty request, to be filled by `read`.
     pub fn new() -> ConnectRequest {
         ConnectRequest {
             ar: Ar::blank(),
@@ -118,8 +118,8 @@ impl ConnectRequest {
         }
     }
 
-    /// Reads what the blocks of a Connect ask for, where no relation stands, or gives the first fault in the order of the
-    /// statuses; then what is held is of no use.
+    /// Reads what the blocks of a Connect ask for while no relation exists. Returns the first fault in the order of the
+    /// statuses; after a fault the stored content must not be used.
     pub fn read(&mut self, blocks: &[u8]) -> Result<(), CallFault>
         ensures { Gives (λ _. self.new) result (request_of None blocks.now) }
     {
@@ -132,7 +132,7 @@ impl ConnectRequest {
         }
     }
 
-    /// Reads the blocks behind the ARBlockReq, at most so many.
+    /// Reads the blocks after the ARBlockReq, at most `most`.
     fn read_others(&mut self, ar: Ar, others: &[u8], most: usize) -> Result<(), CallFault>
         requires { IsAr ar }
         ensures { Gives (λ _. self.new) result (request_behind ar (pieces_in most others.now)) }
@@ -144,14 +144,14 @@ impl ConnectRequest {
         self.finish(ar, &draft)
     }
 
-    /// Takes what was read, if no block is missing and the layouts are such.
+    /// Stores what was read, if no block is missing and the layouts are valid.
     #[tactic(auto, using(crate::proofs::Accepted::iocr_in_range), unfolding(crate::specs::Judged::request_with))]
     fn finish(&mut self, ar: Ar, draft: &Draft) -> Result<(), CallFault>
         requires ar { IsAr ar }
         requires draft { AreAccepted draft.now }
         ensures { Gives (λ _. self.new) result (request_with ar (sofar_of draft.now self.old.expected)) }
     {
-        // What is missing is judged behind all blocks: any of them may still have come.
+        // Missing blocks are checked after all blocks are read: until then any of them may still follow.
         if !draft.has_expected {
             return Err(CallFault::BlockMissing);
         }
@@ -190,7 +190,7 @@ impl ConnectRequest {
         &self.ar
     }
 
-    /// Whether the IOCRBlockReq of inputs stood before that of outputs.
+    /// Whether the IOCRBlockReq of inputs came before that of outputs.
     pub fn input_first(&self) -> bool
         ensures { result ≡ self.now.input_first }
     {

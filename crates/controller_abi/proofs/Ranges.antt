@@ -1,4 +1,4 @@
--- A plan that is judged to be one is in its ranges.
+-- A plan that is checked to be valid is in its ranges.
 use Rattle.std.proofs.Common.{◌≡◌, ◌≤◌, ◌<◌, ◌+◌, ◌%◌, ◌==◌, ℕ, Bool, true, false, List, [], ◌∷◌, length, map, refl, sym, ap, subst, arith}
 use Rattle.std.specs.Prelude.{◌&&◌, not, nat_le, slice_index, if◌then◌else◌, Result, Ok, Err}
 use Rattle.std.specs.List.{AllByRecursion, list_all, list_any}
@@ -63,7 +63,7 @@ all_rising (entry ∷ modules) are =
     let up = and_parts (is_rising 1 subslots) (list_all is_part (submodules_in entry)) own.1 in
     (subst IsRising (sym (subslots_same (submodules_in entry))) (rising_from 1 subslots up.0).1, all_rising modules parts.1)
 
--- the access point is in slot 0, and the others come after it
+-- The access point is in slot 0, and the others come after it.
 all_ordered : (modules : List Module) → are_ordered modules ≡ true → (1 ≤ length (map module_of modules)) × IsRising (slots_of (map module_of modules))
 all_ordered [] are = cc are
 all_ordered (entry ∷ modules) are =
@@ -185,7 +185,7 @@ all_parts written is =
       short_records = all_short modules (records_in written) sound.1;
     }
 
--- what no fault is found in is in its ranges
+-- A plan in which no fault is found is in its ranges.
 judged : (a b c d e f : Bool) (rest : ℕ)
     → ((if not a then 6 else (if not b then 4 else (if not c then 9 else (if not d then 10 else (if not e then 5 else (if not f then 6 else rest)))))) == 0) ≡ true
     → ((a && (b && (c && (d && (e && f))))) ≡ true) × ((rest == 0) ≡ true)
@@ -202,7 +202,7 @@ planned_in written is =
     judged (has_room written) (are_numbers written) (are_named written) (are_addresses written) (are_placed written) (are_low written)
     (fault_of_length (plan_of (parts_of written))) is
 
--- nothing is too long then
+-- Then nothing is too long.
 long_fault : (long : TooLong) → (fault_of_length {T = Parts} (Err long) == 0) ≡ true → ⊥
 long_fault Frame is = cc
 long_fault Connect is = cc
@@ -210,7 +210,7 @@ long_fault Connect is = cc
 pub not_long : (read : Result Parts TooLong) (long : TooLong) → (fault_of_length read == 0) ≡ true → read ≡ Err long → ⊥
 not_long read long none is = long_fault long (subst (λ (found : Result Parts TooLong). (fault_of_length found == 0) ≡ true) is none)
 
--- what its parts are made by
+-- What its parts are made from.
 pub written_in : (written : WrittenPlan) → is_written written ≡ true → IsWritten written
 written_in written is =
     let all = all_parts written is in
@@ -226,7 +226,7 @@ written_in written is =
       short_records = all.short_records;
     }
 
--- with both names they are those of a plan
+-- With both names they are those of a plan.
 pub good_in : (written : WrittenPlan) → is_written written ≡ true → IsStationName (name_in written) → IsStationName (controller_name_in written) → AreParts (parts_of written)
 good_in written is named controlled =
     let all = all_parts written is in
@@ -244,7 +244,7 @@ good_in written is named controlled =
       ordered = all.ordered;
     }
 
--- parts that are a plan are it
+-- Parts that are a plan are that plan.
 chosen : (do_frames_fit does_connect_fit : Bool) (parts plan : Parts)
     → (if not do_frames_fit then Err Frame else if not does_connect_fit then Err Connect else Ok parts) ≡ Ok plan → plan ≡ parts
 chosen true true parts plan is = cc is

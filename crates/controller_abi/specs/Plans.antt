@@ -1,4 +1,4 @@
--- The plan of a station, as a host writes it down.
+-- The plan of a station, as a host writes it.
 use Rattle.std.specs.Prelude.{◌≡◌, ◌&&◌, ◌+◌, ◌%◌, ◌==◌, ◌≤◌, ℕ, Bool, true, false, nat_le, nat_lt, not, if◌then◌else◌, Result, Ok, Err, List, [], ◌∷◌, take, map, slice_index}
 use Rattle.std.specs.List.{AllByRecursion, list_all, list_any}
 use Rattle.uuid.specs.Parts.{is_nil_bytes}
@@ -16,7 +16,7 @@ use Rattle.c_layout.specs.Modules.{is_module, module_of, parameters_in, submodul
 use Rattle.controller_abi.specs.declared.plan.WrittenPlan.{WrittenPlan}
 use Rattle.controller_abi.specs.declared.plan.WrittenRecord.{WrittenRecord}
 
--- ---- lists of which the first so many count
+-- ---- lists in which only the counted items are valid
 
 abbrev pub name_in : WrittenPlan → List ℕ
 name_in written = take written.name_length written.name
@@ -35,7 +35,7 @@ records_in written = take written.record_count written.records
 abbrev pub suite_in : WrittenPlan → Suite
 suite_in written = record { address = written.address; mask = written.mask; gateway = written.gateway }
 
--- no count is more than its list holds
+-- No count is greater than its list can hold.
 abbrev pub has_room : WrittenPlan → Bool
 has_room written =
     nat_le written.module_count 16 && (list_all is_module (modules_in written) && nat_le written.record_count 32)
@@ -46,50 +46,50 @@ are_times written =
     && ((nat_le 1 written.reduction_ratio && nat_le written.reduction_ratio 512)
     && (nat_le 1 written.data_hold_factor && nat_le written.data_hold_factor 7680))
 
--- each number is greater than the one before it, and the first is not less than this
+-- Each number is greater than the one before it, and the first is at least this.
 abbrev pub is_rising : ℕ → List ℕ → Bool
 is_rising least [] = true
 is_rising least (number ∷ numbers) = nat_le least number && is_rising (number + 1) numbers
 
--- a parameter record: its index from 0 to 32,767, its length from 1 to 64
+-- A parameter record: its index is from 0 to 32,767, its length from 1 to 64.
 abbrev pub is_parameter : Parameter → Bool
 is_parameter item = nat_le item.index 32767 && (nat_le 1 item.length && nat_le item.length 64)
 
--- a parameter record has this index
+-- A parameter record has this index.
 abbrev pub has_index : ℕ → List Parameter → Bool
 has_index index items = list_any (λ item. item.index == index) items
 
--- parameter records in their ranges, each with an index of its own
+-- Parameter records in their ranges, each with an index of its own.
 abbrev pub are_parameters : List Parameter → Bool
 are_parameters [] = true
 are_parameters (item ∷ items) = (is_parameter item && not (has_index item.index items)) && are_parameters items
 
--- a submodule: its subslot is at most 36,863, and its parameter records are valid
+-- A submodule: its subslot is at most 36,863, and its parameter records are valid.
 abbrev pub is_part : Submodule → Bool
 is_part part = nat_le part.subslot 36863 && are_parameters (parameters_in part)
 
--- a module: its number is not 0, and its submodules are valid, in the order of their subslots from 1 on
+-- A module: its number is not 0, and its submodules are valid, in the order of their subslots from 1 on.
 abbrev pub is_sound : Module → Bool
 is_sound plugged =
     nat_le 1 plugged.ident
     && (is_rising 1 (map (λ part. part.subslot) (submodules_in plugged)) && list_all is_part (submodules_in plugged))
 
--- a submodule takes a record: it has its subslot, and a parameter record of its index and its length
+-- A submodule accepts a record: it has its subslot, and a parameter record of its index and its length.
 abbrev pub is_item : WrittenRecord → Parameter → Bool
 is_item entry item = item.index == entry.index && item.length == entry.length
 
 abbrev pub does_part_take : WrittenRecord → Submodule → Bool
 does_part_take entry part = part.subslot == entry.subslot && list_any (is_item entry) (parameters_in part)
 
--- a submodule of a module does
+-- A submodule of a module does.
 abbrev pub does_take : WrittenRecord → Module → Bool
 does_take entry plugged = plugged.slot == entry.slot && list_any (does_part_take entry) (submodules_in plugged)
 
--- a record: a submodule of one of these modules takes it, and it has at most 64 octets
+-- A record: a submodule of one of these modules accepts it, and it has at most 64 octets.
 abbrev pub is_record : List Module → WrittenRecord → Bool
 is_record modules entry = nat_le entry.length 64 && list_any (does_take entry) modules
 
--- times, modules and records
+-- Times, modules and records.
 abbrev pub are_numbers : WrittenPlan → Bool
 are_numbers written =
     are_times written && (list_all is_sound (modules_in written) && list_all (is_record (modules_in written)) (records_in written))
@@ -101,32 +101,32 @@ abbrev pub are_named : WrittenPlan → Bool
 are_named written =
     is_name written.name_length written.name && is_name written.controller_name_length written.controller_name
 
--- an IP suite of the station, a MAC address of one station, and an address of a host
+-- An IP suite of the station, a MAC address of one station, and a host address.
 abbrev pub are_addresses : WrittenPlan → Bool
 are_addresses written =
     is_suite (suite_in written)
     && ((slice_index written.controller_mac 0 % 2 == 0) && is_host (slice_index written.controller_address 0))
 
--- the access point in slot 0, and the modules after it in the order of their slots
+-- The access point in slot 0, and the modules after it in the order of their slots.
 abbrev pub are_ordered : List Module → Bool
 are_ordered [] = false
 are_ordered (plugged ∷ others) = plugged.slot == 0 && is_rising 1 (map (λ entry. entry.slot) others)
 
--- modules in order, and no record for the access point
+-- Modules in order, and no record for the access point.
 abbrev pub are_placed : WrittenPlan → Bool
 are_placed written = are_ordered (modules_in written) && list_all (λ entry. not (entry.slot == 0)) (records_in written)
 
--- slots from 0 to 15
+-- Slots from 0 to 15.
 abbrev pub are_low : WrittenPlan → Bool
 are_low written = list_all (λ entry. nat_le entry.slot 15) (modules_in written)
 
--- all of it
+-- All of these.
 abbrev pub is_written : WrittenPlan → Bool
 is_written written =
     has_room written
     && (are_numbers written && (are_named written && (are_addresses written && (are_placed written && are_low written))))
 
--- ---- what it is
+-- ---- the plan
 
 abbrev pub record_of : WrittenRecord → PlanRecord
 record_of entry = record { slot = entry.slot; subslot = entry.subslot; index = entry.index; «data» = record { items = take entry.length entry.octets } }
@@ -144,7 +144,7 @@ parts_of written = record {
   records = record { items = map record_of (records_in written) };
 }
 
--- ---- the same, said as it is used
+-- ---- the same, in the form in which it is used
 
 abbrev pub IsShort : WrittenRecord → Type 0
 IsShort entry = entry.length ≤ 64
@@ -160,16 +160,16 @@ pub record IsWritten (written : WrittenPlan) : Type 0 where
   pub few_records : written.record_count ≤ 32
   pub short_records : AllByRecursion IsShort (records_in written)
 
--- ---- why none is made
+-- ---- why no controller is made
 
--- a cyclic frame or the Connect is too long
+-- A cyclic frame or the Connect is too long.
 abbrev pub fault_of_length : {T : Type 0} → Result T TooLong → ℕ
 fault_of_length (Ok plan) = 0
 fault_of_length (Err Frame) = 7
 fault_of_length (Err Connect) = 8
 
--- The first fault of a plan, with the number that a catalogue with this fault has; 0 if it has none. After lists that are too long they
--- are looked for in the order in which those of a catalogue are.
+-- The first fault of a plan, with the number that a catalogue with this fault has; 0 if it has none. After lists that
+-- are too long the faults are checked in the order of those of a catalogue.
 abbrev pub fault_of : WrittenPlan → ℕ
 fault_of written =
     if not (has_room written) then 6 else
@@ -182,8 +182,8 @@ fault_of written =
 abbrev pub is_plan : WrittenPlan → Bool
 is_plan written = fault_of written == 0
 
--- why no controller is made: another version or size of an operation than the library's, a room that is too small, or what is no
--- plan, or an ARUUID that is zero
+-- Why no controller is made: another version or size of an operation than the library's, too little memory, an invalid
+-- plan, or an ARUUID that is zero.
 abbrev pub why_not_made : ℕ → ℕ → ℕ → WrittenPlan → List ℕ → ℕ
 why_not_made size abi op_size written ar =
     if not (abi == 1 && op_size == 1560) then 2 else

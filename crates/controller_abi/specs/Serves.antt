@@ -1,6 +1,7 @@
--- What an operation of a host comes to. `asked` is the operation as the host wrote it, `told` as it finds it afterwards: an equation of
--- the whole operation says which fields are written, and with what. All other fields are unchanged, and so are the octets after those
--- that are told. What is refused changes nothing, neither in the controller nor in the operation.
+-- The result of an operation of a host. `asked` is the operation as the host wrote it, `told` as the host finds it
+-- afterwards: an equation of the whole operation says which fields are written, and with what. All other fields are
+-- unchanged, and so are the octets after those that are written. A refused operation changes nothing, neither in the
+-- controller nor in the operation.
 use Rattle.std.specs.Prelude.{◌≡◌, ◌==◌, ℕ, Bool, true, false, if◌then◌else◌, List, [], ◌∷◌, take, Option, Some, None}
 use Rattle.record_blocks.specs.declared.alarm_notification.AlarmNotification.{AlarmNotification}
 use Rattle.controller_core.specs.Cause.{number_of}
@@ -17,7 +18,7 @@ use Rattle.controller_abi.specs.declared.operation.Operation.TheVariants as oper
 use Rattle.controller_abi.specs.State.{State, advanced, after, has_frames}
 use Rattle.controller_abi.specs.Steps.{Passes}
 
--- the operation of a number
+-- The operation of a number.
 abbrev pub operation_of : ℕ → Option Operation
 operation_of what =
     if what == 3 then Some operation.Frame else
@@ -31,24 +32,24 @@ operation_of what =
 
 -- ---- events
 
--- An event is one step of the controller, whose frames wait then. If frames of the step before are left it is refused: 7, and nothing
--- changed.
+-- An event is one step of the controller, whose frames then wait to be fetched. If frames of the step before remain it
+-- is refused: 7, and nothing changes.
 abbrev pub IsEvent : Bool → State → Event → ℕ → State → Type 0
 IsEvent true old event answer new = (answer ≡ 7) × (new ≡ old)
 IsEvent false old event answer new = (answer ≡ 0) × (new ≡ after old event)
 
--- why nothing is given to a place that is none
+-- Why no output is set at an invalid place.
 abbrev pub why_no_place : Bool → ℕ
 why_no_place true = 7
 why_no_place false = 9
 
--- the output of a submodule is given; what is no number of 16 bits names none
+-- The output of a submodule is set. A slot or subslot that is not a number of 16 bits names no submodule.
 abbrev pub IsGift : Option (ℕ × ℕ) → State → List ℕ → ℕ → State → Type 0
 IsGift (Some place) old given answer new =
     IsEvent (has_frames old.frames) old (event.Give place.0 place.1 (record { items = take 1519 given })) answer new
 IsGift None old given answer new = (answer ≡ why_no_place (has_frames old.frames)) × (new ≡ old)
 
--- units of time went by, and how many are left is told
+-- Units of time passed, and the number that remains is reported.
 pub record IsPast (old : State) (asked : Op) (answer : ℕ) (new : State) (told : Op) : Type 0 where
   pub answered : answer ≡ 0
   pub left : ℕ
@@ -61,20 +62,20 @@ IsTick false old asked answer new told = IsPast old asked answer new told
 
 -- ---- frames
 
--- the next frame is handed out: its octets, and 3; 0 if none is left
+-- The next frame is handed out: its octets, and 3; 0 if none remains.
 abbrev pub with_next : List (List ℕ) → Op → Op
 with_next [] asked = record asked { work = 0; length = 0 }
 with_next (frame ∷ frames) asked = with_octets frame (record asked { work = 3 })
 
--- it is told, and taken
+-- It is reported, and marked as fetched.
 pub record IsHandOut (old : State) (asked : Op) (answer : ℕ) (new : State) (told : Op) : Type 0 where
   pub answered : answer ≡ 0
   pub handed : told ≡ with_next old.frames asked
   pub taken : new ≡ advanced old
 
--- ---- what is told
+-- ---- values that are reported
 
--- the input of a submodule; 9 if it has no place
+-- The input of a submodule; 9 if it has no place.
 abbrev pub IsValue : Option (List ℕ) → Op → ℕ → Op → Type 0
 IsValue (Some value) asked answer told = (answer ≡ 0) × (told ≡ with_octets value asked)
 IsValue None asked answer told = (answer ≡ 9) × (told ≡ asked)
@@ -93,7 +94,7 @@ phase_number Waiting = 6
 phase_number Exchanging = 7
 phase_number (Ended cause) = 8
 
--- why a controller ended, 0 if it did not
+-- Why a controller ended, 0 if it did not.
 abbrev pub cause_number : phase.State → ℕ
 cause_number Looking = 0
 cause_number Addressing = 0
@@ -104,23 +105,23 @@ cause_number Waiting = 0
 cause_number Exchanging = 0
 cause_number (Ended cause) = number_of cause
 
--- how far it is, and why it ended
+-- Its phase, and why it ended.
 abbrev pub with_state : phase.State → Op → Op
 with_state reached asked = record asked { phase = phase_number reached; note = cause_number reached }
 
--- an alarm: its type, its submodule, its AlarmSpecifier and the first 1,520 octets of its data
+-- An alarm: its type, its submodule, its AlarmSpecifier and the first 1,520 octets of its data.
 abbrev pub with_alarm : AlarmNotification → Op → Op
 with_alarm alarm asked = with_octets (take 1520 alarm.alarm_data)
     (record asked { note = alarm.alarm_type; slot = alarm.slot_number; subslot = alarm.subslot_number; units = alarm.alarm_specifier })
 
--- the last alarm that was taken; 9 if none was
+-- The last alarm that was accepted; 9 if none was.
 abbrev pub IsAlarm : Option AlarmNotification → Op → ℕ → Op → Type 0
 IsAlarm (Some alarm) asked answer told = (answer ≡ 0) × (told ≡ with_alarm alarm asked)
 IsAlarm None asked answer told = (answer ≡ 9) × (told ≡ asked)
 
 -- ---- all of them
 
--- What an operation comes to: 10 if there is no such operation.
+-- The result of an operation: 10 if there is no such operation.
 abbrev pub Serves : Option Operation → State → Op → List ℕ → ℕ → State → Op → Type 0
 Serves (Some operation.Frame) old asked given answer new told =
     (told ≡ asked) × IsEvent (has_frames old.frames) old (event.Frame (record { items = take 1519 given })) answer new

@@ -7,34 +7,34 @@ use Rattle.controller_core.specs.declared.state.State.TheVariants.{Looking, Addr
 use Rattle.controller_core.specs.Machine.{opening_of, step_of}
 use Rattle.controller_core.specs.State.{Controlling}
 
--- The controller, and the frames of its last step that the host has not taken yet.
+-- The controller, and the frames of its last step that the host has not fetched yet.
 pub record State : Type 0 where
   pub controller : Controlling
   pub frames : List (List ℕ)
 
--- a controller that begins: its opening frame waits
+-- A controller that begins: its opening frame waits to be fetched.
 abbrev pub opened : Controlling → State
 opened controller = record { controller = controller; frames = opening_of controller ∷ [] }
 
--- one step of the controller: its frames wait
+-- One step of the controller: its frames wait to be fetched.
 abbrev pub after : State → Event → State
 after old event = record { controller = (step_of old.controller event).controller; frames = (step_of old.controller event).frames }
 
--- whether frames are left
+-- Whether frames remain.
 abbrev pub has_frames : List (List ℕ) → Bool
 has_frames [] = false
 has_frames (frame ∷ frames) = true
 
--- the next frame, where one is left
+-- The next frame, if one remains.
 abbrev pub IsNext : List (List ℕ) → Option (Items ℕ) → Type 0
 IsNext frames None = frames ≡ []
 IsNext frames (Some frame) = (rest : List (List ℕ)) × (frames ≡ frame.items ∷ rest)
 
--- it is taken
+-- The next frame is fetched.
 abbrev pub advanced : State → State
 advanced port = record port { frames = drop 1 port.frames }
 
--- whether a controller is over
+-- Whether a controller has ended.
 abbrev pub is_over : phase.State → Bool
 is_over Looking = false
 is_over Addressing = false
@@ -45,6 +45,6 @@ is_over Waiting = false
 is_over Exchanging = false
 is_over (Ended cause) = true
 
--- whether frames are left, or the controller is over that was not
+-- Whether frames remain, or the controller has ended since.
 abbrev pub is_stopped : Bool → State → Bool
 is_stopped was_over port = has_frames port.frames || (not was_over && is_over port.controller.live.phase)

@@ -1,4 +1,4 @@
-//! Which operation a host asks for.
+//! The operation that a host asks for.
 ghost use Rattle.std.specs.Prelude.{◌≡◌};
 ghost use Rattle.controller_abi.specs.Serves.{operation_of as of_number};
 
@@ -15,7 +15,7 @@ pub enum Operation {
     Stop,
 }
 
-// The operation of this number, if there is one.
+// The operation of this number, if it exists.
 pub(crate) fn operation_of(what: u32) -> Option<Operation>
     ensures { result ≡ of_number what }
 {

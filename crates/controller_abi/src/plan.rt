@@ -29,13 +29,13 @@ use uuid::Uuid;
 /// The version of the header.
 const ABI: u32 = 1;
 
-/// Octets of a room.
+/// The number of octets of the memory for a port.
 const ROOM: usize = 40960;
 
-/// Octets of an operation.
+/// The number of octets of an operation.
 const OP_SIZE: usize = 1560;
 
-// The faults of a plan, with the numbers that they have where a catalogue has them.
+// The faults of a plan, with the numbers that a catalogue with the same fault has.
 const NUMBER: u32 = 4;
 
 const NOT_ALLOWED: u32 = 5;
@@ -87,8 +87,8 @@ pub struct WrittenPlan {
     pub records: [WrittenRecord; 32],
 }
 
-/// Why no controller is made of this plan, or 0: another version or size of an operation than the library's, a room that is too
-/// small, or what is no plan, or an ARUUID that is zero.
+/// Why no controller is made from this plan, or 0: another version or size of an operation than the library's, too
+/// little memory, an invalid plan, or an ARUUID that is zero.
 pub fn judge(size: usize, abi: u32, op_size: usize, written: &WrittenPlan, ar: &[u8; 16]) -> u32
     ensures { result ≡ why_not_made size abi op_size written.now ar.now }
 {
@@ -104,7 +104,8 @@ pub fn judge(size: usize, abi: u32, op_size: usize, written: &WrittenPlan, ar: &
     0
 }
 
-/// The controller of this plan, with the ARUUID of its relation and the activity of its calls. Its first frame waits.
+/// The controller of this plan, with the ARUUID of its relation and the activity of its calls. Its opening frame waits
+/// to be fetched.
 #[inline(always)]
 pub fn port_of(written: &WrittenPlan, ar: &[u8; 16], activity: &[u8; 16]) -> Port
     requires { is_planned written.now ≡ true }
@@ -116,10 +117,10 @@ pub fn port_of(written: &WrittenPlan, ar: &[u8; 16], activity: &[u8; 16]) -> Por
     }
 }
 
-// ---- whether it is a plan
+// ---- whether it is a valid plan
 
-/// The first fault of a plan, with the number that a catalogue with this fault has, or 0: what a catalogue may not say a plan may not
-/// either.
+/// The first fault of a plan, with the number that a catalogue with this fault has, or 0. What is invalid in a
+/// catalogue is invalid in a plan too.
 pub fn fault_in(written: &WrittenPlan) -> u32
     ensures { result ≡ fault_of written.now }
 {
@@ -157,7 +158,7 @@ fn fault_of_length(written: &WrittenPlan) -> u32
     }
 }
 
-// Whether no count is more than its list holds.
+// Whether no count is greater than its list can hold.
 fn has_room(written: &WrittenPlan) -> bool
     ensures { result ≡ has_all_room written.now }
 {
@@ -264,7 +265,7 @@ fn has_index(items: &[Parameter], index: u16) -> bool
     items.iter().any(|item| item.index == index)
 }
 
-// Whether each record is one that a submodule of these modules takes.
+// Whether each record is one that a submodule of these modules accepts.
 fn are_records(records: &[WrittenRecord], modules: &[Module]) -> bool
     requires { list_all is_module modules.now ≡ true }
     ensures { result ≡ list_all (is_record modules.now) records.now }
@@ -355,7 +356,7 @@ fn is_name(octets: &[u8; 240], length: u32) -> bool
     length <= 240 && is_valid(&octets[..length as usize])
 }
 
-// Whether a text is a station name.
+// Whether a text is a valid station name.
 fn is_valid(text: &[u8]) -> bool
     ensures { result ≡ is_station_name text.now }
 {
@@ -376,14 +377,14 @@ fn is_suite_in(written: &WrittenPlan) -> bool
     IpSuite::new(written.address, written.mask, written.gateway).is_some()
 }
 
-// Whether an address that begins with this octet is one of a host.
+// Whether an address that begins with this octet is a host address.
 fn is_host(octet: u8) -> bool
     ensures { result ≡ is_host octet }
 {
     (1 <= octet && octet <= 126) || (128 <= octet && octet <= 223)
 }
 
-// Whether the modules are in order, and no record is one of the access point.
+// Whether the modules are in order, and no record belongs to the access point.
 fn are_placed(written: &WrittenPlan) -> bool
     requires { has_all_room written.now ≡ true }
     ensures { result ≡ are_all_placed written.now }
@@ -444,7 +445,7 @@ fn are_slots_low(modules: &[Module]) -> bool
     true
 }
 
-// ---- what it is
+// ---- the plan
 
 // The plan, or what is too long.
 #[inline(never)]
@@ -455,7 +456,7 @@ fn planned(written: &WrittenPlan) -> Result<Plan, TooLong>
     Plan::new(parts_in(written))
 }
 
-// Its parts, each of which is in its range.
+// The parts of the plan, each in its range.
 fn parts_in(written: &WrittenPlan) -> Parts
     requires { IsWritten written.now }
     ensures value { result ≡ parts_of written.now }
@@ -532,7 +533,7 @@ fn times_of(written: &WrittenPlan) -> Times
     }
 }
 
-// What is plugged in.
+// The modules that are plugged.
 #[inline(never)]
 fn real_in(written: &WrittenPlan) -> Real
     requires few { written.now.module_count ≤ 16 }

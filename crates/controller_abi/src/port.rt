@@ -1,4 +1,4 @@
-//! A controller, and the frames of its last step that the host has not taken yet.
+//! A controller, and the frames of its last step that the host has not fetched yet.
 ghost use Rattle.std.specs.Prelude.{◌≡◌, false, option_map};
 ghost use Rattle.controller_core.specs.Machine.{fresh};
 ghost use Rattle.controller_abi.specs.State.{IsNext, advanced, after, has_frames, is_over as over, is_stopped as stops, opened};
@@ -10,14 +10,14 @@ use plans::Plan;
 use std::marker::Model;
 use uuid::Uuid;
 
-/// A controller, and the frames of its last step that the host has not taken yet.
+/// A controller, and the frames of its last step that the host has not fetched yet.
 ///
-/// Events go in, one at a time, and behind each the host takes all frames.
+/// Events go in, one at a time, and after each the host fetches all frames.
 #[derive(Drop)]
 pub struct Port {
     controller: Controller,
     outbox: Outbox,
-    /// How many of the frames in the box are behind the host.
+    /// The number of frames in the outbox that the host has fetched.
     frames_past: usize,
 }
 
@@ -32,7 +32,8 @@ impl Model for Port {
 }
 
 impl Port {
-    /// The controller of a plan, with the ARUUID of its relation and the activity of its calls. Its first frame waits.
+    /// The controller of a plan, with the ARUUID of its relation and the activity of its calls. Its opening frame waits
+    /// to be fetched.
     #[inline(always)]
     pub fn new(plan: Plan, ar: Uuid, activity: Uuid) -> Port
         ensures { result ≡ opened (fresh plan ar activity) }
@@ -54,7 +55,7 @@ impl Port {
         &self.controller
     }
 
-    /// Whether frames of the last step are left.
+    /// Whether frames of the last step remain.
     pub fn has_work(&self) -> bool
         ensures { result ≡ has_frames self.now.frames }
     {
@@ -63,7 +64,7 @@ impl Port {
 
     // ---- frames
 
-    /// The next frame, where one is left.
+    /// The next frame, if one remains.
     pub fn next(&self) -> Option<&Frame>
         ensures { IsNext self.now.frames (option_map (λ frame. frame.now) result) }
     {
@@ -73,7 +74,7 @@ impl Port {
         None
     }
 
-    /// It is taken.
+    /// Marks that frame as fetched.
     pub fn advance(&mut self)
         ensures { self.new ≡ advanced self.old }
     {
@@ -84,7 +85,7 @@ impl Port {
 
     // ---- events
 
-    /// Takes an event. All frames of the step before are taken.
+    /// Handles an event. All frames of the step before are fetched.
     #[inline(never)]
     pub fn take(&mut self, event: &Event)
         ensures { self.new ≡ after self.old event.now }
@@ -93,7 +94,7 @@ impl Port {
         self.frames_past = 0;
     }
 
-    /// Lets units of time go by, up to the first that sends something or ends the controller. How many are left is the result.
+    /// Lets units of time pass, up to the first that sends something or ends the controller. Returns how many remain.
     pub fn pass(&mut self, units: u32) -> u32
         requires { has_frames self.old.frames ≡ false }
         ensures { Passes self.old units result self.new }
@@ -108,7 +109,7 @@ impl Port {
         0
     }
 
-    // Whether frames are left, or the controller is over that was not.
+    // Whether frames remain, or the controller has ended since.
     fn is_stopped(&self, was_over: bool) -> bool
         ensures { result ≡ stops was_over self.now }
     {
@@ -116,7 +117,7 @@ impl Port {
     }
 }
 
-// Whether a controller is over.
+// Whether a controller has ended.
 fn is_over(state: State) -> bool
     ensures { result ≡ over state }
 {

@@ -16,16 +16,16 @@ use controller_core::{Event, State};
 use frame_codec::Bytes;
 use wire::at_most;
 
-/// What an operation is answered with that is none.
+/// The result if there is no such operation.
 const UNKNOWN: u32 = 10;
 
-/// What is answered where there is no such place, and of an alarm that never was.
+/// The result if there is no such place, and if no alarm was accepted yet.
 const NO_SLOT: u32 = 9;
 
-/// What an event is answered with while frames of the step before are left.
+/// The result of an event while frames of the step before remain.
 const HAS_WORK: u32 = 7;
 
-/// Carries one operation out, with the octets that are given. The answer is 0, or why nothing changed.
+/// Carries out one operation, with the given octets. Returns 0, or why nothing changed.
 pub fn serve(port: &mut Port, op: &mut Op, given: &[u8]) -> u32
     ensures { Serves (operation_in op.old.what) port.old op.old given.now result port.new op.new }
 {
@@ -35,7 +35,7 @@ pub fn serve(port: &mut Port, op: &mut Op, given: &[u8]) -> u32
     }
 }
 
-// Carries out what is an operation.
+// Carries out a known operation.
 fn perform(operation: Operation, port: &mut Port, op: &mut Op, given: &[u8]) -> u32
     ensures { Serves (Some operation) port.old op.old given.now result port.new op.new }
 {
@@ -53,7 +53,7 @@ fn perform(operation: Operation, port: &mut Port, op: &mut Op, given: &[u8]) -> 
 
 // ---- events
 
-// Takes an event, where no frames of the step before are left.
+// Handles an event, if no frames of the step before remain.
 fn offer(port: &mut Port, event: &Event) -> u32
     ensures { IsEvent (has_frames port.old.frames) port.old event.now result port.new }
 {
@@ -81,7 +81,7 @@ fn give(port: &mut Port, op: &Op, given: &[u8]) -> u32
     }
 }
 
-// Why nothing is given to a place that is none.
+// Why no output is set at an invalid place.
 fn no_place(port: &Port) -> u32
     ensures { result ≡ why_no_place (has_frames port.now.frames) }
 {
@@ -98,7 +98,7 @@ fn tick(port: &mut Port, op: &mut Op) -> u32
     0
 }
 
-// The first octets of those that are given, as many as an event has.
+// The given octets, cut to the most that an event has.
 fn first_of(octets: &[u8]) -> Bytes
     ensures { result ≡ record { items = take 1519 octets.now } }
 {
@@ -109,7 +109,7 @@ fn first_of(octets: &[u8]) -> Bytes
 
 // ---- frames
 
-// The next frame, which is taken with that.
+// The next frame, which is marked as fetched.
 fn next(port: &mut Port, op: &mut Op) -> u32
     ensures { IsHandOut port.old op.old result port.new op.new }
 {
@@ -134,7 +134,7 @@ fn hand_out(port: &Port, op: &mut Op)
     }
 }
 
-// ---- what is told
+// ---- values that are reported
 
 fn value(port: &Port, op: &mut Op) -> u32
     ensures { IsInput (place_in op.old.slot op.old.subslot) port.now op.old result op.new }
@@ -145,7 +145,7 @@ fn value(port: &Port, op: &mut Op) -> u32
     }
 }
 
-// The input of a submodule, or that there is none.
+// The input of a submodule, or that it has none.
 fn tell_value(port: &Port, slot: u16, subslot: u16, op: &mut Op) -> u32
     ensures { IsValue (value_at port.now.controller.live.cyclic slot subslot) op.old result op.new }
 {
@@ -192,7 +192,7 @@ fn number_of_cause(reached: State) -> u32
     }
 }
 
-// The last alarm that was taken.
+// The last alarm that was accepted.
 fn alarm(port: &Port, op: &mut Op) -> u32
     ensures { IsAlarm port.now.controller.live.alarm op.old result op.new }
 {
@@ -205,7 +205,7 @@ fn alarm(port: &Port, op: &mut Op) -> u32
     }
 }
 
-// An alarm.
+// Reports an alarm.
 fn tell_alarm(alarm: &AlarmNotification<'_>, op: &mut Op)
     ensures { op.new ≡ with_alarm alarm.now op.old }
 {

@@ -12,7 +12,7 @@ use Rattle.cyclic_exchange.specs.declared.route.Route.{Route}
 use Rattle.plans.specs.Numbers.{alarm_endpoint}
 use Rattle.controller_core.specs.declared.kept.KeptAlarm.{KeptAlarm}
 
--- the AlarmAck of an alarm: without an error
+-- The AlarmAck of an alarm, without an error.
 abbrev pub ack_of : AlarmNotification → AlarmAck
 ack_of alarm = record {
   alarm_type = alarm.alarm_type;
@@ -23,11 +23,11 @@ ack_of alarm = record {
   pnio_status = 0;
 }
 
--- an alarm as it is kept: its data, of which a frame holds fewer than 1,500 octets
+-- An alarm as it is stored. A frame holds fewer than 1,500 octets of its data.
 abbrev pub kept_alarm : AlarmNotification → AlarmNotification
 kept_alarm alarm = record alarm { alarm_data = take 1500 alarm.alarm_data }
 
--- the block of an alarm that is kept
+-- The block of an alarm that is stored.
 abbrev pub alarm_in : KeptAlarm → AlarmNotification
 alarm_in kept = record {
   alarm_type = kept.alarm_type;
@@ -40,11 +40,11 @@ alarm_in kept = record {
   alarm_data = kept.alarm_data.items;
 }
 
--- the header of a PDU that is sent now, from the endpoint of the controller to that of the device
+-- The header of a PDU that is sent now, from the endpoint of the controller to that of the device.
 abbrev pub header_of : ControllerEnd → Route → PduType → Header
 header_of alarms route kind = controller_header alarms kind route.reference alarm_endpoint
 
--- whether an alarm frame is of the relation
+-- Whether an alarm frame belongs to the relation.
 abbrev pub is_alarm : Route → Mac → Header → Bool
 is_alarm route source header =
     pointwise nat_eq source.octets route.partner.octets && (header.destination == alarm_endpoint && header.source == route.reference)

@@ -1,4 +1,4 @@
--- Which answers a controller wants.
+-- The answers that a controller expects.
 use Rattle.std.specs.Prelude.{◌==◌, ◌&&◌, ◌++◌, ℕ, Bool, true, false, nat_eq, List, Option, Some, None}
 use Rattle.std.specs.Cmp.Lexicographic.{pointwise}
 use Rattle.std.specs.Int.{w16, to_be_bytes}
@@ -18,7 +18,7 @@ use Rattle.controller_frames.specs.declared.request.Request.{Request}
 use Rattle.controller_frames.specs.declared.request.Request.TheVariants as asks
 use Rattle.controller_frames.specs.Requests.{sequence_of}
 
--- ---- of DCP
+-- ---- DCP answers
 
 abbrev pub is_identify : Service → Bool
 is_identify Identify = true
@@ -30,36 +30,36 @@ is_set Set = true
 is_set Get = false
 is_set Identify = false
 
--- whether there is a value, and it is this
+-- Whether there is a value, and it equals the expected one.
 abbrev pub is_told : List ℕ → Option (List ℕ) → Bool
 is_told wanted (Some value) = pointwise nat_eq value wanted
 is_told wanted None = false
 
--- an answer to the Identify, of the station that has the plan's name; one that says that Identify is not supported (ServiceType 5) is
--- none
+-- An answer to the Identify, from the station that has the plan's name. An answer that Identify is not supported
+-- (ServiceType 5) does not count.
 abbrev pub is_found : Parts → Answered → Bool
 is_found plan answer =
     is_identify answer.service
     && (answer.is_supported && (answer.xid == 1 && is_told plan.station.name (value_among NameOfStation answer.blocks)))
 
--- VendorID and DeviceID
+-- VendorID and DeviceID.
 abbrev pub ident_bytes : Station → List ℕ
 ident_bytes station = to_be_bytes w16 station.vendor_id ++ to_be_bytes w16 station.device_id
 
--- whether it is the device of the plan, and whether it has the plan's IP suite
+-- Whether it is the device of the plan, and whether it has the plan's IP suite.
 abbrev pub is_right : Parts → Answered → Bool
 is_right plan answer = is_told (ident_bytes plan.station) (value_among DeviceId answer.blocks)
 
 abbrev pub is_addressed : Parts → Answered → Bool
 is_addressed plan answer = is_told (suite_bytes plan.station.suite) (value_among IpSuite answer.blocks)
 
--- an answer to the Set of the IP suite
+-- An answer to the Set of the IP suite.
 abbrev pub is_set_answer : Answered → Bool
 is_set_answer answer = is_set answer.service && answer.xid == 2
 
--- ---- of calls
+-- ---- responses to calls
 
--- whether what is asked is asked by a call
+-- Whether the request is a call.
 abbrev pub is_call : Request → Bool
 is_call asks.Identify = false
 is_call asks.Address = false
@@ -68,11 +68,11 @@ is_call (asks.Write number) = true
 is_call asks.PrmEnd = true
 is_call (asks.Release sequence) = true
 
--- a response to the call that asks this: of the activity of the controller, and of its number
+-- A response to the call for this request: with the activity of the controller, and the number of the call.
 abbrev pub is_answer : Setup → Request → CallHeader → Bool
 is_answer setup request header =
     is_call request && (pointwise nat_eq header.activity setup.activity && header.sequence == sequence_of setup.plan request)
 
--- an ApplicationReady of the relation
+-- An ApplicationReady of the relation.
 abbrev pub is_ready : Setup → ControlBlock → Bool
 is_ready setup block = pointwise nat_eq block.ar_uuid setup.ar && block.session_key == session_number

@@ -1,4 +1,4 @@
--- What an event makes of a controller, and what it sends then (IEC 61158-6-10, 5.2; protocol machine CMCTL).
+-- What an event does to a controller, and what is then sent (IEC 61158-6-10, 5.2; protocol machine CMCTL).
 use Rattle.std.specs.Prelude.{◌+◌, ◌*◌, ◌%◌, ◌==◌, ◌&&◌, ◌++◌, ℕ, Bool, true, false, List, [], ◌∷◌, length, map, unwrap_or, if◌then◌else◌, replicate, Option, Some, None, Result, Ok, Err}
 use Rattle.pn_values.specs.declared.mac.Mac.{Mac}
 use Rattle.frame_codec.specs.declared.udp.Caller.{Caller}
@@ -59,16 +59,16 @@ use Rattle.controller_core.specs.Answers.{is_addressed, is_answer, is_found, is_
 use Rattle.controller_core.specs.Connect.{found_in, is_whole, nothing}
 use Rattle.controller_core.specs.Alarms.{ack_of, header_of, is_alarm, kept_alarm}
 
--- what is kept then, and the messages
+-- The next state, and the messages.
 pub record Turn : Type 0 where
   pub live : Live
   pub sent : List Sent
 
--- nothing is sent
+-- Nothing is sent.
 abbrev pub stays : Live → Turn
 stays live = record { live = live; sent = [] }
 
--- a request is sent, which stands from now on
+-- A request is sent, which is active from now on.
 abbrev pub asking : State → Request → Live → Turn
 asking phase request live = record {
   live = record live { phase = phase; asked = Some request; waited = 0 };
@@ -77,30 +77,30 @@ asking phase request live = record {
 
 -- ---- ends
 
--- the controller is over, and so is its relation
+-- The controller has ended, and so has its relation.
 abbrev pub over : Cause → Live → Live
 over cause live = record live { phase = Ended cause; asked = None; waited = 0; stands = false; cyclic = ended_of live.cyclic }
 
--- the number of the call behind the last one
+-- The number of the call after the last one.
 abbrev pub next_sequence : Parts → Option Request → ℕ
 next_sequence plan (Some asks.Connect) = 1
 next_sequence plan (Some (asks.Write number)) = number + 2
 next_sequence plan request = length plan.records.items + 2
 
--- the same, and the device is told
+-- The controller has ended, and the device is informed by a Release.
 abbrev pub released : Setup → Cause → Live → Turn
 released setup cause live = asking (Ended cause) (asks.Release (next_sequence setup.plan live.asked)) (over cause live)
 
--- the application stops it: the device is told of it from the Connect on
+-- The application stops it. From the Connect on the device is informed.
 abbrev pub stopped : Setup → Live → State → Turn
 stopped setup live Looking = stays (over cause.Stopped live)
 stopped setup live Addressing = stays (over cause.Stopped live)
 stopped setup live (Ended cause) = stays live
 stopped setup live phase = released setup cause.Stopped live
 
--- ---- answers of DCP
+-- ---- DCP answers
 
--- a station was found: it has its address already, or is given it; or it is another device
+-- A station was found: it has its address already, or its address is set; or it is another device.
 abbrev pub found : Setup → Live → Mac → Answered → Turn
 found setup live source answer =
     if is_right setup.plan answer
@@ -109,7 +109,7 @@ found setup live source answer =
     else asking Addressing asks.Address (record live { device = source }))
     else stays (over cause.WrongDevice live)
 
--- the station took its address, or refused it
+-- The station accepted its address, or refused it.
 abbrev pub addressed : Live → Answered → Turn
 addressed live answer = if is_agreed answer then asking Connecting asks.Connect live else stays (over cause.Refused live)
 
@@ -120,7 +120,7 @@ answered setup live source answer phase = stays live
 
 -- ---- responses
 
--- a record is written, or the parameters are ended
+-- A record is written, or the parameters are ended.
 abbrev pub phase_for : Request → State
 phase_for (asks.Write number) = Writing
 phase_for request = Ending
@@ -128,7 +128,7 @@ phase_for request = Ending
 abbrev pub writing : Request → Live → Turn
 writing request live = asking (phase_for request) request live
 
--- with whom, and under which numbers, by the FrameID that the device chose for outputs
+-- The partner, and the numbers of the frames, with the FrameID that the device chose for outputs.
 abbrev pub route_of : Mac → ℕ → Route
 route_of device frame_id = record { partner = device; sent_id = frame_id; sent_tag = high_tag; taken_id = input_frame_id; alarm_tag = high_tag; reference = 1 }
 
@@ -138,14 +138,15 @@ interval_of times = times.send_clock_factor * times.reduction_ratio
 abbrev pub sending_of : Times → Sending
 sending_of times = record { interval = interval_of times; elapsed = 0 }
 
--- the relation stands
+-- The relation is established.
 abbrev pub standing : Setup → Live → ℕ → Live
 standing setup live frame_id = record live {
   stands = true;
   cyclic = related live.cyclic (route_of live.device frame_id) (sending_of setup.plan.times);
 }
 
--- behind a positive answer to the Connect: without all of its blocks it is dropped; where modules differ there is no relation
+-- After a positive answer to the Connect: an answer without all of its blocks is dropped; if modules differ the relation
+-- is released.
 abbrev pub related_by : Setup → Live → Option ℕ → Turn
 related_by setup live (Some frame_id) = writing (writing_from setup.plan 0) (standing setup live frame_id)
 related_by setup live None = stays live
@@ -160,7 +161,7 @@ abbrev pub connected : Setup → Live → Option Found → Turn
 connected setup live (Some found) = connected_by setup live found
 connected setup live None = stays live
 
--- behind a positive answer
+-- After a positive response.
 abbrev pub done : Setup → Live → List ℕ → Request → Turn
 done setup live blocks asks.Identify = stays live
 done setup live blocks asks.Address = stays live
@@ -169,7 +170,7 @@ done setup live blocks (asks.Write number) = writing (writing_from setup.plan (n
 done setup live blocks asks.PrmEnd = stays (record live { phase = Waiting; asked = None })
 done setup live blocks (asks.Release sequence) = stays (record live { asked = None })
 
--- behind any: the status decides, but that of a Release counts whatever it says
+-- After any response: the status decides, but the response to a Release counts with any status.
 abbrev pub judged : Setup → Live → Response → Request → Turn
 judged setup live response request =
     if is_done response.status then done setup live response.blocks request else stays (over cause.Refused live)
@@ -185,7 +186,7 @@ responded setup live response None = stays live
 
 -- ---- ApplicationReady
 
--- the block, if it is one
+-- The block, if it is one of ApplicationReady.
 abbrev pub ready_block : Result (Block × List ℕ) BlockFault → Option ControlBlock
 ready_block (Ok x) = in_application_ready x.0
 ready_block (Err fault) = None
@@ -193,7 +194,7 @@ ready_block (Err fault) = None
 abbrev pub ready_in : Call → Option ControlBlock
 ready_in call = if call.header.operation == 4 then ready_block (block_of (unwrap_or call.blocks [])) else None
 
--- it is answered, and data is exchanged from then on; where data is exchanged it is answered again
+-- It is answered, and data is exchanged from then on. While data is exchanged it is answered again.
 abbrev pub readied : Live → Caller → Call → ControlBlock → State → Turn
 readied live caller call block Ending = record {
   live = record live { phase = Exchanging; asked = None; cyclic = begun_of live.cyclic };
@@ -212,7 +213,7 @@ called setup live caller call None = stays live
 
 -- ---- alarms
 
--- an alarm comes: a new one is confirmed by its AlarmAck behind the ACK
+-- An alarm is received: a new one is confirmed with its AlarmAck after the ACK.
 abbrev pub behind_data : Live → ℕ → Live
 behind_data live number = record live { alarms = with_data live.alarms number }
 
@@ -239,13 +240,13 @@ noticed live (notice.Ack number) = stays (record live { alarms = with_ack live.a
 noticed live notice.Nack = stays live
 noticed live notice.Abort = stays (over cause.Aborted live)
 
--- an alarm frame counts that is of the relation, while this stands
+-- An alarm frame counts if it belongs to the relation, while that is established.
 abbrev pub alarmed : Live → Mac → Header → ToController → Turn
 alarmed live source header notice = if live.stands && is_alarm live.cyclic.route source header then noticed live notice else stays live
 
--- ---- what was heard
+-- ---- what was received
 
--- a cyclic frame counts while the relation stands
+-- A cyclic frame counts while the relation is established.
 abbrev pub come : Live → Mac → ℕ → List ℕ → Live
 come live source frame_id body = if live.stands then record live { cyclic = behind_frame live.cyclic source frame_id body } else live
 
@@ -259,15 +260,15 @@ turned setup live (Alarms source header notice) = alarmed live source header not
 
 -- ---- units
 
--- a request is sent again each second, 32,000 units, from its sending on
+-- A request is sent again each second, 32,000 units, counted from its sending.
 abbrev pub is_again : Live → Bool
 is_again live = live.waited + 1 == 32000
 
--- a unit later
+-- The timer of the request and CycleCounter a unit later.
 abbrev pub later : Live → Live
 later live = record live { waited = if is_again live then 0 else live.waited + 1; units = (live.units + 1) % 65536 }
 
--- what is sent where it is due
+-- What is sent if it is due.
 abbrev pub where_due : Bool → List Sent → List Sent
 where_due is_due sent = if is_due then sent else []
 
@@ -285,28 +286,28 @@ acks_of live = acks_in live live.alarms.confirming
 abbrev pub outputs_of : Live → List Sent
 outputs_of live = Cycles live.cyclic.route live.cyclic.shown live.units ∷ []
 
--- a unit later of what the relation exchanges
+-- The exchange of the relation a unit later.
 abbrev pub exchange_later : Live → Live
 exchange_later live = record live { cyclic = cyclic_later live.cyclic; alarms = controller_later live.alarms }
 
--- a unit later of both
+-- The exchange and the timer of the request a unit later.
 abbrev pub flow_later : Live → Live
 flow_later live = exchange_later (later live)
 
--- why the controller ends with the relation
+-- Why the controller ends with the relation.
 abbrev pub cause_of : Abort → Cause
 cause_of reason.DataHold = cause.DataHold
 cause_of reason.Activity = cause.AlarmRetries
 cause_of reason.Other = cause.AlarmRetries
 
--- the relation ends, and the device is told why, and nothing else is sent
+-- The relation ends, the device is informed of the reason, and nothing else is sent.
 abbrev pub ended_by : Live → Abort → Turn
 ended_by live reason = record {
   live = over (cause_of reason) live;
   sent = Ends live.cyclic.route (header_of live.alarms live.cyclic.route pdu.Error) reason ∷ [];
 }
 
--- the AlarmAck again, the request again, and the outputs, as far as each is due
+-- The AlarmAck again, the request again, and the outputs, each if it is due.
 abbrev pub due_frames : Live → Bool → Bool → Bool → List Sent
 due_frames live is_ack is_request is_cyclic =
     where_due is_ack (acks_of live) ++ (where_due is_request (requests_of live.device live.asked) ++ where_due is_cyclic (outputs_of live))
@@ -315,23 +316,24 @@ abbrev pub flowed : Live → Bool → Brought → Option Abort → Turn
 flowed live is_request tick (Some reason) = ended_by live reason
 flowed live is_request tick None = record { live = live; sent = due_frames live tick.is_alarm is_request tick.is_cyclic }
 
--- what a unit brings of the relation
+-- What a unit brings of the relation.
 abbrev pub brought : Live → Brought
 brought live = tick_of live.cyclic (due live.alarms.sending)
 
--- once the request's own time has gone on, and says whether it is due
+-- The rest of a unit, after the timer of the request; the Bool says whether the request is due.
 abbrev pub gone_on : Live → Bool → Turn
 gone_on live is_request =
     if live.stands then flowed (exchange_later live) is_request (brought live) (brought live).ending
     else record { live = live; sent = where_due is_request (requests_of live.device live.asked) }
 
--- a unit passes: what is due of the relation, where it stands, and the request again
+-- A unit passes: what is due of the relation, if it is established, and the request again.
 abbrev pub ticked : Live → Turn
 ticked live = gone_on (later live) (is_again live)
 
 -- ---- events
 
--- the output of a submodule is given, with a good IOPS from then on: where it has one of this length, and else nothing changes
+-- The output of a submodule is set, with a good IOPS from then on, if it has an output of this length. Otherwise
+-- nothing changes.
 abbrev pub given : Live → ℕ → ℕ → List ℕ → Live
 given live slot subslot value = record live { cyclic = unwrap_or (provided_at live.cyclic slot subslot value) live.cyclic }
 
@@ -343,16 +345,16 @@ turn_of setup live Stop = stopped setup live live.phase
 
 -- ---- the beginning
 
--- IOPS is bad until a value is given, and IOCS is good
+-- IOPS is bad until a value is set, and IOCS is good.
 abbrev pub first_status : PlaceKind → ℕ → ℕ → ℕ
 first_status at_data slot subslot = 0
 first_status at_iocs slot subslot = good
 
--- nobody
+-- The address of no station.
 abbrev pub nobody : Mac
 nobody = record { octets = replicate 6 0 }
 
--- the data hold time is DataHoldFactor times the interval
+-- The data hold time is DataHoldFactor times the interval.
 abbrev pub hearing_of : Times → Hearing
 hearing_of times = record { last = None; held = 0; limit = times.data_hold_factor * interval_of times }
 
@@ -361,7 +363,7 @@ first_cyclic plan =
     opened (route_of nobody 0xFFFF) (sending_of plan.times) (hearing_of plan.times) first_status
     (layout_in Output (data_of plan.real.modules.items)) (layout_in Input (data_of plan.real.modules.items))
 
--- it looks for the station: the Identify counts as sent
+-- It looks for the station: the Identify counts as sent.
 abbrev pub first : Parts → Live
 first plan = record {
   phase = Looking;
@@ -375,25 +377,25 @@ first plan = record {
   alarm = None;
 }
 
--- the controller of a plan, with this ARUUID and this activity
+-- The controller of a plan, with this ARUUID and this activity.
 abbrev pub fresh : Parts → List ℕ → List ℕ → Controlling
 fresh plan ar activity = record { setup = record { plan = plan; ar = ar; activity = activity }; live = first plan }
 
--- its opening frame: the Identify
+-- Its opening frame: the Identify.
 unfoldable pub opening_of : Controlling → List ℕ
 opening_of controlling = bytes_of controlling.setup (Requests controlling.live.device asks.Identify)
 
 -- ---- a step
 
--- the controller then, and the frames
+-- The controller after it, and the frames.
 pub record Stepped : Type 0 where
   pub controller : Controlling
   pub frames : List (List ℕ)
 
--- what a turn is of a controller
+-- A turn as a step of a controller.
 abbrev pub stepped : Controlling → Turn → Stepped
 stepped old turn = record { controller = with_live old turn.live; frames = map (bytes_of old.setup) turn.sent }
 
--- an event, to a controller: it hangs on the octets of a frame, and on what the controller keeps
+-- An event at a controller: its step depends on the octets of a frame, and on the state of the controller.
 unfoldable pub step_of : Controlling → Event → Stepped
 step_of old event = stepped old (turn_of old.setup old.live event)

@@ -1,4 +1,4 @@
--- What a controller keeps.
+-- The state of a controller.
 use Rattle.std.specs.Prelude.{ℕ, Bool, Option}
 use Rattle.pn_values.specs.declared.mac.Mac.{Mac}
 use Rattle.record_blocks.specs.declared.alarm_notification.AlarmNotification.{AlarmNotification}
@@ -8,9 +8,9 @@ use Rattle.controller_frames.specs.declared.setup.Setup.{Setup}
 use Rattle.controller_frames.specs.declared.request.Request.{Request}
 use Rattle.controller_core.specs.declared.state.State.{State}
 
--- What changes from event to event: how far it is; who the station is; the request that stands until it is answered, and the units since
--- it was sent; the units since the controller was made, modulo 65,536; whether its relation stands; its ends of cyclic data and of the
--- alarms; and the last alarm that was taken.
+-- What changes from event to event: its phase; the MAC address of the station; the request that is active until it is
+-- answered, and the units since it was sent; the units since the controller was made, modulo 65,536; whether its
+-- relation is established; its ends of cyclic data and of the alarms; and the last alarm that was accepted.
 pub record Live : Type 0 where
   pub phase : State
   pub device : Mac
@@ -22,11 +22,11 @@ pub record Live : Type 0 where
   pub alarms : ControllerEnd
   pub alarm : Option AlarmNotification
 
--- a controller: what it was set up with, and what changes
+-- A controller: its configuration, and its state.
 pub record Controlling : Type 0 where
   pub setup : Setup
   pub live : Live
 
--- the same controller, of which this is kept
+-- The same controller with this state.
 abbrev pub with_live : Controlling → Live → Controlling
 with_live controlling live = record controlling { live = live }

@@ -19,7 +19,7 @@ use plans::ALARM_REFERENCE;
 use pn_alarms::{ControllerAlarms, Header, Notice, PduType, Taken};
 use pn_values::Mac;
 
-/// Whether an alarm frame of this station, with these endpoints, is of the relation.
+/// Whether an alarm frame of this station, with these endpoints, belongs to the relation.
 pub(crate) fn is_alarm(route: &Route, source: Mac, header: &Header) -> bool
     ensures { result ≡ is_alarm route.now source header.now }
 {
@@ -36,7 +36,7 @@ pub(crate) fn header_of(alarms: &ControllerAlarms, route: &Route, kind: PduType)
 }
 
 impl Controller {
-    // The ACK or NACK of an alarm that was taken so is sent.
+    // Sends the ACK or NACK of an alarm.
     fn reply(&self, kind: PduType, outbox: &mut Outbox)
         requires room { array_vec_len outbox.old < 4 }
         requires kind { is_long kind 0 ≡ true }
@@ -50,7 +50,7 @@ impl Controller {
         send_alarm_reply(&self.setup, route, &header, outbox);
     }
 
-    // The AlarmAck of an alarm is sent, as new data.
+    // Sends the AlarmAck of an alarm, as new data.
     fn confirm(&mut self, alarm: &AlarmNotification<'_>, outbox: &mut Outbox)
         requires room { array_vec_len outbox.old < 4 }
         ensures state { self.new ≡ with_live self.old (confirming self.old.live alarm.now) }
@@ -67,7 +67,7 @@ impl Controller {
         send_alarm_ack(&self.setup, route, &header, &ack, outbox);
     }
 
-    // An alarm comes, as data of this number: its ACK goes before its AlarmAck.
+    // Receives an alarm, as data of this number: its ACK is sent before its AlarmAck.
     fn take(&mut self, number: u16, alarm: &AlarmNotification<'_>, outbox: &mut Outbox)
         requires empty { outbox.old.items ≡ [] }
         ensures state { self.new ≡ with_live self.old (taken (behind_data self.old.live number) alarm.now
@@ -81,7 +81,8 @@ impl Controller {
                 self.reply(PduType::Ack, outbox);
                 self.confirm(alarm, outbox);
             }
-            // The device did not hear the ACK. Its AlarmAck is repeated by its own timer, so the alarm is not shown twice.
+            // The device did not receive the ACK. Its AlarmAck is repeated by its own timer, so the alarm is not
+            // reported twice.
             Taken::Again => self.reply(PduType::Ack, outbox),
             Taken::Refused => self.reply(PduType::Nack, outbox),
         }
@@ -102,18 +103,19 @@ impl Controller {
             Notice::Ack(number) => {
                 self.alarms.hear_ack(*number);
             }
-            // The AlarmAck is sent again at its time anyway, and a NACK says no more than that its number was not expected.
+            // The AlarmAck is sent again after its interval anyway, and a NACK only says that its number was not
+            // expected.
             Notice::Nack => {}
             Notice::Abort => self.end(Cause::Aborted),
         }
     }
 
-    // The controller is over, and so is its relation.
+    // Ends the controller and its relation.
     pub(crate) fn end(&mut self, cause: Cause)
         ensures { self.new ≡ with_live self.old (over cause self.old.live) }
     {
         self.phase = State::Ended(cause);
-        // What was asked for is of no use to one that is over, and is not sent again.
+        // An ended controller does not need the answer to its request, and does not repeat it.
         self.asked = None;
         self.waited = 0;
         self.stands = false;

@@ -1,4 +1,4 @@
-// What comes of the device, as far as it is wanted.
+// The answers of the device that a controller expects.
 ghost use Rattle.std.specs.Prelude.{◌≡◌, ◌+◌, option_map};
 ghost use Rattle.dcp_core.specs.Answered.{answered as answered_as};
 ghost use Rattle.dcp_core.specs.Identify.{suite_bytes};
@@ -19,7 +19,7 @@ use rpc_core::Call;
 /// Operation of Control.
 const CONTROL: u16 = 4;
 
-/// Whether there is a value, and it is this.
+/// Whether there is a value, and it equals the expected one.
 pub(crate) fn is_told(wanted: &[u8], value: Option<&[u8]>) -> bool
     ensures { result ≡ is_told wanted.now (option_map (λ value. value.now) value.entry) }
 {
@@ -29,12 +29,12 @@ pub(crate) fn is_told(wanted: &[u8], value: Option<&[u8]>) -> bool
     }
 }
 
-/// Whether an answer is to the Identify, and of the station that has the plan's name.
+/// Whether an answer is to the Identify, and from the station that has the plan's name.
 pub(crate) fn is_found(plan: &Plan, answer: &dcp_core::Response<'_>) -> bool
     ensures { result ≡ is_found plan.now (answered_as answer.now) }
 {
-    // Every station that hears an Identify may answer, and earlier requests of others are under way: name and transaction decide.
-    // One that does not support Identify has not looked at the name that it was asked for.
+    // Every station that receives an Identify may answer, and answers to earlier requests of others may arrive: name
+    // and transaction decide. A station that does not support Identify has not checked the name.
     matches!(answer.service, Service::Identify)
         && answer.is_supported
         && answer.xid == 1
@@ -53,7 +53,7 @@ pub(crate) fn ident_octets(station: &Station) -> [u8; 4]
     [vendor[0], vendor[1], device[0], device[1]]
 }
 
-/// Whether an answer is of the device of the plan.
+/// Whether an answer is from the device of the plan.
 pub(crate) fn is_right(plan: &Plan, answer: &dcp_core::Response<'_>) -> bool
     ensures { result ≡ is_right plan.now (answered_as answer.now) }
 {
@@ -88,7 +88,7 @@ pub(crate) fn is_set_answer(answer: &dcp_core::Response<'_>) -> bool
     matches!(answer.service, Service::Set) && answer.xid == 2
 }
 
-/// The number of the call behind the last one.
+/// The number of the call after the last one.
 pub(crate) fn next_sequence(plan: &Plan, asked: Option<Request>) -> u32
     ensures { result ≡ next_sequence plan.now asked }
 {
@@ -99,7 +99,7 @@ pub(crate) fn next_sequence(plan: &Plan, asked: Option<Request>) -> u32
     }
 }
 
-/// The request behind the record of this number.
+/// The request after the record with this number.
 pub(crate) fn request_behind(plan: &Plan, number: u16) -> Request
     ensures { result ≡ writing_from plan.now (number + 1) }
 {
@@ -110,7 +110,7 @@ pub(crate) fn request_behind(plan: &Plan, number: u16) -> Request
     }
 }
 
-/// The state in which a record is written, or the parameters are ended.
+/// The state in which this request, a Write or PrmEnd, is active.
 pub(crate) fn phase_for(request: Request) -> State
     ensures { result ≡ phase_for request }
 {
@@ -133,7 +133,7 @@ pub(crate) fn ready_in(call: &Call<'_>) -> Option<ControlBlock>
     }
 }
 
-/// Why the controller ends with its relation.
+/// Why the controller ends if its relation ends for this reason.
 pub(crate) fn cause_of(reason: Abort) -> Cause
     ensures { result ≡ cause_of reason }
 {

@@ -1,4 +1,4 @@
-// What the answer to a Connect holds (IEC 61158-6-10, 5.2.4).
+// The content of the answer to a Connect (IEC 61158-6-10, 5.2.4).
 ghost use Rattle.std.specs.Prelude.{◌≡◌, option_map};
 ghost use Rattle.block_codec.specs.Block.{block_of};
 ghost use Rattle.controller_core.specs.Connect.{found_in, is_whole, nothing, with_block, with_iocr};
@@ -6,23 +6,23 @@ ghost use Rattle.controller_core.specs.Reading.{next_found};
 
 use block_codec::{Block, IocrBlockRes, read_block};
 
-/// What was read of the blocks of the answer to a Connect.
+/// What was read from the blocks of the answer to a Connect.
 #[derive(Clone, Copy)]
 pub(crate) struct Found {
-    /// The ARBlockRes.
+    /// Whether there is an ARBlockRes.
     pub(crate) relation: bool,
-    /// The IOCRBlockRes of inputs.
+    /// Whether there is an IOCRBlockRes of inputs.
     pub(crate) input: bool,
-    /// The FrameID in that of outputs.
+    /// The FrameID in the IOCRBlockRes of outputs, if there is one.
     pub(crate) output: Option<u16>,
-    /// The AlarmCRBlockRes.
+    /// Whether there is an AlarmCRBlockRes.
     pub(crate) alarm: bool,
-    /// A ModuleDiffBlock.
+    /// Whether there is a ModuleDiffBlock.
     pub(crate) differs: bool,
 }
 
 impl Found {
-    /// Nothing.
+    /// Nothing found yet.
     pub(crate) fn nothing() -> Found
         ensures { result ≡ nothing }
     {
@@ -35,7 +35,7 @@ impl Found {
         }
     }
 
-    /// One more IOCRBlockRes.
+    /// The same with one more IOCRBlockRes.
     fn with_iocr(self, block: &IocrBlockRes) -> Found
         ensures { result ≡ with_iocr block.now self }
     {
@@ -52,7 +52,7 @@ impl Found {
         }
     }
 
-    /// One more block.
+    /// The same with one more block.
     fn with_block(self, block: &Block<'_>) -> Found
         ensures { result ≡ with_block block.now self }
     {
@@ -74,7 +74,7 @@ impl Found {
         }
     }
 
-    /// Whether all that a relation needs is there.
+    /// Whether all blocks that a relation needs are there.
     pub(crate) fn is_whole(&self) -> bool
         ensures { result ≡ is_whole self.now }
     {
@@ -82,7 +82,8 @@ impl Found {
     }
 }
 
-/// Takes the block at the front of octets, if it reads, and gives what was found behind it, and what is left.
+/// Reads the block at the start of the octets. Returns what was found with it, and the rest, or `None` if it cannot be
+/// read.
 fn take_block(found: Found, bytes: &[u8]) -> Option<(Found, &[u8])>
     ensures { option_map (λ x. (x.0, x.1.now)) result ≡ next_found found (block_of bytes.now) }
 {
@@ -92,7 +93,8 @@ fn take_block(found: Found, bytes: &[u8]) -> Option<(Found, &[u8])>
     }
 }
 
-/// What octets hold that are blocks, one behind the other, at most so many. There is none where one of them does not read.
+/// What was found in octets that are a sequence of blocks, at most `most`. Returns `None` if one of them cannot be
+/// read.
 pub(crate) fn found_in(most: usize, bytes: &[u8]) -> Option<Found>
     ensures { result ≡ found_in most bytes.now nothing }
 {

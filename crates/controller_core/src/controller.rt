@@ -19,25 +19,25 @@ use std::marker::Model;
 /// The status of good data (IEC 61158-6-10, 4.7.2.1.1).
 const GOOD: u8 = 0x80;
 
-/// The endpoint of the device.
+/// The alarm endpoint of the device.
 const REFERENCE: u16 = 1;
 
-/// FrameID of outputs before the device chose one.
+/// FrameID of outputs before the device has chosen one.
 const NO_ID: u16 = 0xFFFF;
 
-/// The controller of a station. A clause sees what it was set up with, and what changes from event to event.
+/// The controller of a station. In clauses it is its configuration, and the state that changes from event to event.
 #[derive(Drop)]
 pub struct Controller {
     pub(crate) setup: Setup,
     pub(crate) phase: State,
     pub(crate) device: Mac,
-    /// The request that stands until it is answered.
+    /// The request that is active until it is answered.
     pub(crate) asked: Option<Request>,
-    /// Units since it was sent.
+    /// The units since it was sent.
     pub(crate) waited: u32,
-    /// Units since the controller was made, modulo 65,536.
+    /// The units since the controller was made, modulo 65,536.
     pub(crate) units: u16,
-    /// The relation stands.
+    /// Whether the relation is established.
     pub(crate) stands: bool,
     pub(crate) exchange: CyclicExchange,
     pub(crate) alarms: ControllerAlarms,
@@ -69,7 +69,7 @@ impl Model for Controller {
     ghost invariant = { λ controller. controller.waited < 32000 };
 }
 
-/// The statuses of a controller to which nothing was given: IOPS is bad, and IOCS is good.
+/// The statuses of a controller before any output is set: IOPS is bad, and IOCS is good.
 #[derive(Clone, Copy)]
 pub(crate) struct NothingGiven;
 
@@ -80,14 +80,15 @@ impl Statuses for NothingGiven {
 
     fn status(&self, kind: PlaceKind, _slot: u16, _subslot: u16) -> u8 {
         match kind {
-            // An output that was never given is no value that anybody chose: it is marked bad until the application gives it.
+            // An output that was never set is not a value that anybody chose: it is marked bad until the application
+            // sets it.
             PlaceKind::Data => 0,
             PlaceKind::Iocs => GOOD,
         }
     }
 }
 
-/// With whom, and under which numbers.
+/// The partner, and the numbers of the frames.
 pub(crate) fn route_of(device: Mac, frame_id: u16) -> Route
     ensures { result ≡ route_of device frame_id }
 {
@@ -111,7 +112,8 @@ fn interval_of(times: Times) -> u32
     u32::from(times.send_clock_factor) * u32::from(times.reduction_ratio)
 }
 
-/// Opens the exchange of a plan: nothing was given, and the device is not known. Both layouts stand on its own frame of the stack alone.
+/// Opens the exchange of a plan: no output was set, and the device is not known yet. It is a function of its own so
+/// that both layouts are only in its stack frame.
 #[inline(never)]
 fn open(exchange: &mut CyclicExchange, plan: &Plan)
     ensures { exchange.new ≡ first_cyclic plan.now }
@@ -130,16 +132,16 @@ fn open(exchange: &mut CyclicExchange, plan: &Plan)
 }
 
 impl Controller {
-    /// The controller of a plan, with the ARUUID of its relation, which is not zero, and the activity of its calls. Its opening frame
-    /// counts as sent.
+    /// The controller of a plan, with the ARUUID of its relation, which is not zero, and the activity of its calls. Its
+    /// opening frame counts as sent.
     pub fn new(plan: Plan, ar: Uuid, activity: Uuid) -> Controller
         ensures { result ≡ fresh plan ar activity }
     {
         Controller::of(Setup { plan, ar, activity })
     }
 
-    /// The controller of what it is set up with. A frame of its own on the stack, so that none holds a plan beside a
-    /// controller.
+    /// The controller with this configuration. It is a function of its own so that no stack frame holds both a plan and
+    /// a controller.
     #[inline(never)]
     fn of(setup: Setup) -> Controller
         ensures { result ≡ fresh setup.plan setup.ar setup.activity }
@@ -156,12 +158,12 @@ impl Controller {
             alarms: ControllerAlarms::new(RTA_TIMEOUT_FACTOR, RTA_RETRIES),
             alarm: None,
         };
-        // The exchange is large: it is opened where it stays.
+        // The exchange is large: it is opened in its final place.
         open(&mut controller.exchange, &controller.setup.plan);
         controller
     }
 
-    /// The Identify with which it begins.
+    /// The Identify frame with which it begins.
     #[tactic(auto, unfolding(crate::specs::Machine::opening_of))]
     pub fn opening(&self) -> Frame
         ensures { result.items ≡ opening_of self.now }
@@ -180,15 +182,15 @@ impl Controller {
         self.setup.ar
     }
 
-    /// How far it is.
+    /// The state of the controller.
     pub fn state(&self) -> State
         ensures { result ≡ self.now.live.phase }
     {
         self.phase
     }
 
-    /// The input of a submodule, if it has a place: what the last frame that was taken holds there, and zeros where none was taken, its
-    /// IOPS is not good, or the controller is over.
+    /// The input of a submodule, if it has a place: its data in the last accepted frame. All zeros if no frame was
+    /// accepted yet, if the IOPS is not good, or if the controller has ended.
     pub fn value(&self, slot: u16, subslot: u16) -> Option<&[u8]>
         ensures value { option_map (λ value. value.now) result ≡ value_at self.now.live.cyclic slot subslot }
         ensures short { IfSome result (λ value. length value.now ≤ 1440) }
@@ -196,7 +198,7 @@ impl Controller {
         self.exchange.value(slot, subslot)
     }
 
-    /// The last alarm that was taken.
+    /// The last alarm that was accepted, if there was one.
     pub fn alarm(&self) -> Option<AlarmNotification<'_>>
         ensures { result ≡ self.now.live.alarm }
     {

@@ -1,4 +1,4 @@
-// The last alarm, as a controller keeps it.
+// The last alarm, as a controller stores it.
 ghost use Rattle.std.specs.Prelude.{◌≡◌};
 ghost use Rattle.controller_core.specs.Alarms.{ack_of, alarm_in, kept_alarm};
 
@@ -6,10 +6,10 @@ use arrayvec::ArrayVec;
 use block_codec::{AlarmAck, AlarmData, AlarmNotification};
 use wire::at_most;
 
-/// How much of an alarm's data is kept: more than a frame holds.
+/// The maximum number of octets of an alarm's data that are stored: more than a frame holds.
 const MOST_DATA: usize = 1500;
 
-/// An alarm, away from the frame in which it came.
+/// An alarm, copied out of its frame.
 #[derive(Drop)]
 pub(crate) struct KeptAlarm {
     alarm_type: u16,
@@ -41,7 +41,7 @@ impl KeptAlarm {
         }
     }
 
-    /// Its block.
+    /// The block of this alarm.
     pub(crate) fn notification(&self) -> AlarmNotification<'_>
         ensures { result ≡ alarm_in self.now }
     {

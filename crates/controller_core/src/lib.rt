@@ -1,8 +1,9 @@
-//! The controller of a station (IEC 61158-5-10 and IEC 61158-6-10; protocol machine CMCTL): it finds the station of its plan by its name,
-//! gives it its address, makes the relation, writes the records of the plan in their order, ends the parameters, waits for
-//! ApplicationReady, and exchanges.
+//! The controller of a station (IEC 61158-5-10 and IEC 61158-6-10; protocol machine CMCTL): it finds the station of its
+//! plan by its name, sets its address, establishes the relation, writes the records of the plan in order, ends the
+//! parameters, waits for ApplicationReady, and exchanges data.
 //!
-//! A clause sees it as a machine: what was heard makes of what it keeps what it keeps then, and the messages that it sends.
+//! In clauses it is a state machine: from what was received and its state follow its next state and the messages that
+//! it sends.
 #![tactic(auto)]
 
 mod alarms;

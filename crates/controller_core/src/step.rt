@@ -38,14 +38,14 @@ use pn_alarms::{Abort, Header, Notice, PduType};
 use pn_values::Mac;
 use rpc_core::{Call, Response};
 
-/// How many blocks the answer to a Connect may have: more than a frame holds.
+/// The maximum number of blocks in the answer to a Connect: more than a frame holds.
 const MOST_BLOCKS: usize = 400;
 
-/// A request is sent again each second, from its sending on.
+/// One second, in units of 31.25 microseconds: an unanswered request is sent again after this time.
 const SECOND: u32 = 32_000;
 
 impl Controller {
-    /// One step: the box is emptied, and the frames that the event sends are put into it.
+    /// Handles one event: clears the outbox, and appends the frames that the event sends.
     #[tactic(auto, unfolding(crate::specs::Machine::step_of))]
     pub fn step(&mut self, event: &Event, outbox: &mut Outbox)
         ensures state { self.new ≡ (step_of self.old event.now).controller }
@@ -60,7 +60,7 @@ impl Controller {
         }
     }
 
-    // A request is sent, which stands from now on.
+    // Sends a request, which is active from now on.
     fn ask(&mut self, phase: State, request: Request, outbox: &mut Outbox)
         requires empty { outbox.old.items ≡ [] }
         ensures state { self.new ≡ with_live self.old (asking phase request self.old.live).live }
@@ -72,7 +72,7 @@ impl Controller {
         send_request(&self.setup, self.device, request, outbox);
     }
 
-    // The controller is over, and the device is told.
+    // Ends the controller, and informs the device.
     fn release(&mut self, cause: Cause, outbox: &mut Outbox)
         requires empty { outbox.old.items ≡ [] }
         ensures state { self.new ≡ with_live self.old (released self.old.setup cause self.old.live).live }
@@ -91,9 +91,9 @@ impl Controller {
         ensures frames { boxed outbox.new ≡ map (bytes_of self.old.setup) (stopped self.old.setup self.old.live self.old.live.phase).sent }
     {
         match self.phase {
-            // No relation was asked for yet, so there is none that a device would have to be told of.
+            // No relation was asked for yet, so there is no device to inform.
             State::Looking | State::Addressing => self.end(Cause::Stopped),
-            // The first cause stays: what ended a relation is what an engineer looks for.
+            // The first cause is kept: an engineer looks for what ended the relation.
             State::Ended(_) => {}
             State::Connecting
             | State::Writing
@@ -103,7 +103,7 @@ impl Controller {
         }
     }
 
-    // The application gives an output.
+    // The application sets an output.
     #[inline(never)]
     fn give(&mut self, slot: u16, subslot: u16, value: &[u8])
         ensures { self.new ≡ with_live self.old (given self.old.live slot subslot value.now) }
@@ -111,7 +111,7 @@ impl Controller {
         self.exchange.provide(slot, subslot, value);
     }
 
-    // A frame comes.
+    // Receives a frame.
     #[inline(never)]
     #[tactic(auto, unfolding(controller_frames::specs::Heard::heard_real_time))]
     fn hear(&mut self, bytes: &Bytes, outbox: &mut Outbox)
@@ -134,7 +134,7 @@ impl Controller {
         }
     }
 
-    // A frame of EtherType 0x8892 to this controller that is no cyclic one.
+    // A frame of EtherType 0x8892 to this controller that is not a cyclic frame.
     #[inline(never)]
     fn hear_real_time(&mut self, source: Mac, frame_id: u16, body: &[u8], outbox: &mut Outbox)
         requires empty { outbox.old.items ≡ [] }
@@ -148,7 +148,7 @@ impl Controller {
         self.turn(&hearing, outbox);
     }
 
-    // A frame that is no frame of EtherType 0x8892 to this controller, or none.
+    // Octets that are not a frame of EtherType 0x8892 to this controller.
     #[inline(never)]
     fn hear_other(&mut self, bytes: &Bytes, outbox: &mut Outbox)
         requires empty { outbox.old.items ≡ [] }
@@ -162,7 +162,7 @@ impl Controller {
         self.turn(&hearing, outbox);
     }
 
-    // What was heard.
+    // Handles what was received.
     fn turn(&mut self, hearing: &Hearing<'_>, outbox: &mut Outbox)
         requires empty { outbox.old.items ≡ [] }
         ensures state { self.new ≡ with_live self.old (turned self.old.setup self.old.live (told hearing.now)).live }
@@ -173,7 +173,8 @@ impl Controller {
             Hearing::Answers(source, answer) => self.hear_answer(*source, answer, outbox),
             Hearing::Responds(response) => self.hear_response(response, outbox),
             Hearing::Calls(caller, call) => self.hear_call(caller, call, outbox),
-            // Not reached: `hear` takes a cyclic frame before a `Hearing` is made of it. It is what the contract says of any hearing.
+            // Not reached: `hear` handles a cyclic frame before a `Hearing` is made of it. It is here because the
+            // contract covers any `Hearing`.
             Hearing::Cyclic(source, frame_id, body) => self.hear_cyclic(*source, *frame_id, body),
             Hearing::Alarms(source, header, notice) => {
                 self.hear_alarm(*source, header, notice, outbox)
@@ -181,7 +182,7 @@ impl Controller {
         }
     }
 
-    // An answer of DCP.
+    // A DCP answer.
     fn hear_answer(&mut self, source: Mac, answer: &dcp_core::Response<'_>, outbox: &mut Outbox)
         requires empty { outbox.old.items ≡ [] }
         ensures state { self.new ≡ with_live self.old (answered self.old.setup self.old.live source (answered_as answer.now)
@@ -217,13 +218,13 @@ impl Controller {
         ensures frames { boxed outbox.new
             ≡ map (bytes_of self.old.setup) (found self.old.setup self.old.live source (answered_as answer.now)).sent }
     {
-        // A station of another type has the name: going on would write records into the wrong machine.
+        // A station of another type has the name: to continue would write records into the wrong machine.
         if !is_right(&self.setup.plan, answer) {
             self.end(Cause::WrongDevice);
             return;
         }
         self.device = source;
-        // A Set of what stands already would cost the station a write of its flash at each start of the plant.
+        // A Set of the address that it already has would cost the station a flash write at each start of the plant.
         if is_addressed(&self.setup.plan, answer) {
             self.ask(State::Connecting, Request::Connect, outbox);
         } else {
@@ -244,14 +245,14 @@ impl Controller {
         }
     }
 
-    // Whether a response is to the call that asks this.
+    // Whether a response is the one to the call for this request.
     fn is_answer(&self, request: Request, response: &Response<'_>) -> bool
         ensures { result ≡ is_answer self.now.setup request response.now.header }
     {
         match request {
             Request::Identify | Request::Address => false,
             Request::Connect | Request::Write(_) | Request::PrmEnd | Request::Release(_) => {
-                // The activity alone is not enough: a late answer to the request before carries it too.
+                // The activity alone is not enough: a late response to the previous request has it too.
                 response.header.activity == self.setup.activity
                     && response.header.sequence == request.sequence(&self.setup.plan)
             }
@@ -274,7 +275,7 @@ impl Controller {
         }
     }
 
-    // The answer to what was asked: that of a Release counts whatever it says.
+    // The response to the active request. That to a Release counts with any status.
     fn decide(&mut self, request: Request, response: &Response<'_>, outbox: &mut Outbox)
         requires empty { outbox.old.items ≡ [] }
         ensures state { self.new ≡ with_live self.old (decided self.old.setup self.old.live (responded_as response.now) request).live }
@@ -305,14 +306,14 @@ impl Controller {
         }
     }
 
-    // What was asked is done.
+    // The request is done.
     fn go_on(&mut self, request: Request, blocks: &[u8], outbox: &mut Outbox)
         requires empty { outbox.old.items ≡ [] }
         ensures state { self.new ≡ with_live self.old (done self.old.setup self.old.live blocks.now request).live }
         ensures frames { boxed outbox.new ≡ map (bytes_of self.old.setup) (done self.old.setup self.old.live blocks.now request).sent }
     {
         match request {
-            // Not reached: no response answers a request of DCP (`is_answer`). Nothing happens, as the definition says.
+            // Not reached: a DCP request has no response (`is_answer`). Nothing happens, as the definition says.
             Request::Identify | Request::Address => {}
             Request::Connect => self.connect(blocks, outbox),
             Request::Write(number) => {
@@ -323,12 +324,12 @@ impl Controller {
                 self.phase = State::Waiting;
                 self.asked = None;
             }
-            // Not reached: `decide` has taken the answer to a Release, whatever its status.
+            // Not reached: `decide` has handled the response to a Release, with any status.
             Request::Release(_) => self.asked = None,
         }
     }
 
-    // A record is written, or the parameters are ended.
+    // Writes a record, or ends the parameters.
     fn write(&mut self, request: Request, outbox: &mut Outbox)
         requires empty { outbox.old.items ≡ [] }
         ensures state { self.new ≡ with_live self.old (writing request self.old.live).live }
@@ -344,13 +345,13 @@ impl Controller {
         ensures frames { boxed outbox.new
             ≡ map (bytes_of self.old.setup) (connected self.old.setup self.old.live (all_found 400 blocks.now nothing)).sent }
     {
-        // Blocks that do not read are no answer: the Connect is sent again, and the device answers as it did.
+        // Blocks that cannot be read are not an answer: the Connect is sent again, and the device repeats its answer.
         if let Some(found) = found_in(MOST_BLOCKS, blocks) {
             self.connect_by(&found, outbox);
         }
     }
 
-    // By these blocks.
+    // The Connect is answered with these blocks.
     fn connect_by(&mut self, found: &Found, outbox: &mut Outbox)
         requires empty { outbox.old.items ≡ [] }
         ensures state { self.new ≡ with_live self.old (connected_by self.old.setup self.old.live found.now).live }
@@ -359,7 +360,7 @@ impl Controller {
         if !found.is_whole() {
             return;
         }
-        // The device has made the relation all the same, and keeps it until it is told.
+        // The device has established the relation anyway, and keeps it until it is released.
         if found.differs {
             self.release(Cause::ModuleDiff, outbox);
             return;
@@ -369,7 +370,7 @@ impl Controller {
         }
     }
 
-    // The relation stands.
+    // The relation is established.
     fn relate(&mut self, frame_id: u16, outbox: &mut Outbox)
         requires empty { outbox.old.items ≡ [] }
         ensures state { self.new ≡ with_live self.old (related_by self.old.setup self.old.live (Some frame_id)).live }
@@ -401,11 +402,11 @@ impl Controller {
         }
     }
 
-    // Whether an ApplicationReady is of the relation.
+    // Whether an ApplicationReady belongs to the relation.
     fn is_ready(&self, block: &ControlBlock) -> bool
         ensures { result ≡ is_ready self.now.setup block.now }
     {
-        // An ApplicationReady of an earlier relation may still be on its way.
+        // An ApplicationReady of an earlier relation may still arrive.
         block.ar_uuid == self.setup.ar && block.session_key == SESSION_KEY
     }
 
@@ -424,7 +425,8 @@ impl Controller {
             ≡ map (bytes_of self.old.setup) (readied self.old.live caller.now (asked call.now) block.now self.old.live.phase).sent }
     {
         match self.phase {
-            // Also in Ending: the answer to PrmEnd may be lost or late, and the device says by this call that it has taken it.
+            // Also in Ending: the answer to PrmEnd may be lost or late, and with this call the device says that it has
+            // accepted PrmEnd.
             State::Ending | State::Waiting => {
                 self.phase = State::Exchanging;
                 self.asked = None;
@@ -467,12 +469,12 @@ impl Controller {
         }
     }
 
-    // Timers advance. Answers whether the request is due again.
+    // Advances the timers. Returns whether the request is due again.
     fn pass(&mut self) -> bool
         ensures again { result ≡ is_again self.old.live }
         ensures state { self.new ≡ with_live self.old (later self.old.live) }
     {
-        // CycleCounter counts units from the start on, over all states, and goes round as the field does.
+        // CycleCounter counts units from the start on, in all states, and wraps around as the field does.
         self.units = self.units.wrapping_add(1);
         if self.waited + 1 == SECOND {
             self.waited = 0;
@@ -483,7 +485,7 @@ impl Controller {
         }
     }
 
-    // The timers of what is exchanged advance.
+    // Advances the timers of the exchange.
     #[inline(always)]
     fn elapse(&mut self) -> Tick
         ensures brought { result ≡ brought self.old.live }
@@ -507,7 +509,8 @@ impl Controller {
             return;
         }
         let tick = self.elapse();
-        // Most units bring nothing, and nothing is made for them. Of the others most bring outputs alone, which have a way of their own.
+        // With most units nothing is due, and no frame is built. Of the others most bring only outputs, which have
+        // their own path.
         if tick.is_nothing() {
             return;
         }
@@ -531,7 +534,7 @@ impl Controller {
         self.bring(&tick, true, outbox);
     }
 
-    // What a unit of time brings: a timeout ends the relation, and else what is due is sent.
+    // What a unit of time brings: a timeout ends the relation, otherwise what is due is sent.
     #[inline(never)]
     fn bring(&mut self, tick: &Tick, is_request: bool, outbox: &mut Outbox)
         requires empty { outbox.old.items ≡ [] }
@@ -545,7 +548,7 @@ impl Controller {
         }
     }
 
-    // The relation ends, and the device is told why.
+    // Ends the relation, and informs the device of the reason.
     fn end_by(&mut self, reason: Abort, outbox: &mut Outbox)
         requires empty { outbox.old.items ≡ [] }
         ensures state { self.new ≡ with_live self.old (ended_by self.old.live reason).live }
@@ -557,13 +560,13 @@ impl Controller {
         self.end(cause_of(reason));
     }
 
-    // What is due with a unit is sent: what it brings of the relation, and the request again if that is due.
+    // Sends what is due with a unit: that of the relation, and the request again if it is due.
     fn send_due(&self, tick: &Tick, is_request: bool, outbox: &mut Outbox)
         requires empty { outbox.old.items ≡ [] }
         ensures frames { boxed outbox.new
             ≡ map (bytes_of self.now.setup) (due_frames self.now.live tick.now.is_alarm is_request tick.now.is_cyclic) }
     {
-        // In this order, so that what a step sends is one list for every reader of it.
+        // They are sent in this order, so that the definition of a step is one list.
         self.send_ack_again(tick.is_alarm(), outbox);
         self.send_request_again(is_request, outbox);
         self.send_outputs_due(tick.is_cyclic(), outbox);

@@ -1,4 +1,4 @@
--- A frame that is not of EtherType 0x8892, or is not to a controller, is no frame of real-time data to it.
+-- A frame that is not of EtherType 0x8892, or is not addressed to a controller, is not a frame of real-time data to it.
 use Rattle.std.proofs.Common.{◌≡◌, false, Result, Ok, Err, subst, sym}
 use Rattle.std.specs.Prelude.{nat_eq}
 use Rattle.std.specs.Cmp.Lexicographic.{pointwise}

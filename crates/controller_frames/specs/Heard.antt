@@ -21,8 +21,8 @@ use Rattle.pn_alarms.specs.declared.pdu.Header.{Header}
 use Rattle.pn_alarms.specs.Message.{ToController, alarm_of}
 use Rattle.plans.specs.declared.parts.Controller.{Controller}
 
--- What a frame is: one that a controller drops, an answer of DCP and who gives it, a response to a call, a call to the controller and
--- who makes it, a cyclic frame, or an alarm frame: who sends it, between which endpoints, and what it says.
+-- What a frame is: one that a controller drops, a DCP answer and its sender, a response to a call, a call to the
+-- controller and its caller, a cyclic frame, or an alarm frame: its sender, its endpoints, and what it says.
 pub data Heard : Type 0 where
   Nothing : Heard
   Answers : (source : Mac) → (answer : Answered) → Heard
@@ -31,7 +31,7 @@ pub data Heard : Type 0 where
   Cyclic : (source : Mac) → (frame_id : ℕ) → (body : List ℕ) → Heard
   Alarms : (source : Mac) → (header : Header) → (notice : ToController) → Heard
 
--- what can't be read is dropped
+-- What can't be read is dropped.
 abbrev pub heard_answer : Mac → Result Answered DcpFault → Heard
 heard_answer source (Ok answer) = Answers source answer
 heard_answer source (Err fault) = Nothing
@@ -40,7 +40,7 @@ abbrev pub heard_alarm : Mac → Result (Header × ToController) AlarmFault → 
 heard_alarm source (Ok x) = Alarms source x.0 x.1
 heard_alarm source (Err fault) = Nothing
 
--- so is a call whose blocks are not counted well
+-- A call with wrong lengths of its blocks is dropped too.
 abbrev pub heard_call : Caller → Call → Option (List ℕ) → Heard
 heard_call caller call (Some blocks) = Calls caller call
 heard_call caller call None = Nothing
@@ -49,7 +49,7 @@ abbrev pub heard_response : Result Response RpcFault → Heard
 heard_response (Ok response) = Responds response
 heard_response (Err fault) = Nothing
 
--- the body of a datagram: a call to the controller, else a response, to whatever interface
+-- The body of a datagram: a call to the controller, else a response, to any interface.
 abbrev pub heard_first : Caller → Result Call RpcFault → Result Response RpcFault → Heard
 heard_first caller (Ok call) response = heard_call caller call call.blocks
 heard_first caller (Err fault) response = heard_response response
@@ -57,7 +57,7 @@ heard_first caller (Err fault) response = heard_response response
 unfoldable pub heard_body : Caller → List ℕ → Heard
 heard_body caller body = heard_first caller (call_of controllers body) (response_of body)
 
--- a frame of EtherType 0x8892: answers of DCP, to an Identify or to a Get or a Set, alarm frames, and cyclic frames
+-- A frame of EtherType 0x8892: DCP answers, to an Identify or to a Get or a Set, alarm frames, and cyclic frames.
 unfoldable pub heard_real_time : Mac → ℕ → List ℕ → Heard
 heard_real_time source frame_id body =
     if is_cyclic frame_id then Cyclic source frame_id body
@@ -66,28 +66,28 @@ heard_real_time source frame_id body =
     else if frame_id == 0xFEFF then heard_answer source (answer_of frame_id body)
     else Nothing
 
--- whether a datagram goes to this address, and to the port of calls
+-- Whether a datagram goes to this address, and to the port of calls.
 abbrev pub is_to : List ℕ → Endpoint → Bool
 is_to address to = pointwise nat_eq to.address address && to.port == call_port
 
--- a packet of ARP is dropped, and a datagram to another address or another port
+-- An ARP packet is dropped, and so is a datagram to another address or another port.
 abbrev pub heard_content : List ℕ → Mac → Content → Heard
 heard_content address source (RealTime frame_id body) = heard_real_time source frame_id body
 heard_content address source (ArpPacket arp) = Nothing
 heard_content address source (UdpDatagram from to body) =
     if is_to address to then heard_body (record { mac = source; endpoint = from }) body else Nothing
 
--- the content of a frame from this station, or one that cannot be read
+-- The content of a frame from this station, or a frame that cannot be read.
 abbrev pub heard_by : List ℕ → Mac → Result Content FrameFault → Heard
 heard_by address source (Ok content) = heard_content address source content
 heard_by address source (Err fault) = Nothing
 
--- a frame that can be read is for the controller alone
+-- A frame that can be read is only for the controller.
 abbrev pub heard_frame : Controller → Meaning → Heard
 heard_frame controller meaning =
     if pointwise nat_eq meaning.destination.octets controller.mac.octets then heard_content controller.address meaning.source meaning.content else Nothing
 
--- no frame of real-time data to this controller
+-- It is not a frame of real-time data to this controller.
 abbrev pub IsNoRealTimeTo : Controller → Result Meaning FrameFault → Type 0
 IsNoRealTimeTo controller (Ok meaning) = pointwise nat_eq meaning.destination.octets controller.mac.octets ≡ true → IsOther meaning.content
 IsNoRealTimeTo controller (Err fault) = ⊤
@@ -96,6 +96,6 @@ abbrev pub heard_read : Controller → Result Meaning FrameFault → Heard
 heard_read controller (Ok meaning) = heard_frame controller meaning
 heard_read controller (Err fault) = Nothing
 
--- what octets from the network are to a controller: it hangs on them, and on its address of Ethernet and its IP address
+-- What octets from the network mean to a controller: this depends on them, and on its MAC address and its IP address.
 unfoldable pub heard_of : Controller → List ℕ → Heard
 heard_of controller octets = heard_read controller (frame_of octets)

@@ -1,4 +1,4 @@
--- What a controller asks of a device at a start-up, and in which words.
+-- What a controller asks of a device at a start-up, and the messages for it.
 use Rattle.std.specs.Prelude.{◌+◌, ℕ, List, [], ◌∷◌, ◌++◌, length, nat_lt, Option, Some, None, if◌then◌else◌}
 use Rattle.std.specs.List.{slice_get}
 use Rattle.std.specs.Int.{w16, to_be_bytes}
@@ -23,25 +23,25 @@ use Rattle.controller_frames.specs.declared.setup.Setup.{Setup}
 use Rattle.controller_frames.specs.declared.request.Request.{Request}
 use Rattle.controller_frames.specs.declared.request.Request.TheVariants.{Identify, Address, Connect, Write, PrmEnd, Release}
 
--- ---- in which order
+-- ---- the order
 
--- the record of this number, if there is one, and else the end of the parameters
+-- The record with this number, if there is one, otherwise PrmEnd.
 abbrev pub writing_from : Parts → ℕ → Request
 writing_from plan number = if nat_lt number (length plan.records.items) then Write number else PrmEnd
 
--- ---- requests of DCP
+-- ---- DCP requests
 
--- an Identify by the name of the station
+-- An Identify for the name of the station.
 abbrev pub identify_asked : Parts → Asked
 identify_asked plan = record { service = Identifies; xid = 1; blocks = record { kind = NameOfStation; contents = plan.station.name } ∷ [] }
 
--- a Set of the IP suite, which is not kept beyond the next start: BlockQualifier 0
+-- A Set of the IP suite, which is not kept after the next start: BlockQualifier 0.
 abbrev pub address_asked : Parts → Asked
 address_asked plan = record { service = Set; xid = 2; blocks = record { kind = IpSuite; contents = to_be_bytes w16 0 ++ suite_bytes plan.station.suite } ∷ [] }
 
 -- ---- calls
 
--- the number of a call: it hangs on what is asked, so that whoever asks the same again asks with the same number
+-- The number of a call: it depends on the request, so that a repeated request has the same number.
 abbrev pub sequence_of : Parts → Request → ℕ
 sequence_of plan Identify = 0
 sequence_of plan Address = 0
@@ -50,7 +50,7 @@ sequence_of plan (Write number) = number + 1
 sequence_of plan PrmEnd = length plan.records.items + 1
 sequence_of plan (Release sequence) = sequence
 
--- what is asked for: 0 Connect, 1 Release, 3 Write, 4 Control
+-- The operation: 0 Connect, 1 Release, 3 Write, 4 Control.
 abbrev pub operation_of : Request → ℕ
 operation_of Identify = 0
 operation_of Address = 0
@@ -59,13 +59,13 @@ operation_of (Write number) = 3
 operation_of PrmEnd = 4
 operation_of (Release sequence) = 1
 
--- the object that is asked: DEA00000-6C97-11D1-8271, then the instance, 1, DeviceID and VendorID of the plan
+-- The object that is called: DEA00000-6C97-11D1-8271, then the instance, 1, DeviceID and VendorID of the plan.
 unfoldable pub object_of : Station → List ℕ
 object_of station =
     (0xDE ∷ 0xA0 ∷ 0x00 ∷ 0x00 ∷ 0x6C ∷ 0x97 ∷ 0x11 ∷ 0xD1 ∷ 0x82 ∷ 0x71 ∷ 0x00 ∷ 0x01 ∷ [])
     ++ to_be_bytes w16 station.device_id ++ to_be_bytes w16 station.vendor_id
 
--- the header of a call: all of a start-up are of one activity
+-- The header of a call: all calls of a start-up have the same activity.
 abbrev pub header_of : Setup → Request → CallHeader
 header_of setup request = record {
   object = object_of setup.plan.station;
@@ -75,11 +75,11 @@ header_of setup request = record {
   operation = operation_of request;
 }
 
--- the block of a control: of the relation
+-- The block of a control, for the relation.
 abbrev pub control_of : Setup → ℕ → ControlBlock
 control_of setup command = record { ar_uuid = setup.ar; session_key = session_number; control_command = command; control_block_properties = 0 }
 
--- what stands in front of a record that is written: its SeqNumber is that of its call
+-- The block before a record that is written: its SeqNumber is that of its call.
 abbrev pub write_of : Setup → ℕ → PlanRecord → IodWriteReq
 write_of setup number entry = record {
   header = record {
@@ -93,12 +93,12 @@ write_of setup number entry = record {
   };
 }
 
--- the record behind its block; where the plan has none, nothing
+-- The block and the record after it; nothing if the plan has no such record.
 abbrev pub write_blocks : Setup → ℕ → Option PlanRecord → List ℕ
 write_blocks setup number (Some entry) = block_bytes (is.IodWriteReq (write_of setup number entry)) ++ entry.data.items
 write_blocks setup number None = []
 
--- the blocks of a call
+-- The blocks of a call.
 abbrev pub blocks_of : Setup → Request → List ℕ
 blocks_of setup Identify = []
 blocks_of setup Address = []
@@ -107,6 +107,6 @@ blocks_of setup (Write number) = write_blocks setup number (slice_get setup.plan
 blocks_of setup PrmEnd = block_bytes (is.PrmEnd (control_of setup 1))
 blocks_of setup (Release sequence) = block_bytes (is.Release (control_of setup 4))
 
--- the call: the response may have 1,372 octets of blocks
+-- The call: its response may have 1,372 octets of blocks.
 abbrev pub call_for : Setup → Request → Call
 call_for setup request = record { header = header_of setup request; args_maximum = 1372; blocks = Some (blocks_of setup request) }

@@ -1,4 +1,4 @@
--- What a controller sends: messages by their meaning, and the one way from them to octets.
+-- What a controller sends: messages by their meaning, and their one encoding as octets.
 use Rattle.std.specs.Prelude.{ℕ, List, [], ◌∷◌}
 use Rattle.pn_values.specs.declared.mac.Mac.{Mac}
 use Rattle.frame_codec.specs.declared.udp.Caller.{Caller}
@@ -27,9 +27,9 @@ use Rattle.controller_frames.specs.declared.request.Request.{Request}
 use Rattle.controller_frames.specs.declared.request.Request.TheVariants as asks
 use Rattle.controller_frames.specs.Requests.{address_asked, call_for, identify_asked}
 
--- A message: what is asked of the device, the answer to its ApplicationReady, to whom called; a cyclic frame of outputs at a CycleCounter;
--- an AlarmAck as data, with the header that it has; the ACK or NACK that answers an alarm; or the ERR by which the controller ends its
--- relation.
+-- A message: a request to the device; the answer to its ApplicationReady, to the caller; a cyclic frame of outputs at a
+-- CycleCounter; an AlarmAck as data, with its header; the ACK or NACK that is the response to an alarm; or the ERR with
+-- which the controller ends its relation.
 pub data Sent : Type 0 where
   Requests : (device : Mac) → (request : Request) → Sent
   Agrees : (caller : Caller) → (answer : Answered) → Sent
@@ -40,11 +40,11 @@ pub data Sent : Type 0 where
 
 -- ---- requests
 
--- the address of all stations for Identify requests (IEC 61158-6-10, 4.3.1.3.1)
+-- The multicast address of Identify requests (IEC 61158-6-10, 4.3.1.3.1).
 unfoldable pub identify_multicast : Mac
 identify_multicast = record { octets = 0x01 ∷ 0x0E ∷ 0xCF ∷ 0x00 ∷ 0x00 ∷ 0x00 ∷ [] }
 
--- a call, to the address that the plan gives the device
+-- A call, to the address that the plan gives the device.
 abbrev pub call_frame : Setup → Mac → Call → List ℕ
 call_frame setup device call =
     plain_frame setup.plan.controller.mac device
@@ -62,19 +62,19 @@ request_frame setup device (asks.Release sequence) = call_frame setup device (ca
 
 -- ---- the answer to ApplicationReady
 
--- the block: that of the call, whose ControlCommand is Done
+-- The block: that of the call, with ControlCommand Done.
 abbrev pub ready_done : ControlBlock → ControlBlock
 ready_done block = record block { control_command = 8 }
 
--- nothing went wrong
+-- The status without an error.
 abbrev pub done : Status
 done = record { code = 0; decode = 0; code1 = 0; code2 = 0 }
 
--- the answer to a call with this block
+-- The answer to a call with this block.
 abbrev pub ready_answer : Call → ControlBlock → Answered
 ready_answer call block = answer_to call done (block_bytes (is.ApplicationReadyRes (ready_done block)))
 
--- to the station, the address and the port that the call came from
+-- It goes to the station, the address and the port that the call came from.
 abbrev pub answer_frame : Setup → Caller → Answered → List ℕ
 answer_frame setup caller answer =
     plain_frame setup.plan.controller.mac caller.mac
@@ -82,30 +82,30 @@ answer_frame setup caller answer =
 
 -- ---- alarms
 
--- the PDU of an AlarmAck, and that of an ACK or NACK
+-- The PDU of an AlarmAck, and that of an ACK or NACK.
 abbrev pub ack_pdu : Header → AlarmAck → Said
 ack_pdu header ack = record { header = header; body = block_bytes (is.AlarmAck ack) }
 
 abbrev pub reply_pdu : Header → Said
 reply_pdu header = record { header = header; body = [] }
 
--- an ERR with the endpoints and the numbers of this header
+-- An ERR with the endpoints and the numbers of this header.
 abbrev pub end_pdu : Header → Abort → Said
 end_pdu header reason = abort_of reason header.destination header.source header.send_number header.ack_number
 
--- the frame of a PDU to the partner: of high priority
+-- The frame of a PDU to the partner, of high priority.
 abbrev pub alarm_frame : Setup → Route → Said → List ℕ
 alarm_frame setup route pdu =
     tagged_frame setup.plan.controller.mac route.partner route.alarm_tag (RealTime (frame_id_of pdu.header.kind) (pdu_bytes pdu))
 
--- an ERR is of low priority: its tag is TagHeaderLow of the plan
+-- An ERR has low priority: its tag is AlarmCRTagHeaderLow of the plan.
 abbrev pub end_frame : Setup → Route → Said → List ℕ
 end_frame setup route pdu =
     tagged_frame setup.plan.controller.mac route.partner alarm_block.tag_header_low (RealTime (frame_id_of Error) (pdu_bytes pdu))
 
 -- ----
 
--- the octets of a message
+-- The octets of a message.
 abbrev pub bytes_of : Setup → Sent → List ℕ
 bytes_of setup (Requests device request) = request_frame setup device request
 bytes_of setup (Agrees caller answer) = answer_frame setup caller answer

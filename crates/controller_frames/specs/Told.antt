@@ -1,4 +1,4 @@
--- What was heard, without where it lies in memory.
+-- What was received, without where it lies in memory.
 use Rattle.dcp_core.specs.Answered.{answered as answered_as}
 use Rattle.rpc_core.specs.Call.{asked}
 use Rattle.rpc_core.specs.Response.{answered}

@@ -13,10 +13,10 @@ use connect_blocks::control_len;
 use frame_codec::{Caller, Endpoint, Layered, Outbox, Payload, Udp};
 use rpc_core::{Call, Datagram, Status, write_response};
 
-/// ControlCommand of what is done.
+/// ControlCommand Done.
 const DONE: u16 = 8;
 
-/// Nothing went wrong.
+/// The status without an error.
 const NO_ERROR: Status = Status {
     code: 0,
     decode: 0,
@@ -24,7 +24,7 @@ const NO_ERROR: Status = Status {
     code2: 0,
 };
 
-/// The block of the answer to this one.
+/// The block of the answer to this block.
 #[tactic(auto, unfolding(block_codec::specs::Block::block_size, block_codec::specs::Block::fields_of, block_fields::specs::Fields::body, block_fields::specs::Fields::version))]
 fn done_block(block: &ControlBlock) -> ArrayVec<u8, 32>
     ensures { result.items ≡ block_bytes (Block.ApplicationReadyRes (ready_done block.now)) }
@@ -33,15 +33,15 @@ fn done_block(block: &ControlBlock) -> ArrayVec<u8, 32>
         control_command: DONE,
         ..*block
     };
-    // What counts its octets says that there is room for them.
+    // The function that counts its octets guarantees that there is room for them.
     let _size = control_len(&done);
     let mut octets = ArrayVec::new();
     write_block(&mut octets, &Block::ApplicationReadyRes(done));
     octets
 }
 
-/// Puts the answer to the call ApplicationReady with this block into the box, behind what is in it: to the station, the address and the
-/// port that it came from. ControlBlockProperties is repeated.
+/// Appends the answer to the call ApplicationReady with this block to the outbox. It goes to the station, the address
+/// and the port that the call came from. ControlBlockProperties is repeated.
 pub fn send_ready_answer(
     setup: &Setup,
     caller: &Caller,
@@ -58,7 +58,8 @@ pub fn send_ready_answer(
     let mut datagram = Datagram::new();
     write_response(&call.response(NO_ERROR, blocks.as_slice()), &mut datagram);
     outbox.put(&Layered {
-        // To where the call came from, port and all: a device need not call from the port at which it listens.
+        // To the address and port that the call came from: a device may call from another port than the one at which it
+        // listens.
         destination: caller.mac,
         source: setup.plan.controller().mac,
         tag: None,

@@ -18,7 +18,7 @@ use record_blocks::iod_write_req_len;
 use rpc_core::{Call, CallHeader, Datagram, Interface, Uuid, write_request};
 use wire::append;
 
-/// How many octets of blocks the response to a call may have.
+/// The maximum number of octets of blocks in the response to a call.
 const ARGS_MAXIMUM: u32 = 1_372;
 
 /// ControlCommand of PrmEnd.
@@ -27,7 +27,7 @@ const PRM_END: u16 = 1;
 /// ControlCommand of Release.
 const RELEASE: u16 = 4;
 
-/// The object that is asked: with instance 1, and DeviceID and VendorID of the plan.
+/// The object that is called: with instance 1, and DeviceID and VendorID of the plan.
 #[tactic(auto, unfolding(crate::specs::Requests::object_of))]
 fn object_of(station: &Station) -> Uuid
     ensures { result ≡ object_of station.now }
@@ -40,7 +40,7 @@ fn object_of(station: &Station) -> Uuid
     ])
 }
 
-/// The header of the call that asks for this: of the object, the activity and the number of the start-up.
+/// The header of the call for this request: with the object, the activity and the number.
 pub fn header_of(setup: &Setup, request: Request) -> CallHeader
     ensures { result ≡ header_of setup.now request }
 {
@@ -65,7 +65,7 @@ fn control_of(setup: &Setup, command: u16) -> ControlBlock
     }
 }
 
-/// Appends the block of a Write, and the record behind it. There must be room.
+/// Appends the block of a Write, and the record after it. There must be room.
 #[tactic(auto, unfolding(block_codec::specs::Block::block_size, block_codec::specs::Block::fields_of, block_fields::specs::Fields::body, block_fields::specs::Fields::version))]
 fn put_record(setup: &Setup, number: u16, entry: &PlanRecord, blocks: &mut ArrayVec<u8, 1372>)
     requires few { number < 65535 }
@@ -75,7 +75,7 @@ fn put_record(setup: &Setup, number: u16, entry: &PlanRecord, blocks: &mut Array
     let octets = entry.data.as_slice();
     let block = IodWriteReq {
         header: RecordHeader {
-            // SeqNumber of a Write counts within the relation, where the Connect was 0.
+            // SeqNumber of a Write counts within the relation, and the Connect has 0.
             seq_number: number + 1,
             ar_uuid: setup.ar,
             api: 0,
@@ -85,7 +85,7 @@ fn put_record(setup: &Setup, number: u16, entry: &PlanRecord, blocks: &mut Array
             record_data_length: octets.len() as u32,
         },
     };
-    // What counts its octets says that there is room for them.
+    // The function that counts its octets guarantees that there is room for them.
     let _size = iod_write_req_len(&block);
     write_block(blocks, &Block::IodWriteReq(block));
     append(blocks, octets);
@@ -108,7 +108,7 @@ fn put_prm_end(setup: &Setup, blocks: &mut ArrayVec<u8, 1372>)
     ensures { blocks.new.items ≡ block_bytes (Block.PrmEnd (control_of setup.now 1)) }
 {
     let block = control_of(setup, PRM_END);
-    // What counts its octets says that there is room for them.
+    // The function that counts its octets guarantees that there is room for them.
     let _size = control_len(&block);
     write_block(blocks, &Block::PrmEnd(block));
 }
@@ -120,12 +120,12 @@ fn put_release(setup: &Setup, blocks: &mut ArrayVec<u8, 1372>)
     ensures { blocks.new.items ≡ block_bytes (Block.Release (control_of setup.now 4)) }
 {
     let block = control_of(setup, RELEASE);
-    // What counts its octets says that there is room for them.
+    // The function that counts its octets guarantees that there is room for them.
     let _size = control_len(&block);
     write_block(blocks, &Block::Release(block));
 }
 
-/// The blocks of a call.
+/// Writes the blocks of the call for this request into an empty list.
 fn put_blocks(setup: &Setup, request: Request, blocks: &mut ArrayVec<u8, 1372>)
     requires empty { blocks.old.items ≡ [] }
     ensures { blocks.new.items ≡ blocks_of setup.now request }
@@ -139,7 +139,7 @@ fn put_blocks(setup: &Setup, request: Request, blocks: &mut ArrayVec<u8, 1372>)
     }
 }
 
-/// Puts a call to the device into the box, behind what is in it.
+/// Appends a call, addressed to the device, to the outbox.
 pub(crate) fn send_call(setup: &Setup, device: Mac, request: Request, outbox: &mut Outbox)
     requires room { array_vec_len outbox.old < 4 }
     ensures frames { boxed outbox.new

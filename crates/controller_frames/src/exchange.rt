@@ -1,4 +1,4 @@
-//! What a controller sends of what its relation exchanges (IEC 61158-6-10, 4.7 and 4.8).
+//! What a controller sends of the exchange of its relation (IEC 61158-6-10, 4.7 and 4.8).
 ghost use Rattle.std.specs.Prelude.{◌≡◌, ◌+◌, ◌<◌, ◌≤◌, ◌++◌, ◌∷◌, [], length, true};
 ghost use Rattle.arrayvec.specs.ArrayVec.{array_vec_len};
 ghost use Rattle.block_codec.specs.Block.{block_bytes};
@@ -18,10 +18,10 @@ use pn_alarms::{Abort, Header, Pdu, PduType, pdu_front};
 use pn_values::Mac;
 use record_blocks::alarm_ack_len;
 
-/// TagHeaderLow of the plan's Connect: the tag of an ERR.
+/// AlarmCRTagHeaderLow of the plan's Connect: the tag of an ERR.
 const LOW_TAG: u16 = 0xA000;
 
-/// Puts the outputs at this CycleCounter into the box, behind what is in it.
+/// Appends the outputs at this CycleCounter to the outbox.
 #[inline(always)]
 pub fn send_outputs(setup: &Setup, counter: u16, exchange: &CyclicExchange, outbox: &mut Outbox)
     requires room { array_vec_len outbox.old < 4 }
@@ -32,7 +32,7 @@ pub fn send_outputs(setup: &Setup, counter: u16, exchange: &CyclicExchange, outb
     send_cyclic(setup.plan.controller().mac, counter, exchange, outbox);
 }
 
-/// Puts a PDU of alarms that carries at most 28 octets into the box, behind what is in it.
+/// Appends a PDU of alarms that carries at most 28 octets to the outbox.
 fn send_pdu(source: Mac, destination: Mac, tag: u16, pdu: &Pdu<'_>, outbox: &mut Outbox)
     requires room { array_vec_len outbox.old < 4 }
     requires few { length pdu.now.body.now ≤ 28 }
@@ -57,14 +57,14 @@ fn send_pdu(source: Mac, destination: Mac, tag: u16, pdu: &Pdu<'_>, outbox: &mut
 fn ack_octets(ack: &AlarmAck) -> ArrayVec<u8, 28>
     ensures { result.items ≡ block_bytes (Block.AlarmAck ack.now) }
 {
-    // What counts its octets says that there is room for them.
+    // The function that counts its octets guarantees that there is room for them.
     let _size = alarm_ack_len(ack);
     let mut octets = ArrayVec::new();
     write_block(&mut octets, &Block::AlarmAck(*ack));
     octets
 }
 
-/// Puts an AlarmAck, as data with this header, into the box, behind what is in it.
+/// Appends an AlarmAck, as data with this header, to the outbox.
 pub fn send_alarm_ack(
     setup: &Setup,
     route: &Route,
@@ -92,7 +92,7 @@ pub fn send_alarm_ack(
     );
 }
 
-/// Puts the ACK or NACK of this header into the box, behind what is in it.
+/// Appends the ACK or NACK with this header to the outbox.
 pub fn send_alarm_reply(setup: &Setup, route: &Route, header: &Header, outbox: &mut Outbox)
     requires room { array_vec_len outbox.old < 4 }
     requires kind { is_long header.now.kind 0 ≡ true }
@@ -113,7 +113,7 @@ pub fn send_alarm_reply(setup: &Setup, route: &Route, header: &Header, outbox: &
     );
 }
 
-/// Puts the ERR for this reason, with the endpoints and the numbers of this header, into the box, behind what is in it.
+/// Appends the ERR for this reason, with the endpoints and the numbers of this header, to the outbox.
 pub fn send_alarm_end(
     setup: &Setup,
     route: &Route,

@@ -18,24 +18,24 @@ use pn_alarms::{Header, Notice, read_alarm};
 use pn_values::Mac;
 use rpc_core::{Call, Interface, Response, read_call, read_response};
 
-/// What a frame says to a controller, where it lies.
+/// What a frame says to a controller; its data is borrowed from the frame.
 #[derive(Drop)]
 pub enum Hearing<'a> {
-    /// It can't be read, is for another station or address, or of a kind that a controller does not take.
+    /// It can't be read, is for another station or address, or is of a kind that a controller does not accept.
     Nothing,
-    /// This station answers a request of DCP.
+    /// This station answers a DCP request.
     Answers(Mac, dcp_core::Response<'a>),
     /// The response to a call.
     Responds(Response<'a>),
     /// This caller calls the controller.
     Calls(Caller, Call<'a>),
-    /// A cyclic frame of this station: its FrameID, and what is behind it.
+    /// A cyclic frame of this station: its FrameID, and the octets that follow it.
     Cyclic(Mac, u16, &'a [u8]),
     /// An alarm frame of this station.
     Alarms(Mac, Header, Notice<AlarmNotification<'a>>),
 }
 
-/// The answer of DCP under this FrameID.
+/// The DCP answer under this FrameID.
 fn heard_answer<'a>(source: Mac, frame_id: u16, body: &'a [u8]) -> Hearing<'a>
     ensures { told result ≡ heard_answer source (answer_of frame_id body.now) }
 {
@@ -63,7 +63,8 @@ fn heard_body<'a>(caller: Caller, body: &'a [u8]) -> Hearing<'a>
     if let Ok(call) = read_call(Interface::Controller, body) {
         return match call.blocks {
             Some(_) => Hearing::Calls(caller, call),
-            // Blocks that are counted wrong are dropped: a controller has no status by which it could refuse a device.
+            // A call with wrong lengths of its blocks is dropped: a controller has no status with which it could refuse
+            // a device.
             None => Hearing::Nothing,
         };
     }
@@ -98,7 +99,7 @@ fn is_to(address: [u8; 4], to: &Endpoint) -> bool
     to.address == address && to.port == RPC_PORT
 }
 
-/// What a packet of IPv4 from this station says to a controller.
+/// What an IPv4 packet from this station says to a controller.
 #[inline(never)]
 fn heard_datagram<'a>(controller: &Controller, source: Mac, content: &'a [u8]) -> Hearing<'a>
     ensures { told result ≡ heard_by controller.now.address source (datagram.read content.now) }
@@ -116,14 +117,14 @@ fn heard_datagram<'a>(controller: &Controller, source: Mac, content: &'a [u8]) -
     heard_body(caller, udp.body)
 }
 
-/// The frame of EtherType 0x8892 to this controller, if it is one. A cyclic one comes each interval, and is taken from here: a `Hearing`
-/// has room for each kind of frame, and would be moved through memory.
+/// The frame of EtherType 0x8892 to this controller, if it is one. A cyclic frame arrives each interval and is handled
+/// from here: a `Hearing` has room for each kind of frame, and would be copied through memory.
 #[inline(always)]
 #[tactic(auto, using(crate::proofs::Elsewhere::other_is_none, crate::proofs::Elsewhere::elsewhere_is_none), unfolding(crate::specs::Heard::heard_of))]
 pub fn real_time_in<'a>(controller: &Controller, bytes: &'a Bytes) -> Option<RealTimeFrame<'a>>
     ensures found { IfSome result (λ frame.
         heard_of controller.now bytes.now.items ≡ heard_real_time frame.source frame.frame_id frame.body.now) }
-    // One that is there is found.
+    // `None` is returned only for octets that are not a frame of real-time data to this controller.
     ensures none { IfNone result (IsNoRealTimeTo controller.now (frame_of bytes.now.items)) }
 {
     let frame = read_real_time(bytes.as_slice())?;
@@ -133,7 +134,7 @@ pub fn real_time_in<'a>(controller: &Controller, bytes: &'a Bytes) -> Option<Rea
     None
 }
 
-/// What a frame says to a controller. It hangs on the octets, and on the controller's address of Ethernet and its IP address.
+/// What a frame says to a controller. It depends on the octets, and on the controller's MAC address and IP address.
 #[inline(always)]
 #[tactic(auto, unfolding(crate::specs::Heard::heard_of, frame_codec::specs::Frame::arp))]
 pub fn heard<'a>(controller: &Controller, bytes: &'a Bytes) -> Hearing<'a>

@@ -1,7 +1,8 @@
-//! What comes to a controller, and what it sends: frames by what they say, and messages by their frames.
+//! What a controller receives, and what it sends: frames by their meaning, and messages by their frames.
 //!
-//! Who holds the controller's state judges what was heard, and says what is sent; between that and the octets of frames stands this
-//! crate. No frame is kept: a request that is sent again is written again, and its octets are the same.
+//! The owner of the controller's state decides on what was received, and says what is sent. This crate is between that
+//! and the octets of frames. No frame is kept: a request that is sent again is written again, and its octets are the
+//! same.
 #![tactic(auto)]
 
 mod answers;

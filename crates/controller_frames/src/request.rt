@@ -4,25 +4,25 @@ ghost use Rattle.controller_frames.specs.Requests.{operation_of, sequence_of, wr
 
 use plans::Plan;
 
-/// What a controller asks of a device, in the order of a start-up: two requests of DCP, and then calls.
+/// What a controller asks of a device, in the order of a start-up: two DCP requests, and then calls.
 #[derive(Clone, Copy, Debug, PartialEq, Eq)]
 pub enum Request {
-    /// Who has the name of the plan?
+    /// Identify the station that has the name of the plan.
     Identify,
-    /// Take the IP suite of the plan.
+    /// Set the IP suite of the plan.
     Address,
-    /// Make the relation.
+    /// Connect: establish the relation.
     Connect,
-    /// Take the record of this number, from 0.
+    /// Write the record with this number, from 0.
     Write(u16),
-    /// All records are written.
+    /// PrmEnd: all records are written.
     PrmEnd,
-    /// End the relation: a call of this number.
+    /// Release: end the relation, with a call of this number.
     Release(u32),
 }
 
 impl Request {
-    /// The record of this number, from 0, if the plan has one, and else the end of the parameters.
+    /// The request to write the record with this number, from 0, if the plan has one, otherwise PrmEnd.
     pub fn writing_from(plan: &Plan, number: u16) -> Request
         ensures { result ≡ writing_from plan.now number }
     {
@@ -33,8 +33,8 @@ impl Request {
         }
     }
 
-    /// The number of the call that asks for it; 0 for what no call asks for. It hangs on the request alone, so that the same is
-    /// asked again by the same call.
+    /// The number of the call for this request; 0 if it is not a call. It depends only on the request, so that a
+    /// repeated request has the same number.
     pub fn sequence(self, plan: &Plan) -> u32
         ensures { result ≡ sequence_of plan.now self }
     {

@@ -1,4 +1,4 @@
-//! What is asked of the device.
+//! The requests to the device.
 ghost use Rattle.std.specs.Prelude.{◌≡◌, ◌+◌, ◌<◌, ◌++◌, ◌∷◌, [], length, map};
 ghost use Rattle.arrayvec.specs.ArrayVec.{array_vec_len};
 ghost use Rattle.dcp_core.specs.Request.{asked_block};
@@ -17,12 +17,12 @@ use dcp_core::{Block, Kind, Service, write_request};
 use frame_codec::{DCP_GET_SET, DCP_IDENTIFY_REQUEST, Layered, Outbox, Payload};
 use pn_values::{IpSuite, Mac};
 
-/// The address of all stations for Identify requests (IEC 61158-6-10, 4.3.1.3.1).
+/// The multicast address of Identify requests (IEC 61158-6-10, 4.3.1.3.1).
 const IDENTIFY_MULTICAST: Mac = Mac {
     octets: [0x01, 0x0E, 0xCF, 0x00, 0x00, 0x00],
 };
 
-/// That address.
+/// The multicast address of Identify requests.
 #[tactic(auto, unfolding(crate::specs::Sent::identify_multicast))]
 fn all_stations() -> Mac
     ensures { result ≡ identify_multicast }
@@ -30,10 +30,10 @@ fn all_stations() -> Mac
     IDENTIFY_MULTICAST
 }
 
-/// The octets of a request of DCP with one block, which is at most 240 octets.
+/// The octets of a DCP request with one block, which has at most 240 octets.
 type Octets = ArrayVec<u8, 256>;
 
-/// One block.
+/// A list with this one block.
 fn one<'a>(kind: Kind, contents: &'a [u8]) -> ArrayVec<Block<'a>, 16>
     ensures { map asked_block result.items ≡ record { kind = kind; contents = contents.now } ∷ [] }
 {
@@ -54,7 +54,7 @@ fn suite_octets(suite: &IpSuite) -> ArrayVec<u8, 14>
     octets
 }
 
-/// Puts a request of DCP into the box, behind what is in it.
+/// Appends a DCP request to the outbox.
 fn send_dcp(source: Mac, destination: Mac, frame_id: u16, request: &Octets, outbox: &mut Outbox)
     requires room { array_vec_len outbox.old < 4 }
     ensures frames { boxed outbox.new
@@ -72,7 +72,7 @@ fn send_dcp(source: Mac, destination: Mac, frame_id: u16, request: &Octets, outb
     });
 }
 
-/// Puts the Identify by the name of the plan into the box, behind what is in it.
+/// Appends the Identify for the name of the plan to the outbox.
 #[inline(never)]
 #[tactic(auto, unfolding(dcp_core::specs::Format::block_of, dcp_core::specs::Format::block, dcp_core::specs::Format::kind))]
 fn send_identify(setup: &Setup, outbox: &mut Outbox)
@@ -99,7 +99,7 @@ fn send_identify(setup: &Setup, outbox: &mut Outbox)
     );
 }
 
-/// Puts the Set of the plan's IP suite into the box, behind what is in it.
+/// Appends the Set of the plan's IP suite to the outbox.
 #[inline(never)]
 #[tactic(auto, unfolding(dcp_core::specs::Format::block_of, dcp_core::specs::Format::block, dcp_core::specs::Format::kind))]
 fn send_address(setup: &Setup, device: Mac, outbox: &mut Outbox)
@@ -125,7 +125,7 @@ fn send_address(setup: &Setup, device: Mac, outbox: &mut Outbox)
     );
 }
 
-/// Puts what is asked of this device into the box, behind what is in it. An Identify goes to all stations.
+/// Appends this request, addressed to the device, to the outbox. An Identify goes to all stations.
 pub fn send_request(setup: &Setup, device: Mac, request: Request, outbox: &mut Outbox)
     requires room { array_vec_len outbox.old < 4 }
     ensures frames { boxed outbox.new

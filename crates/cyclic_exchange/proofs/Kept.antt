@@ -19,7 +19,7 @@ use Rattle.cyclic_exchange.specs.Runs.{Event, Begins, Ends, Passes, Comes, Gives
 
 -- ---- data that is given
 
--- all is as it was but what is sent
+-- Everything but the data that is sent is unchanged.
 record IsBeside (old new : Cyclic) : Type 0 where
   begun : new.begun ≡ old.begun
   sending : new.sending ≡ old.sending
@@ -34,9 +34,10 @@ beside_changed change cyclic slot subslot value =
       | inr t ↦ rw t (record { begun = refl; sending = refl; hearing = refl; taken = refl })
     ]
 
--- ---- frames that come
+-- ---- frames that are received
 
--- a frame that comes leaves when frames are due, and whether data is exchanged; what it holds is taken, or nothing
+-- A received frame does not change when frames are due, or whether data is exchanged. Its data is accepted, or nothing
+-- is.
 pub record IsComing (cyclic new : Cyclic) (taken : Option (List ℕ)) : Type 0 where
   pub begun : new.begun ≡ cyclic.begun
   pub sending : new.sending ≡ cyclic.sending
@@ -61,7 +62,7 @@ coming cyclic source frame_id body =
 
 -- ---- when frames are due
 
--- so many units were counted, of an interval
+-- This many units of an interval were counted.
 abbrev HasCounted : ℕ → ℕ → Sending → Type 0
 HasCounted interval units sending = (sending.interval ≡ interval) × (sending.elapsed ≡ units % interval) × (sending.elapsed < interval)
 
@@ -124,7 +125,7 @@ is_due_each_interval cyclic events fresh long =
     due_where n (units_in events) (behind_all events cyclic).sending
     (subst (λ (u : ℕ). HasCounted n u (behind_all events cyclic).sending) none counted)
 
--- ---- what is taken
+-- ---- accepted data
 
 cells_twice : (one other : List ℕ) (cells : List Cell)
     → map (λ (cell : Cell). cell_of other cell.place) (map (λ (cell : Cell). cell_of one cell.place) cells) ≡ map (λ (cell : Cell). cell_of other cell.place) cells
@@ -155,7 +156,7 @@ are_of_the_last (event ∷ events) cyclic =
 
 -- ---- the data hold time
 
--- so many units of it are over
+-- This many units of the data hold time are over.
 record IsHeld (limit units : ℕ) (cyclic : Cyclic) : Type 0 where
   begun : cyclic.begun ≡ true
   limit_is : cyclic.hearing.limit ≡ limit

@@ -7,7 +7,7 @@ use Rattle.cyclic_data.specs.Layout.{is_of}
 use Rattle.cyclic_exchange.specs.Process.{with_good}
 use Rattle.cyclic_exchange.proofs.Stated.{none_changed}
 
--- a cell that gets data, and then its status, gets both
+-- A cell that gets data and then its status gets both.
 both : (slot subslot : ℕ) (value : List ℕ) (cells : List Cell)
     → map (changed_in Data slot subslot (with_status good)) (map (changed_in Data slot subslot (with_value value)) cells)
     ≡ map (changed_in Data slot subslot (with_good value)) cells
@@ -21,7 +21,7 @@ both slot subslot value (cell ∷ cells) =
 abbrev shown_by : Shown → List Cell → Shown
 shown_by shown cells = record { data_length = shown.data_length; cells = cells }
 
--- a status that is set, whether or not there is such a place
+-- A status that is set, whether or not the place exists.
 set_in : (slot subslot : ℕ) (shown : Shown)
     → (if is_some (cell_at Data slot subslot shown.cells) then changed Data slot subslot (with_status good) shown else shown)
     ≡ changed Data slot subslot (with_status good) shown

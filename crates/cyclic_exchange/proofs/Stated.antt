@@ -1,4 +1,4 @@
--- The statuses of an image, place after place.
+-- The statuses of an image, place by place.
 use Rattle.std.proofs.Common.{◌≡◌, inl, inr, ◌-◌, ℕ, ◌==◌, ◌&&◌, ◌||◌, Bool, true, false, List, [], ◌∷◌, map, replicate, Some, is_some, refl, sym, ap, ◌∙◌, if◌then◌else◌}
 use Rattle.std.specs.List.{AllByRecursion}
 use Rattle.std.proofs.lemmas.Bool.{cases_Bool, and_parts, and_from, eqb-true, eq-eqb, true≢false, false≢true}
@@ -32,7 +32,7 @@ of_parts kind slot subslot place h =
     let two = and_parts (place.slot == slot) (place.subslot == subslot) all.1 in
     (same_kind kind place.kind all.0, sym (eqb-true place.slot slot two.0), sym (eqb-true place.subslot subslot two.1))
 
--- where no cell is one of a kind and submodule, none is changed
+-- If no cell has this kind and submodule, none is changed.
 pub none_changed : (kind : PlaceKind) (slot subslot : ℕ) (change : Cell → Cell) (cells : List Cell) → is_some (cell_at kind slot subslot cells) ≡ false
     → cells ≡ map (changed_in kind slot subslot change) cells
 none_changed kind slot subslot change [] none = refl
@@ -45,19 +45,19 @@ none_changed kind slot subslot change (cell ∷ cells) none =
     ]
 
 module _ (statuses : StatusOf) where
-  -- an image whose cell of a place has its status
+  -- An image in which the cell of a place has its status.
   abbrev pub with_state : Place → Shown → Shown
   with_state place shown =
       if is_some (cell_at place.kind place.slot place.subslot shown.cells)
       then changed place.kind place.slot place.subslot (with_status (statuses place.kind place.slot place.subslot)) shown
       else shown
 
-  -- place after place
+  -- Place by place.
   abbrev pub stated : List Place → Shown → Shown
   stated [] shown = shown
   stated (place ∷ places) shown = stated places (with_state place shown)
 
-  -- the same of one cell
+  -- The same for one cell.
   abbrev turned : Place → Cell → Cell
   turned place cell = changed_in place.kind place.slot place.subslot (with_status (statuses place.kind place.slot place.subslot)) cell
 
@@ -91,7 +91,7 @@ module _ (statuses : StatusOf) where
       ap (stated places) (one_stated place n cells)
       ∙ (all_stated places n (map (turned place) cells) ∙ ap (shown_by n) (map_twice place places cells))
 
-  -- a cell with its status keeps it
+  -- A cell with its status keeps it.
   abbrev cell_with : Place → List ℕ → ℕ → Cell
   cell_with place value status = record { place = place; value = value; status = status }
 
@@ -112,7 +112,7 @@ module _ (statuses : StatusOf) where
         | inr t ↦ rw t (settled places other value)
       ]
 
-  -- one whose place is among the places gets it
+  -- A cell whose place is among the places gets its status.
   abbrev is_among : List Place → Place → Bool
   is_among [] other = false
   is_among (place ∷ places) other = is_of place.kind place.slot place.subslot other || is_among places other
@@ -152,7 +152,7 @@ module _ (statuses : StatusOf) where
       all_stated layout.places layout.data_length (map zero_cell layout.places)
       ∙ ap (shown_by layout.data_length) (each_gets layout.places layout.places (all_among layout.places))
 
-  -- where no place is left
+  -- If no place remains.
   pub none_left : (layout : Table) (left : List Place) (image : Shown) → left ≡ [] → stated left image ≡ stated layout.places (first_taken layout)
       → image ≡ first_shown statuses layout
   none_left layout left image none same = sym (ap (λ (places : List Place). stated places image) none) ∙ (same ∙ statuses_are layout)

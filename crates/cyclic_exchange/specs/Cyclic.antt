@@ -1,11 +1,12 @@
--- What one end of cyclic data keeps.
+-- The state of one end of cyclic data.
 use Rattle.std.specs.Prelude.{Bool}
 use Rattle.cyclic_data.specs.Image.{Shown}
 use Rattle.cyclic_data.specs.Timing.{Hearing, Sending}
 use Rattle.cyclic_exchange.specs.declared.route.Route.{Route}
 
--- One end: with whom and under which numbers; whether data is exchanged, from when on the data hold time runs; when frames are due that
--- it sends, and what lies at each of their places; which frames were taken, and what the last of them held at each place.
+-- One end: the partner and the numbers of the frames; whether data is exchanged, during which the data hold time runs;
+-- when frames are due and the content of each of their places; which frames were accepted, and the content of the last
+-- accepted frame at each place.
 pub record Cyclic : Type 0 where
   pub route : Route
   pub begun : Bool

@@ -1,4 +1,4 @@
--- Which cyclic frames are taken (IEC 61158-6-10, 4.7).
+-- Which cyclic frames are accepted (IEC 61158-6-10, 4.7).
 use Rattle.std.specs.Prelude.{◌==◌, ◌&&◌, ℕ, Bool, nat_eq, List, Result, Ok, Err, if◌then◌else◌}
 use Rattle.std.specs.Cmp.Lexicographic.{pointwise}
 use Rattle.pn_values.specs.declared.mac.Mac.{Mac}
@@ -12,15 +12,15 @@ use Rattle.cyclic_exchange.specs.declared.received.Received.{Received}
 use Rattle.cyclic_exchange.specs.declared.received.Received.TheVariants.{Foreign, Short, Stale, Taken}
 use Rattle.cyclic_exchange.specs.Cyclic.{Cyclic}
 
--- whether a frame from this station, of this FrameID, holds what this end takes
+-- Whether a frame with this source and this FrameID carries the data that this end receives.
 abbrev pub is_of_partner : Route → Mac → ℕ → Bool
 is_of_partner route source frame_id = pointwise nat_eq source.octets route.partner.octets && frame_id == route.taken_id
 
--- whether it is taken, by what stands behind its octets
+-- Whether it is accepted, by the fields after its data.
 abbrev pub is_new : Cyclic → CyclicTail → Bool
 is_new cyclic tail = is_taken cyclic.hearing.last tail.counter tail.data_status.0 tail.transfer_status
 
--- what becomes of a frame that was read or is too short, and of one that is of the partner or is not
+-- What happens to a frame that was read or is too short, and to one that is from the partner or is not.
 abbrev pub received_in : Cyclic → Result (List ℕ × CyclicTail) ShortFrame → Received
 received_in cyclic (Ok x) = if is_new cyclic x.1 then Taken else Stale
 received_in cyclic (Err short) = Short
@@ -29,7 +29,8 @@ abbrev pub received_as : Cyclic → Mac → ℕ → List ℕ → Received
 received_as cyclic source frame_id body =
     if is_of_partner cyclic.route source frame_id then received_in cyclic (cyclic_of cyclic.taken.data_length body) else Foreign
 
--- behind it: one that is taken is what values are read of, and the data hold time runs anew; any other changes nothing
+-- The state after a frame. An accepted frame replaces the values that are read, and the data hold time restarts. Any
+-- other frame changes nothing.
 abbrev pub taken_from : Cyclic → List ℕ → CyclicTail → Cyclic
 taken_from cyclic octets tail = record cyclic {
   hearing = heard cyclic.hearing tail.counter tail.data_status.0 tail.transfer_status;

@@ -12,7 +12,7 @@ use Rattle.cyclic_exchange.specs.Units.{cyclic_later, is_silent}
 use Rattle.cyclic_exchange.specs.Received.{behind_frame, is_new, is_of_partner}
 use Rattle.cyclic_exchange.specs.Process.{given_at, provided_at}
 
--- what happens to an end that was opened: each call that changes it, and what changes nothing here
+-- What happens to an end that was opened: each call that changes it, and the calls that change nothing here.
 pub data Event : Type 0 where
   Begins : Event
   Ends : Event
@@ -22,7 +22,7 @@ pub data Event : Type 0 where
   Provides : (slot : ℕ) → (subslot : ℕ) → (value : List ℕ) → Event
   Rests : Event
 
--- behind it, and behind several in order
+-- The state after an event, and after several events in order.
 abbrev pub behind : Event → Cyclic → Cyclic
 behind Begins cyclic = begun_of cyclic
 behind Ends cyclic = ended_of cyclic
@@ -36,7 +36,7 @@ abbrev pub behind_all : List Event → Cyclic → Cyclic
 behind_all [] cyclic = cyclic
 behind_all (event ∷ events) cyclic = behind_all events (behind event cyclic)
 
--- how many units passed
+-- How many units passed.
 abbrev pub units_of : Event → ℕ
 units_of Begins = 0
 units_of Ends = 0
@@ -50,7 +50,8 @@ abbrev pub units_in : List Event → ℕ
 units_in [] = 0
 units_in (event ∷ events) = units_of event + units_in events
 
--- the octets of the frame that is taken, and of the last one that is; an end is as a frame of zeros
+-- The octets of the frame that is accepted, and of the last accepted frame. The end of the exchange counts as a frame
+-- of zeros.
 abbrev pub taken_in : Cyclic → Result (List ℕ × CyclicTail) ShortFrame → Option (List ℕ)
 taken_in cyclic (Ok x) = if is_new cyclic x.1 then Some x.0 else None
 taken_in cyclic (Err short) = None
@@ -73,12 +74,12 @@ abbrev pub last_taken : List Event → Cyclic → Option (List ℕ)
 last_taken [] cyclic = None
 last_taken (event ∷ events) cyclic = later_one (last_taken events (behind event cyclic)) (taken_with event cyclic)
 
--- what these octets hold at each place, or what was there where there are none
+-- What these octets hold at each place, or the previous content if there are none.
 abbrev pub held_in : Shown → Option (List ℕ) → Shown
 held_in shown (Some octets) = with_frame octets shown
 held_in shown None = shown
 
--- whether the data hold time begins anew with an event, or runs no more
+-- Whether the data hold time restarts or stops with an event.
 abbrev pub is_renewal : Event → Cyclic → Bool
 is_renewal Begins cyclic = true
 is_renewal Ends cyclic = true
@@ -92,18 +93,19 @@ abbrev pub AreNoRenewals : List Event → Cyclic → Type 0
 AreNoRenewals [] cyclic = Unit {0}
 AreNoRenewals (event ∷ events) cyclic = (is_renewal event cyclic ≡ false) × AreNoRenewals events (behind event cyclic)
 
--- Whatever happens, a frame is due with each unit whose number, counted from the opening, is a multiple of the interval, and with no
--- other.
+-- For any events, a frame is due with each unit whose number, counted from the opening, is a multiple of the interval,
+-- and with no other unit.
 abbrev pub IsDueEachInterval : Type 0
 IsDueEachInterval = (cyclic : Cyclic) (events : List Event) → cyclic.sending.elapsed ≡ 0 → 0 < cyclic.sending.interval
     → is_due (behind_all events cyclic).sending ≡ ((units_in events + 1) % cyclic.sending.interval == 0)
 
--- Whatever happens, what lies at each place is what the last frame that was taken holds there, and as it was where none was.
+-- For any events, the content of each place is that of the last accepted frame, and is unchanged if no frame was
+-- accepted.
 abbrev pub AreOfTheLast : Type 0
 AreOfTheLast = (events : List Event) (cyclic : Cyclic) → (behind_all events cyclic).taken ≡ held_in cyclic.taken (last_taken events cyclic)
 
--- Once data is exchanged, and behind a frame that is taken, the data hold time is over with the unit that completes it, and with none
--- before, unless a frame is taken.
+-- While data is exchanged, and counted from its start, the data hold time is over from the unit on that completes it,
+-- and not before, unless meanwhile a frame is accepted, or the exchange begins again or ends.
 abbrev pub IsHeldSoLong : Type 0
 IsHeldSoLong = (events : List Event) (cyclic : Cyclic) → cyclic.begun ≡ true → cyclic.hearing.held ≡ 0 → AreNoRenewals events cyclic
     → is_silent (behind_all events cyclic) ≡ nat_le cyclic.hearing.limit (units_in events + 1)

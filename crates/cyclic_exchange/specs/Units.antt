@@ -9,11 +9,12 @@ use Rattle.cyclic_exchange.specs.declared.units.Brings.{Brings}
 use Rattle.cyclic_exchange.specs.declared.units.Brings.TheVariants as brings
 use Rattle.cyclic_exchange.specs.Cyclic.{Cyclic}
 
--- whether the data hold time is over with this unit: it runs while data is exchanged
+-- Whether the data hold time is over with this unit. It runs while data is exchanged.
 abbrev pub is_silent : Cyclic → Bool
 is_silent cyclic = cyclic.begun && ((held_on cyclic.hearing).held == cyclic.hearing.limit)
 
--- why the relation ends with this unit, if it does: because no frame came, before because no ACK of what was sent as an alarm's data did
+-- Why the relation ends with this unit, if it does: no frame was accepted in time, or else an alarm's data was not
+-- acknowledged.
 abbrev pub ending_by : Due → Option Abort
 ending_by Nothing = None
 ending_by Again = None
@@ -27,7 +28,7 @@ is_again Nothing = false
 is_again Again = true
 is_again Spent = false
 
--- what a unit brings: why the relation ends, if it does, and what is sent
+-- What a unit brings: why the relation ends, if it does, and what is sent.
 pub record Brought : Type 0 where
   pub ending : Option Abort
   pub is_alarm : Bool
@@ -42,7 +43,7 @@ brought_by brings.DataHold = record { ending = Some DataHold; is_alarm = false; 
 brought_by brings.Activity = record { ending = Some Activity; is_alarm = false; is_cyclic = false }
 brought_by brings.Other = record { ending = Some Other; is_alarm = false; is_cyclic = false }
 
--- where the relation ends nothing more is done; else an alarm's data may be due again, and a frame
+-- If the relation ends, nothing more is done. Otherwise an alarm's data may be due again, and a frame.
 abbrev pub tick_by : Cyclic → Due → Option Abort → Brought
 tick_by cyclic alarm (Some reason) = record { ending = Some reason; is_alarm = false; is_cyclic = false }
 tick_by cyclic alarm None = record { ending = None; is_alarm = is_again alarm; is_cyclic = is_due cyclic.sending }
@@ -50,7 +51,7 @@ tick_by cyclic alarm None = record { ending = None; is_alarm = is_again alarm; i
 abbrev pub tick_of : Cyclic → Due → Brought
 tick_of cyclic alarm = tick_by cyclic alarm (ending_of cyclic alarm)
 
--- a unit later
+-- The state after a unit of time.
 abbrev pub hearing_later : Cyclic → Hearing
 hearing_later cyclic = if cyclic.begun then held_on cyclic.hearing else cyclic.hearing
 

@@ -13,12 +13,12 @@ use cyclic_data::{
 };
 use std::marker::Model;
 
-/// One end of the cyclic data of a relation. It is large, and stays in its place: what was exchanged is filled anew as the next relation
-/// opens it.
+/// One end of the cyclic data of a relation. It is large and stays in place: the next relation that opens it overwrites
+/// its content.
 #[derive(Drop)]
 pub struct CyclicExchange {
     pub(crate) route: Route,
-    /// Data is exchanged.
+    /// Whether data is exchanged.
     pub(crate) begun: bool,
     pub(crate) provider: Provider,
     pub(crate) consumer: Consumer,
@@ -26,7 +26,7 @@ pub struct CyclicExchange {
     pub(crate) taken: ReceivedImage,
 }
 
-// Clauses see one value a place, and the states of those who send and take.
+// Its model: one value for each place, and the states of the sender and of the receiver.
 impl Model for CyclicExchange {
     ghost use Rattle.cyclic_exchange.specs.Cyclic.{Cyclic};
 
@@ -43,7 +43,7 @@ impl Model for CyclicExchange {
 }
 
 impl CyclicExchange {
-    /// One of nobody, to be opened: no data is exchanged, and no submodule has a place.
+    /// An end that is not open: no data is exchanged, and no submodule has a place.
     pub fn new() -> CyclicExchange
         ensures begun { result.begun ≡ false }
         ensures shown { result.shown.cells ≡ [] }
@@ -59,8 +59,8 @@ impl CyclicExchange {
         }
     }
 
-    /// A relation is made: nothing was given and nothing taken, the interval is counted from now, and IOPS and IOCS that are sent are
-    /// these. Nothing is left of an earlier relation.
+    /// Opens the end for a new relation: no data was given and none accepted, the interval is counted from now, and
+    /// IOPS and IOCS that are sent are `statuses`. Nothing of an earlier relation remains.
     pub fn open<S: Statuses>(
         &mut self,
         route: Route,
@@ -80,8 +80,8 @@ impl CyclicExchange {
         self.taken.start(taken);
     }
 
-    /// The partner and the numbers of the frames are known: they are these from now on, and the interval is counted from now. What was
-    /// given since the opening stays, so that data may be given before the partner answers.
+    /// Sets the partner and the numbers of the frames, once they are known, and restarts the interval. The data that
+    /// was given since the opening is kept, so that data may be given before the partner answers.
     pub fn relate(&mut self, route: Route, provider: Provider)
         ensures { self.new ≡ related self.old route provider }
     {
@@ -89,7 +89,7 @@ impl CyclicExchange {
         self.provider = provider;
     }
 
-    /// Data is exchanged, and the data hold time runs from now on.
+    /// Begins the exchange: data is exchanged, and the data hold time runs from now on.
     pub fn begin(&mut self)
         ensures { self.new ≡ begun_of self.old }
     {
@@ -97,13 +97,14 @@ impl CyclicExchange {
         self.consumer.restart();
     }
 
-    /// No data is exchanged any more, and what was taken is zeros.
+    /// Ends the exchange: data is no longer exchanged, and the received data becomes zeros.
     pub fn end(&mut self)
         ensures { self.new ≡ ended_of self.old }
     {
         self.begun = false;
         let size = self.taken.data_length();
-        // Nothing is kept over the end: whoever asks later must not drive a machine by values of a partner that is gone.
+        // No received data is kept after the end: a later reader must not drive a machine with the values of a partner
+        // that is gone.
         self.taken.accept(zeros(size as usize));
     }
 
@@ -115,7 +116,7 @@ impl CyclicExchange {
         self.begun
     }
 
-    /// With whom, and the numbers of its frames.
+    /// The partner, and the numbers of its frames.
     #[inline(always)]
     pub fn route(&self) -> &Route
         ensures { result.now ≡ self.now.route }
@@ -123,8 +124,8 @@ impl CyclicExchange {
         &self.route
     }
 
-    /// Gives a submodule its data, which the frames have from now on. Answers whether it has data of this length; if not, nothing
-    /// changes. Its IOPS stays as it was.
+    /// Sets the data of a submodule, which frames carry from now on. Returns whether the submodule has data of this
+    /// length; if not, nothing changes. Its IOPS is not changed.
     #[inline(always)]
     pub fn give(&mut self, slot: u16, subslot: u16, value: &[u8]) -> bool
         ensures done { result ≡ is_some (given_at self.old slot subslot value.now) }
@@ -133,7 +134,8 @@ impl CyclicExchange {
         self.sent.put(slot, subslot, value)
     }
 
-    /// Gives a submodule its data, whose IOPS is good from now on. Answers whether it has data of this length; if not, nothing changes.
+    /// Sets the data of a submodule and sets its IOPS to good from now on. Returns whether the submodule has data of
+    /// this length; if not, nothing changes.
     pub fn provide(&mut self, slot: u16, subslot: u16, value: &[u8]) -> bool
         ensures done { result ≡ is_some (provided_at self.old slot subslot value.now) }
         ensures state { self.new ≡ unwrap_or (provided_at self.old slot subslot value.now) self.old }
@@ -145,8 +147,8 @@ impl CyclicExchange {
         true
     }
 
-    /// What the partner's last frame that was taken holds for a submodule, if it has data there: zeros where none was taken or its IOPS
-    /// is not good.
+    /// The data of a submodule in the partner's last accepted frame, if the submodule has data there. All zeros if no
+    /// frame was accepted yet, or if the IOPS is not good.
     #[inline(always)]
     pub fn value(&self, slot: u16, subslot: u16) -> Option<&[u8]>
         ensures value { option_map (λ value. value.now) result ≡ value_at self.now slot subslot }
@@ -155,7 +157,8 @@ impl CyclicExchange {
         self.taken.output(slot, subslot)
     }
 
-    /// What follows the FrameID of a frame that is sent at this CycleCounter: the data, at most 1,440 octets, and these four behind them.
+    /// The octets that follow the FrameID of a frame that is sent at this CycleCounter: the data, at most 1,440 octets,
+    /// and the four octets after it.
     #[inline(always)]
     pub fn data(&self, counter: u16) -> (&[u8], ArrayVec<u8, 4>)
         ensures exact { result.0.now ++ result.1.items ≡ cyclic_body self.now.shown counter }

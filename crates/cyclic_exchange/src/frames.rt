@@ -8,7 +8,7 @@ use crate::CyclicExchange;
 use frame_codec::{Outbox, Pieces};
 use pn_values::Mac;
 
-/// Puts a cyclic frame at this CycleCounter from this station to the partner into the box, behind what is in it.
+/// Appends a cyclic frame at this CycleCounter, from this station to the partner, to the outbox.
 #[inline(always)]
 pub fn send_cyclic(source: Mac, counter: u16, exchange: &CyclicExchange, outbox: &mut Outbox)
     requires room { array_vec_len outbox.old < 4 }

@@ -1,8 +1,9 @@
-//! What both ends of cyclic data have in common (IEC 61158-6-10, 4.7; protocol machines PPM and CPM): frames that are sent each
-//! interval, frames that are taken or not, and the data hold time. A device sends inputs and takes outputs, a controller sends outputs
-//! and takes inputs; each has its own end of the alarms, and says here what is due of that.
+//! What both ends of cyclic data have in common (IEC 61158-6-10, 4.7; protocol machines PPM and CPM): frames that are
+//! sent each interval, frames that are accepted or not, and the data hold time. A device sends inputs and accepts
+//! outputs; a controller sends outputs and accepts inputs. Each has its own end of the alarms, and passes in what is
+//! due of them.
 //!
-//! Who holds an end knows whether its relation stands, and asks it for the frames that are sent.
+//! The owner of an end knows whether its relation exists, and asks the end for the frames to send.
 #![tactic(auto)]
 
 mod exchange;

@@ -1,22 +1,22 @@
-//! An end that is opened.
+//! Opening an end.
 ghost use Rattle.std.specs.Prelude.{◌≡◌};
 ghost use Rattle.cyclic_exchange.specs.Opening.{first_shown};
 
 use cyclic_data::{Image, Layout, PlaceKind};
 
-/// IOPS and IOCS that are sent, for each place.
+/// The IOPS and IOCS that are sent, for each place.
 pub trait Statuses {
     ghost use Rattle.std.specs.Prelude.{ℕ};
     ghost use Rattle.cyclic_data.specs.declared.place.PlaceKind.{PlaceKind};
 
     ghost status_of: { Self → PlaceKind → ℕ → ℕ → ℕ };
 
-    /// The status at the place of a kind and submodule.
+    /// The status at the place of this kind and submodule.
     fn status(&self, kind: PlaceKind, slot: u16, subslot: u16) -> u8
         ensures { result ≡ status_of self.now kind slot subslot };
 }
 
-/// Becomes the image of a layout in which nothing was given, with these statuses.
+/// Fills the image with this layout, without data, and with these statuses.
 pub(crate) fn fill<S: Statuses>(image: &mut Image, layout: &Layout, statuses: &S)
     ensures { image.new ≡ first_shown (S.status_of statuses.now) layout.now }
 {

@@ -1,4 +1,4 @@
-//! Cyclic frames that come.
+//! Cyclic frames that are received.
 ghost use Rattle.std.specs.Prelude.{◌≡◌, ◌≢◌};
 ghost use Rattle.cyclic_exchange.specs.Received.{behind_frame, received_as};
 
@@ -6,29 +6,29 @@ use crate::CyclicExchange;
 use cyclic_data::read_cyclic;
 use pn_values::Mac;
 
-/// What becomes of a cyclic frame.
+/// What happens to a cyclic frame.
 #[derive(Clone, Copy, Debug, PartialEq, Eq)]
 pub enum Received {
-    /// It is of another station, or has another FrameID.
+    /// It is from another station, or has another FrameID.
     Foreign,
-    /// It has fewer octets than DataLength and four more.
+    /// It has fewer octets than DataLength plus four.
     Short,
     /// Its data is not valid, its TransferStatus is not 0, or its CycleCounter is not newer.
     Stale,
-    /// It is taken: values are read of it, and the data hold time runs anew.
+    /// It is accepted: values are read from it, and the data hold time restarts.
     Taken,
 }
 
 impl CyclicExchange {
-    /// A cyclic frame comes: from this station, of this FrameID, and all that follows it.
+    /// Receives a cyclic frame: its source, its FrameID, and the octets that follow it.
     #[inline(always)]
     pub fn receive(&mut self, source: Mac, frame_id: u16, body: &[u8]) -> Received
         ensures received { result ≡ received_as self.old source frame_id body.now }
         ensures state { self.new ≡ behind_frame self.old source frame_id body.now }
-        // One that is not taken changes nothing.
+        // A frame that is not accepted changes nothing.
         ensures refused { result ≢ Received.Taken → self.new ≡ self.old }
     {
-        // Whose frame it is comes before its length: a short frame of a stranger is the stranger's fault.
+        // The sender is checked before the length: a short frame of a stranger is the stranger's fault.
         if !self.route.is_of_partner(source, frame_id) {
             return Received::Foreign;
         }

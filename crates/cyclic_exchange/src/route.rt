@@ -1,19 +1,19 @@
-//! Who the partner is, and the numbers of the frames from it and to it.
+//! The partner, and the numbers of the frames from it and to it.
 ghost use Rattle.std.specs.Prelude.{◌≡◌};
 ghost use Rattle.cyclic_exchange.specs.Received.{is_of_partner};
 
 use pn_values::Mac;
 
-/// Who the partner is, and the numbers of the frames from it and to it.
+/// The partner, and the numbers of the frames from it and to it.
 #[derive(Clone, Copy, Debug, PartialEq, Eq)]
 pub struct Route {
-    /// The partner: cyclic frames and alarms go there, and come from there.
+    /// The partner's MAC address: the destination and source of cyclic frames and alarms.
     pub partner: Mac,
     /// FrameID of the cyclic frames that are sent.
     pub sent_id: u16,
-    /// Their tag, IOCRTagHeader.
+    /// The tag of the cyclic frames that are sent, IOCRTagHeader.
     pub sent_tag: u16,
-    /// FrameID of the cyclic frames that are taken.
+    /// FrameID of the cyclic frames that are accepted.
     pub taken_id: u16,
     /// The tag of alarms, AlarmCRTagHeaderHigh.
     pub alarm_tag: u16,
@@ -22,7 +22,7 @@ pub struct Route {
 }
 
 impl Route {
-    /// Nobody's.
+    /// A route without a partner, to be overwritten.
     pub fn blank() -> Route {
         Route {
             partner: Mac { octets: [0; 6] },
@@ -34,7 +34,7 @@ impl Route {
         }
     }
 
-    /// Whether a frame from this station, of this FrameID, holds what this end takes.
+    /// Whether a frame with this source and this FrameID carries the data that this end receives.
     #[inline(always)]
     pub(crate) fn is_of_partner(&self, source: Mac, frame_id: u16) -> bool
         ensures { result ≡ is_of_partner self.now source frame_id }

@@ -7,13 +7,14 @@ use pn_alarms::{Abort, Due};
 use std::marker::Model;
 use std::mem::size_of;
 
-/// What a unit of time brings. It is one octet, so that most units, which bring nothing, cost little.
+/// What is due with a unit of time. It is one octet, so that most units, with which nothing is due, cost little.
 #[derive(Drop)]
 pub struct Tick {
     brings: Brings,
 }
 
-// What is sent, or why the relation ends: the reasons of `Abort` stand here one by one, since a variant with a field takes two octets.
+// What is sent, or why the relation ends. The reasons of `Abort` are listed one by one, since a variant with a field
+// takes two octets.
 #[derive(Clone, Copy)]
 enum Brings {
     Nothing,
@@ -25,7 +26,7 @@ enum Brings {
     Other,
 }
 
-// Clauses see why the relation ends, and what is sent.
+// Its model: why the relation ends, and what is sent.
 impl Model for Tick {
     ghost use Rattle.cyclic_exchange.specs.Units.{Brought, brought_by};
 
@@ -37,7 +38,7 @@ impl Model for Tick {
 const _: () = prove!(size_of::<Tick>() == 1);
 
 impl Tick {
-    /// Nothing.
+    /// A tick with which nothing is due.
     #[inline(always)]
     pub fn nothing() -> Tick
         ensures { result ≡ record { ending = None; is_alarm = false; is_cyclic = false } }
@@ -60,7 +61,8 @@ impl Tick {
         Tick { brings }
     }
 
-    /// The relation does not end, and this is sent: what was sent as an alarm's data, again, and a cyclic frame.
+    /// The relation does not end. The flags say whether the last data of an alarm is sent again, and whether a cyclic
+    /// frame is sent.
     #[inline(always)]
     fn sends(is_alarm: bool, is_cyclic: bool) -> Tick
         ensures { result ≡ record { ending = None; is_alarm = is_alarm; is_cyclic = is_cyclic } }
@@ -74,7 +76,7 @@ impl Tick {
         Tick { brings }
     }
 
-    /// The same, where the relation does not end.
+    /// The same, but the relation does not end.
     #[inline(always)]
     pub fn without_end(self) -> Tick
         ensures { result ≡ record self { ending = None } }
@@ -85,7 +87,7 @@ impl Tick {
         }
     }
 
-    /// Whether it is nothing.
+    /// Whether nothing is due.
     #[inline(always)]
     pub fn is_nothing(&self) -> bool
         ensures value { result ≡ (is_none self.now.ending && (not self.now.is_alarm && not self.now.is_cyclic)) }
@@ -94,7 +96,7 @@ impl Tick {
         matches!(self.brings, Brings::Nothing)
     }
 
-    /// Whether a cyclic frame is sent, and nothing else.
+    /// Whether only a cyclic frame is sent.
     #[inline(always)]
     pub fn is_cyclic_alone(&self) -> bool
         ensures value { result ≡ (is_none self.now.ending && (not self.now.is_alarm && self.now.is_cyclic)) }
@@ -116,7 +118,7 @@ impl Tick {
         }
     }
 
-    /// Whether what was sent as an alarm's data is sent again.
+    /// Whether the last data of an alarm is sent again.
     #[inline(always)]
     pub fn is_alarm(&self) -> bool
         ensures { result ≡ self.now.is_alarm }
@@ -134,15 +136,15 @@ impl Tick {
 }
 
 impl CyclicExchange {
-    /// A unit of 31.25 microseconds passes, with which this is due of the alarms. A frame is due each interval. Once data is exchanged
-    /// the relation ends where no frame was taken for the data hold time, and else where an alarm's data was sent as often as it may be
-    /// without an ACK.
+    /// Counts a unit of 31.25 microseconds; `alarm` is what is due of the alarms. A frame is due each interval. Once
+    /// data is exchanged, the relation ends if no frame was accepted for the data hold time, or else if the data of an
+    /// alarm was sent as often as allowed without an ACK.
     #[inline(always)]
     pub fn tick(&mut self, alarm: Due) -> Tick
         ensures brought { result ≡ tick_of self.old alarm }
         ensures state { self.new ≡ cyclic_later self.old }
     {
-        // A unit counts also where the relation ends with it, so that the interval never shifts.
+        // The unit is counted even if the relation ends with it, so that the interval never shifts.
         let is_cyclic = self.provider.due();
         if self.begun && self.consumer.expired() {
             return Tick::ends(Abort::DataHold);

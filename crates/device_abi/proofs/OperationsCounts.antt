@@ -1,4 +1,4 @@
--- No count of a station is more than its list holds.
+-- No count of a station is greater than its list can hold.
 use Rattle.std.proofs.Common.{◌≡◌, ◌≤◌, true}
 use Rattle.std.specs.Prelude.{◌&&◌, nat_le}
 use Rattle.std.specs.List.{list_all}

@@ -1,4 +1,4 @@
--- What is told of a port.
+-- What is reported of a port.
 use Rattle.std.proofs.Common.{◌≡◌, ℕ, List, [], Option, Some, None, sym, ap, subst, ◌∙◌}
 use Rattle.device_abi.specs.port.State.{State, IsNext, IsUntold}
 use Rattle.device_abi.specs.port.Refusals.{refusal_number}
@@ -8,7 +8,7 @@ use Rattle.device_abi.specs.declared.port.refusal.Refusal.{Refusal}
 use Rattle.c_layout.specs.declared.op.Op.{Op}
 use Rattle.device_abi.specs.operations.Serves.{IsHanded, IsPiece, IsValue, IsValueOf}
 
--- the piece that is next, as it is told, is what is handed out
+-- The next piece of work, as it is reported, is what is handed out.
 pub handed : (port : State) (work : Work) (asked told : Op) → IsNext port work → IsPiece work asked told → IsHanded port.calls port.frames asked told
 handed port Nothing asked told idle piece =
     subst (λ calls. IsHanded calls port.frames asked told) (sym idle.0) (subst (λ frames. IsHanded [] frames asked told) (sym idle.1) piece)
@@ -16,7 +16,7 @@ handed port (Carry call) asked told next piece = subst (λ calls. IsHanded calls
 handed port (Send frame) asked told next piece =
     subst (λ calls. IsHanded calls port.frames asked told) (sym next.0) (subst (λ frames. IsHanded [] frames asked told) (sym next.1.1) piece)
 
--- an output that is not told
+-- An output that is not reported.
 pub untold : (why : Option Refusal) (value : Option (List ℕ)) (refusal : Refusal) (asked : Op) (answer : ℕ) (told : Op)
     → IsUntold why value refusal → answer ≡ refusal_number refusal → told ≡ asked → IsValueOf why value asked answer told
 untold (Some late) value refusal asked answer told is at same = (at ∙ ap refusal_number is, same)

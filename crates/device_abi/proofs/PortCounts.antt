@@ -6,33 +6,33 @@ use Rattle.std.proofs.lemmas.List.{length-append}
 use Rattle.flash_model.specs.Calls.{Call}
 use Rattle.device_abi.specs.recorded.Record.{Record, after_one, after_all}
 
--- each call is counted, modulo 2 ^ 32
+-- Each call is counted, modulo 2 ^ 32.
 pub count_after : (before : Record) (calls : List Call) → before.count < 2 ^ 32 → (after_all before calls).count ≡ (before.count + length calls) % 2 ^ 32
 count_after before [] small = sym (ap (λ n. n % 2 ^ 32) (omega arith) ∙ mod-eq_of_lt {n = before.count} {m = 2 ^ 32} small)
 count_after before (call ∷ calls) small =
     count_after (after_one before call) calls (mod-lt (before.count + 1) {m = 2 ^ 32} (omega arith))
     ∙ mod-add-mod (before.count + 1) (2 ^ 32) (length calls) ∙ ap (λ n. n % 2 ^ 32) (omega arith)
 
--- so many were counted since
+-- The number that was counted since then.
 pub counted_since : (before n : ℕ) → before < 2 ^ 32 → n < 2 ^ 32 → ((before + n) % 2 ^ 32 + (2 ^ 32 - before)) % 2 ^ 32 ≡ n
 counted_since before n small few =
     mod-add-mod (before + n) (2 ^ 32) (2 ^ 32 - before) ∙ ap (λ k. k % 2 ^ 32) (omega (arith, small)) ∙ add-mod_left (2 ^ 32) n ∙ mod-eq_of_lt {n = n} {m = 2 ^ 32} few
 
--- how many are older, of so many that are kept
+-- The number of older ones, of those that are stored.
 pub older_is : (before calls count kept : ℕ) → before < 2 ^ 32 → calls ≤ 48 → count ≡ (before + calls) % 2 ^ 32 → kept - (count + (2 ^ 32 - before)) % 2 ^ 32 ≡ kept - calls
 older_is before calls count kept small few is =
     ap (λ n. kept - n) (ap (λ c. (c + (2 ^ 32 - before)) % 2 ^ 32) is ∙ counted_since before calls small (omega (arith, few)))
 
--- the last so many of some calls are those
+-- The last of some calls, as many as there are, are those calls.
 pub last_of : (front calls : List Call) → drop (length (front ++ calls) - length calls) (front ++ calls) ≡ calls
 last_of front calls = ap (λ n. drop n (front ++ calls)) (ap (λ k. k - length calls) (length-append front calls) ∙ omega arith) ∙ drop-append_seam front calls
 
--- behind those that are older are the new ones
+-- After the older ones follow the new ones.
 pub new_ones : (front calls recent : List Call) (past : ℕ) → recent ≡ front ++ calls → past ≡ length recent - length calls → drop past recent ≡ calls
 new_ones front calls recent past is old =
     ap (λ n. drop n recent) old ∙ ap (λ r. drop (length r - length calls) r) is ∙ last_of front calls
 
--- they are among those that are kept
+-- They are among those that are stored.
 pub few_new : (front calls recent : List Call) → recent ≡ front ++ calls → length calls ≤ length recent
 few_new front calls recent is =
     let both = ap length is ∙ length-append front calls in

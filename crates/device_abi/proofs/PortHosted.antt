@@ -1,4 +1,4 @@
--- How a host stands from operation to operation.
+-- The state of a host from operation to operation.
 use Rattle.std.proofs.Common.{◌≡◌, ◌==◌, ℕ, Bool, true, false, List, [], ◌∷◌, ◌++◌, length, refl, sym, ap, subst, ◌∙◌, inl, inr, append_assoc, arith, Result, Ok, Err, None, ◌+◌, ◌<◌, take, get_or}
 use Rattle.std.specs.Prelude.{if◌then◌else◌, drop, IsOk, OnOk, OnErr}
 use Rattle.std.proofs.lemmas.List.{append-nil, take-append-drop, take_more}
@@ -32,9 +32,9 @@ use Rattle.device_abi.specs.declared.port.host.Operation.{Operation}
 use Rattle.device_abi.specs.declared.port.host.Operation.TheVariants as operation
 use Rattle.device_abi.specs.declared.port.stage.Stage.TheVariants.{Booted}
 
--- ---- one event behind others
+-- ---- one event after others
 
--- a run, and then a step
+-- A run, and then a step.
 unfoldable then_step : Ran → Stepped → Ran
 then_step ran step = record { live = step.live; frames = ran.frames ++ handed step; accepted = ran.accepted ++ step.accepted }
 
@@ -102,9 +102,9 @@ not_begun chip (Programs sector place bytes) = record { other = refl; here = rec
 not_begun chip (Erases sector) = record { other = refl; here = record { length = refl; before = refl; behind = refl; inside = λ k low high bit. inl refl } }
 not_begun chip (Arms order) = refl
 
--- ---- where a host is cut off
+-- ---- the point at which a host is cut off
 
--- all calls are carried out
+-- All calls are carried out.
 whole : (begun : Begun) (events : List Event) (now : List (List ℕ)) (port : State) (chip : Image) → Stands begun events now port chip → port.calls ≡ [] → Stores begun events (events ++ []) chip
 whole begun events now port chip s none =
     let is : image_of port.device.flash ≡ chip = s.image ∙ ap (all_carried_out chip) none in
@@ -117,7 +117,7 @@ whole begun events now port chip s none =
           (subst (BootsTo (image_of port.device.flash)) (s.stored ∙ ap (λ l. made_of l begun.first) (sym (append-nil (after begun events).accepted))) (port.device.live.values.room, s.boots));
     }
 
--- the calls that are left are cut off
+-- The remaining calls are cut off.
 cut : (begun : Begun) (events : List Event) (now : List (List ℕ)) (calls : List Call) (chip torn : Image) → UnderWay begun events now calls chip → IsImage 4096 torn → CutOff chip calls torn → Ends begun events now torn
 cut begun events now calls chip torn under sized off = record {
   answered = under.earlier;
@@ -130,7 +130,7 @@ cut begun events now calls chip torn under sized off = record {
   stores = subst (λ e. Stores begun under.earlier e torn) under.are (under.cut torn sized off);
 }
 
--- all are carried out
+-- All calls are carried out.
 ends_whole : (begun : Begun) (events : List Event) (now : List (List ℕ)) (port : State) (chip : Image) → Stands begun events now port chip → port.calls ≡ [] → Ends begun events now chip
 ends_whole begun events now port chip s none = record {
   answered = events;
@@ -143,7 +143,7 @@ ends_whole begun events now port chip s none = record {
   stores = whole begun events now port chip s none;
 }
 
--- between two operations
+-- Between two operations.
 ends_by : (begun : Begun) (events : List Event) (now : List (List ℕ)) (port : State) (chip : Image) (calls : List Call) → port.calls ≡ calls → IsImage 4096 chip → Stands begun events now port chip
     → (ends : Ends begun events now chip) × (ends.missed ≡ []) × (IsIdle port → (ends.under_way ≡ []) × (ends.unsent ≡ []))
 unfolding ends_whole cut
@@ -156,7 +156,7 @@ pub ends_at : (begun : Begun) (events : List Event) (now : List (List ℕ)) (por
     → (ends : Ends begun events now chip) × (ends.missed ≡ []) × (IsIdle port → (ends.under_way ≡ []) × (ends.unsent ≡ []))
 ends_at begun events now port chip sized s = ends_by begun events now port chip port.calls refl sized s
 
--- events that it missed
+-- Events that it missed.
 pub ends_more : (begun : Begun) (events more : List Event) (now : List (List ℕ)) (chip : Image) → Ends begun events now chip → Ends begun (events ++ more) now chip
 ends_more begun events more now chip ends = record {
   answered = ends.answered;
@@ -171,7 +171,7 @@ ends_more begun events more now chip ends = record {
 
 -- ---- a piece of work
 
--- it goes on, or it is cut off
+-- It goes on, or it is cut off.
 abbrev pub Worked : {E : Type 0} → Result (Unit {0}) E → Begun → List Event → List (List ℕ) → State → Image → Type 0
 Worked (Ok done) begun events now port chip = Stands begun events now port chip
 Worked (Err fault) begun events now port chip = Ends begun events now chip
@@ -190,7 +190,7 @@ module _ (begun : Begun) (events : List Event) (sent : List (List ℕ)) (port : 
   under_of : (calls : List Call) → port.calls ≡ calls → IsOpen begun events sent calls chip
   under_of calls e = subst (λ c. IsOpen begun events sent c chip) e s.opened
 
-  -- the next call is carried out
+  -- The next call is carried out.
   call_done : (call : Call) (calls : List Call) → port.calls ≡ call ∷ calls → Stands begun events sent (record port { calls = calls }) (carried_out chip call)
   call_done call calls e = record {
     stage = s.stage;
@@ -205,7 +205,7 @@ module _ (begun : Begun) (events : List Event) (sent : List (List ℕ)) (port : 
     opened = still_open begun events sent call calls chip (under_of (call ∷ calls) e);
   }
 
-  -- the next frame is sent
+  -- The next frame is sent.
   frame_done : (frame : List ℕ) (frames : List (List ℕ)) → port.calls ≡ [] → port.frames ≡ frame ∷ frames → Stands begun events (sent ++ frame ∷ []) (record port { frames = frames }) chip
   frame_done frame frames none e = record {
     stage = s.stage;
@@ -245,7 +245,7 @@ goes_by : {E : Type 0} (begun : Begun) (events : List Event) (result : Result (U
 goes_by begun events (Ok done) now port chip w = subst (λ e. Stands begun e now port chip) (sym (append-nil events)) w
 goes_by begun events (Err fault) now port chip w = w
 
--- a piece of work is an operation without an event
+-- A piece of work is an operation without an event.
 pub went_on : {E : Type 0} (begun : Begun) (events : List Event) (sent : List (List ℕ)) (port : State) (chip : Image) → Stands begun events sent port chip → (result : Result (Unit {0}) E) (new : State) (chip_then : Image) (now : List (List ℕ))
     → IsImage 4096 chip_then → (port.stage ≡ Booted → Performs port.calls port.frames chip sent result chip_then now) → OnOk result (new ≡ advanced port) → GoesOn result begun events [] now new chip_then
 went_on begun events sent port chip s result new chip_then now sized is on = goes_by begun events result now new chip_then (worked begun events sent port chip s result new chip_then now sized is on)
@@ -259,7 +259,7 @@ open_of begun events event now (call ∷ calls) chip sent cut = record { earlier
 
 module _ (begun : Begun) (events : List Event) (now : List (List ℕ)) (port : State) (chip : Image) (s : Stands begun events now port chip) (idle : IsIdle port) (event : Event) (step : Stepped)
     (is : step_of [] port.device.station port.device.live event ≡ step) (more : after begun (events ++ event ∷ []) ≡ then_step (after begun events) step) (power : step.live.values.is_lost ≡ false) where
-  -- what was sent is all that the events before it sent
+  -- What was sent is all that the events before it sent.
   all_sent : now ≡ begun.sent ++ (after begun events).frames
   all_sent = sym (append-nil now) ∙ ap (λ f. now ++ f) (sym idle.1) ∙ s.frames
 
@@ -352,7 +352,7 @@ events_append [] back = refl
 events_append (operation.Happens event ∷ front) back = ap (λ l. event ∷ l) (events_append front back)
 events_append (operation.Works ∷ front) back = events_append front back
 
--- the operations so far, and those that are left
+-- The operations so far, and the remaining ones.
 pub events_split : (so_far : ℕ) (operations : List Operation) → events_of operations ≡ events_of (take so_far operations) ++ events_of (drop so_far operations)
 events_split so_far operations = ap events_of (sym (take-append-drop so_far operations)) ∙ events_append (take so_far operations) (drop so_far operations)
 
@@ -361,12 +361,12 @@ pub events_more : (so_far : ℕ) (operations : List Operation) (operation : Oper
 events_more so_far operations operation low is =
     ap events_of (take_more operations so_far operation low ∙ ap (λ o. take so_far operations ++ o ∷ []) (sym is)) ∙ events_append (take so_far operations) (operation ∷ [])
 
--- the host was cut off in an operation, and missed those behind it
+-- The host was cut off in an operation, and missed those after it.
 pub ends_in : (begun : Begun) (so_far : ℕ) (operations : List Operation) (now : List (List ℕ)) (chip : Image) → Ends begun (events_of (take so_far operations)) now chip → Ends begun (events_of operations) now chip
 ends_in begun so_far operations now chip ends =
     subst (λ e. Ends begun e now chip) (sym (events_split so_far operations)) (ends_more begun (events_of (take so_far operations)) (events_of (drop so_far operations)) now chip ends)
 
--- no work is left
+-- No work remains.
 pub idle_of : (calls : List Call) (frames : List (List ℕ)) → has_work calls frames ≡ false → (calls ≡ []) × (frames ≡ [])
 idle_of [] [] none = (refl, refl)
 idle_of [] (frame ∷ frames) none = cc none
@@ -384,7 +384,7 @@ long_sector : (size : ℕ) (image : Image) (sector : Sector) → IsImage size im
 long_sector size image First sized = sized.first_size
 long_sector size image Second sized = sized.second_size
 
--- an erase of a chip of some size, which is no literal here, or a list of that length is made
+-- An erase of a chip of some size. The size is not a literal here, or a list of that length is built.
 erased_of : {E : Type 0} (size : ℕ) (old new : Image) (sector : Sector) (result : Result (Unit {0}) E) → length (sector_of old sector) ≡ size → OnOk result (new ≡ with_sector old sector (erased size))
     → OnErr result (Torn sector 0 size (erased size) old new) → Carries old (Erases sector) result new
 erased_of size old new sector (Ok done) long is torn = is ∙ ap (λ n. with_sector old sector (erased n)) (sym long)
@@ -394,30 +394,30 @@ pub erased_by : {E : Type 0} (size : ℕ) (old new : Image) (sector : Sector) (r
     → OnErr result (Torn sector 0 size (erased size) old new) → Carries old (Erases sector) result new
 erased_by size old new sector result sized is torn = erased_of size old new sector result (long_sector size old sector sized) is torn
 
--- a program of a chip
+-- A program call of a chip.
 pub programmed_by : {E : Type 0} (old new : Image) (sector : Sector) (place : ℕ) (bytes : List ℕ) (result : Result (Unit {0}) E) → OnOk result (new ≡ with_sector old sector (programmed (sector_of old sector) place bytes))
     → OnErr result (Torn sector place (place + length bytes) (programmed (sector_of old sector) place bytes) old new) → Carries old (Programs sector place bytes) result new
 programmed_by old new sector place bytes (Ok done) is torn = is
 programmed_by old new sector place bytes (Err fault) is torn = torn
 
--- the next piece of work is this call
+-- The next piece of work is this call.
 pub carries_next : {E : Type 0} (calls : List Call) (frames : List (List ℕ)) (chip : Image) (sent : List (List ℕ)) (result : Result (Unit {0}) E) (chip_then : Image) (call : Call) (rest : List Call)
     → calls ≡ call ∷ rest → Carries chip call result chip_then → Performs calls frames chip sent result chip_then sent
 carries_next calls frames chip sent result chip_then call rest e is = subst (λ c. Performs c frames chip sent result chip_then sent) (sym e) (is, refl)
 
--- it is this frame
+-- The next piece of work is this frame.
 pub sends_next : {E : Type 0} (calls : List Call) (frames : List (List ℕ)) (chip : Image) (sent : List (List ℕ)) (result : Result (Unit {0}) E) (now : List (List ℕ)) (frame : List ℕ) (rest : List (List ℕ))
     → calls ≡ [] → frames ≡ frame ∷ rest → IsOk result → now ≡ sent ++ frame ∷ [] → Performs calls frames chip sent result chip now
 sends_next calls frames chip sent result now frame rest e f ok is =
     subst (λ c. Performs c frames chip sent result chip now) (sym e) (subst (λ l. Performs [] l chip sent result chip now) (sym f) (ok, refl, is))
 
--- nothing is left
+-- No work remains.
 pub rests : {E : Type 0} (calls : List Call) (frames : List (List ℕ)) (chip : Image) (sent : List (List ℕ)) (result : Result (Unit {0}) E) → (calls ≡ []) × (frames ≡ []) → IsOk result
     → Performs calls frames chip sent result chip sent
 rests calls frames chip sent result none ok =
     subst (λ c. Performs c frames chip sent result chip sent) (sym none.0) (subst (λ l. Performs [] l chip sent result chip sent) (sym none.1) (ok, refl, refl))
 
--- less work is left behind a piece of it
+-- Less work remains after a piece of it.
 smaller_by : (calls : List Call) (frames : List (List ℕ)) (port : State) → port.calls ≡ calls → port.frames ≡ frames → has_work calls frames ≡ true
     → length (advanced_by port calls).calls + length (advanced_by port calls).frames < length calls + length frames
 smaller_by (call ∷ calls) frames port e f some = let same = ap length f in omega (arith, same)

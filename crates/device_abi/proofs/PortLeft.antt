@@ -1,4 +1,4 @@
--- The work that is left behind a place in the calls and a place in the frames.
+-- The work that remains after a position in the calls and a position in the frames.
 use Rattle.std.proofs.Common.{◌≡◌, ◌+◌, ◌<◌, ◌≤◌, ℕ, Bool, true, false, List, [], ◌∷◌, length, map, drop, get_or, sym, ap, ◌∙◌, inl, inr, arith}
 use Rattle.std.specs.Prelude.{nat_lt}
 use Rattle.std.proofs.lemmas.Bool.{cases_Bool, ltb-true, ltb-false}
@@ -21,14 +21,14 @@ pub none_left : (n m : ℕ) (calls : List Call) (frames : List (List ℕ)) → l
 none_left n m calls frames no_call no_frame =
     ap (λ c. has_work c (drop m frames)) (drop_all n calls no_call) ∙ ap (λ f. has_work [] f) (drop_all m frames no_frame)
 
--- where no call is left, whether a frame is
+-- If no call remains, whether a frame does.
 pub frames_left : (n m : ℕ) (calls : List Call) (frames : List (List ℕ)) → length calls ≤ n → has_work (drop n calls) (drop m frames) ≡ nat_lt m (length frames)
 frames_left n m calls frames none = elim (cases_Bool (nat_lt m (length frames))) [
   | inl there ↦ frame_left n m calls frames none (ltb-true m (length frames) there) ∙ sym there
   | inr gone ↦ none_left n m calls frames none (ltb-false m (length frames) gone) ∙ sym gone
 ]
 
--- ---- a piece of work is taken
+-- ---- a piece of work is fetched
 
 pub call_taken : (port : State) (n : ℕ) (calls : List Call) → n < length calls → advanced_by port (drop n calls) ≡ record port { calls = drop (n + 1) calls }
 call_taken port n calls some = ap (advanced_by port) (drop_more calls n (Erases First) some)
@@ -44,7 +44,7 @@ none_taken port n calls none is =
 
 -- ---- the next one
 
--- the one at a place in what a list is seen as is what stands in front there
+-- The item at a position of a mapped list is the first item after dropping the items before it.
 pub next_of : {A B : Type 0} (f : A → B) (known : List A) (all : List B) (n : ℕ) (one : A) → map f known ≡ all → n < length known → one ≡ get_or known n one → (rest : List B) × (drop n all ≡ f one ∷ rest)
 next_of f known all n one is some at =
     let long = length-map known f in

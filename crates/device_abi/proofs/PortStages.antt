@@ -11,7 +11,7 @@ use Rattle.device_abi.specs.declared.port.stage.Stage.TheVariants.{Made, Booted,
 use Rattle.device_abi.specs.port.State.{State, IsSteady, barred, barred_by, closed, past_start}
 use Rattle.device_abi.specs.port.Steps.{Takes, Ticks}
 
--- a port that takes events started, and no commit failed
+-- A port that accepts events has started, and no commit failed.
 pub booted_of : (stage : Stage) (is_left : Bool) → barred_by stage is_left ≡ None → stage ≡ Booted
 booted_of Made is_left free = cc free
 booted_of Booted is_left free = refl
@@ -32,30 +32,30 @@ made_of Made has_failed calls frames is steady = steady
 made_of Booted has_failed calls frames is steady = cc is
 made_of Lost has_failed calls frames is steady = cc is
 
--- one that is not past its start was only made
+-- A port that may be started was only made.
 pub early_of : (stage : Stage) → past_start stage ≡ None → stage ≡ Made
 early_of Made early = refl
 early_of Booted early = cc early
 early_of Lost early = cc early
 
--- whether one that started takes an event is whether work is left
+-- A port that started accepts an event exactly if no work remains.
 pub free_of : (stage : Stage) (is_left : Bool) → stage ≡ Booted → is_left ≡ false → barred_by stage is_left ≡ None
 free_of stage is_left is idle = ap (λ s. barred_by s is_left) is ∙ ap (barred_by Booted) idle
 
 pub working_of : (stage : Stage) (is_left : Bool) → stage ≡ Booted → is_left ≡ true → barred_by stage is_left ≡ Some refusal.HasWork
 working_of stage is_left is busy = ap (λ s. barred_by s is_left) is ∙ ap (barred_by Booted) busy
 
--- a flash that is foreign is not one that a read failed of
+-- A foreign flash is not one with a failed read.
 pub foreign_alone : (fault : BootFault) → fault ≡ Foreign → fault ≡ FlashFault → ⊥
 foreign_alone fault foreign failed = cc (sym foreign ∙ failed)
 
--- one more unit
+-- One more unit.
 pub one_more : (units : ℕ) (old between new : State) (note : Note) → Ticks units old between → barred between ≡ None → Takes between Tick note new → Ticks (units + 1) old new
 one_more units old between new note ticks free takes =
     let more : suc units ≡ units + 1 = omega arith in
     subst (λ n. Ticks n old new) more (between, note, ticks, free, takes)
 
--- a port that tells what it knows started
+-- A port that reports its values has started.
 pub open_of : (stage : Stage) → closed stage ≡ None → stage ≡ Booted
 open_of Made open_now = cc open_now
 open_of Booted open_now = refl

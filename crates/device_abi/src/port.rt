@@ -1,5 +1,5 @@
-//! A device as a host drives it: events go in, and work comes out, calls of the flash first and then frames. The host carries the
-//! calls out on a chip of its own.
+//! A device as a host drives it: events go in, and work comes out, flash calls first and then frames. The host carries
+//! out the calls on its own chip.
 
 mod device;
 mod host;

@@ -1,4 +1,4 @@
--- What becomes of the answers that are kept.
+-- What happens to the stored answers.
 use Rattle.std.proofs.lemmas.Bool.{cond_both}
 use Rattle.std.proofs.Common.{◌≡◌, ◌&&◌, ℕ, List, [], ◌∷◌, ◌++◌, Option, Some, None, Result, Ok, Err, refl, sym, ap, ◌∙◌}
 use Rattle.pn_values.specs.declared.mac.Mac.{Mac}
@@ -51,7 +51,7 @@ pub called_then : (before between now : List Kept) → IsBehindCalls before betw
 called_then before between now first later =
     (first.0 ++ later.0, later.1 ∙ ap (behind_calls 4 later.0) first.1 ∙ sym (calls_then first.0 later.0 before))
 
--- what is kept behind what was judged
+-- What is stored after an outcome.
 abbrev IsKept : Station → Live → List BlockError → Judged → Type 0
 IsKept station live answers what = IsBehindCalls live.rest.calls (finished station.identity live.rest what answers).rest.calls
 
@@ -61,7 +61,7 @@ request_called station live answers asker service.Identify request =
 request_called station live answers asker service.Get request = ([], refl)
 request_called station live answers asker service.Set request = ([], refl)
 
--- a call that is new, and answered so, keeps its answer
+-- A new call with this answer stores it.
 kept_called : (station : Station) (live : Live) (call : Called) (answer : Sent) → looked call.header.activity call.header.sequence live.rest.calls ≡ new
     → IsBehindCalls live.rest.calls (behind_told 4 (kept_for station.identity call answer) live.rest.calls new)
 kept_called station live call answer is_new =

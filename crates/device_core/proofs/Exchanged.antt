@@ -1,4 +1,4 @@
--- What comes of a cyclic frame, of an alarm that is raised, and of a PDU, where something changes and where nothing does.
+-- What a cyclic frame, an alarm that is raised, and a PDU do, if something changes and if nothing does.
 use Rattle.std.proofs.Common.{◌≡◌, ◌≢◌, ℕ, true, false, List, [], Option, Some, None, is_some, refl, sym, ap, ◌∙◌}
 use Rattle.pn_values.specs.declared.mac.Mac.{Mac}
 use Rattle.pn_alarms.specs.declared.device.PduFate.TheVariants as fate
@@ -16,7 +16,7 @@ use Rattle.device_core.specs.Judged.{judged_cyclic, judged_notice, judged_receiv
 use Rattle.device_frames.specs.Relation.{alarms_of}
 use Rattle.device_core.specs.Machine.{Finished, end_of}
 
--- a cyclic frame that is not taken changes nothing
+-- A cyclic frame that is not accepted changes nothing.
 left_by : (one : Received) (flow : Flow) (link : Option Link) → one ≢ Taken → moved (receiving_as one flow) link ≡ link
 left_by Foreign flow link untaken = refl
 left_by Short flow link untaken = refl
@@ -28,7 +28,7 @@ stays_untaken source frame_id body None untaken = refl
 stays_untaken source frame_id body (Some link) untaken =
     left_by (received_as link.flow source frame_id body) (behind_frame link.flow source frame_id body) (Some link) untaken
 
--- the rest behind it, whatever becomes of it
+-- The rest after it, for any outcome.
 received_leaves : (station : Station) (live : Live) (one : Received) (now : Option Link) → (one ≢ Taken → now ≡ live.rest.link)
     → (end_of station live (judged_received live one now)).rest ≡ record live.rest { link = now }
 received_leaves station live Foreign now stays = ap (λ l. record live.rest { link = l }) (sym (stays (λ e. cc)))
@@ -42,7 +42,7 @@ cyclic_leaves station live source frame_id body =
     received_leaves station live (received_by source frame_id body live.rest.link) (moved (receiving source frame_id body live.rest.link) live.rest.link)
     (stays_untaken source frame_id body live.rest.link)
 
--- an alarm that is refused changes nothing, and one that is raised is sent
+-- An alarm that is refused changes nothing, and one that is raised is sent.
 pub notice_refused : (station : Station) (live : Live) (flow : Option Flow) → is_some flow ≡ false
     → end_of station live (judged_notice live flow) ≡ record { rest = live.rest; sent = []; note = Refused }
 notice_refused station live (Some flow) none = cc
@@ -54,7 +54,7 @@ pub notice_raised : (station : Station) (live : Live) (flow : Option Flow) → i
 notice_raised station live (Some flow) some = refl
 notice_raised station live None some = cc
 
--- a PDU that is ignored changes nothing
+-- A PDU that is ignored changes nothing.
 pub stays_ignored : (message : ToDevice) (link : Option Link) → heard_by message link ≡ fate.Ignored → moved (hearing message link) link ≡ link
 stays_ignored message None ignored = refl
 stays_ignored message (Some link) ignored = rw ignored refl

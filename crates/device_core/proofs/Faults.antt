@@ -1,4 +1,4 @@
--- What goes on whatever the flash does.
+-- What goes on for any flash faults.
 use Rattle.std.proofs.Common.{◌≡◌, Bool, true, false, List, [], ◌∷◌, ◌++◌, map, refl, sym, ap, subst, ◌∙◌, append_assoc, ℕ}
 use Rattle.std.proofs.lemmas.List.{append-nil}
 use Rattle.std.proofs.lemmas.Bool.{cond-false}
@@ -20,24 +20,24 @@ use Rattle.device_core.specs.Machine.{items_in, items_of, finished, judged_step,
 use Rattle.device_core.specs.Faults.{asks_nothing, IsAsIn, StepGoesOn, EachGoesOn, RunGoesOn}
 use Rattle.device_core.specs.Steps.{HandsOn}
 
--- items that ask for nothing to be stored are answered alike, whatever the settings
+-- Items that ask for nothing to be stored are answered in the same way, for any settings.
 plain_answers : (outcomes : List Outcome) (values : Values) (items : List SetItem) → asks_nothing items ≡ true → (carried outcomes values items).answers ≡ map answer_after_fault items
 plain_answers outcomes values [] nothing = refl
 plain_answers outcomes values (Ask command ∷ items) nothing = cc
 plain_answers outcomes values (Signal ∷ items) nothing = ap (λ a. Done ∷ a) (plain_answers (rest_of outcomes) values items nothing)
 plain_answers outcomes values (Answer answer ∷ items) nothing = ap (λ a. answer ∷ a) (plain_answers (rest_of outcomes) values items nothing)
 
--- a state with other settings running, and another rest
+-- A state with other running settings, and another rest.
 with_seen : Live → Values → Live
 with_seen seen values = record { values = record values { running = seen.values.running }; rest = seen.rest }
 
--- what is judged looks at the running settings and the rest alone
+-- The outcome depends only on the running settings and the rest.
 judged_same : (station : Station) (one other : Live) (heard : Heard) → other.values.running ≡ one.values.running → other.rest ≡ one.rest → judged station other heard ≡ judged station one heard
 judged_same station one other heard running rest =
     ap (λ r. judged station (record { values = record other.values { running = r }; rest = other.rest }) heard) running
     ∙ ap (λ r. judged station (record { values = record other.values { running = one.values.running }; rest = r }) heard) rest
 
--- what was judged and asks for nothing to be stored, at two devices
+-- An outcome that asks for nothing to be stored, at two devices.
 judged_alike : (outcomes : List Outcome) (station : Station) (one other : Live) (what : Judged) → asks_nothing (items_in what) ≡ true → other.rest ≡ one.rest
     → IsAsIn (judged_step [] station other what) (judged_step outcomes station one what).frames (judged_step outcomes station one what).note (judged_step outcomes station one what).live
 unfolding judged_step
@@ -61,7 +61,7 @@ heard_alike outcomes station one other heard nothing running rest =
     subst (λ what. IsAsIn (judged_step [] station other what) (heard_step outcomes station one heard).frames (heard_step outcomes station one heard).note (heard_step outcomes station one heard).live)
     (sym (judged_same station one other heard running rest)) (judged_alike outcomes station one other (judged station one heard) nothing rest)
 
--- a step goes on where its settings do
+-- A step goes on if its settings do.
 pub step_goes_on : (outcomes : List Outcome) (station : Station) (live next : Live) (heard : Heard) (sent : List (List ℕ)) (said : Note) (answers : List BlockError)
     → next ≡ (heard_step outcomes station live heard).live → sent ≡ (heard_step outcomes station live heard).frames → said ≡ (heard_step outcomes station live heard).note
     → answers ≡ (carried outcomes live.values (items_of station live heard)).answers → GoesOn live.values (items_of station live heard) answers next.values
@@ -81,12 +81,12 @@ step_goes_on outcomes station live next heard sent said answers live_is frames_a
           record { rest = ap (λ l. l.rest) live_is ∙ alike.rest; frames = frames_are ∙ alike.frames; note = note_is ∙ alike.note };
     }
 
--- the same of what was heard, by another name
+-- The same for an event under another name.
 pub heard_goes_on : (station : Station) (live : Live) (heard other : Heard) (sent : List (List ℕ)) (said : Note) (next : Live) → heard ≡ other
     → StepGoesOn station live heard sent said next → StepGoesOn station live other sent said next
 heard_goes_on station live heard other sent said next same goes = subst (λ h. StepGoesOn station live h sent said next) same goes
 
--- one event more
+-- One more event.
 each_more : (station : Station) (live : Live) (events : List Event) (event : Event) (frames sent : List (List ℕ)) (said : Note) (mid new : Live)
     → EachGoesOn station live events frames mid → StepGoesOn station mid (heard_of station.identity event) sent said new → EachGoesOn station live (events ++ event ∷ []) (frames ++ sent) new
 each_more station live [] event frames sent said mid new so_far last =

@@ -1,4 +1,4 @@
--- What is judged of an event and asks nothing of the settings.
+-- An outcome that asks nothing of the settings.
 use Rattle.std.proofs.lemmas.Bool.{cond_both}
 use Rattle.std.proofs.Common.{◌≡◌, ◌&&◌, ℕ, false, List, [], Option, Some, None, refl}
 use Rattle.pn_values.specs.declared.mac.Mac.{Mac}
@@ -20,7 +20,7 @@ use Rattle.device_core.specs.Judged.{is_running, is_request, judged_arp, judged_
 use Rattle.device_core.specs.Machine.{end_of}
 use Rattle.device_core.proofs.Machine.{is_asking}
 
--- a packet of ARP
+-- An ARP packet.
 pub arp_asks_nothing : (live : Live) (asker : Mac) (packet : Arp) → is_asking (judged_arp live asker packet) ≡ false
 arp_asks_nothing live asker packet =
     cond_both (is_request packet.operation && is_running live.values.running packet.target.address) _ _ (λ what. is_asking what ≡ false) (λ _. refl) (λ _. refl)
@@ -29,7 +29,7 @@ pub arp_leaves : (station : Station) (live : Live) (asker : Mac) (packet : Arp) 
 arp_leaves station live asker packet =
     cond_both (is_request packet.operation && is_running live.values.running packet.target.address) _ _ (λ what. (end_of station live what).rest ≡ live.rest) (λ _. refl) (λ _. refl)
 
--- a PDU of the partner, by what becomes of it
+-- A PDU of the partner, by what happens to it.
 pdu_asks_nothing : (live : Live) (heard : PduFate) (link : Option Link) → is_asking (judged_pdu live heard link) ≡ false
 pdu_asks_nothing live (fate.Data taken) link = refl
 pdu_asks_nothing live fate.Done link = refl
@@ -41,7 +41,7 @@ alarm_asks_nothing live source header message =
     cond_both (is_alarm_of source header.destination header.source live.rest.link) _ _ (λ what. is_asking what ≡ false)
     (λ _. pdu_asks_nothing live (heard_by message live.rest.link) (moved (hearing message live.rest.link) live.rest.link)) (λ _. refl)
 
--- a cyclic frame, by what becomes of it, which is not answered
+-- A cyclic frame, by what happens to it; it is not answered.
 received_asks_nothing : (live : Live) (received : Received) (link : Option Link) → is_asking (judged_received live received link) ≡ false
 received_asks_nothing live received.Foreign link = refl
 received_asks_nothing live received.Short link = refl
@@ -62,7 +62,7 @@ pub cyclic_sends_nothing : (station : Station) (live : Live) (source : Mac) (fra
 cyclic_sends_nothing station live source frame_id body =
     received_sends_nothing station live (received_by source frame_id body live.rest.link) (moved (receiving source frame_id body live.rest.link) live.rest.link)
 
--- an input that is given, and an alarm that is raised, or refused
+-- An input that is given, and an alarm that is raised, or refused.
 pub input_asks_nothing : (live : Live) (flow : Option Flow) → is_asking (judged_input live flow) ≡ false
 input_asks_nothing live (Some flow) = refl
 input_asks_nothing live None = refl
@@ -75,7 +75,7 @@ pub notice_asks_nothing : (live : Live) (flow : Option Flow) → is_asking (judg
 notice_asks_nothing live (Some flow) = refl
 notice_asks_nothing live None = refl
 
--- the answer to ApplicationReady
+-- The answer to ApplicationReady.
 pub answer_asks_nothing : (live : Live) (answer : ReadyAnswer) → is_asking (judged_answer live answer) ≡ false
 answer_asks_nothing live to_ready.NotWanted = refl
 answer_asks_nothing live to_ready.Garbled = refl

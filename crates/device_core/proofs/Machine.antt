@@ -9,14 +9,14 @@ use Rattle.device_frames.specs.Sent.{bytes_of}
 use Rattle.device_core.specs.Judged.{Judged, Refuses, Sets, Writes, Moves, judged}
 use Rattle.device_core.specs.Machine.{Stepped, Ran, items_in, items_of, finished, judged_step, heard_step, step_of, handed, first_step, later_steps, then_run, run_of}
 
--- whether a Set or a Write of an I&M text was judged, which alone ask the settings for something
+-- Whether the outcome is a Set or a Write of an I&M text, which are the only ones that ask something of the settings.
 abbrev pub is_asking : Judged → Bool
 is_asking (Refuses why) = false
 is_asking (Sets asker request in_operation) = true
 is_asking (Writes caller address call header value) = true
 is_asking (Moves rest sent) = false
 
--- what comes of all else: nothing is asked of the settings
+-- The result of any other outcome: nothing is asked of the settings.
 unfoldable pub quiet_step : Station → Live → Judged → Stepped
 quiet_step station live what =
     let end = finished station.identity live.rest what [] in
@@ -43,22 +43,22 @@ no_items (Moves rest sent) none = refl
 pub nothing_asked : (station : Station) (live : Live) (heard : Heard) → is_asking (judged station live heard) ≡ false → items_of station live heard ≡ []
 nothing_asked station live heard none = no_items (judged station live heard) none
 
--- a step by what was judged
+-- A step by its outcome.
 pub judged_as : (outcomes : List Outcome) (station : Station) (live : Live) (heard : Heard) (what : Judged) → judged station live heard ≡ what
     → heard_step outcomes station live heard ≡ judged_step outcomes station live what
 unfolding heard_step
 judged_as outcomes station live heard what is = ap (judged_step outcomes station live) is
 
--- a run, and then a step
+-- A run, and then a step.
 unfoldable pub then_step : Ran → Stepped → Ran
 then_step ran step = record { live = step.live; frames = ran.frames ++ handed step; accepted = ran.accepted ++ step.accepted }
 
--- outcomes of some events, and those of one more
+-- The outcomes of some events, and those of one more.
 unfoldable pub snoc : List (List Outcome) → List Event → List Outcome → List (List Outcome)
 snoc front [] last = last ∷ []
 snoc front (event ∷ events) last = first_step front ∷ snoc (later_steps front) events last
 
--- the same, none where there are none
+-- The same, none if there are none.
 unfoldable pub joined : List (List Outcome) → List Event → List Outcome → List (List Outcome)
 joined [] events [] = []
 joined [] events (outcome ∷ outcomes) = snoc [] events (outcome ∷ outcomes)

@@ -1,4 +1,4 @@
--- A frame by its kind, and one of EtherType 0x8892 by what it is to the device.
+-- A frame by its kind, and one of EtherType 0x8892 by what it means to the device.
 use Rattle.std.proofs.Common.{◌≡◌, ℕ, List, [], Some, Result, Ok, Err, refl, sym, ap, subst, ◌∙◌}
 use Rattle.flash_model.specs.declared.flash.Flash.{Ghosts as Flash}
 use Rattle.pn_values.specs.declared.identity.Identity.{Identity}
@@ -19,7 +19,7 @@ use Rattle.device_core.specs.State.{State}
 use Rattle.device_core.specs.Steps.{Steps}
 use Rattle.device_core.proofs.Steps.{refuses_steps}
 
--- what a frame whose Ethernet header was read makes of a device is what its content, by its kind, makes of it
+-- A frame whose Ethernet header was read changes a device as its content does, by its kind.
 pub opened_steps : {F : Type 0} {S : ℕ} (as_flash : Flash F S) (old new : State F) (heard : Heard) (frame : OpenFrame) (kind : ContentKind)
     (frames : List (List ℕ)) (said : Note) → heard ≡ heard_in old.station.identity (Some frame) → frame.kind ≡ kind
     → Steps as_flash old (heard_by old.station.identity frame.destination frame.source ((content_as kind).read frame.content.now)) frames said new
@@ -28,14 +28,14 @@ opened_steps as_flash old new heard frame kind frames said is one steps =
     subst (λ what. Steps as_flash old what frames said new)
     (sym (is ∙ ap (λ k. heard_by old.station.identity frame.destination frame.source ((content_as k).read frame.content.now)) one)) steps
 
--- a content that was read
+-- A content that was read.
 pub read_steps : {F : Type 0} {S : ℕ} (as_flash : Flash F S) (old new : State F) (destination source : Mac) (read : Result Content FrameFault) (content : Content)
     (frames : List (List ℕ)) (said : Note) → read ≡ Ok content → Steps as_flash old (heard_content old.station.identity destination source content) frames said new
     → Steps as_flash old (heard_by old.station.identity destination source read) frames said new
 read_steps as_flash old new destination source read content frames said is steps =
     subst (λ r. Steps as_flash old (heard_by old.station.identity destination source r) frames said new) (sym is) steps
 
--- one that could not be read: a reader of it gave no value
+-- A content that could not be read: its reader returned no value.
 pub unread_steps : {F X : Type 0} {S : ℕ} (as_flash : Flash F S) (old : State F) (destination source : Mac) (result : Result X FrameFault) (read : Result Content FrameFault)
     (frames : List (List ℕ)) (said : Note) → Holds (as_flash.image old.flash) old.live.values → ((fault : FrameFault) → result ≡ Err fault → read ≡ Err fault)
     → ((x : X) → result ≡ Ok x → ⊥) → frames ≡ [] → said ≡ Fault
@@ -45,7 +45,7 @@ unread_steps as_flash old destination source (Err fault) read frames said holds 
     refuses_steps as_flash old (heard_by old.station.identity destination source read) Fault frames said holds
     (ap (λ r. judged old.station old.live (heard_by old.station.identity destination source r)) (gives fault refl)) none note
 
--- what a frame of a kind makes of a device is what the frame makes of it
+-- A frame of a kind changes a device as the frame does.
 pub kind_steps : {F : Type 0} {S : ℕ} (as_flash : Flash F S) (old new : State F) (inside : Identity) (destination source : Mac) (frame_id : ℕ) (body : List ℕ)
     (kind is : RealTimeKind) (frames : List (List ℕ)) (said : Note) → inside ≡ old.station.identity
     → heard_content inside destination source (RealTime frame_id body) ≡ heard_as kind source frame_id body → kind ≡ is

@@ -10,13 +10,13 @@ use Rattle.device_core.specs.Machine.{items_of, first_step, later_steps, step_of
 use Rattle.device_core.specs.Steps.{EventByEvent}
 use Rattle.device_core.proofs.Machine.{snoc, joined}
 
--- the items of one event, on this state
+-- The items of one event, in this state.
 abbrev pub IsPlaced : {F : Type 0} {S : ℕ} → Flash F S → List Outcome → Station → F → Live → Event → F → Type 0
 IsPlaced as_flash outcomes station old live event new =
     OneByOne as_flash outcomes (record { flash = old; values = live.values }) (items_of station live (heard_of station.identity event))
     (record { flash = new; values = (step_of outcomes station live event).live.values })
 
--- with no outcome said of any
+-- With no outcome given for any.
 placed_quietly : {F : Type 0} {S : ℕ} (as_flash : Flash F S) (station : Station) (old mid new : F) (live : Live) (events : List Event) (event : Event)
     → EventByEvent as_flash [] station old live events mid → IsPlaced as_flash [] station mid (run_of [] station live events).live event new
     → EventByEvent as_flash [] station old live (events ++ event ∷ []) new
@@ -25,7 +25,7 @@ placed_quietly as_flash station old mid new live [] event run step =
 placed_quietly as_flash station old mid new live (first ∷ events) event run step =
     (run.0, run.1, placed_quietly as_flash station run.0 mid new (step_of [] station live first).live events event run.2 step)
 
--- with outcomes for each
+-- With outcomes for each.
 placed_snoc : {F : Type 0} {S : ℕ} (as_flash : Flash F S) (front : List (List Outcome)) (last : List Outcome) (station : Station) (old mid new : F) (live : Live) (events : List Event) (event : Event)
     → EventByEvent as_flash front station old live events mid → IsPlaced as_flash last station mid (run_of front station live events).live event new
     → EventByEvent as_flash (snoc front events last) station old live (events ++ event ∷ []) new

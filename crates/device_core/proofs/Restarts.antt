@@ -20,13 +20,13 @@ use Rattle.relations.specs.Outputs.{output_of}
 use Rattle.device_core.specs.Machine.{step_of}
 use Rattle.device_core.proofs.Steps.{same_state, identify_heard}
 
--- a device whose running settings are these answers Identify by them
+-- A device with these running settings answers Identify with them.
 answers_by : (station : Station) (live : Live) → live.values.running ≡ live.values.stored → AnswersBy station live.values.stored live
 answers_by station live runs outcomes event asker request is identify =
     subst (λ settings. IsIdentified station.identity settings live asker request (step_of outcomes station live event)) runs
     (identify_heard outcomes station live (heard_of station.identity event) asker request is identify)
 
--- a device that started on a flash
+-- A device that started on a flash.
 is_started_from : {F : Type 0} {S : ℕ} (as_flash : Flash F S) (station : Station) (flash : F) (device : State F) → device.station ≡ station
     → device.live ≡ started device.live.values.stored device.live.values.room → StartsWith (as_flash.image flash) device.live.values.stored device.live.values.room → as_flash.image device.flash ≡ as_flash.image flash
     → IsStarted as_flash station device
@@ -38,7 +38,7 @@ is_started_from as_flash station flash device station_is fresh starts image_is =
   shows = λ slot subslot. ap (λ (live : Live). output_of station.real slot subslot (output_in slot subslot live.rest.link)) fresh;
 }
 
--- the same where the start may be refused
+-- The same if the start may be refused.
 pub is_started_if : {F : Type 0} {S : ℕ} (as_flash : Flash F S) (station : Station) (ran : State F) (flash : F) (again : Result (State F) (BootFault × F)) → ran.station ≡ station
     → IfOk again (λ device. device.station ≡ ran.station)
     → IfOk again (λ device. device.live ≡ started device.live.values.stored device.live.values.room)
@@ -49,18 +49,18 @@ is_started_if as_flash station ran flash (Ok again) is_station same fresh starts
     is_started_from as_flash station flash again (same ∙ is_station) fresh starts image_is
 is_started_if as_flash station ran flash (Err refused) is_station same fresh starts image_is = tt
 
--- a start on a legal end has what its commands make of the first settings
+-- A start on a legal end has what its commands make of the first settings.
 ends_made : (image : Image) (accepted : List Accepted) (first : Settings) (live : Live)
     → ((settings : Settings) (room : ℕ) → StartsWith image settings room → live ≡ started settings room) → LegalEnd image accepted first → IsMadeOf accepted first live.values.stored
 ends_made image accepted first live known (inl boots) = inl (ap (λ l. l.values.stored) (known _ boots.0 boots.1))
 ends_made image accepted first live known (inr less) =
     inr (less.front, less.last, less.parts, less.not_done, ap (λ l. l.values.stored) (known _ less.boots.0 less.boots.1))
 
--- a device that started with these settings
+-- A device that started with these settings.
 device_of : {F : Type 0} → F → Station → Settings → ℕ → State F
 device_of flash station first room = record { flash = flash; station = station; live = started first room }
 
--- a run from a start is a cycle
+-- A run from a start is a cycle.
 cycled_from : {F : Type 0} {S : ℕ} (as_flash : Flash F S) (station : Station) (flash begun : F) (first : Settings) (room : ℕ)
     (events : List Event) (before now : List (List ℕ)) (ran : State F) → as_flash.image begun ≡ as_flash.image flash → as_flash.failures begun ≡ as_flash.failures flash → as_flash.asked flash [] begun
     → (runs : Runs as_flash (device_of begun station first room) events before now ran)
@@ -81,7 +81,7 @@ cycled_from as_flash station flash begun first room events before now ran same_i
       untouched = runs.stretch.untouched;
     }
 
--- the run of a device that started so
+-- The run of this device.
 run_from : {F : Type 0} {S : ℕ} (as_flash : Flash F S) (station : Station) (first : Settings) (room : ℕ) (events : List Event)
     (before now : List (List ℕ)) (begun ran : State F) → begun.live ≡ started first room → begun.station ≡ station
     → Runs as_flash begun events before now ran → Runs as_flash (device_of begun.flash station first room) events before now ran
@@ -119,7 +119,7 @@ cycle_restarts as_flash power_up station flash first room events before now begu
       same = (image_is ∙ kept, failures_is, none_asked);
     }
 
--- the same where the start may be refused
+-- The same if the start may be refused.
 pub restarts_if : {F : Type 0} {S : ℕ} (as_flash : Flash F S) (power_up : F → F → Type 0) (station : Station) (flash : F) (first : Settings) (room : ℕ)
     (events : List Event) (before now : List (List ℕ)) (begun ran : State F) (back : F) (again : Result (State F) (BootFault × F))
     → begun.live ≡ started first room → begun.station ≡ station → as_flash.image begun.flash ≡ as_flash.image flash → as_flash.failures begun.flash ≡ as_flash.failures flash → as_flash.asked flash [] begun.flash
@@ -137,7 +137,7 @@ restarts_if as_flash power_up station flash first room events before now begun r
     known fresh starts same image_is cause none_asked
 restarts_if as_flash power_up station flash first room events before now begun ran back (Err refused) live is_station same_image same_failures quiet left run powered kept known fresh starts same image_is cause none_asked = tt
 
--- a start that is refused, from what the start says
+-- A start that is refused, from what the start returns.
 pub refuses_from : {F : Type 0} {S : ℕ} (as_flash : Flash F S) (flash : F) (fault : BootFault) (left : F)
     → HasBootCause fault (as_flash.failures flash) (as_flash.failures left) → as_flash.image left ≡ as_flash.image flash → as_flash.asked flash [] left → (fault ≡ Foreign → IsForeign (as_flash.image flash)) → Refuses as_flash flash fault left
 refuses_from as_flash flash fault left cause same none_asked foreign = record {
@@ -147,7 +147,7 @@ refuses_from as_flash flash fault left cause same none_asked foreign = record {
   foreign = λ is. subst IsForeign (sym same) (foreign is);
 }
 
--- a start after the cycle that is refused
+-- A start after the cycle that is refused.
 pub refused_if : {F : Type 0} {S : ℕ} (as_flash : Flash F S) (power_up : F → F → Type 0) (station : Station) (flash : F) (events : List Event)
     (before now : List (List ℕ)) (begun ran : State F) (back : F) (again : Result (State F) (BootFault × F))
     → begun.live ≡ started begun.live.values.stored begun.live.values.room → begun.station ≡ station

@@ -16,7 +16,7 @@ use Rattle.device_core.proofs.Machine.{then_step, joined, joined_quiet, run_join
 use Rattle.device_core.proofs.Placed.{placed_more}
 use Rattle.device_core.proofs.Steps.{no_stretch}
 
--- no event
+-- No event.
 pub no_run : {F : Type 0} {S : ℕ} (as_flash : Flash F S) (state : State F) (taken : List (List ℕ)) → Holds (as_flash.image state.flash) state.live.values
     → Runs as_flash state [] taken taken state
 no_run as_flash state taken holds = record {
@@ -30,13 +30,13 @@ no_run as_flash state taken holds = record {
   after_loss = λ _. refl;
 }
 
--- a commit failed in neither of two parts where none failed in both
+-- If no commit failed in both parts together, none failed in either.
 none_in_both : (a b c : Bool) → (a ≡ true → b ≡ true) → (b ≡ true → c ≡ true) → c ≡ a → (b ≡ a) × (c ≡ b)
 none_in_both true b c one two same = (one refl, same ∙ sym (one refl))
 none_in_both false true c one two same = let failed : c ≡ true = two refl in cc
 none_in_both false false c one two same = (refl, same)
 
--- one event more
+-- One more event.
 pub run_more : {F : Type 0} {S : ℕ} (as_flash : Flash F S) (old mid new : State F) (events : List Event) (event : Event) (before between now : List (List ℕ))
     → Runs as_flash old events before between mid → HandsOn as_flash mid (heard_of mid.station.identity event) between now new
     → Runs as_flash old (events ++ event ∷ []) before now new
@@ -72,7 +72,7 @@ run_more as_flash old mid new events event before between now run on =
           on.handed_on ∙ ap (λ f. between ++ f) (cond-true _ _ _ (step.stretch.stays_lost (run.stretch.stays_lost lost))) ∙ append-nil between ∙ run.after_loss lost;
     }
 
--- a run for no outcomes
+-- A run without outcomes.
 exact_run : {F : Type 0} {S : ℕ} (as_flash : Flash F S) (old new : State F) (events : List Event) (before now : List (List ℕ))
     → (runs : Runs as_flash old events before now new) → runs.outcomes ≡ [] → IsExactRun old events before now new
 exact_run as_flash old new events before now runs none = record {
@@ -81,7 +81,7 @@ exact_run as_flash old new events before now runs none = record {
   frames = runs.frames ∙ ap (λ o. before ++ (run_of o old.station old.live events).frames) none;
 }
 
--- no call of the flash failed in a stretch, and so no commit did
+-- No flash call failed in a stretch, and so no commit did.
 no_failure : {F : Type 0} {S : ℕ} (as_flash : Flash F S) (first now : store.State F) (accepted : List Accepted)
     → Stretch as_flash first accepted now → as_flash.failures now.flash ≡ as_flash.failures first.flash → as_flash.failures first.flash < 18446744073709551615 → now.values.has_failed ≡ first.values.has_failed
 no_failure as_flash first now accepted stretch same below = elim stretch.caused [
@@ -89,7 +89,7 @@ no_failure as_flash first now accepted stretch same below = elim stretch.caused 
   | inr fault ↦ absurd (grind (arith, fault.0))
 ]
 
--- no commit failed until the end of a stretch, and so none in it
+-- No commit failed until the end of a stretch, and so none in it.
 no_fault : {F : Type 0} {S : ℕ} (as_flash : Flash F S) (first now : store.State F) (accepted : List Accepted)
     → Stretch as_flash first accepted now → now.values.has_failed ≡ false → now.values.has_failed ≡ first.values.has_failed
 no_fault as_flash first now accepted stretch fine = elim stretch.caused [
@@ -97,7 +97,7 @@ no_fault as_flash first now accepted stretch fine = elim stretch.caused [
   | inr fault ↦ absurd (cc)
 ]
 
--- a step for no outcomes
+-- A step without outcomes.
 exact_step : {F : Type 0} {S : ℕ} (as_flash : Flash F S) (old new : State F) (heard : Heard) (event : Event) (frames : List (List ℕ)) (said : Note)
     → heard ≡ heard_of old.station.identity event → (steps : Steps as_flash old heard frames said new) → steps.outcomes ≡ [] → IsExactStep old event frames said new
 exact_step as_flash old new heard event frames said is steps none = record {
@@ -107,7 +107,7 @@ exact_step as_flash old new heard event frames said is steps none = record {
   note = steps.note ∙ ap (λ o. (heard_step o old.station old.live heard).note) none ∙ ap (λ h. (heard_step [] old.station old.live h).note) is;
 }
 
--- where no call of the flash failed
+-- If no flash call failed.
 pub step_quietly : {F : Type 0} {S : ℕ} (as_flash : Flash F S) (old new : State F) (heard : Heard) (event : Event) (frames : List (List ℕ)) (said : Note)
     → heard ≡ heard_of old.station.identity event → Steps as_flash old heard frames said new → as_flash.failures new.flash ≡ as_flash.failures old.flash → as_flash.failures old.flash < 18446744073709551615
     → IsExactStep old event frames said new

@@ -4,12 +4,12 @@ use Rattle.pn_values.specs.declared.identity.Identity.{Identity}
 use Rattle.device_frames.specs.Sendable.{AreSendable}
 use Rattle.device_frames.specs.Sent.{Sent}
 
--- where nothing is sent, all of it can be
+-- If nothing is sent, all of it can be.
 pub none_sendable : (identity : Identity) (sent : List Sent) → sent ≡ [] → AreSendable identity sent
 none_sendable identity [] none = tt
 none_sendable identity (message ∷ messages) none = cc
 
--- some, and others behind them
+-- Some messages, and others after them.
 pub all_sendable : (identity : Identity) (front back : List Sent) → AreSendable identity front → AreSendable identity back → AreSendable identity (front ++ back)
 all_sendable identity [] back first last = last
 all_sendable identity (message ∷ front) back first last = (first.0, all_sendable identity front back first.1 last)

@@ -1,4 +1,4 @@
--- How a call comes out, from what serves it.
+-- The outcome of a call, from the function that handles it.
 use Rattle.std.proofs.Common.{◌≡◌, ℕ, false, List, map, Result, Ok, Err, IfErr, OnOk, IsOk, refl, ap, ◌∙◌}
 use Rattle.flash_model.specs.declared.flash.Flash.{Ghosts as Flash}
 use Rattle.settings_store.specs.Carries.{Holds}
@@ -23,7 +23,7 @@ use Rattle.device_core.specs.Steps.{Steps}
 use Rattle.device_core.proofs.Machine.{is_asking}
 use Rattle.device_core.proofs.Steps.{quiet_steps}
 
--- a parameter record that is kept, or not: how it is answered, and what it does to the relation
+-- A parameter record that is kept, or not: how it is answered, and what it does to the relation.
 pub kept_as : (came : Result (Unit {0}) CallFault) (kept : Result (List TakenRecord) CallFault) (header : IodWriteReq)
     → OnOk came (IsOk kept) → IfErr came (λ fault. kept ≡ Err fault) → came_with came (answer_of header) ≡ kept_answer header kept
 kept_as (Ok it) (Ok taken) header is refused = refl
@@ -38,17 +38,17 @@ kept_moving moving (Ok it) (Err fault) is refused = cc
 kept_moving moving (Err fault) (Ok taken) is refused = cc
 kept_moving moving (Err fault) (Err other) is refused = refl
 
--- the same of a Write by how it came out
+-- The same for a Write by its outcome.
 pub same_moving : (moving : Moving) (came : Result (Unit {0}) CallFault) (blocks : List ℕ) → answered moving (came_with came blocks) ≡ answered moving came
 same_moving moving (Ok it) blocks = refl
 same_moving moving (Err fault) blocks = refl
 
--- a Write that is carried out, by what it asks for
+-- A Write that is carried out, by what it asks for.
 pub effect_as : (station : Station) (live : Live) (caller : Caller) (call : Call) (made : Result Write CallFault) (write : Write) (effect : Effect)
     → made ≡ Ok write → write.effect ≡ effect → judged_write station live caller call made ≡ judged_effect station live caller call write.request effect
 effect_as station live caller call made write effect is asks = ap (judged_write station live caller call) is ∙ ap (judged_effect station live caller call write.request) asks
 
--- a call that is new, of an operation that asks nothing of the settings
+-- A new call, of an operation that asks nothing of the settings.
 pub new_steps : {F : Type 0} {S : ℕ} (as_flash : Flash F S) (old new : State F) (caller : Caller) (call : Call) (blocks : List ℕ) (asks operation : Operation)
     (frames : List (List ℕ)) (said : Note) → Holds (as_flash.image old.flash) old.live.values → asks ≡ operation
     → is_asking (judged_new old.station old.live caller call blocks operation) ≡ false

@@ -31,7 +31,7 @@ use Rattle.device_core.proofs.Machine.{is_asking, nothing_asked, quiet_step, is_
 use Rattle.device_core.proofs.Faults.{step_goes_on}
 use Rattle.device_core.proofs.Sendable.{all_sendable}
 
--- a state by its parts
+-- A state by its parts.
 pub same_state : {F : Type 0} (a b : State F) → a.flash ≡ b.flash → a.station ≡ b.station → a.live ≡ b.live → a ≡ b
 same_state a b flash station live =
     ap (λ f. record { flash = f; station = a.station; live = a.live }) flash
@@ -48,8 +48,8 @@ same_values a b running stored room failed lost =
     ∙ ap (λ x. record b { room = x; has_failed = a.has_failed; is_lost = a.is_lost }) room
     ∙ ap (λ x. record b { has_failed = x; is_lost = a.is_lost }) failed ∙ ap (λ x. record b { is_lost = x }) lost
 
--- What was heard asks nothing of the settings, and the parts of what it came to are those of what was judged: for a service whose parts see one
--- field of the device only.
+-- The event asks nothing of the settings, and the parts of its outcome are those of the specified outcome: for a
+-- service whose parts see only one field of the device.
 pub record IsQuiet {F : Type 0} (old new : State F) (heard : Heard) (frames : List (List ℕ)) (said : Note) : Type 0 where
   pub asks_nothing : is_asking (judged old.station old.live heard) ≡ false
   pub flash : new.flash ≡ old.flash
@@ -59,7 +59,7 @@ pub record IsQuiet {F : Type 0} (old new : State F) (heard : Heard) (frames : Li
   pub sendable : AreSendable old.station.identity (finished old.station.identity old.live.rest (judged old.station old.live heard) []).sent
   pub note_is : said ≡ (finished old.station.identity old.live.rest (judged old.station old.live heard) []).note
 
--- where nothing is asked for, nothing happens to the settings
+-- If nothing is asked for, nothing happens to the settings.
 pub no_stretch : {F : Type 0} {S : ℕ} (as_flash : Flash F S) (state : store.State F) → Holds (as_flash.image state.flash) state.values → Stretch as_flash state [] state
 no_stretch as_flash state holds = record {
   caused = inl (refl, refl);
@@ -111,7 +111,7 @@ is_quiet_steps as_flash old new heard frames said holds parts =
           });
     }
 
--- what was judged and asks nothing of the settings
+-- An outcome that asks nothing of the settings.
 pub quiet_steps : {F : Type 0} {S : ℕ} (as_flash : Flash F S) (old new : State F) (heard : Heard) (what : Judged) (frames : List (List ℕ)) (said : Note)
     → Holds (as_flash.image old.flash) old.live.values → judged old.station old.live heard ≡ what → is_asking what ≡ false
     → new ≡ with_rest old (end_of old.station old.live what).rest → frames ≡ map (bytes_of old.station.identity) (end_of old.station old.live what).sent → said ≡ (end_of old.station old.live what).note
@@ -128,7 +128,7 @@ quiet_steps as_flash old new heard what frames said holds judged_so none is fram
       note_is = note_is ∙ sym (ap (λ e. e.note) end);
     })
 
--- what was judged a move
+-- An outcome that is a move.
 pub moves_steps : {F : Type 0} {S : ℕ} (as_flash : Flash F S) (old new : State F) (heard : Heard) (rest : Rest) (sent : List Sent) (frames : List (List ℕ)) (said : Note)
     → Holds (as_flash.image old.flash) old.live.values → judged old.station old.live heard ≡ Moves rest sent
     → new ≡ with_rest old rest → frames ≡ map (bytes_of old.station.identity) sent → said ≡ note.Done
@@ -136,14 +136,14 @@ pub moves_steps : {F : Type 0} {S : ℕ} (as_flash : Flash F S) (old new : State
 moves_steps as_flash old new heard rest sent frames said holds moves is frames_are done sendable =
     quiet_steps as_flash old new heard (Moves rest sent) frames said holds moves refl is frames_are done sendable
 
--- what was judged to be refused
+-- An outcome that is a refusal.
 pub refuses_steps : {F : Type 0} {S : ℕ} (as_flash : Flash F S) (state : State F) (heard : Heard) (why : Note) (frames : List (List ℕ)) (said : Note)
     → Holds (as_flash.image state.flash) state.live.values → judged state.station state.live heard ≡ Refuses why → frames ≡ [] → said ≡ why
     → Steps as_flash state heard frames said state
 refuses_steps as_flash state heard why frames said holds refuses none is =
     quiet_steps as_flash state state heard (Refuses why) frames said holds refuses refl refl none is tt
 
--- an Identify request
+-- An Identify request.
 identify_leaves : (station : Station) (live : Live) (asker : Mac) (request : Asked)
     → (is_asking (identified station live asker request) ≡ false) × ((finished station.identity live.rest (identified station live asker request) []).rest ≡ live.rest)
 identify_leaves station live asker request = cond_both (matches station.identity live.values.running request) _ _
@@ -168,7 +168,7 @@ identify_steps as_flash state asker request frames said holds identify frames_ar
       note_is = note_is ∙ sym (ap (λ what. (finished state.station.identity state.live.rest what []).note) is);
     })
 
--- a Get
+-- A Get.
 pub get_steps : {F : Type 0} {S : ℕ} (as_flash : Flash F S) (state : State F) (asker : Mac) (request : Asked) (frames : List (List ℕ)) (said : Note)
     → Holds (as_flash.image state.flash) state.live.values → request.service ≡ service.Get
     → frames ≡ bytes_of state.station.identity (GetAnswer asker state.live.values.running request) ∷ [] → said ≡ note.Done
@@ -177,7 +177,7 @@ get_steps as_flash state asker request frames said holds get frames_are done sen
     moves_steps as_flash state state (Asks asker request) state.live.rest (GetAnswer asker state.live.values.running request ∷ []) frames said holds
     (ap (λ s. judged_request state.station state.live asker s request) get) refl frames_are done (sendable, tt)
 
--- what was judged and asks the settings for something, which is carried out
+-- An outcome that asks something of the settings, which is carried out.
 pub settled_steps : {F : Type 0} {S : ℕ} (as_flash : Flash F S) (old new : State F) (heard : Heard) (what : Judged) (answers : List BlockError)
     (frames : List (List ℕ)) (said : Note) → judged old.station old.live heard ≡ what
     → Carries as_flash (store_of old) (items_in what) answers (store_of new)
@@ -212,7 +212,7 @@ settled_steps as_flash old new heard what answers frames said is_what carries sa
           (subst (λ i. GoesOn old.live.values i answers new.live.values) (sym items) carries.goes_on);
     }
 
--- a Set of a station: ERR, where a reset ends the relation, and the answer behind it
+-- A Set of a station: ERR, if a reset ends the relation, and the answer after it.
 pub asked_set_steps : {F : Type 0} {S : ℕ} (as_flash : Flash F S) (old new : State F) (asker : Mac) (request : Asked) (answers : List BlockError) (frames : List (List ℕ)) (said : Note)
     → request.service ≡ service.Set → Carries as_flash (store_of old) (plan_of (is_some old.live.rest.link) request) answers (store_of new) → new.station ≡ old.station
     → new.live.rest ≡ (finished old.station.identity old.live.rest (Sets asker request (is_some old.live.rest.link)) answers).rest
@@ -225,7 +225,7 @@ asked_set_steps as_flash old new asker request answers frames said set carries s
     (frames_are ∙ sym (map-append (bytes_of old.station.identity) (farewells_at (resets (plan_of (is_some old.live.rest.link) request) answers) old.live.rest.link) (SetAnswer asker request answers ∷ []))) done
     (all_sendable old.station.identity _ (SetAnswer asker request answers ∷ []) ends (last, tt))
 
--- what is not done changes nothing and sends nothing
+-- An event that is not `Done` changes nothing and sends nothing.
 pub record IsNothing (live : Live) (step : Stepped) : Type 0 where
   pub live_is : step.live ≡ live
   pub none_sent : step.frames ≡ []
@@ -252,7 +252,7 @@ pub none_sent : {A B : Type 0} (f : A → B) (xs : List A) → map f xs ≡ [] �
 none_sent f [] none = refl
 none_sent f (x ∷ xs) none = cc
 
--- an Identify request, where it matches and where it does not
+-- An Identify request, if it matches and if it does not.
 identify_judged : (outcomes : List Outcome) (station : Station) (live : Live) (asker : Mac) (request : Asked) → IsIdentified station.identity live.values.running live asker request (judged_step outcomes station live (identified station live asker request))
 unfolding judged_step
 identify_judged outcomes station live asker request = cond_both (matches station.identity live.values.running request) _ _
@@ -277,14 +277,14 @@ identify_step as_flash old new heard frames said steps asker request is identify
       filtered = λ match. let end = one.filtered match in (steps.note ∙ end.0, steps.frames ∙ end.1);
     }
 
--- a call that was answered before
+-- A call that was answered before.
 again_judged : (station : Station) (live : Live) (heard : Heard) (call : Called) (frame : List ℕ) → IsServed live heard call → looked call.header.activity call.header.sequence live.rest.calls ≡ again frame
     → judged station live heard ≡ Moves live.rest (Again frame ∷ [])
 again_judged station live heard call frame it told =
     ap (judged station live) it.is ∙ cond-true _ _ _ it.runs ∙ ap (judged_call station live it.caller call) it.served
     ∙ ap (judged_blocks station live it.caller call it.operation) it.counted ∙ ap (judged_looked station live it.caller call it.blocks it.operation) told
 
--- its step
+-- Its step.
 record IsSame (live : Live) (frame : List ℕ) (step : Stepped) : Type 0 where
   live_is : step.live ≡ live
   none_accepted : step.accepted ≡ []
@@ -307,7 +307,7 @@ again_step as_flash old new heard frames said steps call frame served told =
       done = steps.note ∙ one.done;
     }
 
--- the values of a store that has just started, an empty cache, and no relation
+-- The values of a store that has just started, an empty cache, and no relation.
 pub as_started : (values : store.Values) (calls : List Kept) (link : Option Link) (settings : Settings) (room : ℕ) → values.running ≡ values.stored → values.has_failed ≡ false → values.is_lost ≡ false
     → calls ≡ [] → link ≡ None → values.stored ≡ settings → values.room ≡ room → record { values = values; rest = record { lamp = 0; calls = calls; link = link; units = 0 } } ≡ started settings room
 as_started values calls link settings room running failed lost empty none stored left =

@@ -1,4 +1,4 @@
--- What is behind an event that asks nothing of the settings.
+-- The result of an event that asks nothing of the settings.
 use Rattle.std.specs.Prelude.{ℕ, Bool, List, None, map, Result}
 use Rattle.rpc_core.specs.declared.response.Response.{Response}
 use Rattle.rpc_core.specs.Call.{Asked as Call, asked}
@@ -20,50 +20,50 @@ use Rattle.device_core.specs.State.{State, with_rest}
 use Rattle.device_core.specs.Judged.{Judged, answer_from, judged_answer, judged_effect, judged_new, judged_write}
 use Rattle.device_core.specs.Machine.{end_of}
 
--- the device then
+-- The device after it.
 abbrev pub behind : {F : Type 0} → State F → Judged → State F
 behind old what = with_rest old (end_of old.station old.live what).rest
 
--- the frames that it sends
+-- The frames that it sends.
 abbrev pub frames_of : {F : Type 0} → State F → Judged → List (List ℕ)
 frames_of old what = map (bytes_of old.station.identity) (end_of old.station old.live what).sent
 
--- each message of them can be sent
+-- Each of the messages can be sent.
 abbrev pub CanSend : {F : Type 0} → State F → Judged → Type 0
 CanSend old what = AreSendable old.station.identity (end_of old.station old.live what).sent
 
--- what is due, where no timeout is over: the alarm that stands, ApplicationReady, inputs
+-- What is due if no timeout is over: the active alarm, ApplicationReady, inputs.
 abbrev pub due_in : {F : Type 0} → State F → Bool → Bool → Bool → List Sent
 due_in old is_alarm is_ready is_cyclic =
     due_frames old.live.values.running.suite.address old.live.rest.units
     (record { farewell = None; is_alarm = is_alarm; is_ready = is_ready; is_cyclic = is_cyclic }) old.live.rest.link
 
--- what is sent behind a unit of time that brought this
+-- What is sent after a unit of time that brought this.
 abbrev pub brought : {F : Type 0} → State F → Elapsed → List Sent
 brought old elapsed =
     let link = old.live.rest.link in
     due_frames old.live.values.running.suite.address old.live.rest.units (due_behind elapsed link) (left_behind elapsed.tick.ending link)
 
--- what a call that is served comes to, if it asks for this
+-- The outcome of a call of this operation.
 abbrev pub called : {F : Type 0} → State F → Serving → Operation → Judged
 called old serving operation = judged_new old.station old.live serving.caller.now (asked serving.call.now) serving.blocks.now operation
 
--- the call that is served, as it was asked
+-- The call, without where its octets lie.
 abbrev pub call_of : Serving → Call
 call_of serving = asked serving.call.now
 
--- what a Write that is served comes to, if its blocks are judged so
+-- The outcome of a Write whose blocks were read as this.
 abbrev pub wrote : {F : Type 0} → State F → Serving → Result Asking CallFault → Judged
 wrote old serving judged = judged_write old.station old.live serving.caller.now (call_of serving) judged
 
--- what a parameter record comes to that a Write with this header brings
+-- The outcome of a parameter record from a Write with this header.
 abbrev pub brings : {F : Type 0} → State F → Serving → IodWriteReq → TakenRecord → Judged
 brings old serving header parameter = judged_effect old.station old.live serving.caller.now (call_of serving) header (Keeps parameter)
 
--- what a response comes to
+-- The outcome of a response.
 abbrev pub responded : {F : Type 0} → State F → Response → Judged
 responded old response = judged_answer old.live (answer_of (answered response) old.live.rest.link)
 
--- the answer to a call that is served
+-- The answer to a call.
 abbrev pub answer_to : List ℕ → Serving → Result (List ℕ) CallFault → Sent
 answer_to address serving came = answer_from address serving.caller.now (call_of serving) serving.operation came

@@ -16,15 +16,15 @@ use Rattle.device_core.specs.Machine.{Ran, run_of}
 use Rattle.relations.specs.Outputs.{output_of, zero_output}
 use Rattle.device_core.specs.Steps.{EventByEvent, AnswersBy}
 
--- a device as it starts: what is stored runs, no commit failed, power is there, and of the rest nothing: the lamp is off, no
--- answer is kept, and there is no relation
+-- A device as it starts: the stored settings are the running settings, no commit failed, there is power, the lamp is
+-- off, no answer is kept, and there is no relation.
 abbrev pub started : Settings → ℕ → Live
 started settings room = record {
   values = record { running = settings; stored = settings; room = room; has_failed = false; is_lost = false };
   rest = record { lamp = 0; calls = []; link = None; units = 0 };
 }
 
--- the events of a cycle that begins with the first settings, and with room for so many commits
+-- The events of a cycle that begins with the first settings, and with room for this many commits.
 abbrev pub cycle_of : List (List Outcome) → Station → Settings → ℕ → List Event → Ran
 cycle_of outcomes station first room events = run_of outcomes station (started first room) events
 
@@ -34,9 +34,9 @@ IsMadeOf accepted first settings =
     (settings ≡ made_of accepted first)
     ⊎ ((front : List Accepted) × (last : Accepted) × (accepted ≡ front ++ last ∷ []) × (last.is_done ≡ false) × (settings ≡ made_of front first))
 
--- The events of a cycle were run, from a start on the flash that gave the first settings, with whatever outcomes the flash
--- chose for the calls that store: there are none where no commit failed, each has its cause in its own item, what was sent
--- was handed on, what was left of the flash is safe, and where no command was accepted it was left as the start left it.
+-- The events of a cycle were run, from a start on the flash that gave the first settings, with any outcomes of the
+-- flash for the calls that store: there are no outcomes if no commit failed, each has its cause in its own item, what
+-- was sent was handed on, the flash is left safe, and if no command was accepted it is left as the start left it.
 pub record Cycled {F : Type 0} {S : ℕ} (as_flash : Flash F S) (station : Station) (flash : F) (first : Settings) (room : ℕ) (events : List Event) (before now : List (List ℕ)) (outcomes : List (List Outcome)) (lost : F) : Type 0 where
   pub begun : F
   pub begins : (as_flash.image begun ≡ as_flash.image flash) × (as_flash.failures begun ≡ as_flash.failures flash) × as_flash.asked flash [] begun
@@ -47,8 +47,8 @@ pub record Cycled {F : Type 0} {S : ℕ} (as_flash : Flash F S) (station : Stati
   pub safe : CrashSafe false first (cycle_of outcomes station first room events).accepted (as_flash.image flash) (as_flash.image lost)
   pub untouched : (cycle_of outcomes station first room events).accepted ≡ [] → lost ≡ begun
 
--- A device that has just started, on whatever image: it is what it was told to be, what the image is read as runs and nothing
--- else, Identify is answered by that alone, and each output that it shows is zeros.
+-- A device that has just started, on any image: it has the given identity and modules, its running settings are exactly
+-- those that the image is read as, Identify is answered only with them, and each output is zeros.
 pub record IsStarted {F : Type 0} {S : ℕ} (as_flash : Flash F S) (station : Station) (device : State F) : Type 0 where
   pub station_is : device.station ≡ station
   pub nothing_else : device.live ≡ started device.live.values.stored device.live.values.room
@@ -56,11 +56,11 @@ pub record IsStarted {F : Type 0} {S : ℕ} (as_flash : Flash F S) (station : St
   pub answers : AnswersBy station device.live.values.stored device.live
   pub shows : (slot subslot : ℕ) → output_of station.real slot subslot (output_in slot subslot device.live.rest.link) ≡ zero_output station.real slot subslot
 
--- The headline. The cycle went through the events, with whatever outcomes its flash chose for the calls that store. The
--- restarted device has, running and stored, what all accepted commands of the cycle, or all but a last one that was not
--- answered 'done', make of the first settings; where no commit failed, just what the cycle stored. Nothing else is left of
--- the cycle, Identify is answered by those settings and the identity alone, and the image is again one that this device
--- left. `power_up` relates a flash to itself with its power back.
+-- The headline. The cycle ran the events, with any outcomes of its flash for the calls that store. The running and
+-- stored settings of the restarted device are the first settings changed by all accepted commands of the cycle, or by
+-- all but a last one that was not answered 'done'; if no commit failed, they are exactly what the cycle stored. Nothing
+-- else remains of the cycle, Identify is answered only with those settings and the identity, and the image is again one
+-- that this device left. `power_up` relates a flash to itself with its power restored.
 pub record Restarts {F : Type 0} {S : ℕ} (as_flash : Flash F S) (power_up : F → F → Type 0) (station : Station) (flash : F) (first : Settings) (room : ℕ) (events : List Event) (before now : List (List ℕ)) (restarted : State F) : Type 0 where
   pub outcomes : List (List Outcome)
   pub lost : F
@@ -74,14 +74,15 @@ pub record Restarts {F : Type 0} {S : ℕ} (as_flash : Flash F S) (power_up : F 
   pub left : LeftByDevice (as_flash.image restarted.flash)
   pub same : (as_flash.image restarted.flash ≡ as_flash.image lost) × (as_flash.failures restarted.flash ≡ as_flash.failures back) × as_flash.asked back [] restarted.flash
 
--- A start was refused for a cause of its own; it asked nothing of the flash but reads, and no byte changed. A flash is foreign where it cannot be read.
+-- A start was refused for a cause of its own. It only read the flash, and no byte changed. A flash is foreign if it
+-- cannot be read.
 pub record Refuses {F : Type 0} {S : ℕ} (as_flash : Flash F S) (flash : F) (fault : BootFault) (left : F) : Type 0 where
   pub cause : HasBootCause fault (as_flash.failures flash) (as_flash.failures left)
   pub same : as_flash.image left ≡ as_flash.image flash
   pub none_asked : as_flash.asked flash [] left
   pub foreign : fault ≡ Foreign → IsForeign (as_flash.image left)
 
--- The start after a cycle was refused: the first start gave settings, the events were run, and power came back.
+-- The start after a cycle was refused: the first start gave settings, the events were run, and power was restored.
 pub record RefusesAfter {F : Type 0} {S : ℕ} (as_flash : Flash F S) (power_up : F → F → Type 0) (station : Station) (flash : F) (events : List Event) (before now : List (List ℕ)) (fault : BootFault) (left : F) : Type 0 where
   pub first : Settings
   pub room : ℕ

@@ -1,4 +1,4 @@
--- What a fault of the flash changes of steps, and what goes on.
+-- What a flash fault changes of steps, and what goes on.
 use Rattle.std.specs.Prelude.{◌≡◌, ℕ, Bool, true, false, List, [], ◌∷◌, ◌++◌, map}
 use Rattle.pn_values.specs.declared.set_item.SetItem.{SetItem}
 use Rattle.pn_values.specs.declared.set_item.SetItem.TheVariants.{Ask, Signal, Answer}
@@ -12,24 +12,24 @@ use Rattle.device_frames.specs.Heard.{Heard, heard_of}
 use Rattle.device_core.specs.Judged.{judged}
 use Rattle.device_core.specs.Machine.{Stepped, items_of, finished, heard_step}
 
--- whether items ask for nothing to be stored
+-- Whether items ask for nothing to be stored.
 abbrev pub asks_nothing : List SetItem → Bool
 asks_nothing [] = true
 asks_nothing (Ask command ∷ items) = false
 asks_nothing (Signal ∷ items) = asks_nothing items
 asks_nothing (Answer answer ∷ items) = asks_nothing items
 
--- an event came to what it comes to in this step, beside the settings
+-- An event has the outcome that it has in this step, except for the settings.
 pub record IsAsIn (step : Stepped) (sent : List (List ℕ)) (said : Note) (next : Live) : Type 0 where
   pub rest : next.rest ≡ step.live.rest
   pub frames : sent ≡ step.frames
   pub note : said ≡ step.note
 
--- What an event comes to, whatever the flash does. Its commands before the first in which a flash call failed are carried
--- out as where none fails; that one and each later one, until the next start, is answered by a local fault and changes
--- neither what runs nor what is stored. All else is what the event comes to with these answers. And an event that asks for
--- nothing to be stored comes to just what it comes to, with no flash call failing, at any device at which the same settings
--- run and whose rest is the same: whether a commit failed shows in nothing else.
+-- The outcome of an event, for any behaviour of the flash. Its commands before the first in which a flash call failed
+-- are carried out as if none failed. That one and each later one, until the next start, is answered with a local fault
+-- and changes neither the running nor the stored settings. Everything else is the outcome of the event with these
+-- answers. An event that asks for nothing to be stored has exactly the outcome that it has, if no flash call fails, at
+-- any device with the same running settings and the same rest: a failed commit shows in nothing else.
 pub record StepGoesOn (station : Station) (live : Live) (heard : Heard) (sent : List (List ℕ)) (said : Note) (next : Live) : Type 0 where
   pub answers : List BlockError
   pub settings : GoesOn live.values (items_of station live heard) answers next.values
@@ -39,15 +39,15 @@ pub record StepGoesOn (station : Station) (live : Live) (heard : Heard) (sent : 
   pub as_ever : asks_nothing (items_of station live heard) ≡ true → (other : Live) → other.values.running ≡ live.values.running → other.rest ≡ live.rest
       → IsAsIn (heard_step [] station other heard) sent said next
 
--- The events one by one, each on the state that the one before it left, and the frames that they sent: whatever the flash
--- does, each goes on.
+-- The events one by one, each in the state that the one before it left, and the frames that they sent: for any
+-- behaviour of the flash, each goes on.
 abbrev pub EachGoesOn : Station → Live → List Event → List (List ℕ) → Live → Type 0
 EachGoesOn station live [] frames last = (frames ≡ []) × (last ≡ live)
 EachGoesOn station live (event ∷ events) frames last =
     (next : Live) × (sent : List (List ℕ)) × (said : Note) × (more : List (List ℕ))
     × StepGoesOn station live (heard_of station.identity event) sent said next × (frames ≡ sent ++ more) × EachGoesOn station next events more last
 
--- A run goes on, whatever faults strike: all frames of all events are handed on.
+-- A run goes on, for any flash faults: all frames of all events are handed on.
 pub record RunGoesOn {F : Type 0} (old : State F) (events : List Event) (before now : List (List ℕ)) (new : State F) : Type 0 where
   pub frames : List (List ℕ)
   pub handed_on : now ≡ before ++ frames

@@ -1,4 +1,4 @@
--- What an event comes to, judged on the state before it.
+-- The outcome of an event, from the state before it.
 use Rattle.std.specs.Prelude.{◌+◌, ◌%◌, ◌-◌, ◌&&◌, ℕ, Bool, true, false, not, nat_eq, List, [], ◌∷◌, if◌then◌else◌, Option, Some, None, is_some, Result, Ok, Err}
 use Rattle.std.specs.Cmp.Lexicographic.{pointwise}
 use Rattle.pn_values.specs.declared.mac.Mac.{Mac}
@@ -58,9 +58,9 @@ use Rattle.device_frames.specs.Relation.{alarms_of, due_frames, ready_calls, rep
 use Rattle.device_frames.specs.Sent.{Sent, IdentifyAnswer, GetAnswer, ArpReply, CallAnswer, Again, Ends, bytes_of}
 use Rattle.device_frames.specs.Heard.{Heard, Ticks, Unreadable, Elsewhere, Asks, Resolves, Told, Cyclic, Alarms, Given, Raised, Said, Calls, Responds, Garbled}
 
--- What an event comes to: refused, with the note that says why; a Set, whose blocks are asked of the settings; a Write of an I&M
--- text, which is asked of them, by whom and to which address it was called, the call, its header and the text; or a move, after
--- which the rest is another and these messages are sent.
+-- The outcome of an event: it is refused, with the note that says why; a Set, whose blocks are asked of the settings; a
+-- Write of an I&M text, which is asked of the settings, with the caller, the address that was called, the call, its
+-- header and the text; or a move, after which the rest has changed and these messages are sent.
 pub data Judged : Type 0 where
   Refuses : (note : Note) → Judged
   Sets : (asker : Mac) → (request : Asked) → (in_operation : Bool) → Judged
@@ -69,14 +69,15 @@ pub data Judged : Type 0 where
 
 -- ---- DCP
 
--- An Identify request is answered by identity and running settings where it matches, and else not at all.
+-- An Identify request that matches is answered with the identity and the running settings; otherwise it is not
+-- answered.
 abbrev pub identified : Station → Live → Mac → Asked → Judged
 identified station live asker request =
     if matches station.identity live.values.running request
     then Moves live.rest (IdentifyAnswer asker live.values.running request.xid ∷ [])
     else Refuses note.Filter
 
--- a request, by its service; whether a relation exists is judged as the frame arrives, for all blocks of a Set
+-- A request, by its service. Whether a relation exists is checked when the frame arrives, for all blocks of a Set.
 abbrev pub judged_request : Station → Live → Mac → Service → Asked → Judged
 judged_request station live asker service.Identify request = identified station live asker request
 judged_request station live asker service.Get request = Moves live.rest (GetAnswer asker live.values.running request ∷ [])
@@ -84,7 +85,7 @@ judged_request station live asker service.Set request = Sets asker request (is_s
 
 -- ---- ARP (RFC 826)
 
--- whether this address runs, and is one
+-- Whether this is the running address, and not all zeros.
 abbrev pub is_running : Settings → List ℕ → Bool
 is_running running address = pointwise nat_eq address running.suite.address && not (is_zero address)
 
@@ -92,7 +93,7 @@ abbrev pub is_request : ArpOperation → Bool
 is_request arp.Request = true
 is_request arp.Reply = false
 
--- a request for the running address is answered, and no other packet is
+-- A request for the running address is answered, and no other packet is.
 abbrev pub judged_arp : Live → Mac → Arp → Judged
 judged_arp live asker packet =
     if is_request packet.operation && is_running live.values.running packet.target.address
@@ -101,38 +102,39 @@ judged_arp live asker packet =
 
 -- ---- calls (IEC 61158-6-10, 4.10)
 
--- how a call comes out: the status and the blocks of its answer, of which a negative one has none
+-- The outcome of a call: the status and the blocks of its answer. A negative answer has no blocks.
 abbrev pub outcome_of : Operation → Result (List ℕ) CallFault → Status × List ℕ
 outcome_of operation (Ok blocks) = (done, blocks)
 outcome_of operation (Err fault) = (status_of operation fault, [])
 
--- the answer to a call that came out so, from this address
+-- The answer to a call with this outcome, from this address.
 abbrev pub answer_from : List ℕ → Caller → Call → Operation → Result (List ℕ) CallFault → Sent
 answer_from address caller call operation outcome =
     let came = outcome_of operation outcome in
     CallAnswer caller address (answer_to call came.0 came.1)
 
--- a call that came out so, with these blocks where it is done
+-- The outcome of a call, with these blocks if it is done.
 abbrev pub came_with : Result (Unit {0}) CallFault → List ℕ → Result (List ℕ) CallFault
 came_with (Ok it) blocks = Ok blocks
 came_with (Err fault) blocks = Err fault
 
--- what is kept of an answer to a call: its frame
+-- What is stored of an answer to a call: its frame.
 abbrev pub kept_for : Identity → Call → Sent → Kept
 kept_for identity call answer = record { activity = call.header.activity; sequence = call.header.sequence; frame = bytes_of identity answer }
 
--- a call that was answered so, behind which this is the relation: of the last four activities the last answer is kept
+-- The state after a call that had this answer and left this relation. The last answer of each of the last four
+-- activities is kept.
 abbrev pub kept_behind : Identity → Rest → Call → Sent → Option Link → Rest
 kept_behind identity rest call answer link =
     record rest { calls = kept_more 4 (kept_for identity call answer) rest.calls; link = link }
 
--- a call that comes out so, behind which this is the relation: it is answered, and then this is sent
+-- A call with this outcome that leaves this relation: it is answered, and then this is sent.
 abbrev pub served : Station → Live → Caller → Call → Operation → Result (List ℕ) CallFault → Option Link → List Sent → Judged
 served station live caller call operation outcome link behind =
     let answer = answer_from live.values.running.suite.address caller call operation outcome in
     Moves (kept_behind station.identity live.rest call answer link) (answer ∷ behind)
 
--- what follows PrmEnd that is accepted
+-- What follows an accepted PrmEnd.
 abbrev pub ready_behind : List ℕ → Option Link → Result ControlBlock CallFault → List Sent
 ready_behind address link (Ok block) = ready_calls address link
 ready_behind address link (Err fault) = []
@@ -140,11 +142,11 @@ ready_behind address link (Err fault) = []
 abbrev pub partner_of : Caller → Partner
 partner_of caller = record { mac = caller.mac; address = caller.endpoint.address }
 
--- what becomes of a Read Implicit: it names the relation or not
+-- What a Read Implicit does to the relation: it names the relation or not.
 abbrev pub implicitly : Option Link → List ℕ → Moving
 implicitly link blocks = if names_relation (uuid_of link) blocks then Named else Unmoved
 
--- a Write of a parameter record: it is kept, where there is room, and shows that the controller is there
+-- A Write of a parameter record: it is kept if there is room, and shows that the controller is alive.
 abbrev pub kept_answer : IodWriteReq → Result (List TakenRecord) CallFault → Result (List ℕ) CallFault
 kept_answer header (Ok taken) = Ok (answer_of header)
 kept_answer header (Err fault) = Err fault
@@ -159,7 +161,7 @@ abbrev pub judged_write : Station → Live → Caller → Call → Result Asking
 judged_write station live caller call (Ok write) = judged_effect station live caller call write.request write.effect
 judged_write station live caller call (Err fault) = served station live caller call Write (Err fault) live.rest.link []
 
--- a call that is new, by its operation
+-- A new call, by its operation.
 abbrev pub judged_new : Station → Live → Caller → Call → List ℕ → Operation → Judged
 judged_new station live caller call blocks Connect =
     served station live caller call Connect (connect_answer station.identity station.real live.rest.link blocks)
@@ -178,26 +180,26 @@ judged_new station live caller call blocks ReadImplicit =
     let read = implicit_read station.identity station.real live.values.running blocks in
     served station live caller call ReadImplicit read (moved (answered (implicitly live.rest.link blocks) read) live.rest.link) []
 
--- A call by what the cache tells of it: it is answered anew, or again by the same frame, or it is older than one of its activity
--- that was answered.
+-- A call by the result of the cache: it is answered as new, or again with the same frame, or it is older than an
+-- answered call of its activity.
 abbrev pub judged_looked : Station → Live → Caller → Call → List ℕ → Operation → Looked → Judged
 judged_looked station live caller call blocks operation new = judged_new station live caller call blocks operation
 judged_looked station live caller call blocks operation (again frame) = Moves live.rest (Again frame ∷ [])
 judged_looked station live caller call blocks operation old = Refuses note.OldCall
 
--- where the blocks are not counted well that is answered whatever the cache tells, and not kept
+-- If the lengths of the blocks are wrong, that is answered whatever the cache contains, and the answer is not stored.
 abbrev pub judged_blocks : Station → Live → Caller → Call → Operation → Option (List ℕ) → Judged
 judged_blocks station live caller call operation None =
     Moves live.rest (answer_from live.values.running.suite.address caller call operation (Err Arguments) ∷ [])
 judged_blocks station live caller call operation (Some blocks) =
     judged_looked station live caller call blocks operation (looked call.header.activity call.header.sequence live.rest.calls)
 
--- an operation that is none is dropped
+-- A call with an unknown operation is dropped.
 abbrev pub judged_call : Station → Live → Caller → Call → Option Operation → Judged
 judged_call station live caller call None = Refuses note.Fault
 judged_call station live caller call (Some operation) = judged_blocks station live caller call operation call.blocks
 
--- the answer to ApplicationReady, by what it is to the relation
+-- The answer to ApplicationReady, by what it means to the relation.
 abbrev pub judged_answer : Live → ReadyAnswer → Judged
 judged_answer live to_ready.NotWanted = Refuses note.NoRelation
 judged_answer live to_ready.Garbled = Refuses note.Fault
@@ -210,18 +212,18 @@ judged_said station live caller (Calls call) = judged_call station live caller c
 judged_said station live caller (Responds response) = judged_answer live (ready_answer response live.rest.link)
 judged_said station live caller Garbled = Refuses note.Fault
 
--- the address is looked at first
+-- The address is checked first.
 abbrev pub judged_datagram : Station → Live → Caller → List ℕ → Said → Judged
 judged_datagram station live caller address said =
     if is_running live.values.running address then judged_said station live caller said else Refuses note.NotMine
 
 -- ---- what is exchanged
 
--- the relation became this, and these frames are sent
+-- The relation became this, and these frames are sent.
 abbrev pub goes_on_with : Live → Option Link → List Sent → Judged
 goes_on_with live link sent = Moves (record live.rest { link = link }) sent
 
--- a cyclic frame, by what becomes of it
+-- A cyclic frame, by what happens to it.
 abbrev pub judged_received : Live → Received → Option Link → Judged
 judged_received live received.Foreign link = Refuses note.NoRelation
 judged_received live received.Short link = Refuses note.Fault
@@ -232,7 +234,7 @@ abbrev pub judged_cyclic : Live → Mac → ℕ → List ℕ → Judged
 judged_cyclic live source frame_id body =
     judged_received live (received_by source frame_id body live.rest.link) (moved (receiving source frame_id body live.rest.link) live.rest.link)
 
--- an input is given, or refused
+-- An input is given, or refused.
 abbrev pub judged_input : Live → Option Flow → Judged
 judged_input live (Some flow) = goes_on_with live (moved (Exchanged flow) live.rest.link) []
 judged_input live None = Refuses note.Refused
@@ -240,7 +242,7 @@ judged_input live None = Refuses note.Refused
 abbrev pub judged_given : Live → ℕ → ℕ → List ℕ → Judged
 judged_given live slot subslot value = judged_input live (given_to slot subslot value live.rest.link)
 
--- an alarm is raised and sent, or refused
+-- An alarm is raised and sent, or refused.
 abbrev pub judged_notice : Live → Option Flow → Judged
 judged_notice live (Some flow) =
     let link = moved (Exchanged flow) live.rest.link in
@@ -250,7 +252,8 @@ judged_notice live None = Refuses note.Refused
 abbrev pub judged_raised : Station → Live → ℕ → ℕ → List ℕ → Judged
 judged_raised station live slot subslot octets = judged_notice live (raised_to station.real.modules.items slot subslot octets live.rest.link)
 
--- a PDU of the partner, by what becomes of it: data is answered, an ACK counts or does not, and an ERR ends the relation
+-- A PDU of the partner, by what happens to it: data is answered, an ACK counts or does not, and an ERR ends the
+-- relation.
 abbrev pub judged_pdu : Live → PduFate → Option Link → Judged
 judged_pdu live (fate.Data taken) link = goes_on_with live link (replies_of taken (flow_of link))
 judged_pdu live fate.Done link = goes_on_with live link []
@@ -266,7 +269,7 @@ judged_alarm live source header message =
 
 -- ---- events
 
--- a unit of time later
+-- The state after a unit of time.
 abbrev pub ticked : Live → Judged
 ticked live =
     let due = due_of live.rest.link in

@@ -1,4 +1,4 @@
--- One step of a device, and a run of steps, given what becomes of each call that stores a command.
+-- One step of a device, and a run of steps, given the outcome of each call that stores a command.
 use Rattle.std.specs.Prelude.{ℕ, Bool, true, false, List, [], ◌∷◌, ◌++◌, ◌&&◌, map, Option, Some, None, Result, Ok, Err, if◌then◌else◌}
 use Rattle.std.specs.List.{list_any, zip}
 use Rattle.pn_values.specs.declared.set_item.SetItem.{SetItem}
@@ -26,7 +26,7 @@ use Rattle.device_frames.specs.Sent.{Sent, SetAnswer, Ends, bytes_of}
 use Rattle.device_frames.specs.Heard.{Heard, heard_of}
 use Rattle.device_core.specs.Judged.{Judged, Refuses, Sets, Writes, Moves, answer_from, kept_behind, judged}
 
--- what the settings are asked for: the blocks of a Set, in order, or the one I&M text of a Write
+-- What is asked of the settings: the blocks of a Set, in order, or the one I&M text of a Write.
 abbrev pub items_in : Judged → List SetItem
 items_in (Refuses note) = []
 items_in (Sets asker request in_operation) = plan_of in_operation request
@@ -36,17 +36,17 @@ items_in (Moves rest sent) = []
 abbrev pub items_of : Station → Live → Heard → List SetItem
 items_of station live heard = items_in (judged station live heard)
 
--- whether an item has the lamp flash
+-- Whether an item makes the lamp flash.
 abbrev pub is_signal : SetItem → Bool
 is_signal Signal = true
 is_signal (Ask command) = false
 is_signal (Answer answer) = false
 
--- the lamp after some items: a Signal among them has it flash for 3 seconds, 96,000 units
+-- The lamp after some items: a Signal among them makes it flash for 3 seconds, 96,000 units.
 abbrev pub lamp_after : ℕ → List SetItem → ℕ
 lamp_after lamp items = if list_any is_signal items then 96000 else lamp
 
--- ---- an ending reset
+-- ---- a reset that ends the relation
 
 abbrev pub is_reset : SetItem → Bool
 is_reset (Ask ResetApplication) = true
@@ -67,14 +67,14 @@ is_done error.Exhausted = false
 is_done error.Local = false
 is_done error.InOperation = false
 
--- whether a reset among these items was answered 'done', each item with its own answer
+-- Whether a reset among these items was answered 'done', with one answer for each item.
 abbrev pub is_reset_done : SetItem × BlockError → Bool
 is_reset_done pair = is_reset pair.0 && is_done pair.1
 
 abbrev pub resets : List SetItem → List BlockError → Bool
 resets items answers = list_any is_reset_done (zip items answers)
 
--- the relation ends with a reset that is done, and ERR says so, in front of the answer to the Set
+-- The relation ends with a reset that is done, and ERR is sent before the answer to the Set.
 abbrev pub link_after : Bool → Option Link → Option Link
 link_after true link = moved Ended link
 link_after false link = link
@@ -86,7 +86,7 @@ farewells_at false link = []
 
 -- ---- an I&M text that is written
 
--- how a Write comes out whose command is answered so: it has no room, the flash failed, or it is done
+-- The outcome of a Write whose command has this answer: there is no room for it, the flash failed, or it is done.
 abbrev pub written_as : IodWriteReq → BlockError → Result (List ℕ) CallFault
 written_as header error.Done = Ok (answer_of header)
 written_as header error.Exhausted = Err fault.JournalExhausted
@@ -96,19 +96,20 @@ written_as header error.Suboption = Err fault.FlashFault
 written_as header error.Value = Err fault.FlashFault
 written_as header error.InOperation = Err fault.FlashFault
 
--- the answer to the one item
+-- The answer to the one item.
 abbrev pub first_answer : List BlockError → BlockError
 first_answer [] = error.Local
 first_answer (answer ∷ answers) = answer
 
--- what comes of an event beside the settings: the rest, the messages that are sent, and what is said of the event
+-- The result of an event besides the settings: the rest, the messages that are sent, and the note of the event.
 pub record Finished : Type 0 where
   pub rest : Rest
   pub sent : List Sent
   pub note : Note
 
--- What comes of what was judged, given the answers to its items. A Set has the lamp flash, and its resets that are done end the
--- relation; a Write is answered by what became of its command, and the answer is kept; one that is done shows that the controller is there.
+-- The result of an event with this outcome, given the answers to its items. A Set can make the lamp flash, and its resets that are done
+-- end the relation. A Write is answered by the outcome of its command, and the answer is stored; a Write that is done
+-- shows that the controller is alive.
 abbrev pub finished : Identity → Rest → Judged → List BlockError → Finished
 finished identity rest (Refuses note) answers = record { rest = rest; sent = []; note = note }
 finished identity rest (Sets asker request in_operation) answers =
@@ -125,12 +126,12 @@ finished identity rest (Writes caller address call header value) answers =
     record { rest = kept_behind identity rest call answer (moved (answered Named outcome) rest.link); sent = answer ∷ []; note = note.Done }
 finished identity rest (Moves later sent) answers = record { rest = later; sent = sent; note = note.Done }
 
--- the same where nothing is asked of the settings
+-- The same if nothing is asked of the settings.
 abbrev pub end_of : Station → Live → Judged → Finished
 end_of station live what = finished station.identity live.rest what []
 
--- A step: what changes, the messages that are sent and their frames, what is said of the event, and the commands that
--- were accepted.
+-- A step: what changes, the messages that are sent and their frames, the note of the event, and the commands that were
+-- accepted.
 pub record Stepped : Type 0 where
   pub live : Live
   pub sent : List Sent
@@ -138,7 +139,7 @@ pub record Stepped : Type 0 where
   pub note : Note
   pub accepted : List Accepted
 
--- what was judged is asked of the settings, and finished by their answers
+-- The settings carry out what is asked of them, and the step is finished with their answers.
 unfoldable pub judged_step : List Outcome → Station → Live → Judged → Stepped
 judged_step outcomes station live what =
     let settled = carried outcomes live.values (items_in what) in
@@ -154,21 +155,21 @@ judged_step outcomes station live what =
 unfoldable pub heard_step : List Outcome → Station → Live → Heard → Stepped
 heard_step outcomes station live heard = judged_step outcomes station live (judged station live heard)
 
--- one step, with an outcome for each command
+-- One step, with an outcome for each command.
 abbrev pub step_of : List Outcome → Station → Live → Event → Stepped
 step_of outcomes station live event = heard_step outcomes station live (heard_of station.identity event)
 
--- what is handed on of a step: nothing once power is lost
+-- What is handed on of a step: nothing once power is lost.
 abbrev pub handed : Stepped → List (List ℕ)
 handed step = if step.live.values.is_lost then [] else step.frames
 
--- a run of steps: what changes, what was handed on, and the commands that were accepted
+-- A run of steps: what changes, what was handed on, and the commands that were accepted.
 pub record Ran : Type 0 where
   pub live : Live
   pub frames : List (List ℕ)
   pub accepted : List Accepted
 
--- the outcomes of the first step; a step of which nothing is said passes
+-- The outcomes of the first step. A step without given outcomes passes.
 abbrev pub first_step : List (List Outcome) → List Outcome
 first_step [] = []
 first_step (outcomes ∷ more) = outcomes
@@ -177,11 +178,11 @@ abbrev pub later_steps : List (List Outcome) → List (List Outcome)
 later_steps [] = []
 later_steps (outcomes ∷ more) = more
 
--- a step, and then a run
+-- A step, and then a run.
 abbrev pub then_run : Stepped → Ran → Ran
 then_run step ran = record { live = ran.live; frames = handed step ++ ran.frames; accepted = step.accepted ++ ran.accepted }
 
--- the events in order, with outcomes for each
+-- The events in order, with outcomes for each.
 abbrev pub run_of : List (List Outcome) → Station → Live → List Event → Ran
 run_of outcomes station live [] = record { live = live; frames = []; accepted = [] }
 run_of outcomes station live (event ∷ events) =

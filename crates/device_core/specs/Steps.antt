@@ -1,4 +1,4 @@
--- What a step and a run do, whatever the flash does.
+-- What a step and a run do, for any behaviour of the flash.
 use Rattle.std.specs.Prelude.{◌≡◌, ◌+◌, length, ℕ, true, false, Some, List, [], ◌∷◌, ◌++◌, if◌then◌else◌}
 use Rattle.flash_model.specs.declared.flash.Flash.{Ghosts as Flash}
 use Rattle.pn_values.specs.declared.mac.Mac.{Mac}
@@ -25,10 +25,10 @@ use Rattle.device_core.specs.Judged.{is_running}
 use Rattle.device_core.specs.Machine.{Stepped, items_of, heard_step, step_of, first_step, later_steps, run_of}
 use Rattle.device_core.specs.Faults.{StepGoesOn}
 
--- What was heard is carried out, for some outcomes of the calls that store, which the flash chose: what changes, the frames
--- and the note are those of the step, there are no outcomes where no commit failed, each has its cause in its own item, what
--- happened to the settings is a stretch of a cycle and continues any, and whatever the flash does the device goes on. Each message that
--- is sent can be sent: it fits a frame, and so is read as what is written.
+-- The event is carried out, for some outcomes, chosen by the flash, of the calls that store. The state, the frames and
+-- the note are those of the step. There are no outcomes if no commit failed, each has its cause in its own item, what
+-- happened to the settings is a stretch of a cycle and continues any, and for any behaviour of the flash the device
+-- goes on. Each message that is sent can be sent: it fits a frame, and so is read as what is written.
 pub record Steps {F : Type 0} {S : ℕ} (as_flash : Flash F S) (old : State F) (heard : Heard) (sent : List (List ℕ)) (said : Note) (new : State F) : Type 0 where
   pub outcomes : List Outcome
   pub same : new.station ≡ old.station
@@ -42,20 +42,20 @@ pub record Steps {F : Type 0} {S : ℕ} (as_flash : Flash F S) (old : State F) (
   pub continues : Continues as_flash (store_of old) (heard_step outcomes old.station old.live heard).accepted (store_of new)
   pub goes_on : StepGoesOn old.station old.live heard sent said new.live
 
--- a flash that never fails stays one, and over it no commit fails that did not before
+-- A flash that never fails stays so, and over it no commit fails that did not fail before.
 abbrev pub StaysReliable : {F : Type 0} {S : ℕ} → Flash F S → State F → State F → Type 0
 StaysReliable as_flash old new =
     as_flash.is_reliable old.flash → as_flash.is_reliable new.flash × (new.live.values.has_failed ≡ old.live.values.has_failed)
 
--- An Identify request changes nothing. It is answered, by identity and running settings alone, where it matches them.
+-- An Identify request changes nothing. If it matches, it is answered, only with the identity and the running settings.
 pub record Identifies {F : Type 0} (old : State F) (asker : Mac) (request : Asked) (sent : List (List ℕ)) (said : Note) (new : State F) : Type 0 where
   pub unchanged : new ≡ old
   pub answered : matches old.station.identity old.live.values.running request ≡ true →
       (said ≡ Done) × (sent ≡ answer_frame old.station.identity asker 65279 (identify_bytes old.station.identity old.live.values.running request.xid) ∷ [])
   pub filtered : matches old.station.identity old.live.values.running request ≡ false → (said ≡ Filter) × (sent ≡ [])
 
--- The step of an Identify request: nothing changes, and it is answered where it matches identity and these settings, by them
--- alone, and else not at all.
+-- The step of an Identify request: nothing changes, and if it matches the identity and these settings it is answered,
+-- only with them; otherwise it is not answered.
 pub record IsIdentified (identity : Identity) (settings : Settings) (live : Live) (asker : Mac) (request : Asked) (step : Stepped) : Type 0 where
   pub unchanged : step.live ≡ live
   pub none_accepted : step.accepted ≡ []
@@ -63,14 +63,15 @@ pub record IsIdentified (identity : Identity) (settings : Settings) (live : Live
       (step.note ≡ Done) × (step.frames ≡ answer_frame identity asker 65279 (identify_bytes identity settings request.xid) ∷ [])
   pub filtered : matches identity settings request ≡ false → (step.note ≡ Filter) × (step.frames ≡ [])
 
--- Identify is answered by identity and these settings alone: so is each event that is heard as an Identify request, whoever
--- asks, whatever the flash would do.
+-- Identify is answered only with the identity and these settings. This holds for each event that is an Identify
+-- request, from any station, for any behaviour of the flash.
 abbrev pub AnswersBy : Station → Settings → Live → Type 0
 AnswersBy station settings live = (outcomes : List Outcome) (event : Event) (asker : Mac) (request : Asked)
     → heard_of station.identity event ≡ Asks asker request → request.service ≡ Identify
     → IsIdentified station.identity settings live asker request (step_of outcomes station live event)
 
--- A call that is served was heard: to the running address, of an operation of a device, its blocks counted well.
+-- A call that is handled was received: to the running address, of an operation of a device, with the right lengths of
+-- its blocks.
 pub record IsServed (live : Live) (heard : Heard) (call : Called) : Type 0 where
   pub caller : Caller
   pub address : List ℕ
@@ -81,20 +82,20 @@ pub record IsServed (live : Live) (heard : Heard) (call : Called) : Type 0 where
   pub served : operation_of call.header.operation ≡ Some operation
   pub counted : call.blocks ≡ Some blocks
 
--- The frame that is kept of a call is sent, and nothing changes.
+-- The stored frame of a call is sent, and nothing changes.
 pub record IsAgain {F : Type 0} (old : State F) (frame : List ℕ) (sent : List (List ℕ)) (said : Note) (new : State F) : Type 0 where
   pub unchanged : new ≡ old
   pub same : sent ≡ frame ∷ []
   pub done : said ≡ Done
 
--- what a run hands on of a step: its frames, unless power is lost
+-- What a run hands on of a step: its frames, unless power is lost.
 pub record HandsOn {F : Type 0} {S : ℕ} (as_flash : Flash F S) (old : State F) (heard : Heard) (before now : List (List ℕ)) (new : State F) : Type 0 where
   pub sent : List (List ℕ)
   pub said : Note
   pub steps : Steps as_flash old heard sent said new
   pub handed_on : now ≡ before ++ (if new.live.values.is_lost then [] else sent)
 
--- The events one by one: each is judged on the state that the events before it made, and its items begin with the flash
+-- The events one by one: each starts from the state that the events before it made, and its items begin with the flash
 -- that the event before it left.
 abbrev pub EventByEvent : {F : Type 0} {S : ℕ} → Flash F S → List (List Outcome) → Station → F → Live → List Event → F → Type 0
 EventByEvent as_flash outcomes station old live [] new = new ≡ old
@@ -104,9 +105,9 @@ EventByEvent {F} as_flash outcomes station old live (event ∷ events) new =
     (items_of station live (heard_of station.identity event)) (record { flash = between; values = next.values })
     × EventByEvent as_flash (later_steps outcomes) station between next events new
 
--- Steps after one another, for some outcomes of each, none where no commit failed, which have their cause each in its own
--- item of its own event; what happened to the settings is a stretch of a cycle. Before and now are what the sink has taken;
--- once power is lost it takes no more.
+-- Steps one after another, for some outcomes of each, none if no commit failed, each with its cause in its own item of
+-- its own event. What happened to the settings is a stretch of a cycle. `before` and `now` are what the sink has
+-- accepted; once power is lost it accepts no more.
 pub record Runs {F : Type 0} {S : ℕ} (as_flash : Flash F S) (old : State F) (events : List Event) (before now : List (List ℕ)) (new : State F) : Type 0 where
   pub outcomes : List (List Outcome)
   pub same : new.station ≡ old.station
@@ -117,25 +118,25 @@ pub record Runs {F : Type 0} {S : ℕ} (as_flash : Flash F S) (old : State F) (e
   pub stretch : Stretch as_flash (store_of old) (run_of outcomes old.station old.live events).accepted (store_of new)
   pub after_loss : old.live.values.is_lost ≡ true → now ≡ before
 
--- the step with no flash call failing
+-- The step if no flash call fails.
 pub record IsExactStep {F : Type 0} (old : State F) (event : Event) (sent : List (List ℕ)) (said : Note) (new : State F) : Type 0 where
   pub same : new.station ≡ old.station
   pub live : new.live ≡ (step_of [] old.station old.live event).live
   pub frames : sent ≡ (step_of [] old.station old.live event).frames
   pub note : said ≡ (step_of [] old.station old.live event).note
 
--- the run with no flash call failing
+-- The run if no flash call fails.
 pub record IsExactRun {F : Type 0} (old : State F) (events : List Event) (before now : List (List ℕ)) (new : State F) : Type 0 where
   pub same : new.station ≡ old.station
   pub live : new.live ≡ (run_of [] old.station old.live events).live
   pub frames : now ≡ before ++ (run_of [] old.station old.live events).frames
 
--- What is kept now is what some calls, one behind the other, make of what was kept before: a new call keeps its answer, and
--- one that comes again or is old keeps nothing.
+-- The stored answers are what some calls, in order, make of those stored before: a new call stores its answer, and one
+-- that is repeated or outdated stores nothing.
 abbrev pub IsBehindCalls : List Kept → List Kept → Type 0
 IsBehindCalls before now = (calls : List Kept) × (now ≡ behind_calls 4 calls before)
 
--- With no commit failing, each command that was accepted took one of the room for commits, and nothing else did: a flash
--- has room for as many more as its start reads.
+-- If no commit fails, each accepted command used one of the remaining commits, and nothing else did: a flash has room
+-- for as many more as its start reads.
 abbrev pub TakesRoom : {F : Type 0} → State F → List Event → State F → Type 0
 TakesRoom old events new = new.live.values.room + length (run_of [] old.station old.live events).accepted ≡ old.live.values.room

@@ -12,7 +12,7 @@ use frame_codec::{Arp, ArpOperation, Outbox};
 use pn_values::{Mac, Settings};
 
 impl<F: Flash<S>, const S: usize> Device<F, S> {
-    // A packet of ARP: a request for the running address is answered.
+    // An ARP packet: a request for the running address is answered.
     #[inline(never)]
     pub(crate) fn resolve(&self, asker: Mac, packet: &Arp, outbox: &mut Outbox) -> Note
         requires empty { outbox.old.items ≡ [] }
@@ -36,15 +36,15 @@ fn is_request(operation: ArpOperation) -> bool
 {
     match operation {
         ArpOperation::Request => true,
-        // Replies are of no use here: the device answers to where a call came from, and looks nobody up.
+        // Replies are of no use here: the device answers to the station that a call came from, and looks up no address.
         ArpOperation::Reply => false,
     }
 }
 
-/// Whether this address runs, and is one.
+/// Whether this is the running address, and not all zeros.
 pub(crate) fn is_running(running: &Settings, address: [u8; 4]) -> bool
     ensures { result ≡ runs running.now address }
 {
-    // A device without an address has zeros, which nobody may be given by a reply.
+    // A device without an address has zeros, and no reply may say that it holds them.
     address == running.suite.address() && address != [0; 4]
 }

@@ -1,4 +1,4 @@
-// Calls, and the answers that are kept of them (IEC 61158-6-10, 4.10; C706, 9.5).
+// Calls, and their stored answers (IEC 61158-6-10, 4.10; C706, 9.5).
 ghost use Rattle.std.specs.Prelude.{◌≡◌, ◌<◌, [], ◌∷◌, Err};
 ghost use Rattle.arrayvec.specs.ArrayVec.{array_vec_len};
 ghost use Rattle.settings_store.specs.Carries.{Holds};
@@ -33,7 +33,7 @@ use relations::{Partner, ReadyAnswer};
 use rpc_core::{Call, CallCache, Interface, Looked, Response, Status, read_call, read_response};
 
 impl<F: Flash<S>, const S: usize> Device<F, S> {
-    // A datagram to the device's MAC address and the port of calls. Its IP address is looked at before it is read.
+    // A datagram to the device's MAC address and the port of calls. Its IP address is checked before its content.
     #[tactic(auto, unfolding(device_frames::specs::Heard::said_by))]
     #[inline(never)]
     pub(crate) fn hear_datagram(
@@ -53,7 +53,7 @@ impl<F: Flash<S>, const S: usize> Device<F, S> {
         }
         match read_call(Interface::Device, body) {
             Ok(call) => self.serve_call(caller, &call, outbox),
-            // What is no call may be an answer: both come to the same port.
+            // If it is not a call it may be a response: both are received on the same port.
             Err(_) => match read_response(body) {
                 Ok(response) => self.hear_response(&response, outbox),
                 Err(_) => Note::Fault,
@@ -61,7 +61,7 @@ impl<F: Flash<S>, const S: usize> Device<F, S> {
         }
     }
 
-    // A response of the controller: one to ApplicationReady may be waited for.
+    // A response of the controller: the relation may wait for that to ApplicationReady.
     fn hear_response(&mut self, response: &Response<'_>, outbox: &mut Outbox) -> Note
         requires empty { outbox.old.items ≡ [] }
         ensures state { self.new ≡ behind self.old (responded self.old response.now) }
@@ -90,11 +90,12 @@ impl<F: Flash<S>, const S: usize> Device<F, S> {
         ensures reliable { StaysReliable F.Flash self.old self.new }
     {
         let Some(operation) = Operation::of(call.header.operation) else {
-            // An operation that is none cannot be answered: a status says which kind of call failed.
+            // An unknown operation cannot be answered: a status says which kind of call failed.
             return Note::Fault;
         };
         let Some(blocks) = call.blocks else {
-            // Answered whatever is kept, and the answer is not kept: the call may come again, whole.
+            // It is answered without a look at the stored answers, and this answer is not stored: the call may be
+            // repeated correctly.
             return self.refuse_arguments(operation, caller, call, outbox);
         };
         let serving = Serving {
@@ -117,7 +118,7 @@ impl<F: Flash<S>, const S: usize> Device<F, S> {
         }
     }
 
-    // A call whose blocks are not counted well.
+    // A call with wrong lengths of its blocks.
     fn refuse_arguments(
         &self,
         operation: Operation,
@@ -139,7 +140,7 @@ impl<F: Flash<S>, const S: usize> Device<F, S> {
         Note::Done
     }
 
-    // A call that is new: its answer is sent, and kept.
+    // A new call: its answer is sent and stored.
     fn serve_new(&mut self, serving: &Serving<'_>, outbox: &mut Outbox) -> Note
         requires stored { Holds (F.image self.old.flash) self.old.live.values }
         requires empty { outbox.old.items ≡ [] }
@@ -157,7 +158,7 @@ impl<F: Flash<S>, const S: usize> Device<F, S> {
         }
     }
 
-    // Each operation but a Write: state, frames and note are those of `judged_new .. OPERATION`.
+    // Each operation except a Write: state, frames and note are those of `judged_new .. OPERATION`.
     fn connect(&mut self, serving: &Serving<'_>, outbox: &mut Outbox) -> Note
         requires operation { serving.now.operation ≡ operation.Connect }
         requires empty { outbox.old.items ≡ [] }
@@ -250,7 +251,7 @@ impl<F: Flash<S>, const S: usize> Device<F, S> {
         Note::Done
     }
 
-    // Anybody reads so. Where the call names the relation it shows that the controller is there.
+    // Anybody may read in this way. If the call names the relation, it shows that the controller is alive.
     fn read_implicit(&mut self, serving: &Serving<'_>, outbox: &mut Outbox) -> Note
         requires operation { serving.now.operation ≡ operation.ReadImplicit }
         requires empty { outbox.old.items ≡ [] }
@@ -269,7 +270,7 @@ impl<F: Flash<S>, const S: usize> Device<F, S> {
             &mut self.answers.blocks,
         );
         let is_named = names_relation(self.relation.uuid(), serving.blocks);
-        // Whoever reads need not be the controller; only one that names the relation shows that it is there.
+        // The reader need not be the controller; only a call that names the relation shows that it is alive.
         self.relation.hear_controller(is_named, came);
         let address = running.suite.address();
         self.answers
@@ -277,7 +278,7 @@ impl<F: Flash<S>, const S: usize> Device<F, S> {
         Note::Done
     }
 
-    // A Write: an I&M text is stored, a parameter record is kept.
+    // A Write: an I&M text is stored in the flash, a parameter record is kept in the relation.
     fn write(&mut self, serving: &Serving<'_>, outbox: &mut Outbox) -> Note
         requires operation { serving.now.operation ≡ operation.Write }
         requires stored { Holds (F.image self.old.flash) self.old.live.values }
@@ -310,7 +311,7 @@ impl<F: Flash<S>, const S: usize> Device<F, S> {
         Note::Done
     }
 
-    // An I&M text: its answer is made from what became of its command, and kept behind the commit.
+    // An I&M text: its answer depends on the outcome of its command, and is kept after the commit.
     fn store_text(
         &mut self,
         serving: &Serving<'_>,
@@ -359,7 +360,7 @@ impl<F: Flash<S>, const S: usize> Device<F, S> {
     }
 }
 
-// A call that is served: who calls, what is asked, and its blocks.
+// A call that is handled: the caller, the call, and its blocks.
 #[derive(Clone, Copy)]
 struct Serving<'a> {
     caller: &'a Caller,
@@ -376,7 +377,7 @@ pub(crate) struct Answering {
 }
 
 impl Answering {
-    // Puts the answer to a new call into the empty box, and keeps it.
+    // Puts the answer to a new call into the empty outbox, and keeps it.
     fn give(
         &mut self,
         identity: &Identity,
@@ -405,7 +406,7 @@ impl Answering {
     }
 }
 
-// The status that answers a call which came out so. A negative answer has no blocks.
+// The status of the answer to a call with this outcome. A negative answer has no blocks.
 fn settle(operation: Operation, came: Result<(), CallFault>, blocks: &mut Blocks) -> Status
     ensures status { result ≡ (outcome_of operation (came_with came blocks.old.items)).0 }
     ensures blocks { blocks.new.items ≡ (outcome_of operation (came_with came blocks.old.items)).1 }
@@ -419,7 +420,7 @@ fn settle(operation: Operation, came: Result<(), CallFault>, blocks: &mut Blocks
     }
 }
 
-// How a Write comes out whose command is answered so.
+// The outcome of a Write whose command has this answer.
 fn written_as(answer: BlockError) -> Result<(), CallFault>
     ensures { (header : Header) → came_with result (answer_of header) ≡ comes_out header answer }
 {
@@ -430,7 +431,7 @@ fn written_as(answer: BlockError) -> Result<(), CallFault>
     }
 }
 
-// Puts the block that answers a Write in the place of those that are there, where the Write is done.
+// Replaces the blocks by the block that answers a Write, if the Write is done.
 fn put_written(blocks: &mut Blocks, header: &IodWriteReq, came: Result<(), CallFault>)
     ensures { came_with came blocks.new.items ≡ came_with came (answer_of header.now) }
 {

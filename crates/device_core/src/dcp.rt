@@ -1,4 +1,4 @@
-// The requests of DCP: Identify, Get and Set (IEC 61158-6-10, 4.3).
+// The DCP requests: Identify, Get and Set (IEC 61158-6-10, 4.3).
 ghost use Rattle.std.specs.Prelude.{◌≡◌, ◌<◌, ◌≤◌, ◌+◌, [], ◌∷◌, ◌++◌, is_some, map};
 ghost use Rattle.std.specs.List.{list_any};
 ghost use Rattle.arrayvec.specs.ArrayVec.{array_vec_len};
@@ -27,11 +27,11 @@ use pn_alarms::Abort;
 use pn_values::{BlockError, Command, Identity, Mac, SetItem};
 use relations::Relation;
 
-/// For how many units of 31.25 microseconds the lamp flashes after a Signal: 3 seconds.
+/// The number of units of 31.25 microseconds for which the lamp flashes after a Signal: 3 seconds.
 const LAMP_UNITS: u32 = 96_000;
 
 impl<F: Flash<S>, const S: usize> Device<F, S> {
-    // What a station asks behind a FrameID.
+    // What a station asks after a FrameID.
     #[inline(never)]
     pub(crate) fn read_and_serve(
         &mut self,
@@ -75,7 +75,8 @@ impl<F: Flash<S>, const S: usize> Device<F, S> {
     {
         let running = self.store.running();
         if !identify_matches(&self.identity, running, request) {
-            // An Identify that means others is nothing wrong, and not answered: else every station would speak at once.
+            // An Identify request that does not match is not an error, and is not answered: otherwise every station
+            // would answer at once.
             return Note::Filter;
         }
         let told = identify_answer(&self.identity, running, request.xid);
@@ -96,8 +97,8 @@ impl<F: Flash<S>, const S: usize> Device<F, S> {
         Note::Done
     }
 
-    // A Set (4.3.2.5): its blocks in order, each by itself. Whether a relation exists is judged as it arrives; a reset that is done
-    // ends it, and its ERR goes out before the answer.
+    // A Set (4.3.2.5): its blocks in order, each by itself. Whether a relation exists is checked when it arrives. A
+    // reset that is done ends the relation, and its ERR is sent before the answer.
     fn set(&mut self, asker: Mac, request: &Request<'_>, outbox: &mut Outbox) -> Note
         requires service { request.now.service ≡ Service.Set }
         requires empty { outbox.old.items ≡ [] }
@@ -107,9 +108,9 @@ impl<F: Flash<S>, const S: usize> Device<F, S> {
         fill_plan(request, is_in_operation(&self.relation), &mut self.plan);
         let answers = self.store.carry_out(self.plan.as_slice());
         self.lamp = lamp_after(self.lamp, self.plan.as_slice());
-        // A reset that failed leaves the station as it was, and with it the relation.
+        // A reset that failed leaves the station unchanged, and the relation too.
         let is_ended = is_ended(self.plan.as_slice(), answers.as_slice());
-        // Its ERR goes before the answer, so that a controller does not exchange with a station that was reset.
+        // Its ERR is sent before the answer, so that a controller does not exchange data with a station that was reset.
         end_if(is_ended, &self.identity, &mut self.relation, outbox);
         let answer = set_answer(request, &answers);
         send_dcp_answer(&self.identity, asker, DCP_GET_SET, &answer, outbox);
@@ -117,7 +118,7 @@ impl<F: Flash<S>, const S: usize> Device<F, S> {
     }
 }
 
-// Whether a reset among these items was answered 'done', each item with its own answer.
+// Whether any reset among these items was answered 'done', with one answer for each item.
 fn is_ended(items: &[SetItem], answers: &[BlockError]) -> bool
     ensures { result ≡ resets items.now answers.now }
 {
@@ -151,7 +152,7 @@ fn is_in_operation(relation: &Relation) -> bool
     relation.phase().is_some()
 }
 
-// Where a reset is done: ends the relation, if there is one, and puts its ERR into the box.
+// If a reset is done: ends the relation, if there is one, and appends its ERR to the outbox.
 fn end_if(is_ended: bool, identity: &Identity, relation: &mut Relation, outbox: &mut Outbox)
     requires room { array_vec_len outbox.old < 4 }
     ensures link { relation.new ≡ link_after is_ended relation.old }
@@ -168,14 +169,14 @@ fn end_if(is_ended: bool, identity: &Identity, relation: &mut Relation, outbox: 
     }
 }
 
-// For how many units the lamp flashes after these items, where it flashed for so many before.
+// The number of units for which the lamp flashes after these items; before them it was `lamp`.
 fn lamp_after(lamp: u32, items: &[SetItem]) -> u32
     ensures { result ≡ lamp_of lamp items.now }
 {
     if has_signal(items) { LAMP_UNITS } else { lamp }
 }
 
-// Whether an item has the lamp flash.
+// Whether any item makes the lamp flash.
 fn has_signal(items: &[SetItem]) -> bool
     ensures { result ≡ list_any is_signal items.now }
 {

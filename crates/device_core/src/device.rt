@@ -22,7 +22,8 @@ use settings_journal::BootFault;
 use settings_store::Store;
 use std::marker::Model;
 
-/// A PROFINET IO device over a flash. A clause sees the flash, what the device is, and what changes from event to event.
+/// A PROFINET IO device over a flash. In clauses it is the flash, the fixed properties of the station, and the state
+/// that changes from event to event.
 #[derive(Drop)]
 pub struct Device<F: Flash<S>, const S: usize> {
     pub(crate) identity: Identity,
@@ -35,7 +36,7 @@ pub struct Device<F: Flash<S>, const S: usize> {
     pub(crate) relation: Relation,
     // The units since the start, modulo 65,536.
     pub(crate) units: u16,
-    // Room for the plan of a Set, in which the last one lies.
+    // Room for the plan of a Set; it holds the last one.
     pub(crate) plan: ArrayVec<SetItem, 16>,
 }
 
@@ -58,14 +59,17 @@ impl<F: Flash<S>, const S: usize> Model for Device<F, S> {
 }
 
 impl<F: Flash<S>, const S: usize> Device<F, S> {
-    /// Starts a device from what the flash keeps, and writes nothing. A refusal hands the flash back.
+    /// Starts a device from the content of the flash, and writes nothing. A refusal returns the flash.
     pub fn boot(identity: Identity, real: Real, flash: F) -> Result<Device<F, S>, (BootFault, F)>
-        // What is stored runs, and nothing is left of an earlier cycle.
+        // After a successful start the stored settings are the running settings, and nothing remains of an earlier
+        // cycle.
         ensures starts { IfOk result (λ device. StartsWith (F.image flash) device.live.values.stored device.live.values.room) }
         ensures fresh { IfOk result (λ device. device.live ≡ started device.live.values.stored device.live.values.room) }
         ensures station { IfOk result (λ device. device.station ≡ record { identity = identity; real = real }) }
 
-        // What can be read is given, unless a read fails.
+        // If the settings can be read, the start succeeds with them, or it fails with FlashFault. Content that this device
+        // wrote is refused only with FlashFault. A blank flash counts as such, with the factory settings and room for at
+        // least 65,535 commits.
         ensures known { (settings : Settings) (room : ℕ) → StartsWith (F.image flash) settings room →
             MatchResult result (λ device. device.live ≡ started settings room) (λ refused. refused.0 ≡ BootFault.FlashFault) }
         ensures left { LeftByDevice (F.image flash) → IfErr result (λ refused. refused.0 ≡ BootFault.FlashFault) }
@@ -73,11 +77,12 @@ impl<F: Flash<S>, const S: usize> Device<F, S> {
             LeftByDevice (F.image flash) × StartsWith (F.image flash) factory_settings (capacity S) }
         ensures ample { IsAmple S }
 
-        // Foreign is what cannot be read, and nothing else.
+        // `Foreign` is returned only if the content cannot be read, and a start on such content always fails.
         ensures foreign { IfErr result (λ refused. refused.0 ≡ BootFault.Foreign → IsForeign (F.image flash)) }
         ensures strange { IsForeign (F.image flash) → IsErr result }
 
-        // Nothing is written, and FlashFault is answered where a read fails and only there.
+        // Nothing is written. After a successful start the failure counter of the flash is unchanged; FlashFault means
+        // that it rose or is saturated. A reliable flash never returns FlashFault.
         ensures same { MatchResult result (λ device. F.image device.flash ≡ F.image flash) (λ refused. F.image refused.1 ≡ F.image flash) }
         ensures calls { MatchResult result (λ device. F.asked flash [] device.flash) (λ refused. F.asked flash [] refused.1) }
         ensures cause { MatchResult result (λ device. F.failures device.flash ≡ F.failures flash)
@@ -93,14 +98,14 @@ impl<F: Flash<S>, const S: usize> Device<F, S> {
         }
     }
 
-    /// The settings that run.
+    /// The running settings.
     pub fn running(&self) -> &Settings
         ensures { result.now ≡ self.now.live.values.running }
     {
         self.store.running()
     }
 
-    /// The settings that a restart finds, where no commit failed since the start.
+    /// The settings that a restart finds, if no commit failed since the start.
     pub fn stored(&self) -> &Settings
         ensures value { result.now ≡ self.now.live.values.stored }
         ensures holds { self.now.live.values.has_failed ≡ false →
@@ -109,25 +114,25 @@ impl<F: Flash<S>, const S: usize> Device<F, S> {
         self.store.stored()
     }
 
-    /// How many commits are left: that many further ones are accepted while no flash call fails, each with a value that is to be
-    /// kept or a reset. 0 after a commit that failed, until the next start, and before a start.
+    /// The number of remaining commits: that many further ones are accepted while no flash call fails, each with a
+    /// value that must be kept or a reset. 0 after a commit that failed, until the next start, and before a start.
     pub fn left(&self) -> u32
         ensures value { result ≡ commits_left self.now.live.values.has_failed self.now.live.values.room }
-        // Where no commit failed, a start on the flash reads as many.
+        // If no commit failed, a start on the flash reads the same number.
         ensures read { self.now.live.values.has_failed ≡ false →
             StartsWith (F.image self.now.flash) self.now.live.values.stored result }
     {
         self.store.left()
     }
 
-    /// For how many units the lamp still flashes.
+    /// The number of units for which the lamp still flashes.
     pub fn lamp(&self) -> u32
         ensures { result ≡ self.now.live.rest.lamp }
     {
         self.lamp
     }
 
-    /// What the application relation waits for, if there is one.
+    /// The phase of the application relation, if there is one.
     pub fn phase(&self) -> Option<Phase>
         ensures { result ≡ phase_of self.now.live.rest.link }
     {
@@ -141,15 +146,16 @@ impl<F: Flash<S>, const S: usize> Device<F, S> {
         self.relation.uuid()
     }
 
-    /// The parameter records that the relation took, in their order.
+    /// The parameter records that the relation accepted, in order.
     pub fn taken(&self) -> &[TakenRecord]
         ensures { result.now ≡ taken_of self.now.live.rest.link }
     {
         self.relation.taken()
     }
 
-    /// The output of a submodule: what the last cyclic frame that was taken holds at its place; zeros where none was, its IOPS is not
-    /// good or, as many as the submodule that is plugged has, where it has no place. None where nothing with an output is plugged either.
+    /// The output of a submodule, from the last accepted cyclic frame. All zeros if no frame was accepted yet, if the
+    /// IOPS is not GOOD, or if there is no relation or no IODataObject of the submodule in it (then as many as the
+    /// plugged submodule has). `None` if also no submodule with outputs is plugged there.
     pub fn output(&self, slot: u16, subslot: u16) -> Option<&[u8]>
         ensures value { option_map (λ value. value.now) result
             ≡ output_of self.now.station.real slot subslot (output_in slot subslot self.now.live.rest.link) }
@@ -158,7 +164,7 @@ impl<F: Flash<S>, const S: usize> Device<F, S> {
         self.relation.output(&self.real, slot, subslot)
     }
 
-    /// What is plugged in.
+    /// The modules and submodules that are plugged.
     pub fn real(&self) -> &Real
         ensures { result.now ≡ self.now.station.real }
     {
@@ -179,7 +185,7 @@ impl<F: Flash<S>, const S: usize> Device<F, S> {
         self.store.flash()
     }
 
-    /// Tells the flash what to do to a later call. Nothing else changes.
+    /// Arms the flash to fail or lose power at a later call. Nothing else changes.
     pub fn arm(&mut self, order: Order)
         ensures live { self.new.live ≡ self.old.live }
         ensures station { self.new.station ≡ self.old.station }
@@ -190,14 +196,14 @@ impl<F: Flash<S>, const S: usize> Device<F, S> {
         self.store.arm(order);
     }
 
-    /// The flash, given back.
+    /// Returns the flash.
     pub fn into_flash(self) -> F
         ensures { result ≡ self.flash }
     {
         self.into_parts().2
     }
 
-    /// Identity, what is plugged in, and the flash, given back.
+    /// Returns the identity, the plugged modules, and the flash.
     pub(crate) fn into_parts(self) -> (Identity, Real, F)
         ensures { result ≡ (self.station.identity, self.station.real, self.flash) }
     {

@@ -9,9 +9,9 @@ use flash_model::Flash;
 use pn_values::{Identity, Real};
 use settings_journal::BootFault;
 
-/// A cycle and the start after it: boots a device, runs the events, and boots again from what they left of the flash,
-/// wherever its power was lost. `power_up` gives the flash its power back: a closure, since a flash as such has no such call. A refused
-/// start hands the flash back.
+/// Runs a cycle and the start after it: boots a device, runs the events, and boots again from what they left in the
+/// flash, at whatever point its power was lost. `power_up` restores the power of the flash; it is a closure, since the
+/// `Flash` trait has no such call. A refused start returns the flash.
 pub fn cycle<F: Flash<S>, const S: usize, K: Sink, P: FnOnce(F) -> F>(
     identity: Identity,
     real: Real,
@@ -20,20 +20,23 @@ pub fn cycle<F: Flash<S>, const S: usize, K: Sink, P: FnOnce(F) -> F>(
     sink: &mut K,
     power_up: P,
 ) -> Result<Device<F, S>, (BootFault, F)>
-    // Power that comes back changes no byte.
+    // Restoring the power changes no byte.
     requires powers { P.IsAlwaysCallable power_up }
     requires keeps { (lost flash : F) → P.post power_up lost flash → F.image flash ≡ F.image lost }
 
-    // Whatever frames, ticks and flash faults come, inside a flash call too: the restarted device has the settings that
-    // all accepted commands of the cycle, or all but a last one not answered positively, make of the cycle's first values.
+    // If this device wrote the content of the flash, then for any frames, ticks and flash faults, even if power is lost
+    // inside a flash call: the settings of the restarted device are the first values of the cycle changed by all accepted
+    // commands of the cycle, or by all but a last one that was not answered positively.
     ensures headline { LeftByDevice (F.image flash) → (first : Settings) (room : ℕ) → StartsWith (F.image flash) first room →
         IfOk result (λ device. Restarts F.Flash (P.post power_up) (record { identity = identity; real = real }) flash
         first room events.now (K.taken sink.old) (K.taken sink.new) device) }
 
-    // A device that is given back has just started, whoever left what the flash held.
+    // A device that is returned has just started, whoever wrote the content of the flash.
     ensures fresh { IfOk result (IsStarted F.Flash (record { identity = identity; real = real })) }
 
-    // What this device left is never foreign to it, and a start is refused where a read fails and only there.
+    // If this device wrote the content of the flash, a start fails only with FlashFault, and FlashFault means that the
+    // flash's failure counter rose during the start or is saturated. If the flash is also reliable, and `power_up` keeps
+    // it so, no start fails.
     ensures left { LeftByDevice (F.image flash) → IfErr result (λ refused. refused.0 ≡ BootFault.FlashFault) }
     ensures refused { IfErr result (λ refused. IsRefused F.Flash (P.post power_up)
         (record { identity = identity; real = real }) flash events.now (K.taken sink.old) (K.taken sink.new) refused.0 refused.1) }

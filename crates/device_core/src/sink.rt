@@ -2,12 +2,12 @@ ghost use Rattle.std.specs.Prelude.{◌≡◌, ◌++◌, ◌∷◌, [], List, �
 
 use frame_codec::Frame;
 
-/// Where a device's frames go. It takes every frame.
+/// The destination of a device's frames. It accepts every frame.
 pub trait Sink {
-    /// What it has taken, the first of it first.
+    /// The frames that it has accepted, in order.
     ghost taken: { Self → List (List ℕ) };
 
-    /// Takes a frame.
+    /// Accepts a frame.
     fn take(&mut self, frame: &Frame)
         ensures { taken self.new ≡ taken self.old ++ frame.now.items ∷ [] };
 }

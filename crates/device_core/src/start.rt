@@ -1,4 +1,4 @@
-// A start where the device lies.
+// Starting a device in place.
 ghost use Rattle.std.specs.Prelude.{◌≡◌, [], ℕ, true, IsErr, IfErr, OnOk, OnErr, MatchResult};
 ghost use Rattle.flash_model.specs.Image.{erased};
 ghost use Rattle.pn_values.specs.Settings.{factory_settings};
@@ -51,15 +51,18 @@ impl<F: Flash<S>, const S: usize> Device<F, S> {
         self.store.fill(from);
     }
 
-    /// Starts where it lies, from what the flash keeps, and writes nothing. After a refusal nothing is stored.
+    /// Starts in place, from the content of the flash, and writes nothing. After a refusal nothing is stored.
     pub fn load(&mut self) -> Result<(), BootFault>
-        // What is stored runs, and nothing is left of an earlier cycle.
+        // After a successful start the stored settings are the running settings, and nothing remains of an earlier
+        // cycle.
         ensures starts { OnOk result (StartsWith (F.image self.old.flash) self.new.live.values.stored self.new.live.values.room) }
         ensures fresh { OnOk result (self.new.live ≡ started self.new.live.values.stored self.new.live.values.room) }
         ensures refused { OnErr result (self.new.live.values.has_failed ≡ true) }
         ensures station { self.new.station ≡ self.old.station }
 
-        // What can be read is given, unless a read fails.
+        // If the settings can be read, the start succeeds with them, or it fails with FlashFault. Content that this device
+        // wrote is refused only with FlashFault. A blank flash counts as such, with the factory settings and room for at
+        // least 65,535 commits.
         ensures known { (settings : Settings) (room : ℕ) → StartsWith (F.image self.old.flash) settings room →
             MatchResult result (λ _. self.new.live ≡ started settings room) (λ fault. fault ≡ BootFault.FlashFault) }
         ensures left { LeftByDevice (F.image self.old.flash) → IfErr result (λ fault. fault ≡ BootFault.FlashFault) }
@@ -67,11 +70,12 @@ impl<F: Flash<S>, const S: usize> Device<F, S> {
             LeftByDevice (F.image self.old.flash) × StartsWith (F.image self.old.flash) factory_settings (capacity S) }
         ensures ample { IsAmple S }
 
-        // Foreign is what cannot be read, and nothing else.
+        // `Foreign` is returned only if the content cannot be read, and a start on such content always fails.
         ensures foreign { IfErr result (λ fault. fault ≡ BootFault.Foreign → IsForeign (F.image self.old.flash)) }
         ensures strange { IsForeign (F.image self.old.flash) → IsErr result }
 
-        // Nothing is written, and FlashFault is answered where a read fails and only there.
+        // Nothing is written. After a successful start the failure counter of the flash is unchanged; FlashFault means
+        // that it rose or is saturated. A reliable flash never returns FlashFault.
         ensures same { F.image self.new.flash ≡ F.image self.old.flash }
         ensures calls { F.asked self.old.flash [] self.new.flash }
         ensures cause { MatchResult result (λ _. F.failures self.new.flash ≡ F.failures self.old.flash)
@@ -83,7 +87,7 @@ impl<F: Flash<S>, const S: usize> Device<F, S> {
         self.lamp = 0;
         self.units = 0;
         self.answers.kept = CallCache::new();
-        // No frame goes out: whoever had the relation hears nothing, and finds out by its own data hold.
+        // No frame is sent: the controller that had the relation hears nothing, and notices by its own data hold.
         let _ = self.relation.end(Abort::Other);
         Ok(())
     }

@@ -1,4 +1,4 @@
-// One step: what an event is, and what comes of it.
+// One step: what an event is, and its outcome.
 ghost use Rattle.std.specs.Prelude.{◌≡◌, ◌≢◌, ◌<◌, ◌-◌, ◌^◌, [], true, false, List, ℕ, Option, Some, map, option_map};
 ghost use Rattle.settings_store.specs.Carries.{Holds};
 ghost use Rattle.dcp_core.specs.Request.{Asked};
@@ -38,28 +38,30 @@ use pn_values::Mac;
 use relations::{DataExchange, Elapsed, Received};
 
 impl<F: Flash<S>, const S: usize> Device<F, S> {
-    /// Takes an event, and puts the frames to be sent into the box, which holds nothing else then.
+    /// Handles an event, and replaces the content of the outbox by the frames to be sent.
     pub fn step(&mut self, event: &Event, outbox: &mut Outbox) -> Note
         ensures steps { Steps F.Flash self.old (heard_of self.old.station.identity event.now) (boxed outbox.new) result self.new }
 
-        // With no flash call failing.
+        // If the failure counter of the flash, below 2^64 - 1, does not rise, the step is exactly the specified one. Over a
+        // reliable flash with no failed commit it always is, the flash stays reliable, and no commit fails.
         ensures exact { F.failures self.new.flash ≡ F.failures self.old.flash → F.failures self.old.flash < 2 ^ 64 - 1 →
             IsExactStep self.old event.now (boxed outbox.new) result self.new }
         ensures reliable { F.is_reliable self.old.flash → self.old.live.values.has_failed ≡ false →
             F.is_reliable self.new.flash × (self.new.live.values.has_failed ≡ false)
             × IsExactStep self.old event.now (boxed outbox.new) result self.new }
 
-        // Whatever the flash does, the device goes on: a fault shows in the answers to commands and in the settings alone.
+        // For any flash faults, the device goes on: a fault shows only in the answers to commands and in the settings.
         ensures goes_on { StepGoesOn self.old.station self.old.live (heard_of self.old.station.identity event.now) (boxed outbox.new) result
             self.new.live }
 
-        // An event that is refused changes nothing at all.
+        // An event that is not `Done` changes nothing and sends nothing. An Identify request changes nothing; if it
+        // matches, it is answered, only with the identity and the running settings.
         ensures refused { result ≢ Note.Done → (self.new ≡ self.old) × (outbox.new.items ≡ []) }
         ensures identify { (asker : Mac) (request : Asked) → heard_of self.old.station.identity event.now ≡ Asks asker request →
             request.service ≡ Service.Identify →
             Identifies self.old asker request (boxed outbox.new) result self.new }
 
-        // A call that was answered gets the same frame again, while it is kept.
+        // A call that was answered gets the same frame again, while that frame is kept.
         ensures again { (call : Called) (frame : List ℕ) → IsServed self.old.live (heard_of self.old.station.identity event.now) call →
             looked call.header.activity call.header.sequence self.old.live.rest.calls ≡ again frame →
             IsAgain self.old frame (boxed outbox.new) result self.new }
@@ -68,13 +70,13 @@ impl<F: Flash<S>, const S: usize> Device<F, S> {
         self.respond(event, outbox)
     }
 
-    // What comes of an event.
+    // The outcome of an event.
     fn respond(&mut self, event: &Event, outbox: &mut Outbox) -> Note
         requires empty { outbox.old.items ≡ [] }
         ensures steps { Steps F.Flash self.old (heard_of self.old.station.identity event.now) (boxed outbox.new) result self.new }
         ensures reliable { StaysReliable F.Flash self.old self.new }
     {
-        // The invariant is known where a field is used.
+        // Using a field makes the invariant known here.
         let _ = &self.identity;
         match event {
             Event::Tick => self.tick(outbox),
@@ -86,8 +88,9 @@ impl<F: Flash<S>, const S: usize> Device<F, S> {
         }
     }
 
-    // A frame: it is read first, and then its destination is looked at. Real-time frames are looked for first, and what is rare stands
-    // outside: where both were opened as one, its addresses were laid in memory for a cyclic frame too.
+    // A frame: it is read first, and then its destination is checked. Real-time frames are checked first, and the rare
+    // ones are handled in functions of their own: when both were opened as one, the addresses were copied to memory for
+    // cyclic frames too.
     #[inline(never)]
     fn hear(&mut self, bytes: &Bytes, outbox: &mut Outbox) -> Note
         requires stored { Holds (F.image self.old.flash) self.old.live.values }
@@ -119,7 +122,7 @@ impl<F: Flash<S>, const S: usize> Device<F, S> {
         }
     }
 
-    // A frame that is no frame of real-time data.
+    // A frame that is not a frame of real-time data.
     #[inline(never)]
     fn hear_other(&mut self, bytes: &Bytes, outbox: &mut Outbox) -> Note
         requires stored { Holds (F.image self.old.flash) self.old.live.values }
@@ -132,14 +135,14 @@ impl<F: Flash<S>, const S: usize> Device<F, S> {
             return Note::Fault;
         };
         match frame.kind {
-            // Its FrameID is not whole.
+            // Its FrameID is incomplete.
             ContentKind::RealTime => Note::Fault,
             ContentKind::Arp => self.hear_packet(&frame, outbox),
             ContentKind::Internet => self.hear_udp(&frame, outbox),
         }
     }
 
-    // A packet of ARP.
+    // An ARP packet.
     #[inline(never)]
     fn hear_packet(&mut self, frame: &OpenFrame, outbox: &mut Outbox) -> Note
         requires stored { Holds (F.image self.old.flash) self.old.live.values }
@@ -157,7 +160,7 @@ impl<F: Flash<S>, const S: usize> Device<F, S> {
         self.resolve(frame.source, &packet, outbox)
     }
 
-    // A datagram, to whatever IP address.
+    // A datagram, to any IP address.
     #[inline(never)]
     fn hear_udp(&mut self, frame: &OpenFrame, outbox: &mut Outbox) -> Note
         requires stored { Holds (F.image self.old.flash) self.old.live.values }
@@ -179,7 +182,7 @@ impl<F: Flash<S>, const S: usize> Device<F, S> {
         self.hear_datagram(&caller, datagram.destination.address, datagram.body, outbox)
     }
 
-    // What follows the FrameID of an alarm frame.
+    // The octets that follow the FrameID of an alarm frame.
     #[inline(never)]
     fn read_alarm(&mut self, source: Mac, body: &[u8], outbox: &mut Outbox) -> Note
         requires stored { Holds (F.image self.old.flash) self.old.live.values }
@@ -193,7 +196,7 @@ impl<F: Flash<S>, const S: usize> Device<F, S> {
         }
     }
 
-    // A unit of time is over: timers advance. A timeout ends the relation, and nothing more is done.
+    // A unit of time is over: the timers advance. If a timeout ends the relation, nothing more is done.
     fn tick(&mut self, outbox: &mut Outbox) -> Note
         requires empty { outbox.old.items ≡ [] }
         ensures state { self.new ≡ behind self.old (ticked self.old.live) }
@@ -201,11 +204,12 @@ impl<F: Flash<S>, const S: usize> Device<F, S> {
         ensures sendable { CanSend self.old (ticked self.old.live) }
         ensures note { result ≡ Note.Done }
     {
-        // The lamp's time and CycleCounter go on over the ends of relations: they belong to the station.
+        // The lamp's time and CycleCounter continue when a relation ends: they belong to the station.
         self.lamp = self.lamp.saturating_sub(1);
         self.units = self.units.wrapping_add(1);
         let elapsed = self.relation.elapse();
-        // Most units bring nothing, and nothing is made for them. Of the others most bring inputs alone, which have a way of their own.
+        // With most units nothing is due, and no frame is built. Of the others most bring only inputs, which have their
+        // own path.
         if elapsed.is_nothing() {
             return Note::Done;
         }
@@ -215,7 +219,7 @@ impl<F: Flash<S>, const S: usize> Device<F, S> {
         self.bring(&elapsed, outbox)
     }
 
-    // What a unit of time brings: a timeout ends the relation, and else what is due is sent.
+    // What a unit of time brings: a timeout ends the relation, otherwise what is due is sent.
     #[inline(never)]
     fn bring(&mut self, elapsed: &Elapsed, outbox: &mut Outbox) -> Note
         requires empty { outbox.old.items ≡ [] }
@@ -252,7 +256,7 @@ impl<F: Flash<S>, const S: usize> Device<F, S> {
         }
     }
 
-    // Inputs are due, and nothing else.
+    // Only inputs are due.
     #[inline(always)]
     fn send_inputs(&self, outbox: &mut Outbox) -> Note
         requires { outbox.old.items ≡ [] }
@@ -267,7 +271,8 @@ impl<F: Flash<S>, const S: usize> Device<F, S> {
         }
     }
 
-    // The inputs of what the relation exchanges, and nothing else. The box is emptied once more: so the frame's place in it is known here.
+    // The inputs of the exchange of the relation, and nothing else. The outbox is cleared once more, so that the
+    // frame's place in it is known here.
     #[inline(never)]
     fn send_inputs_of(&self, exchange: &DataExchange, outbox: &mut Outbox) -> Note
         ensures note { result ≡ Note.Done }
@@ -280,7 +285,7 @@ impl<F: Flash<S>, const S: usize> Device<F, S> {
         Note::Done
     }
 
-    // An alarm, ApplicationReady and inputs, as far as each is due.
+    // An alarm, ApplicationReady and inputs, each if it is due.
     #[inline(never)]
     fn send_each(&self, is_alarm: bool, is_ready: bool, is_cyclic: bool, outbox: &mut Outbox)
         requires { outbox.old.items ≡ [] }
@@ -294,7 +299,7 @@ impl<F: Flash<S>, const S: usize> Device<F, S> {
         send_inputs(&self.identity, counter, is_cyclic, &self.relation, outbox);
     }
 
-    // A cyclic frame: its outputs are taken, or it changes nothing.
+    // A cyclic frame: its outputs are accepted, or it changes nothing.
     #[inline(always)]
     fn hear_cyclic(&mut self, source: Mac, frame_id: u16, body: &[u8]) -> Note
         ensures state { self.new ≡ behind self.old (judged_cyclic self.old.live source frame_id body.now) }
@@ -334,7 +339,8 @@ impl<F: Flash<S>, const S: usize> Device<F, S> {
         Note::Done
     }
 
-    // An alarm frame: it belongs to the relation, or not. Data is answered, and the ERR of the controller ends the relation.
+    // An alarm frame: it belongs to the relation or not. Data is answered, and the ERR of the controller ends the
+    // relation.
     #[inline(always)]
     fn hear_alarm(
         &mut self,
@@ -373,13 +379,13 @@ impl<F: Flash<S>, const S: usize> Device<F, S> {
                 Note::Done
             }
             PduFate::Done | PduFate::Aborted => Note::Done,
-            // A NACK or an ACK of another number is nothing wrong, and changes nothing.
+            // A NACK, or an ACK of another number, is not an error, and changes nothing.
             PduFate::Ignored => Note::Filter,
         }
     }
 }
 
-// What is said of a cyclic frame.
+// The note for a cyclic frame.
 fn note_of(received: Received) -> Note
     ensures { (station : Station) (live : Live) (link : Option Link) →
         result ≡ (end_of station live (judged_received live received link)).note }

@@ -1,4 +1,4 @@
--- A frame of EtherType 0x8892 that carries no real-time data cannot be read: its FrameID is not whole.
+-- A frame of EtherType 0x8892 that carries no real-time data cannot be read: its FrameID is incomplete.
 use Rattle.std.proofs.Common.{◌≡◌, ◌∙◌, ap, refl, subst, ℕ, List, Result, Ok, Err}
 use Rattle.wire.specs.Codec.{◌>>=◌}
 use Rattle.wire.specs.Formats.{number}
@@ -14,7 +14,7 @@ use Rattle.frame_codec.specs.Meaning.{Content, IsNoRealTime, Meaning, RealTime}
 use Rattle.device_frames.specs.declared.event.Event.TheVariants.{Frame}
 use Rattle.device_frames.specs.Heard.{Unreadable, heard_frame, heard_of}
 
--- the meaning of an opened frame with this content
+-- The meaning of an opened frame with this content.
 abbrev with_content : OpenFrame → Content → Meaning
 with_content frame content = record { destination = frame.destination; source = frame.source; tag = frame.tag; content = content }
 

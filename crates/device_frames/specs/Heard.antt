@@ -1,4 +1,4 @@
--- What an event is to a device.
+-- What an event means to a device.
 use Rattle.std.specs.Prelude.{◌==◌, ◌&&◌, ◌||◌, ℕ, Bool, nat_eq, nat_le, List, [], ◌∷◌, if◌then◌else◌, Result, Ok, Err}
 use Rattle.std.specs.Cmp.Lexicographic.{pointwise}
 use Rattle.pn_values.specs.declared.mac.Mac.{Mac}
@@ -23,15 +23,16 @@ use Rattle.pn_alarms.specs.Message.{ToDevice, message_of}
 use Rattle.device_frames.specs.declared.event.Event.{Event}
 use Rattle.device_frames.specs.declared.event.Event.TheVariants.{Frame, Tick, Input, Alarm}
 
--- what the body of a datagram says: a call to the device, else a response, else neither
+-- What the body of a datagram says: a call to the device, else a response, else neither.
 pub data Said : Type 0 where
   Calls : (call : Call) → Said
   Responds : (response : Answered) → Said
   Garbled : Said
 
--- What an event is: a unit of time, a frame that cannot be read, one for somebody else, a request of DCP and who asks it, a
--- packet of ARP and who sends it, a datagram: who sends it, to which address, and what it says; a cyclic frame; an alarm frame: who
--- sends it, between which endpoints, and what it says; or, from the application, the input of a submodule or an alarm of one.
+-- What an event is: a unit of time, a frame that cannot be read, a frame for another station, a DCP request and who
+-- sends it, an ARP packet and who sends it, a datagram: who sends it, to which address, and what it says; a cyclic
+-- frame; an alarm frame: who sends it, between which endpoints, and what it says; or, from the application, the input
+-- of a submodule or an alarm of one.
 pub data Heard : Type 0 where
   Ticks : Heard
   Unreadable : Heard
@@ -44,26 +45,26 @@ pub data Heard : Type 0 where
   Given : (slot : ℕ) → (subslot : ℕ) → (value : List ℕ) → Heard
   Raised : (slot : ℕ) → (subslot : ℕ) → (octets : List ℕ) → Heard
 
--- the address of all stations for Identify requests
+-- The multicast address of Identify requests.
 abbrev pub identify_multicast : List ℕ
 identify_multicast = 1 ∷ 14 ∷ 207 ∷ 0 ∷ 0 ∷ 0 ∷ []
 
--- the address of all stations
+-- The broadcast address.
 abbrev pub broadcast : List ℕ
 broadcast = 255 ∷ 255 ∷ 255 ∷ 255 ∷ 255 ∷ 255 ∷ []
 
--- whether a frame is for this device alone
+-- Whether a frame is for this device only.
 abbrev pub is_own : Identity → Mac → Bool
 is_own identity destination = pointwise nat_eq destination.octets identity.mac.octets
 
--- Whether a frame is for this device and of a kind that it takes: DCP Get and Set to its own address, an Identify request
--- to its own or to that of all stations.
+-- Whether a frame is for this device and of a kind that it accepts: DCP Get and Set to its own address, an Identify
+-- request to its own address or to the multicast address.
 abbrev pub is_taken : Identity → Mac → ℕ → Bool
 is_taken identity destination frame_id =
     (frame_id == 65277 && is_own identity destination)
     || (frame_id == 65278 && (is_own identity destination || pointwise nat_eq destination.octets identify_multicast))
 
--- data that carries no whole AlarmAck cannot be read either, whoever sends it
+-- Data without a complete AlarmAck cannot be read either, from any sender.
 abbrev pub heard_alarm : Mac → Result (Header × ToDevice) AlarmFault → Heard
 heard_alarm source (Ok x) = Alarms source x.0 x.1
 heard_alarm source (Err fault) = Unreadable
@@ -72,7 +73,7 @@ abbrev pub heard_request : Mac → Result Asked DcpFault → Heard
 heard_request source (Ok request) = Asks source request
 heard_request source (Err fault) = Unreadable
 
--- a response, to whatever interface
+-- A response, to any interface.
 abbrev pub said_else : Result Answered RpcFault → Said
 said_else (Ok response) = Responds response
 said_else (Err fault) = Garbled
@@ -81,11 +82,12 @@ abbrev pub said_first : Result Call RpcFault → Result Answered RpcFault → Sa
 said_first (Ok call) response = Calls call
 said_first (Err fault) response = said_else response
 
--- what the body of a datagram says
+-- What the body of a datagram says.
 unfoldable pub said_by : List ℕ → Said
 said_by body = said_first (call_of Device body) (response_of body)
 
--- a packet of ARP is taken that goes to this device or to all stations, and a datagram to this device and its port of calls
+-- An ARP packet is accepted if it goes to this device or to all stations, and a datagram if it goes to this device and
+-- its port of calls.
 abbrev pub heard_content : Identity → Mac → Mac → Content → Heard
 heard_content identity destination source (RealTime frame_id body) =
     if is_taken identity destination frame_id then heard_request source (request_of frame_id body)
@@ -97,12 +99,12 @@ heard_content identity destination source (ArpPacket arp) =
 heard_content identity destination source (UdpDatagram from to body) =
     if is_own identity destination && to.port == call_port then Told (record { mac = source; endpoint = from }) to.address (said_by body) else Elsewhere
 
--- the content of a frame between these stations, or one that cannot be read
+-- The content of a frame between these stations, or a frame that cannot be read.
 abbrev pub heard_by : Identity → Mac → Mac → Result Content FrameFault → Heard
 heard_by identity destination source (Ok content) = heard_content identity destination source content
 heard_by identity destination source (Err fault) = Unreadable
 
--- a frame is read first, and then its destination is looked at
+-- A frame is read first, and then its destination is checked.
 abbrev pub heard_frame : Identity → Result Meaning FrameFault → Heard
 heard_frame identity (Ok meaning) = heard_content identity meaning.destination meaning.source meaning.content
 heard_frame identity (Err fault) = Unreadable

@@ -1,4 +1,4 @@
--- What a frame says, by its layers and its kind.
+-- What a frame says, from its layers and its kind.
 use Rattle.std.specs.Prelude.{ℕ, List, Option, Some, None}
 use Rattle.pn_values.specs.declared.identity.Identity.{Identity}
 use Rattle.frame_codec.specs.Frame.{content_as}
@@ -10,14 +10,14 @@ use Rattle.device_frames.specs.declared.hearing.RealTimeKind.{RealTimeKind}
 use Rattle.device_frames.specs.declared.hearing.RealTimeKind.TheVariants as kind
 use Rattle.device_frames.specs.Heard.{Heard, Unreadable, Elsewhere, Cyclic, heard_alarm, heard_by, heard_request}
 
--- a request of DCP, an alarm frame and a cyclic frame are read as such
+-- A DCP request, an alarm frame and a cyclic frame are read as such.
 abbrev pub heard_as : RealTimeKind → Mac → ℕ → List ℕ → Heard
 heard_as kind.Request source frame_id body = heard_request source (request_of frame_id body)
 heard_as kind.Alarm source frame_id body = heard_alarm source (message_of body)
 heard_as kind.Cyclic source frame_id body = Cyclic source frame_id body
 heard_as kind.Elsewhere source frame_id body = Elsewhere
 
--- a frame whose Ethernet header can be read says what its content says, and another one cannot be read
+-- A frame whose Ethernet header can be read says what its content says. Any other frame cannot be read.
 abbrev pub heard_in : Identity → Option OpenFrame → Heard
 heard_in identity (Some frame) = heard_by identity frame.destination frame.source ((content_as frame.kind).read frame.content.now)
 heard_in identity None = Unreadable

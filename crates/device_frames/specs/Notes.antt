@@ -1,9 +1,9 @@
--- The numbers of what becomes of an event.
+-- The numbers of the outcomes of an event.
 use Rattle.std.specs.Prelude.{ℕ}
 use Rattle.device_frames.specs.declared.note.Note.{Note}
 use Rattle.device_frames.specs.declared.note.Note.TheVariants.{Done, NotMine, Fault, Filter, OldCall, NoRelation, StaleCycle, Refused}
 
--- 0 of what is done
+-- `Done` has the number 0.
 abbrev pub note_number : Note → ℕ
 note_number Done = 0
 note_number NotMine = 1

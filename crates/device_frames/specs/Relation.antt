@@ -1,4 +1,4 @@
--- What a device sends of its relation, and when.
+-- What a device sends for its relation, and when.
 use Rattle.std.specs.Prelude.{◌++◌, ℕ, Bool, List, [], ◌∷◌, if◌then◌else◌, Option, Some, None}
 use Rattle.pn_alarms.specs.declared.receiver.Taken.{Taken}
 use Rattle.cyclic_exchange.specs.declared.route.Route.{Route}
@@ -10,13 +10,13 @@ use Rattle.relations.specs.Link.{Link, flow_of}
 use Rattle.relations.specs.Ready.{ready_of}
 use Rattle.device_frames.specs.Sent.{Sent, ReadyCall, Ends, Exchanges}
 
--- ApplicationReady of a relation, if there is one, from this address
+-- ApplicationReady of a relation, if there is one, from this address.
 abbrev pub ready_calls : List ℕ → Option Link → List Sent
 ready_calls address None = []
 ready_calls address (Some link) = ReadyCall address (ready_of link) ∷ []
 
--- the frames of it that there are: of a relation, the alarm that stands, the inputs at this CycleCounter, and the answer to data that was
--- taken so
+-- The frames that exist: of a relation, the active alarm, the inputs at this CycleCounter, and the response to data
+-- with this outcome.
 abbrev pub frames_in : Route → Option Frame → List Sent
 frames_in route (Some frame) = Exchanges route frame ∷ []
 frames_in route None = []
@@ -33,16 +33,17 @@ abbrev pub replies_of : Taken → Option Flow → List Sent
 replies_of taken None = []
 replies_of taken (Some flow) = Exchanges flow.cyclic.route (reply_frame flow taken) ∷ []
 
--- the ERR that ends it, if there is one
+-- The ERR that ends it, if there is one.
 abbrev pub farewells_in : Option Farewell → List Sent
 farewells_in None = []
 farewells_in (Some farewell) = Ends farewell ∷ []
 
--- what is sent where it is due
+-- What is sent if it is due.
 abbrev pub where_due : Bool → List Sent → List Sent
 where_due is_due sent = if is_due then sent else []
 
--- what is sent with a unit: the ERR of a timeout, and nothing else; or the alarm that stands again, ApplicationReady again, and inputs
+-- What is sent with a unit: the ERR of a timeout, and nothing else; or the active alarm again, ApplicationReady again,
+-- and inputs.
 abbrev pub due_frames : List ℕ → ℕ → Due → Option Link → List Sent
 due_frames address units due link =
     farewells_in due.farewell

@@ -1,4 +1,5 @@
--- Which messages can be sent: each field of the frame has its size, and what it carries fits. So what is written is read as that.
+-- Which messages can be sent: each field of the frame has its size, and the content fits. So what is written is read as
+-- that message.
 use Rattle.std.specs.Prelude.{List, Some, None, ⊤}
 use Rattle.std.specs.List.{AllByRecursion}
 use Rattle.pn_values.specs.declared.identity.Identity.{Identity}
@@ -10,7 +11,7 @@ use Rattle.dcp_core.specs.Set.{set_bytes}
 use Rattle.relations.specs.exchange.Frames.{tag_of}
 use Rattle.device_frames.specs.Sent.{Sent, IdentifyAnswer, GetAnswer, SetAnswer, ArpReply, CallAnswer, Again, ReadyCall, Ends, Exchanges, exchange_content, farewell_content, ready_content, reply_content, response_content}
 
--- a message whose frame can be sent; the frame of an answer that is sent again was sent before
+-- A message whose frame can be sent. The frame of an answer that is sent again was sent before.
 abbrev pub IsSendable : Identity → Sent → Type 0
 IsSendable identity (IdentifyAnswer asker running xid) = CanBeSent (carrying asker identity.mac None (RealTime 65279 (identify_bytes identity running xid)))
 IsSendable identity (GetAnswer asker running request) = CanBeSent (carrying asker identity.mac None (RealTime 65277 (get_bytes identity running request)))
@@ -22,6 +23,6 @@ IsSendable identity (ReadyCall address ready) = CanBeSent (carrying ready.partne
 IsSendable identity (Ends farewell) = CanBeSent (carrying farewell.initiator identity.mac (Some farewell.tag) (farewell_content farewell))
 IsSendable identity (Exchanges route frame) = CanBeSent (carrying route.partner identity.mac (Some (tag_of route frame)) (exchange_content route frame))
 
--- each of them
+-- Each of the messages can be sent.
 abbrev pub AreSendable : Identity → List Sent → Type 0
 AreSendable identity messages = AllByRecursion (IsSendable identity) messages

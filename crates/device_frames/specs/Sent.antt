@@ -1,4 +1,4 @@
--- What a device sends: messages by their meaning, and the one way from them to octets.
+-- What a device sends: messages by their meaning, and their one encoding as octets.
 use Rattle.std.specs.Prelude.{ℕ, List, Some, None}
 use Rattle.pn_values.specs.declared.mac.Mac.{Mac}
 use Rattle.pn_values.specs.declared.identity.Identity.{Identity}
@@ -27,9 +27,10 @@ use Rattle.cyclic_exchange.specs.declared.route.Route.{Route}
 use Rattle.relations.specs.exchange.Frames.{Frame, tag_of, id_of, body_of}
 use Rattle.frame_codec.specs.declared.udp.Caller.{Caller}
 
--- A message, and to whom: the answer to an Identify request, to a Get, or to a Set and how each of its blocks came out; who
--- holds an address, told to whom asked for it; the answer to a call, from this address; the frame of such an answer again; the
--- call ApplicationReady, from this address; the ERR by which this device ends its relation; or a frame by which it exchanges.
+-- A message and its destination: the answer to an Identify request, to a Get, or to a Set with the result of each of
+-- its blocks; who holds an address, sent to the station that asked for it; the answer to a call, from this address; the
+-- frame of such an answer again; the call ApplicationReady, from this address; the ERR with which this device ends its
+-- relation; or a frame of the exchange.
 pub data Sent : Type 0 where
   IdentifyAnswer : (asker : Mac) → (running : Settings) → (xid : ℕ) → Sent
   GetAnswer : (asker : Mac) → (running : Settings) → (request : Asked) → Sent
@@ -41,19 +42,19 @@ pub data Sent : Type 0 where
   Ends : (farewell : Farewell) → Sent
   Exchanges : (route : Route) → (frame : Frame) → Sent
 
--- a frame of this device, which has no tag
+-- A frame of this device without a tag.
 abbrev pub own_frame : Identity → Mac → Content → List ℕ
 own_frame identity destination content = plain_frame identity.mac destination content
 
--- one with a tag: of alarms
+-- A frame with a tag: of alarms.
 abbrev pub alarm_frame : Identity → Mac → ℕ → Content → List ℕ
 alarm_frame identity destination tag content = tagged_frame identity.mac destination tag content
 
--- a DCP answer to whom asked: FrameID, and what follows it
+-- A DCP answer to the station that asked: the FrameID, and the octets that follow it.
 abbrev pub answer_frame : Identity → Mac → ℕ → List ℕ → List ℕ
 answer_frame identity asker frame_id answer = own_frame identity asker (RealTime frame_id answer)
 
--- an ARP reply (RFC 826) to whom asked: this device holds the address
+-- An ARP reply (RFC 826) to the station that asked: this device holds the address.
 abbrev pub reply_content : Identity → List ℕ → Holder → Content
 reply_content identity address target =
     ArpPacket (record { operation = Reply; sender = record { mac = identity.mac; address = address }; target = target })
@@ -61,14 +62,14 @@ reply_content identity address target =
 abbrev pub reply_frame : Identity → Mac → List ℕ → Holder → List ℕ
 reply_frame identity asker address target = own_frame identity asker (reply_content identity address target)
 
--- a response to whom called, to the port that the call came from
+-- A response to the station that called, to the port that the call came from.
 abbrev pub response_content : Caller → List ℕ → Answered → Content
 response_content caller address answer = UdpDatagram (calls_at address) caller.endpoint (response_bytes answer)
 
 abbrev pub response_frame : Identity → Caller → List ℕ → Answered → List ℕ
 response_frame identity caller address answer = own_frame identity caller.mac (response_content caller address answer)
 
--- ApplicationReady, to the station that asked for the relation: its response may have 1,372 octets of blocks
+-- ApplicationReady, to the station that asked for the relation. Its response may have 1,372 octets of blocks.
 abbrev pub ready_content : List ℕ → Ready → Content
 ready_content address ready =
     UdpDatagram (calls_at address) (calls_at ready.partner.address)
@@ -77,21 +78,21 @@ ready_content address ready =
 abbrev pub ready_frame : Identity → List ℕ → Ready → List ℕ
 ready_frame identity address ready = own_frame identity ready.partner.mac (ready_content address ready)
 
--- an ERR, to CMInitiatorMacAdd
+-- An ERR, to CMInitiatorMacAdd.
 abbrev pub farewell_content : Farewell → Content
 farewell_content farewell = RealTime (frame_id_of Error) (pdu_bytes (said_by farewell))
 
 abbrev pub farewell_frame : Identity → Farewell → List ℕ
 farewell_frame identity farewell = alarm_frame identity farewell.initiator farewell.tag (farewell_content farewell)
 
--- a frame of inputs, of an alarm, or of the answer to an AlarmAck, to the partner
+-- A frame of inputs, of an alarm, or of the response to an AlarmAck, to the partner.
 abbrev pub exchange_content : Route → Frame → Content
 exchange_content route frame = RealTime (id_of route frame) (body_of frame)
 
 abbrev pub exchange_frame : Identity → Route → Frame → List ℕ
 exchange_frame identity route frame = alarm_frame identity route.partner (tag_of route frame) (exchange_content route frame)
 
--- the octets of a message
+-- The octets of a message.
 abbrev pub bytes_of : Identity → Sent → List ℕ
 bytes_of identity (IdentifyAnswer asker running xid) = answer_frame identity asker 65279 (identify_bytes identity running xid)
 bytes_of identity (GetAnswer asker running request) = answer_frame identity asker 65277 (get_bytes identity running request)

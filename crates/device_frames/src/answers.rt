@@ -1,4 +1,4 @@
-//! The answers of a device: to a request of DCP, to a packet of ARP, and to a call.
+//! The answers of a device to a DCP request, to an ARP packet, and to a call.
 ghost use Rattle.std.specs.Prelude.{◌≡◌, ◌<◌, ◌≤◌, ◌+◌, [], ◌∷◌, ◌++◌, None, length};
 ghost use Rattle.arrayvec.specs.ArrayVec.{array_vec_len};
 ghost use Rattle.rpc_core.specs.Response.{answered};
@@ -15,7 +15,7 @@ use frame_codec::{Arp, ArpOperation, Endpoint, Holder, Layered, Outbox, Payload,
 use pn_values::{Identity, Mac};
 use rpc_core::{Datagram, Response, write_response};
 
-/// Puts a DCP answer to the station that asked into the box, behind what is in it.
+/// Appends a DCP answer, addressed to the station that asked, to the outbox.
 pub fn send_dcp_answer(
     identity: &Identity,
     asker: Mac,
@@ -40,7 +40,7 @@ pub fn send_dcp_answer(
     outbox.put(&layered);
 }
 
-/// Puts the reply that the device holds this address into the box, behind what is in it.
+/// Appends an ARP reply, which says that the device holds this address, to the outbox.
 pub fn send_arp_reply(
     identity: &Identity,
     asker: Mac,
@@ -70,7 +70,7 @@ pub fn send_arp_reply(
     outbox.put(&layered);
 }
 
-/// Puts the response to a call into the box, behind what is in it.
+/// Appends the response to a call, addressed to its caller, to the outbox.
 pub fn send_response(
     identity: &Identity,
     address: [u8; 4],
@@ -88,7 +88,8 @@ pub fn send_response(
     let mut datagram = Datagram::new();
     write_response(response, &mut datagram);
     let layered = Layered {
-        // To whence the call came, without a look at who has that address: a wrong table of addresses misleads nobody.
+        // To the station that the call came from, without looking up who has that address: a wrong address table
+        // misleads nobody.
         destination: caller.mac,
         source: identity.mac,
         tag: None,

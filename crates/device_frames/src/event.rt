@@ -3,11 +3,12 @@ use frame_codec::Bytes;
 /// What happens to a device.
 #[derive(Drop)]
 pub enum Event {
-    /// These bytes came from the network. Of a longer byte string its first 1,519 bytes stand here, which are refused alike.
+    /// These octets came from the network. Of a longer frame only the first 1,519 octets are given, which are refused
+    /// in the same way.
     Frame(Bytes),
     /// A unit of 31.25 microseconds is over.
     Tick,
-    /// The application gives the input of the submodule in this slot and subslot.
+    /// The application sets the input of the submodule in this slot and subslot.
     Input(u16, u16, Bytes),
     /// The application raises a process alarm of the submodule in this slot and subslot, with these octets.
     Alarm(u16, u16, Bytes),

@@ -1,4 +1,5 @@
-// What a device sends of what its relation exchanges (IEC 61158-6-10, 4.7 and 4.8), and what is due with a unit of time.
+// What a device sends of the exchange of its relation (IEC 61158-6-10, 4.7 and 4.8), and what is due with a unit of
+// time.
 ghost use Rattle.std.specs.Prelude.{◌≡◌, ◌<◌, ◌≤◌, ◌+◌, ◌++◌, ◌∷◌, [], map, Some};
 ghost use Rattle.arrayvec.specs.ArrayVec.{array_vec_len};
 ghost use Rattle.device_frames.specs.Sendable.{AreSendable};
@@ -15,7 +16,7 @@ use pn_alarms::{PduType, Taken};
 use pn_values::Identity;
 use relations::{DataExchange, Relation};
 
-/// Puts the inputs of what a relation exchanges at this CycleCounter into the box, behind what is in it.
+/// Appends the inputs of this exchange at this CycleCounter to the outbox.
 #[inline(always)]
 pub fn send_inputs_of(
     identity: &Identity,
@@ -33,7 +34,7 @@ pub fn send_inputs_of(
     send_cyclic(identity.mac, counter, cyclic, outbox);
 }
 
-/// Puts the inputs of the relation at this CycleCounter into the box, behind what is in it: if they are due, and there is one.
+/// Appends the inputs of the relation at this CycleCounter to the outbox, if they are due and there is a relation.
 pub fn send_inputs(
     identity: &Identity,
     counter: u16,
@@ -56,7 +57,7 @@ pub fn send_inputs(
     send_inputs_of(identity, counter, exchange, outbox);
 }
 
-/// Puts the alarm that stands in the relation into the box, behind what is in it, if there is one.
+/// Appends the active alarm of the relation to the outbox, if there is one.
 #[inline(always)]
 pub fn send_alarm(identity: &Identity, relation: &Relation, outbox: &mut Outbox)
     requires room { array_vec_len outbox.old < 4 }
@@ -85,7 +86,7 @@ pub fn send_alarm(identity: &Identity, relation: &Relation, outbox: &mut Outbox)
     outbox.put_pieces(&pieces);
 }
 
-/// Puts the alarm that stands in the relation into the box, behind what is in it: if it is due, and there is one.
+/// Appends the active alarm of the relation to the outbox, if it is due and there is one.
 #[inline(never)]
 pub fn send_alarm_again(identity: &Identity, is_due: bool, relation: &Relation, outbox: &mut Outbox)
     requires room { array_vec_len outbox.old < 4 }
@@ -99,7 +100,7 @@ pub fn send_alarm_again(identity: &Identity, is_due: bool, relation: &Relation, 
     }
 }
 
-/// Puts the answer to the data of an alarm that was taken so into the box, behind what is in it, if there is a relation.
+/// Appends the ACK or NACK for data with this outcome to the outbox, if there is a relation.
 pub fn send_alarm_reply(identity: &Identity, taken: Taken, relation: &Relation, outbox: &mut Outbox)
     requires room { array_vec_len outbox.old < 4 }
     ensures frames { boxed outbox.new
@@ -123,7 +124,7 @@ pub fn send_alarm_reply(identity: &Identity, taken: Taken, relation: &Relation, 
     outbox.put_pieces(&pieces);
 }
 
-/// Puts ApplicationReady into the box, behind what is in it: if it is due, and there is a relation.
+/// Appends ApplicationReady to the outbox, if it is due and there is a relation.
 pub fn send_ready_again(
     identity: &Identity,
     address: [u8; 4],

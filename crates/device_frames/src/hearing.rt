@@ -1,4 +1,4 @@
-//! What a frame is to a device.
+//! What a frame means to a device.
 ghost use Rattle.std.specs.Prelude.{◌≡◌, ◌==◌, ◌&&◌, ◌||◌, IfNone, IfSome, List, ℕ, nat_eq};
 ghost use Rattle.std.specs.Cmp.Lexicographic.{pointwise};
 ghost use Rattle.device_frames.specs.Heard.{Unreadable, broadcast, heard_content, heard_of, is_own as is_own_by, is_taken as is_taken_by};
@@ -15,12 +15,12 @@ use frame_codec::{
 };
 use pn_values::{Identity, Mac};
 
-/// The address of all stations for Identify requests (IEC 61158-6-10, 4.3.1.3.1).
+/// The multicast address of Identify requests (IEC 61158-6-10, 4.3.1.3.1).
 const IDENTIFY_MULTICAST: Mac = Mac {
     octets: [0x01, 0x0E, 0xCF, 0x00, 0x00, 0x00],
 };
 
-/// The address of all stations (IEEE 802, 8.2.2).
+/// The broadcast address (IEEE 802, 8.2.2).
 const BROADCAST: Mac = Mac { octets: [0xFF; 6] };
 
 /// Reads a frame of EtherType 0x8892, if it is one.
@@ -30,34 +30,34 @@ pub fn real_time_in(bytes: &Bytes) -> Option<RealTimeFrame<'_>>
     ensures found { IfSome result (λ frame. (identity : Identity) →
         heard_of identity (Frame bytes.now)
         ≡ heard_content identity frame.destination frame.source (RealTime frame.frame_id frame.body.now)) }
-    // One that is there is found.
+    // `None` is returned only for octets that are not a frame of real-time data.
     ensures none { IfNone result (IsNoRealTime (frame_of bytes.now.items)) }
 {
     read_real_time(bytes.as_slice())
 }
 
-/// Reads the Ethernet header of a frame, if it can be read.
+/// Reads the Ethernet header of a frame. Returns `None` if it cannot be read.
 #[inline(always)]
 #[tactic(auto, using(crate::proofs::Unread::other_is_unread), unfolding(crate::specs::Heard::heard_of))]
 pub fn open_frame(bytes: &Bytes) -> Option<OpenFrame<'_>>
     ensures said { (identity : Identity) → heard_of identity (Frame bytes.now) ≡ heard_in identity result }
-    // Where it is no frame of real-time data for all its EtherType, its FrameID is not whole.
+    // A frame with EtherType 0x8892 that carries no real-time data cannot be read: its FrameID is incomplete.
     ensures short { IfSome result (λ frame. IsNoRealTime (frame_of bytes.now.items) → frame.kind ≡ kind.RealTime →
         (identity : Identity) → heard_of identity (Frame bytes.now) ≡ Unreadable) }
 {
     open(bytes.as_slice()).ok()
 }
 
-/// What a frame of EtherType 0x8892 is to a device.
+/// What a frame of EtherType 0x8892 means to a device.
 #[derive(Clone, Copy)]
 pub enum RealTimeKind {
-    /// A request of DCP that the device takes.
+    /// A DCP request that the device accepts.
     Request,
     /// An alarm frame to this station.
     Alarm,
     /// A cyclic frame to this station.
     Cyclic,
-    /// A frame for another station, or of a kind that a device does not take.
+    /// A frame for another station, or of a kind that a device does not accept.
     Elsewhere,
 }
 
@@ -68,7 +68,8 @@ pub fn kind_of(identity: &Identity, destination: Mac, frame_id: u16) -> RealTime
         ≡ heard_as result source frame_id body }
 {
     if !is_own(identity, destination) {
-        // An Identify alone may ask all stations: a Set would give each the same name, and cyclic data and alarms go to one.
+        // Only an Identify may ask all stations: a Set would give each of them the same name, and cyclic data and
+        // alarms go to one station.
         if frame_id == DCP_IDENTIFY_REQUEST && destination.is(&IDENTIFY_MULTICAST) {
             return RealTimeKind::Request;
         }
@@ -86,21 +87,21 @@ pub fn kind_of(identity: &Identity, destination: Mac, frame_id: u16) -> RealTime
     }
 }
 
-/// Whether a packet of ARP with this destination is for the device: to it, or to all stations.
+/// Whether an ARP packet with this destination is for the device: to its own address or to all stations.
 pub fn is_asked(identity: &Identity, destination: Mac) -> bool
     ensures { result ≡ (is_own_by identity.now destination || pointwise nat_eq destination.octets broadcast) }
 {
     is_own(identity, destination) || destination.is(&BROADCAST)
 }
 
-/// Whether a datagram with this destination and port is for the device: to it, and to the port of calls.
+/// Whether a datagram with this destination and port is for the device: to its own address and to the port of calls.
 pub fn is_called(identity: &Identity, destination: Mac, port: u16) -> bool
     ensures { result ≡ (is_own_by identity.now destination && port == call_port) }
 {
     is_own(identity, destination) && port == RPC_PORT
 }
 
-// Whether a frame with this destination is for the device alone.
+// Whether a frame with this destination is for this device only.
 fn is_own(identity: &Identity, destination: Mac) -> bool
     ensures { result ≡ is_own_by identity.now destination }
 {

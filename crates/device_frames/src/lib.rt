@@ -1,6 +1,8 @@
-//! What comes to a device, what became of it, and what is sent: an event by what it says, a note of it, and messages by their frames.
+//! What a device receives, its outcome, and what is sent: an event by its meaning, a note of its outcome, and messages
+//! by their frames.
 //!
-//! Who holds the device's state judges what was heard, and says what is sent; between that and the octets of frames stands this crate.
+//! The owner of the device's state decides on what was received, and says what is sent. This crate is between that and
+//! the octets of frames.
 #![tactic(auto)]
 
 mod answers;

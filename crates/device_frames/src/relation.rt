@@ -1,4 +1,4 @@
-// What a device sends of its relation: ApplicationReady, and the ERR that ends it (IEC 61158-6-10, 5.2.4.5 and 5.2.6).
+// What a device sends for its relation: ApplicationReady, and the ERR that ends it (IEC 61158-6-10, 5.2.4.5 and 5.2.6).
 ghost use Rattle.std.specs.Prelude.{◌≡◌, ◌<◌, ◌≤◌, ◌+◌, ◌++◌, ◌∷◌, [], map};
 ghost use Rattle.arrayvec.specs.ArrayVec.{array_vec_len};
 ghost use Rattle.device_frames.specs.Sendable.{AreSendable, IsSendable};
@@ -14,10 +14,10 @@ use pn_values::Identity;
 use relations::{Farewell, Relation};
 use rpc_core::{Call, Datagram, write_request};
 
-/// How many octets of blocks the answer to a call of this device may have.
+/// The maximum number of octets of blocks in the answer to a call of this device.
 const ARGS_MAXIMUM: u32 = 1_372;
 
-/// Puts the ERR that ends the relation into the box, behind what is in it.
+/// Appends the ERR that ends the relation to the outbox.
 pub fn send_farewell(identity: &Identity, farewell: &Farewell, outbox: &mut Outbox)
     requires room { array_vec_len outbox.old < 4 }
     ensures frames { boxed outbox.new ≡ boxed outbox.old ++ farewell_frame identity.now farewell.now ∷ [] }
@@ -37,7 +37,7 @@ pub fn send_farewell(identity: &Identity, farewell: &Farewell, outbox: &mut Outb
     outbox.put_pieces(&pieces);
 }
 
-/// Puts ApplicationReady of the relation, if there is one, into the box, behind what is in it.
+/// Appends ApplicationReady of the relation, if there is one, to the outbox.
 pub fn send_ready(identity: &Identity, address: [u8; 4], relation: &Relation, outbox: &mut Outbox)
     requires room { array_vec_len outbox.old < 4 }
     ensures frames { boxed outbox.new
@@ -60,7 +60,8 @@ pub fn send_ready(identity: &Identity, address: [u8; 4], relation: &Relation, ou
         &mut datagram,
     );
     let layered = Layered {
-        // To whence the Connect came, at the port of calls: a controller serves its interface there, whatever port it called from.
+        // To the station that the Connect came from, at the port of calls: a controller serves its interface there,
+        // from whichever port it called.
         destination: ready.partner.mac,
         source: identity.mac,
         tag: None,

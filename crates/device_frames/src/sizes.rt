@@ -1,4 +1,4 @@
-// What is written has the sizes that its types say, so what fits a frame can be sent.
+// What is written has the sizes of its types, so what fits a frame can be sent.
 ghost use Rattle.std.specs.Prelude.{◌≤◌, ◌<◌, List, Some, length, ℕ};
 ghost use Rattle.frame_codec.specs.Frame.{FitsFrame, content_size};
 ghost use Rattle.frame_codec.specs.Meaning.{RealTime, content_of, meaning_in, meaning_of};
@@ -8,7 +8,7 @@ use cyclic_exchange::Route;
 use frame_codec::{Endpoint, Holder, Layered, Payload, Pieces};
 use pn_values::Mac;
 
-// Layers whose content fits.
+// Layers whose content fits can be sent.
 #[inline(always)]
 pub(crate) fn can_be_sent(layered: &Layered<'_>)
     requires { FitsFrame (meaning_of layered.now) }
@@ -20,7 +20,7 @@ pub(crate) fn can_be_sent(layered: &Layered<'_>)
     has_content(&layered.payload);
 }
 
-// A body in two pieces that fits.
+// A body in two pieces that fits can be sent.
 #[inline(always)]
 pub(crate) fn can_be_sent_in(pieces: &Pieces<'_>)
     requires { FitsFrame (meaning_in pieces.now) }
@@ -32,7 +32,7 @@ pub(crate) fn can_be_sent_in(pieces: &Pieces<'_>)
     let _frame_id = pieces.frame_id;
 }
 
-// A cyclic frame, whatever fits it.
+// A cyclic frame can be sent with any body that fits.
 #[inline(always)]
 pub(crate) fn cyclic_can_be_sent(source: &Mac, route: &Route)
     ensures { (body : List ℕ) → length body ≤ 1498 →
@@ -44,7 +44,7 @@ pub(crate) fn cyclic_can_be_sent(source: &Mac, route: &Route)
     let _frame_id = route.sent_id;
 }
 
-// What a frame carries.
+// The content of a frame has the sizes of its fields.
 #[inline(always)]
 fn has_content(payload: &Payload<'_>)
     requires { content_size (content_of payload.now) ≤ 1500 }
@@ -65,7 +65,7 @@ fn has_content(payload: &Payload<'_>)
     }
 }
 
-// An address of Ethernet has six octets.
+// A MAC address has six octets.
 #[inline(always)]
 fn has_six(mac: &Mac)
     ensures { IsMac mac.now }
@@ -73,7 +73,7 @@ fn has_six(mac: &Mac)
     let _octets: &[u8] = &mac.octets;
 }
 
-// The word of a tag has two.
+// A tag has two octets.
 #[inline(always)]
 fn has_two(tag: Option<u16>)
     ensures { IsTag tag }
@@ -84,7 +84,7 @@ fn has_two(tag: Option<u16>)
     }
 }
 
-// Who holds an address.
+// The addresses of a holder have their sizes.
 #[inline(always)]
 fn is_held(holder: &Holder)
     ensures { IsHolder holder.now }
@@ -93,7 +93,7 @@ fn is_held(holder: &Holder)
     let _octets: &[u8] = &holder.address;
 }
 
-// One end of a datagram.
+// The addresses of an endpoint of a datagram have their sizes.
 #[inline(always)]
 fn is_an_end(endpoint: &Endpoint)
     ensures { IsEndpoint endpoint.now }

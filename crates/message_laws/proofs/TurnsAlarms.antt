@@ -45,7 +45,7 @@ use Rattle.message_laws.proofs.TurnsQuiet.{IsQuiet, IsReply, IsThere, quiet_stay
 
 -- ---- lists
 
--- what stands at a place of one list stands there in another
+-- What is at a position of one list is at that position of another.
 abbrev Extends : {A : Type 0} → List A → List A → Type 0
 Extends {A = A} xs ys = (k : ℕ) (x : A) → slice_get xs k ≡ Some x → slice_get ys k ≡ Some x
 
@@ -78,7 +78,7 @@ last_is (one ∷ next ∷ alarms) alarm = last_is (next ∷ alarms) alarm
 less_is : (a b : ℕ) → a < b → nat_lt a b ≡ true
 less_is a b h = grind (arith, nat_tests)
 
--- ---- messages that are there stay there
+-- ---- messages that are there are kept
 
 module _ (pdus more_pdus : List (ℕ × AlarmAck)) (acks more_acks nacks more_nacks : List ℕ) (p : Extends pdus more_pdus) (a : Extends acks more_acks) (n : Extends nacks more_nacks) where
   reply_stays : (header : Header) (kind : PduType) → IsReply acks nacks header kind → IsReply more_acks more_nacks header kind
@@ -97,7 +97,8 @@ module _ (pdus more_pdus : List (ℕ × AlarmAck)) (acks more_acks nacks more_na
 
 -- ---- the world of an exchange
 
--- what an exchange has beside the relation: the AlarmAcks, the ACKs and NACKs that the controller sent, and the NACKs to it
+-- What an exchange has besides the relation: the AlarmAcks, the ACKs and NACKs that the controller sent, and the NACKs
+-- to it.
 pub record Rest : Type 0 where
   pub confirms : Line AlarmAck
   pub acks : List ℕ
@@ -116,7 +117,7 @@ world_of r rest = record {
   nacks_to_controller = rest.others;
 }
 
--- some moves of an exchange made what is there
+-- Some moves of an exchange lead to this state.
 pub record IsPlayed (r : Relation) : Type 0 where
   pub rest : Rest
   pub moves : List Happening
@@ -141,7 +142,7 @@ goes_on r p more next rest e told same shown = record {
   shown = shown;
 }
 
--- what has nothing to do with alarms
+-- A turn that does not concern alarms.
 quiet_on : (r : Relation) (turn : Turn) → IsPlayed r → IsQuiet r.live turn → IsPlayed (turns r turn)
 quiet_on r turn p q = record {
   rest = p.rest;
@@ -174,7 +175,7 @@ lines_taken line number value due_is.Spent = refl
 
 -- ---- at the device
 
--- behind an alarm that is raised
+-- After an alarm is raised.
 abbrev raised_now : Relation → Alarm → Relation
 raised_now r alarm = record r {
   device = end_raised r.device alarm;
@@ -228,9 +229,9 @@ comes_on r p place None e = p
 comes_on r p place (Some message) e =
     message_on r p message (all_at (IsThere p.rest.confirms.pdus p.rest.acks p.rest.nacks) r.told place message p.told e)
 
--- ---- an alarm comes to the controller
+-- ---- an alarm arrives at the controller
 
--- the AckSeqNum then is its number, where it is acknowledged
+-- The AckSeqNum after it is its number, if it is acknowledged.
 abbrev Fits : Taken → Option ℕ → ℕ → Type 0
 Fits New seen number = ack_number seen ≡ number
 Fits Again seen number = ack_number seen ≡ number
@@ -249,7 +250,7 @@ fits_as seen number false false e = tt
 fits : (seen : Option ℕ) (number : ℕ) → Fits (taken_as seen number) (last_behind seen number) number
 fits seen number = fits_as seen number (number == next_number seen) (is_last seen number) refl
 
--- it is taken so, and this is the number of the last that was taken then
+-- It has this outcome, and this is then the number of the last alarm that was accepted.
 abbrev seeing : Live → Option ℕ → Live
 seeing live seen = record live { alarms = record live.alarms { seen = seen } }
 
@@ -313,7 +314,7 @@ takes_on r p place number alarm Refused seen e fit =
     ((length p.rest.nacks, number, at_end p.rest.nacks number), tt))
     p.same p.shown
 
--- it is looked at, or not
+-- It is handled, or not.
 looks_on : (r : Relation) (p : IsPlayed r) (place : ℕ) (data_is : ℕ × AlarmNotification) (is : Bool) → slice_get r.alarms.pdus place ≡ Some data_is
     → IsPlayed (record (turns r (if is then noticed r.live (notice.Data data_is.0 data_is.1) else stays r.live)) {
       alarms = if is then with_come r.alarms r.live.alarms.seen data_is else r.alarms;
@@ -328,7 +329,7 @@ alarm_on : (r : Relation) (p : IsPlayed r) (source : Mac) (header : Header) (pla
 alarm_on r p source header place None there = p
 alarm_on r p source header place (Some data_is) there = looks_on r p place data_is (is_looked_at r source header) there
 
--- ---- an ACK comes to it, or anything else
+-- ---- an ACK arrives at the controller, or anything else
 
 acks_on : (r : Relation) (p : IsPlayed r) (place number : ℕ) (is : Bool) → slice_get r.acks place ≡ Some number
     → IsPlayed (turns r (if is then noticed r.live (notice.Ack number) else stays r.live))
@@ -393,7 +394,7 @@ flows_on r p is_request due_now None e =
     (outputs_part line.pdus rest.acks rest.nacks live tick.is_cyclic))))
     (ap length (lines_same p.rest.confirms (send_number r.live.alarms.sending.last) r.live.alarms.confirming due_now) ∙ p.same) p.shown
 
--- the reason of a tick is the one by which it was made
+-- The reason of a tick is the one from which it was made.
 reason_is : (r : Relation) (due_now : Due) (reason : Option Abort) → (tick_by r.live.cyclic due_now reason).ending ≡ reason
 reason_is r due_now (Some reason) = refl
 reason_is r due_now None = refl

@@ -1,4 +1,4 @@
--- What comes to a controller that ended, and what it sends.
+-- What a controller that ended receives, and what it sends.
 use Rattle.std.proofs.Common.{◌≡◌, ◌⊎◌, inl, inr, ◌++◌, ℕ, Bool, true, false, List, [], ◌∷◌, length, map, Option, Some, None, refl, sym, ap, subst, ◌∙◌}
 use Rattle.std.specs.Prelude.{if◌then◌else◌, unwrap_or}
 use Rattle.std.proofs.lemmas.Bool.{false≢true}
@@ -29,16 +29,16 @@ use Rattle.message_laws.proofs.TurnsWhole.{reached_on, whole_end}
 
 -- ---- a frame
 
--- it is dropped, or answers the Release
+-- It is dropped, or is the response to the Release.
 abbrev IsUnmoved : Setup → Live → Heard → Turn → Type 0
 IsUnmoved setup live heard turn = (turn ≡ stays live) ⊎ (IsAnswered setup live heard × (turn ≡ stays (record live { asked = None })))
 
 module _ (setup : Setup) (live : Live) (heard : Heard) (cause : Cause) (h : IsEnd cause live) where
-  -- no other request than the Release stands
+  -- No other request than the Release is active.
   unasked : (request : Request) → is_release request ≡ false → live.asked ≡ Some request → ⊥
   unasked request other stood = untold request cause other (subst (λ (o : Option Request). IsTold cause o) stood h.asked)
 
-  -- it is in no other phase
+  -- It is in no other phase.
   other_phase : (phase : State) → is_over phase ≡ false → live.phase ≡ phase → ⊥
   other_phase phase stands is = not_over phase cause stands (sym is ∙ h.phase)
 
@@ -100,7 +100,7 @@ given_as live slot subslot value =
 stopped_as : (setup : Setup) (live : Live) (cause : Cause) → live.phase ≡ Ended cause → stopped setup live live.phase ≡ stays live
 stopped_as setup live cause e = ap (λ (phase : State). stopped setup live phase) e
 
--- a unit of one that has no relation
+-- A unit of a controller that has no relation.
 abbrev unit_of : Live → Turn
 unit_of live = record { live = later live; sent = sent_where_due (is_again live) (requests_of live.device live.asked) }
 
@@ -156,7 +156,7 @@ units controller cause h = (
 
 -- ---- what an event leaves
 
--- the phase stays, and so does the Release that stands, or none does any more
+-- The phase is kept, and so is the active Release, unless it is no longer active.
 record IsLeft (setup : Setup) (before after : Live) : Type 0 where
   phase : after.phase ≡ before.phase
   release : (release_in setup after.device after.asked ≡ release_in setup before.device before.asked) ⊎ (release_in setup after.device after.asked ≡ None)
@@ -220,7 +220,7 @@ sent_are controller cause Stop h = none_are (release_of controller) (step_of con
 some_none : (frame : List ℕ) → Some frame ≡ None → ⊥
 some_none frame e = cc
 
--- of a Release that still stands, or of none
+-- Frames of a Release that is still active, or of none.
 carried : (release before : Option (List ℕ)) (frames : List (List ℕ)) → (release ≡ before) ⊎ (release ≡ None)
     → AllByRecursion (λ frame. Some frame ≡ release) frames → AllByRecursion (λ frame. Some frame ≡ before) frames
 carried release before [] same all = tt

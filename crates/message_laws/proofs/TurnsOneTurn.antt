@@ -32,7 +32,7 @@ use Rattle.controller_core.specs.Connect.{found_in, is_whole, nothing}
 use Rattle.controller_core.specs.Machine.{Turn, answered, brought, called, connected, decided, done, flow_later, flowed, is_again, judged, later, noticed, readied, ready_in, related_by, requests_of, responded, stays, stopped, turn_of, turned, where_due}
 use Rattle.message_laws.specs.turns.Turns.{Came, Hears, Passes, Gets, Halts, Found, IsGoing, IsGranted, IsKind, IsReadied, IsSought, IsTold, IsTurn, Kind, Rests, Connects, Addresses, Ends, Releases, Relates, Writes, Waits, Forgets, Begins, Repeats, Follows, Takes, IsAcked, Gives, Flows, Breaks, Idles, came_by, chosen_in, turn_by, turn_for}
 
--- no other phase is an end
+-- No other phase is an end.
 abbrev pub is_over : State → Bool
 is_over (Ended cause) = true
 is_over phase = false
@@ -40,7 +40,7 @@ is_over phase = false
 pub not_over : (phase : State) (cause : Cause) → is_over phase ≡ false → phase ≡ Ended cause → ⊥
 not_over phase cause stands e = absurd (false≢true (sym stands ∙ ap (λ (p : State). is_over p) e))
 
--- of a whole end no request stands but a Release
+-- At a complete end no request is active except a Release.
 abbrev pub is_release : Request → Bool
 is_release (asks.Release sequence) = true
 is_release request = false
@@ -73,7 +73,7 @@ module _ (setup : Setup) (live : Live) where
   if_so true one other = one refl
   if_so false one other = other
 
-  -- ---- answers of DCP
+  -- ---- DCP answers
 
   answered_is : (source : Mac) (answer : Answered) (phase : State) → live.phase ≡ phase
       → IsTurn setup live (Hears (Answers source answer)) (answered setup live source answer phase)

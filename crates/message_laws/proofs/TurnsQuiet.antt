@@ -1,4 +1,4 @@
--- What has nothing to do with alarms: a turn that leaves those of a controller as they are, and sends none of their messages.
+-- A turn that does not concern alarms: it leaves those of a controller unchanged, and sends none of their messages.
 use Rattle.std.proofs.Common.{◌≡◌, ℕ, Bool, true, false, List, Option, Some, None, refl, sym, subst}
 use Rattle.std.specs.Prelude.{slice_get}
 use Rattle.std.specs.List.{AllByRecursion}
@@ -24,7 +24,7 @@ IsReply acks nacks header pdu.Ack = (k : ℕ) × (slice_get acks k ≡ Some head
 IsReply acks nacks header pdu.Nack = (k : ℕ) × (number : ℕ) × (slice_get nacks k ≡ Some number)
 IsReply acks nacks header kind = Unit {0}
 
--- an AlarmAck is among these PDUs, an ACK and a NACK among these; anything else is no alarm's
+-- An AlarmAck is among these PDUs, an ACK and a NACK among these. Any other message does not concern alarms.
 abbrev pub IsThere : List (ℕ × AlarmAck) → List ℕ → List ℕ → Sent → Type 0
 IsThere pdus acks nacks (Confirms route header ack) = (k : ℕ) × (slice_get pdus k ≡ Some (header.send_number, ack))
 IsThere pdus acks nacks (Replies route header) = IsReply acks nacks header header.kind
@@ -40,7 +40,7 @@ pub record IsQuiet (live : Live) (turn : Turn) : Type 0 where
 pub quiet_stays : (live : Live) → IsQuiet live (stays live)
 quiet_stays live = record { alarms = refl; alarm = refl; sent = λ pdus acks nacks. tt }
 
--- what has nothing to do with the alarms that stand: neither an alarm, nor an ACK, nor a unit
+-- What does not concern the active alarms: neither an alarm, nor an ACK, nor a unit.
 abbrev pub IsPlain : Came → Type 0
 IsPlain (Hears (Alarms source header (notice.Data number alarm))) = ⊥
 IsPlain (Hears (Alarms source header (notice.Ack number))) = ⊥
@@ -48,7 +48,7 @@ IsPlain Passes = ⊥
 IsPlain _ = Unit {0}
 
 module _ (setup : Setup) (live : Live) (came : Came) (plain : IsPlain came) where
-  -- neither an alarm, nor an ACK, nor a unit came
+  -- Neither an alarm, nor an ACK, nor a unit came.
   not_so : (other : Came) → (IsPlain other → ⊥) → came ≡ other → ⊥
   not_so other never e = never (subst (λ (c : Came). IsPlain c) e plain)
 

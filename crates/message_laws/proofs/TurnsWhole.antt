@@ -1,4 +1,5 @@
--- An end of a controller is a whole one, however it came to it: its relation is over, and no request stands but its Release.
+-- The end of a controller is complete, however it was reached: its relation is over, and no request is active except
+-- its Release.
 use Rattle.std.proofs.Common.{◌≡◌, ◌+◌, ◌++◌, ℕ, false, true, List, [], ◌∷◌, Option, None, refl, sym, ap, subst, ◌∙◌}
 use Rattle.record_blocks.specs.declared.alarm_notification.AlarmNotification.{AlarmNotification}
 use Rattle.pn_alarms.specs.declared.receiver.Taken.{Taken}
@@ -20,7 +21,7 @@ use Rattle.message_laws.specs.turns.Runs.{IsReached, behind_all}
 use Rattle.message_laws.specs.turns.Turns.{Came, IsEnd, IsKind, IsTold, Kind, Rests, Connects, Addresses, Ends, Releases, Relates, Writes, Waits, Forgets, Begins, Repeats, Follows, Takes, IsAcked, Gives, Flows, Breaks, Idles, came_by, turn_by}
 use Rattle.message_laws.proofs.TurnsOneTurn.{event_is, is_over, not_over}
 
--- behind a turn the controller has not ended, or its end is whole
+-- After a turn the controller has not ended, or its end is complete.
 pub record Kept (turn : Turn) : Type 0 where
   pub whole : (cause : Cause) → turn.live.phase ≡ Ended cause → IsEnd cause turn.live
 
@@ -29,7 +30,7 @@ same_cause mine cause e = cc
 
 -- ---- the parts of a turn
 
--- what changes neither the phase, nor whether the relation stands, nor what is asked
+-- A turn that changes neither the phase, nor whether the relation is established, nor the active request.
 same : (live next : Live) (sent : List Sent) → next.phase ≡ live.phase → next.stands ≡ live.stands → next.asked ≡ live.asked
     → Kept (stays live) → Kept (record { live = next; sent = sent })
 same live next sent phase stands asked k = record {
@@ -40,7 +41,7 @@ same live next sent phase stands asked k = record {
 goes_on : (live : Live) (sent : List Sent) → is_over live.phase ≡ false → Kept (record { live = live; sent = sent })
 goes_on live sent stands = record { whole = λ cause e. absurd (not_over live.phase cause stands e) }
 
--- nothing is asked any more
+-- No request is active any more.
 unasked : (live : Live) → Kept (stays live) → Kept (stays (record live { asked = None }))
 unasked live k = record { whole = λ cause e. let i = k.whole cause e in record { phase = e; down = i.down; asked = tt } }
 
@@ -109,7 +110,7 @@ reached_kept : (controller : Controlling) → IsReached controller → Kept (sta
 reached_kept controller r =
     subst (λ (c : Controlling). Kept (stays c.live)) (sym r.made) (all_kept r.events (fresh r.plan r.ar r.activity) (first_kept r.plan r.ar r.activity))
 
--- one that ended has a whole end
+-- A controller that ended has a complete end.
 pub whole_end : (cause : Cause) (controller : Controlling) → HasEnded cause controller → IsEnd cause controller.live
 whole_end cause controller h = (reached_kept controller h.reached).whole cause h.phase
 

@@ -1,5 +1,5 @@
-//! What holds of a controller over any events (IEC 61158-6-10, 5.2; protocol machine CMCTL): laws of the machine by which
-//! `controller_core::Controller` is stated, and no code.
+//! What holds for a controller over any events (IEC 61158-6-10, 5.2; protocol machine CMCTL). These are laws of the
+//! machine that specifies `controller_core::Controller`; the functions have no code.
 
 mod kinds;
 mod law;

@@ -1,6 +1,7 @@
-//! The library that firmware links: a PROFINET IO device behind three calls. `include/nandutable.h` says how they are used.
+//! The library that firmware links: a PROFINET IO device with three calls. `include/nandutable.h` says how they are
+//! used.
 //!
-//! Each call is proved down to its raw pointer: what lies in the room before it, and what lies there behind it.
+//! Each call is proved down to its raw pointer: the content of the memory before the call, and its content after it.
 #![tactic(auto)]
 
 ghost use Rattle.std.specs.Prelude.{◌≡◌, true};
@@ -17,7 +18,7 @@ ghost use Rattle.device_abi.specs.operations.Stations.{is_station};
 use c_layout::Op;
 use device_abi::{Port, Station, judge, port_of, serve};
 
-/// Why no device can be made of this station in a room of so many octets, or 0.
+/// Returns why no device can be made from this station in a memory of `size` octets, or 0.
 #[unsafe(no_mangle)]
 pub extern "C" fn pn_judge(size: usize, abi: u32, op_size: usize, station: &Station) -> u32
     ensures { result ≡ why_not_made size abi op_size station.now }
@@ -25,7 +26,7 @@ pub extern "C" fn pn_judge(size: usize, abi: u32, op_size: usize, station: &Stat
     judge(size, abi, op_size, station)
 }
 
-/// Makes a device that did not start in the room, of a station that `pn_judge` answered 0 for.
+/// Makes a device that did not start in the memory at `room`, from a station for which `pn_judge` returned 0.
 #[unsafe(no_mangle)]
 pub unsafe extern "C" fn pn_put(room: *mut u8, station: &Station)
     requires* { sem 𝓛 (room_at Row room) ∗ ⌜ is_station station.now ≡ true ⌝ }
@@ -34,7 +35,7 @@ pub unsafe extern "C" fn pn_put(room: *mut u8, station: &Station)
     unsafe { std::ptr::write(room as *mut Port, port_of(station)) };
 }
 
-/// Carries one operation out on the device in the room.
+/// Carries out one operation on the device in the memory at `room`. Returns 0, or why nothing changed.
 #[unsafe(no_mangle)]
 pub unsafe extern "C" fn pn_step(room: *mut u8, op: &mut Op, given: &[u8]) -> u32
     ghost port: { State }

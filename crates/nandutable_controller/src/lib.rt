@@ -1,6 +1,6 @@
-//! The controller of a station behind four calls. `include/nandutable_controller.h` says how they are used.
+//! The controller of a station with four calls. `include/nandutable_controller.h` says how they are used.
 //!
-//! Each call is proved down to its raw pointer: what lies in the room before it, and what lies there behind it.
+//! Each call is proved down to its raw pointer: the content of the memory before the call, and its content after it.
 #![tactic(auto)]
 
 ghost use Rattle.std.specs.Prelude.{◌≡◌, true};
@@ -17,7 +17,7 @@ ghost use Rattle.controller_abi.specs.Serves.{Serves, operation_of};
 use c_layout::Op;
 use controller_abi::{Port, WrittenPlan, fault_in, judge, port_of, serve};
 
-/// The first fault of a plan, with the number that a catalogue with this fault has, or 0.
+/// Returns the first fault of a plan, with the number that a catalogue with this fault has, or 0.
 #[unsafe(no_mangle)]
 pub extern "C" fn pn_plan_judge(plan: &WrittenPlan) -> u32
     ensures { result ≡ fault_of plan.now }
@@ -25,7 +25,7 @@ pub extern "C" fn pn_plan_judge(plan: &WrittenPlan) -> u32
     fault_in(plan)
 }
 
-/// Why no controller can be made of this plan and this number of its relation in a room of so many octets, or 0.
+/// Returns why no controller can be made from this plan with this ARUUID in a memory of `size` octets, or 0.
 #[unsafe(no_mangle)]
 pub extern "C" fn pn_controller_judge(
     size: usize,
@@ -39,7 +39,7 @@ pub extern "C" fn pn_controller_judge(
     judge(size, abi, op_size, plan, ar)
 }
 
-/// Makes the controller of a plan in the room, of a plan that `pn_controller_judge` answered 0 for.
+/// Makes the controller of a plan in the memory at `room`, from a plan for which `pn_controller_judge` returned 0.
 #[unsafe(no_mangle)]
 pub unsafe extern "C" fn pn_controller_put(
     room: *mut u8,
@@ -53,7 +53,7 @@ pub unsafe extern "C" fn pn_controller_put(
     unsafe { std::ptr::write(room as *mut Port, port_of(plan, ar, activity)) };
 }
 
-/// Carries one operation out on the controller in the room.
+/// Carries out one operation on the controller in the memory at `room`. Returns 0, or why nothing changed.
 #[unsafe(no_mangle)]
 pub unsafe extern "C" fn pn_controller_step(room: *mut u8, op: &mut Op, given: &[u8]) -> u32
     ghost port: { State }

@@ -1,5 +1,5 @@
-//! The library that reads the catalogue of a station for C. `include/nandutable_controller.h` says how it is used. It takes memory
-//! from the C library, and gives all of it back before it answers.
+//! The library that reads the catalogue of a station for C. `include/nandutable_controller.h` says how it is used. It
+//! allocates with the C library, and frees all of its memory before it returns.
 #![tactic(auto)]
 
 ghost use Rattle.std.specs.Prelude.{◌≡◌, ◌≢◌, ◌≤◌, length};
@@ -12,7 +12,8 @@ use controller_abi::WrittenPlan;
 use plan_abi::{read, show};
 use std::alloc::Global;
 
-/// Reads a catalogue. 0, or the number of its first fault; then all of the plan is zero.
+/// Reads a catalogue into a plan. Returns 0, or the number of the first fault, and then all of the plan is zero.
+/// Returns 12 if `size` is not the size of a plan, and then the plan is unchanged.
 #[unsafe(no_mangle)]
 pub extern "C" fn pn_plan_make(
     text: &[u8],
@@ -31,7 +32,8 @@ pub extern "C" fn pn_plan_make(
     read(alloc, text, size, plan)
 }
 
-/// Writes at which key the first fault of a catalogue is, with a zero behind it. 1 if it wrote a place, else 0.
+/// Writes the key at which the first fault of a catalogue is, followed by a zero. Returns 1 if it wrote one, otherwise
+/// 0.
 #[unsafe(no_mangle)]
 pub extern "C" fn pn_plan_show(text: &[u8], room: &mut [u8], alloc: Global) -> u32
     ensures length { length room.new ≡ length room.old }

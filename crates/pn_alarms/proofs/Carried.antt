@@ -1,4 +1,4 @@
--- Data that is read carries the block that is wanted.
+-- Data that is read carries the block of the expected type.
 use Rattle.std.proofs.Common.{◌≡◌, ℕ, List, [], ◌++◌, Option, Some, None, Result, Ok, Err, Bor, refl, sym, ap, subst, ◌∙◌}
 use Rattle.std.proofs.lemmas.List.{append-nil}
 use Rattle.std.specs.Prelude.{IfOk}
@@ -13,15 +13,15 @@ use Rattle.block_codec.specs.Block.{block_of, block_bytes, in_alarm_ack, in_alar
 use Rattle.pn_alarms.specs.declared.fault.AlarmFault.TheVariants as fault
 use Rattle.pn_alarms.specs.Carried.{notification_of, wanted}
 
--- a block that was read, and where the octets behind it lie
+-- A block that was read, and where the octets after it lie.
 abbrev pub Read : Type 0
 Read = Result (Block × Bor (List ℕ)) BlockFault
 
--- the same without where they lie
+-- The same without where they lie.
 abbrev pub lying : Block × Bor (List ℕ) → Block × List ℕ
 lying x = (x.0, x.1.now)
 
--- what is wanted does not hang on that
+-- The expected block does not depend on that.
 pub same_wanted : {A : Type 0} (pick : Block → Option A) (r : Read) (read : Result (Block × List ℕ) BlockFault) → Gives lying r read → wanted pick r ≡ wanted pick read
 same_wanted pick (Ok x) read e = ap (λ (y : Result (Block × List ℕ) BlockFault). wanted pick y) (sym e)
 same_wanted pick (Err reason) read e = ap (λ (y : Result (Block × List ℕ) BlockFault). wanted pick y) (sym e)
@@ -30,7 +30,7 @@ of_or_fault : {A : Type 0} (o : Option A) (value : A) → or_fault fault.Block o
 of_or_fault (Some v) value e = cc
 of_or_fault None value e = absurd cc
 
--- what holds of the block that was read holds of the one that is wanted
+-- A property of the block that was read is a property of the expected block.
 found_in : {A : Type 0} (pick : Block → Option A) (P : Block → List ℕ → Type 0) (r : Read) (value : A) (block : Block) → ((b : Block) → pick b ≡ Some value → b ≡ block)
     → IfOk r (λ x. P x.0 x.1.now) → wanted pick r ≡ Ok value → (rest : List ℕ) × P block rest
 found_in pick P (Ok x) value block named holds e =
@@ -53,12 +53,12 @@ pub notification_found : (P : Block → List ℕ → Type 0) (r : Read) (alarm :
     → (rest : List ℕ) × P (is.AlarmNotification alarm) rest
 notification_found P r alarm holds e = found_in in_alarm_notification P r alarm (is.AlarmNotification alarm) (λ b. notification_is b alarm) holds e
 
--- what holds of the value, if there is one
+-- A property of the value, if there is one.
 pub of_ok : {A F : Type 0} (P : A → Type 0) (result : Result A F) → ((value : A) → result ≡ Ok value → P value) → IfOk result P
 of_ok P (Ok value) holds = holds value refl
 of_ok P (Err reason) holds = tt
 
--- the block of an alarm is read as it
+-- The block of an alarm is read as the alarm.
 pub carried : (alarm : AlarmNotification) (out : List ℕ) → out ≡ block_bytes (is.AlarmNotification alarm)
     → block_of (block_bytes (is.AlarmNotification alarm) ++ []) ≡ Ok (is.AlarmNotification alarm, []) → notification_of out ≡ Ok alarm
 carried alarm out e read =

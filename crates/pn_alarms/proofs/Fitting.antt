@@ -1,4 +1,4 @@
--- What fits the format of PDUs is read as it was written.
+-- A value that fits the format of PDUs is read as it was written.
 use Rattle.std.proofs.Common.{◌≡◌, ◌<◌, ◌+◌, ℕ, true, List, [], ◌++◌, length, Ok, refl, ap, ◌∙◌, arith}
 use Rattle.std.proofs.lemmas.List.{length-append}
 use Rattle.wire.specs.Formats.{big_bytes}
@@ -10,7 +10,7 @@ pub pdu_read : (said : Said) (more : List ℕ) → header.Fits said.header → i
     → pdu_of (pdu_bytes said ++ more) ≡ Ok said
 pdu_read said more fits long few = pdu_again _ said (pdu_behind (pdu_bytes said) more said (pdu_spelled said long fits (omega (arith, few))))
 
--- a header has ten octets, and VarPartLen two
+-- A header has ten octets, and VarPartLen two.
 header_size : (value : Header) → header.size value ≡ 10
 unfolding header kind
 header_size value = refl

@@ -1,4 +1,4 @@
--- Fewer than 12 octets are no PDU: its header has ten, and VarPartLen two.
+-- Fewer than 12 octets are not a PDU: its header has ten, and VarPartLen two.
 use Rattle.std.proofs.Common.{◌≡◌, ◌<◌, ◌+◌, ℕ, List, length, Ok, Err, arith, ap, refl}
 use Rattle.std.proofs.lemmas.Bool.{lt-ltb}
 use Rattle.std.proofs.lemmas.List.{length-append}
@@ -11,7 +11,7 @@ use Rattle.pn_alarms.specs.declared.pdu.PduType.{PduType}
 use Rattle.pn_alarms.specs.Format.{flags_of, kind, header, pdu, pdu_of}
 use Rattle.pn_alarms.proofs.Sound.{header_sound}
 
--- a value takes so many octets
+-- A value takes this many octets.
 abbrev IsOf : {A : Type 0} → ℕ → Codec AlarmFault A → Type 0
 IsOf {A = A} size codec = (bytes : List ℕ) (value : A) (rest : List ℕ) → codec.Spells bytes value rest → length bytes ≡ size + length rest
 
@@ -29,7 +29,7 @@ kind_of_one bytes value rest (inner, e, s) = number_of fault.Short 1 bytes inner
 flags_of_one : (flags : ℕ) → IsOf 1 (unchecked {F = AlarmFault} fault.Short 1 flags)
 flags_of_one flags bytes value rest (inner, e, s) = number_of fault.Short 1 bytes inner rest s
 
--- the parts of a header
+-- The parts of a header.
 abbrev two : Codec AlarmFault ℕ
 two = number fault.Short 2
 
@@ -51,14 +51,14 @@ header_of_ten bytes value rest (inner, e, s) =
     behind 2 8 two (λ _. two ⨾ then_by kind after_kind) two_of
     (λ _. behind 2 6 two (λ _. then_by kind after_kind) two_of (λ _. behind 1 5 kind after_kind kind_of_one after_kind_of_five)) bytes inner rest s
 
--- with a whole header VarPartLen is not whole
+-- With a complete header VarPartLen is incomplete.
 pub without_length : (bytes : List ℕ) (value : Header) (rest : List ℕ) → length bytes < 12 → header.read bytes ≡ Ok (value, rest) → pdu_of bytes ≡ Err fault.Short
 unfolding pdu_of pdu
 without_length bytes value rest few e =
     let left = header_of_ten bytes value rest (header_sound.takes bytes value rest e) in
     rw (e, lt-ltb (length rest) 2 (omega (arith, few, left))) refl
 
--- without one its fault is the first
+-- Without a complete header its fault is the first.
 pub without_header : (bytes : List ℕ) (f : AlarmFault) → header.read bytes ≡ Err f → pdu_of bytes ≡ Err f
 unfolding pdu_of pdu
 without_header bytes f e = rw e refl

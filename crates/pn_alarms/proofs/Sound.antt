@@ -15,7 +15,7 @@ use Rattle.pn_alarms.specs.declared.pdu.PduType.TheVariants.{Data, Nack, Ack, Er
 use Rattle.pn_alarms.specs.declared.pdu.Header.{Header}
 use Rattle.pn_alarms.specs.Format.{Said, octet_of, kind_of, flags_of, is_long, kind, header, pdu, IsPdu, pdu_of, pdu_bytes}
 
--- two formats, one behind the other
+-- Two formats, one after the other.
 both : {A B : Type 0} (first : Codec AlarmFault A) (second : Codec AlarmFault B) → IsSound first → IsSound second → IsSound (first ⨾ second)
 both first second one other = then_by_sound first (λ _. second) one (λ _. other)
 
@@ -76,7 +76,7 @@ pdu_behind bytes more meaning s = loose_behind pdu bytes meaning more pdu_onward
 
 -- ---- writing
 
--- the header, VarPartLen, and the octets
+-- The header, VarPartLen, and the body.
 pub pdu_parts : (meaning : Said) → pdu_bytes meaning ≡ header.write meaning.header [] ++ (big_bytes 2 (length meaning.body) ++ meaning.body)
 unfolding pdu_bytes pdu
 pdu_parts meaning =

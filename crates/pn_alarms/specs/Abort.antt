@@ -1,17 +1,17 @@
--- The PDU that ends a relation, and says why (IEC 61158-6-10, 5.2.6).
+-- The PDU that ends a relation and carries the reason (IEC 61158-6-10, 5.2.6).
 use Rattle.std.specs.Prelude.{ℕ, [], ◌∷◌}
 use Rattle.pn_alarms.specs.declared.abort.Abort.{Abort}
 use Rattle.pn_alarms.specs.declared.abort.Abort.TheVariants.{DataHold, Activity, Other}
 use Rattle.pn_alarms.specs.declared.pdu.PduType.TheVariants.{Error}
 use Rattle.pn_alarms.specs.Format.{Said}
 
--- ErrorCode2
+-- The ErrorCode2 of each reason.
 abbrev pub code_of : Abort → ℕ
 code_of DataHold = 5
 code_of Activity = 6
 code_of Other = 13
 
--- an ERR: ErrorCode CF, ErrorDecode 81, ErrorCode1 FD, and ErrorCode2
+-- An ERR: ErrorCode CF, ErrorDecode 81, ErrorCode1 FD, and ErrorCode2.
 abbrev pub abort_of : Abort → ℕ → ℕ → ℕ → ℕ → Said
 abort_of why destination source send_number ack_number = record {
   header = record { destination = destination; source = source; kind = Error; send_number = send_number; ack_number = ack_number };

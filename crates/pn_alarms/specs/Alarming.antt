@@ -1,9 +1,9 @@
--- The state of who sends alarms.
+-- The state of the sender of alarms.
 use Rattle.std.specs.Prelude.{ℕ, Option}
 use Rattle.record_blocks.specs.declared.alarm_notification.AlarmNotification.{AlarmNotification}
 use Rattle.pn_alarms.specs.Sending.{Sending}
 
--- one who sends alarms: how they are sent, the AlarmSpecifier of the next one, and the one that stands
+-- The sender of alarms: how alarms are sent, the AlarmSpecifier of the next alarm, and the active alarm.
 pub record Alarming : Type 0 where
   pub sending : Sending
   pub specifier : ℕ

@@ -12,25 +12,25 @@ use Rattle.pn_alarms.specs.declared.pdu.Header.{Header}
 use Rattle.pn_alarms.specs.Format.{Said}
 use Rattle.pn_alarms.specs.declared.fault.AlarmFault.TheVariants as fault
 
--- these octets begin with this block
+-- These octets begin with this block.
 abbrev pub IsAck : List ℕ → AlarmAck → Type 0
 IsAck body ack = (rest : List ℕ) × IsBlock body (is.AlarmAck ack) rest
 
 abbrev pub IsNotification : List ℕ → AlarmNotification → Type 0
 IsNotification body alarm = (rest : List ℕ) × IsBlock body (is.AlarmNotification alarm) rest
 
--- of a block that was read, the one that is wanted
+-- The block of the expected type, if the block that was read is one.
 abbrev pub wanted : {A X : Type 0} → (Block → Option A) → Result (Block × X) BlockFault → Result A AlarmFault
 wanted pick (Ok x) = or_fault fault.Block (pick x.0)
 wanted pick (Err reason) = Err fault.Block
 
--- the block that octets begin with, if it is of the type that is wanted
+-- The block at the start of these octets, if it has the expected type.
 abbrev pub ack_of : List ℕ → Result AlarmAck AlarmFault
 ack_of body = wanted in_alarm_ack (block_of body)
 
 abbrev pub notification_of : List ℕ → Result AlarmNotification AlarmFault
 notification_of body = wanted in_alarm_notification (block_of body)
 
--- data that carries an alarm
+-- Data that carries an alarm.
 abbrev pub alarm_pdu : Header → AlarmNotification → Said
 alarm_pdu header alarm = record { header = header; body = block_bytes (is.AlarmNotification alarm) }

@@ -1,4 +1,4 @@
--- A device's end of a relation's alarms: it sends alarms, and takes AlarmAcks.
+-- A device's end of the alarms of a relation: it sends alarms and accepts AlarmAcks.
 use Rattle.std.specs.Prelude.{ℕ, None, if◌then◌else◌}
 use Rattle.record_blocks.specs.declared.alarm_ack.AlarmAck.{AlarmAck}
 use Rattle.record_blocks.specs.declared.alarm_notification.AlarmNotification.{AlarmNotification}
@@ -18,32 +18,32 @@ use Rattle.pn_alarms.specs.Ends.{DeviceEnd}
 use Rattle.pn_alarms.specs.Sender.{quiet, standing_with, raised, answered, later}
 use Rattle.pn_alarms.specs.Receiver.{taken_as, last_behind}
 
--- nothing was raised, and nothing taken
+-- Nothing was raised and nothing was accepted.
 abbrev pub idle : ℕ → ℕ → DeviceEnd
 idle factor retries = record { sender = quiet factor retries; seen = None }
 
--- what becomes of a PDU: data is taken, or not; an ACK counts if it is of the last alarm that was sent; a NACK does not; an ERR ends the
--- relation
+-- What happens to a PDU: data is accepted or refused; an ACK counts if it acknowledges the last alarm that was sent; a
+-- NACK does not count; an ERR ends the relation.
 abbrev pub heard_as : DeviceEnd → ToDevice → PduFate
 heard_as e (message.Data number ack) = Data (taken_as e.seen number)
 heard_as e (message.Ack number) = if is_last e.sender.sending.last number then Done else Ignored
 heard_as e message.Nack = Ignored
 heard_as e message.Abort = Aborted
 
--- an AlarmAck that is taken may end the alarm that stands
+-- An AlarmAck that is accepted may end the active alarm.
 abbrev pub sender_after : Alarming → AlarmAck → Taken → Alarming
 sender_after sender ack New = answered sender (reply.AlarmAck ack)
 sender_after sender ack Again = sender
 sender_after sender ack Refused = sender
 
--- behind it
+-- The state after a PDU.
 abbrev pub end_behind : DeviceEnd → ToDevice → DeviceEnd
 end_behind e (message.Data number ack) = record { sender = sender_after e.sender ack (taken_as e.seen number); seen = last_behind e.seen number }
 end_behind e (message.Ack number) = record { sender = answered e.sender (reply.Ack number); seen = e.seen }
 end_behind e message.Nack = e
 end_behind e message.Abort = e
 
--- the header of a PDU that is sent now
+-- The header of a PDU that is sent now.
 abbrev pub header_now : DeviceEnd → PduType → ℕ → ℕ → Header
 header_now e kind destination source = record {
   destination = destination;
@@ -53,7 +53,7 @@ header_now e kind destination source = record {
   ack_number = ack_number e.seen;
 }
 
--- behind an alarm that stands from now on, behind one that is raised, and behind a unit
+-- The state after an alarm becomes active, after the application raises one, and after a unit.
 abbrev pub end_with : DeviceEnd → AlarmNotification → DeviceEnd
 end_with e notice = record { sender = standing_with notice e.sender; seen = e.seen }
 

@@ -1,4 +1,4 @@
--- How the PDUs of alarms are spelled (IEC 61158-6-10, 4.8): what follows the FrameID.
+-- The encoding of the PDUs of alarms (IEC 61158-6-10, 4.8): the octets that follow the FrameID.
 use Rattle.std.specs.Prelude.{◌==◌, ℕ, Bool, true, List, [], length, nat_le, Option, Some, None, Result, if◌then◌else◌}
 use Rattle.wire.specs.Codec.{Codec}
 use Rattle.wire.specs.Formats.{number, then_by, ◌⨾◌, seen, unchecked, framed}
@@ -11,43 +11,43 @@ use Rattle.pn_alarms.specs.declared.pdu.PduType.TheVariants.{Data, Nack, Ack, Er
 use Rattle.pn_alarms.specs.declared.pdu.Header.{Header}
 use Rattle.pn_alarms.specs.declared.pdu.Pdu.{Pdu}
 
--- what a PDU says: its header, and the octets that VarPartLen counts
+-- What a PDU says: its header, and the octets that VarPartLen counts.
 pub record Said : Type 0 where
   pub header : Header
   pub body : List ℕ
 
--- a PDU without where its octets lie in memory
+-- A PDU without where its octets lie in memory.
 abbrev pub said : Pdu → Said
 said pdu = record { header = pdu.header; body = pdu.body.now }
 
 -- ---- types
 
--- the octet of a type
+-- The octet of a type.
 abbrev pub octet_of : PduType → ℕ
 octet_of Data = 0x11
 octet_of Nack = 0x12
 octet_of Ack = 0x13
 octet_of Error = 0x14
 
--- the type of an octet
+-- The type of an octet.
 abbrev pub kind_of : ℕ → Option PduType
 kind_of octet = if octet == 0x11 then Some Data else (if octet == 0x12 then Some Nack else (if octet == 0x13 then Some Ack else (if octet == 0x14 then Some Error else None)))
 
--- AddFlags: the window size 1, and 0x10 for data, which is to be acknowledged
+-- AddFlags: the window size 1, and 0x10 for data, which must be acknowledged.
 abbrev pub flags_of : PduType → ℕ
 flags_of Data = 0x11
 flags_of Nack = 0x01
 flags_of Ack = 0x01
 flags_of Error = 0x01
 
--- the FrameID under which it is sent
+-- The FrameID of the frame that carries it.
 abbrev pub frame_id_of : PduType → ℕ
 frame_id_of Data = 0xFC01
 frame_id_of Nack = 0xFC01
 frame_id_of Ack = 0xFC01
 frame_id_of Error = 0xFE01
 
--- whether so many octets can follow: an ERR says why in four
+-- Whether a body of this many octets is long enough: an ERR has four octets of PNIOStatus.
 abbrev pub is_long : PduType → ℕ → Bool
 is_long Data size = true
 is_long Nack size = true
@@ -56,11 +56,11 @@ is_long Error size = nat_le 4 size
 
 -- ---- formats
 
--- PDUType
+-- PDUType.
 unfoldable pub kind : Codec AlarmFault PduType
 kind = named kind_of octet_of fault.Type (number fault.Short 1)
 
--- AlarmDstEndpoint, AlarmSrcEndpoint, PDUType, AddFlags, which is not looked at, SendSeqNum and AckSeqNum
+-- AlarmDstEndpoint, AlarmSrcEndpoint, PDUType, AddFlags, which is ignored, SendSeqNum and AckSeqNum.
 unfoldable pub header : Codec AlarmFault Header
 header = seen
     (λ x. record { destination = x.0; source = x.1.0; kind = x.1.1.0; send_number = x.1.1.1.1.0; ack_number = x.1.1.1.1.1 })
@@ -68,21 +68,21 @@ header = seen
     (number fault.Short 2 ⨾ number fault.Short 2
     ⨾ then_by kind (λ k. unchecked fault.Short 1 (flags_of k) ⨾ number fault.Short 2 ⨾ number fault.Short 2))
 
--- the header, VarPartLen, and so many octets
+-- The header, VarPartLen, and as many octets as it counts.
 unfoldable pub pdu : Codec AlarmFault Said
 pdu = checked (λ said. is_long said.header.kind (length said.body)) fault.Cause (seen
     (λ x. record { header = x.0; body = x.1 })
     (λ said. (said.header, said.body))
     (header ⨾ framed (number fault.Short 2) fault.Short everything))
 
--- these octets spell this PDU
+-- These octets encode this PDU.
 unfoldable pub IsPdu : List ℕ → Said → Type 0
 IsPdu bytes meaning = (loose pdu).Spells bytes meaning
 
--- the PDU that octets are, or their first fault
+-- The PDU that the octets encode, or their first fault.
 unfoldable pub pdu_of : List ℕ → Result Said AlarmFault
 pdu_of bytes = (loose pdu).read bytes
 
--- the octets that are sent for a PDU
+-- The octets that are sent for a PDU.
 unfoldable pub pdu_bytes : Said → List ℕ
 pdu_bytes meaning = pdu.write meaning []

@@ -1,4 +1,4 @@
--- What a PDU says to the station that gets it: data is an AlarmAck at a device, and an alarm at a controller.
+-- What a PDU says to the station that receives it: data is an AlarmAck at a device, and an alarm at a controller.
 use Rattle.std.specs.Prelude.{ℕ, List, Result, Ok}
 use Rattle.wire.specs.Codec.{◌>>=◌}
 use Rattle.record_blocks.specs.declared.alarm_ack.AlarmAck.{AlarmAck}
@@ -12,25 +12,25 @@ use Rattle.pn_alarms.specs.declared.message.Notice.TheVariants.{Data, Nack, Ack,
 use Rattle.pn_alarms.specs.Format.{Said, pdu_of}
 use Rattle.pn_alarms.specs.Carried.{ack_of, notification_of}
 
--- what is said to a device, and what to a controller
+-- What a PDU says to a device, and what it says to a controller.
 abbrev pub ToDevice : Type 0
 ToDevice = Notice AlarmAck
 
 abbrev pub ToController : Type 0
 ToController = Notice AlarmNotification
 
--- of a PDU of this type: data counts with its SendSeqNum and the block that it carries, an ACK with its AckSeqNum alone
+-- What a PDU of this type says: of data, its SendSeqNum and the block that it carries; of an ACK, only its AckSeqNum.
 abbrev pub notice_in : {B : Type 0} → (List ℕ → Result B AlarmFault) → PduType → Said → Result (Notice B) AlarmFault
 notice_in block pdu.Data said = block said.body >>= λ carried. Ok (Data said.header.send_number carried)
 notice_in block pdu.Nack said = Ok Nack
 notice_in block pdu.Ack said = Ok (Ack said.header.ack_number)
 notice_in block pdu.Error said = Ok Abort
 
--- the header, and what the PDU says; or the first fault
+-- The header and what the PDU says, or the first fault.
 abbrev pub notice_of : {B : Type 0} → (List ℕ → Result B AlarmFault) → List ℕ → Result (Header × Notice B) AlarmFault
 notice_of block bytes = pdu_of bytes >>= λ said. notice_in block said.header.kind said >>= λ notice. Ok (said.header, notice)
 
--- the same at a device, and at a controller
+-- The same at a device, and at a controller.
 abbrev pub message_in : PduType → Said → Result ToDevice AlarmFault
 message_in kind said = notice_in ack_of kind said
 

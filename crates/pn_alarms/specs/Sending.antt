@@ -1,34 +1,34 @@
--- Data that is sent again until it is acknowledged, or too often (IEC 61158-6-10, 4.8).
+-- Data that is sent again until it is acknowledged, or until the repeats are used up (IEC 61158-6-10, 4.8).
 use Rattle.std.specs.Prelude.{◌+◌, ◌*◌, ◌%◌, ◌==◌, ℕ, Option, Some, None, if◌then◌else◌}
 use Rattle.pn_alarms.specs.declared.repeats.Due.{Due}
 use Rattle.pn_alarms.specs.declared.repeats.Due.TheVariants.{Nothing, Again, Spent}
 use Rattle.pn_alarms.specs.Numbers.{next_number, is_last}
 
--- one who sends data: after how many units it is sent again, after how many it is given up, the number of the last data, and
--- the units since that was first sent, while it is not acknowledged
+-- The sender of data: after how many units data is sent again, after how many it is given up, the number of the last
+-- data, and, while that is not acknowledged, the units since it was first sent.
 pub record Sending : Type 0 where
   pub interval : ℕ
   pub limit : ℕ
   pub last : Option ℕ
   pub waiting : Option ℕ
 
--- RTATimeoutFactor is in 3,200 units, 100 milliseconds; RTARetries is how often data is sent again at most
+-- RTATimeoutFactor is in 3,200 units, which are 100 milliseconds. RTARetries is the maximum number of repeats.
 abbrev pub interval_of : ℕ → ℕ
 interval_of factor = factor * 3200
 
--- nothing was sent. It is given up where it would be sent again once more
+-- Nothing was sent yet. Data is given up at the time of the first repeat that is not allowed.
 abbrev pub silent : ℕ → ℕ → Sending
 silent factor retries = record { interval = interval_of factor; limit = (retries + 1) * interval_of factor; last = None; waiting = None }
 
--- the next data is sent
+-- The next data is sent.
 abbrev pub sent : Sending → Sending
 sent s = record { interval = s.interval; limit = s.limit; last = Some (next_number s.last); waiting = Some 0 }
 
--- what is due so many units behind the first sending
+-- What is due this many units after the first sending.
 abbrev pub due_at : Sending → ℕ → Due
 due_at s units = if units == s.limit then Spent else (if units % s.interval == 0 then Again else Nothing)
 
--- what is due with the next unit
+-- What is due with the next unit.
 abbrev pub due_behind : Sending → Option ℕ → Due
 due_behind s None = Nothing
 due_behind s (Some units) = due_at s (units + 1)
@@ -36,7 +36,7 @@ due_behind s (Some units) = due_at s (units + 1)
 abbrev pub due : Sending → Due
 due s = due_behind s s.waiting
 
--- a unit later
+-- The state after a unit of time.
 abbrev pub waiting_behind : Sending → Option ℕ → Option ℕ
 waiting_behind s None = None
 waiting_behind s (Some units) = if units + 1 == s.limit then None else Some (units + 1)
@@ -44,10 +44,10 @@ waiting_behind s (Some units) = if units + 1 == s.limit then None else Some (uni
 abbrev pub ticked : Sending → Sending
 ticked s = record { interval = s.interval; limit = s.limit; last = s.last; waiting = waiting_behind s s.waiting }
 
--- nothing is awaited any more
+-- The sender no longer waits for an ACK.
 abbrev pub rested : Sending → Sending
 rested s = record { interval = s.interval; limit = s.limit; last = s.last; waiting = None }
 
--- behind an ACK, which counts if it is of the last data
+-- The state after an ACK, which counts if it acknowledges the last data.
 abbrev pub acked : Sending → ℕ → Sending
 acked s number = if is_last s.last number then rested s else s

@@ -1,8 +1,8 @@
--- An alarm as it is kept while it stands.
+-- An alarm as it is stored while it is active.
 use Rattle.record_blocks.specs.declared.alarm_notification.AlarmNotification.{AlarmNotification}
 use Rattle.pn_alarms.specs.declared.sender.Standing.{Standing}
 
--- its block: a process alarm, of type 2, in API 0
+-- Its block: a process alarm, of type 2, in API 0.
 abbrev pub kept_as : Standing → AlarmNotification
 kept_as alarm = record {
   alarm_type = 2;

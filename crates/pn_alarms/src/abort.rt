@@ -8,16 +8,16 @@ use crate::{Header, Pdu, PduType};
 /// Why a station ends its relation (IEC 61158-6-10, 5.2.6: ErrorCode2 under CF 81 FD).
 #[derive(Clone, Copy, Debug, PartialEq, Eq)]
 pub enum Abort {
-    /// 5: no cyclic frame came within the data hold time.
+    /// 5: no cyclic frame arrived within the data hold time.
     DataHold,
-    /// 6: no call came within the activity timeout.
+    /// 6: no call arrived within the activity timeout.
     Activity,
     /// 13: any other reason.
     Other,
 }
 
 impl Abort {
-    /// ErrorCode2.
+    /// The ErrorCode2 of this reason.
     pub fn code(self) -> u8
         ensures { result ≡ code_of self }
     {
@@ -28,8 +28,8 @@ impl Abort {
         }
     }
 
-    /// The ERR that ends a relation for this reason, with these endpoints, and the numbers of the last data that was sent and
-    /// that was taken. It carries PNIOStatus CF 81 FD and the code.
+    /// The ERR that ends a relation for this reason, with these endpoints and the numbers of the last data that was
+    /// sent and of the last data that was accepted. It carries PNIOStatus CF 81 FD and the ErrorCode2.
     pub fn pdu(
         self,
         destination: u16,
@@ -38,7 +38,7 @@ impl Abort {
         ack_number: u16,
     ) -> Pdu<'static>
         ensures exact { said result ≡ abort_of self destination source send_number ack_number }
-        // It can be written.
+        // It can be encoded: its body has 4 octets, which is long enough for its type.
         ensures few { length result.body.now ≡ 4 }
         ensures long { is_long result.header.kind (length result.body.now) ≡ true }
     {

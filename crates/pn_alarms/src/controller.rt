@@ -1,4 +1,4 @@
-//! A controller's end of a relation's alarms.
+//! A controller's end of the alarms of a relation.
 ghost use Rattle.std.specs.Prelude.{◌≡◌, ◌<◌, ◌≤◌};
 ghost use Rattle.pn_alarms.specs.Numbers.{is_last};
 ghost use Rattle.pn_alarms.specs.Receiver.{taken_as};
@@ -9,7 +9,7 @@ use crate::{Due, Header, PduType, Receiver, Repeats, Taken};
 use block_codec::AlarmAck;
 use std::marker::Model;
 
-/// A controller's end of a relation's alarms: it takes alarms, each once, and sends AlarmAcks.
+/// A controller's end of the alarms of a relation: it accepts alarms, each once, and sends AlarmAcks.
 #[derive(Drop)]
 pub struct ControllerAlarms {
     receiver: Receiver,
@@ -17,7 +17,7 @@ pub struct ControllerAlarms {
     ack: Option<AlarmAck>,
 }
 
-// Clauses see how AlarmAcks are sent, the last one, and the number of the last alarm that was taken.
+// Its model: how AlarmAcks are sent, the last AlarmAck, and the number of the last alarm that was accepted.
 impl Model for ControllerAlarms {
     ghost use Rattle.pn_alarms.specs.Ends.{ControllerEnd};
 
@@ -27,7 +27,7 @@ impl Model for ControllerAlarms {
 }
 
 impl ControllerAlarms {
-    /// Those of a new relation, with this RTATimeoutFactor, from 1, and RTARetries, up to 15.
+    /// The alarms of a new relation, with this RTATimeoutFactor, at least 1, and RTARetries, at most 15.
     pub fn new(timeout_factor: u16, retries: u16) -> ControllerAlarms
         requires factor { 0 < timeout_factor }
         requires few { retries ≤ 15 }
@@ -40,7 +40,7 @@ impl ControllerAlarms {
         }
     }
 
-    /// An alarm comes, as data of this number. Answers whether it is taken.
+    /// Receives an alarm, as data of this number. Returns whether it is accepted.
     pub fn take(&mut self, number: u16) -> Taken
         ensures taken { result ≡ taken_as self.old.seen number }
         ensures state { self.new ≡ with_data self.old number }
@@ -48,7 +48,8 @@ impl ControllerAlarms {
         self.receiver.take(number)
     }
 
-    /// Confirms an alarm that was taken by this AlarmAck, which is then to be sent as data, in the place of the one before.
+    /// Confirms an accepted alarm with this AlarmAck, which the caller then sends as data. It replaces the AlarmAck
+    /// before it.
     pub fn confirm(&mut self, ack: AlarmAck)
         ensures { self.new ≡ confirmed self.old ack }
     {
@@ -56,14 +57,15 @@ impl ControllerAlarms {
         self.repeats.send();
     }
 
-    /// The last AlarmAck.
+    /// The last AlarmAck, if there was one.
     pub fn confirming(&self) -> Option<AlarmAck>
         ensures { result ≡ self.now.confirming }
     {
         self.ack
     }
 
-    /// An ACK comes. Answers whether it is of the last AlarmAck that was sent, which then is not sent again.
+    /// Receives an ACK. Returns whether it acknowledges the last AlarmAck that was sent; if so, that AlarmAck is not
+    /// sent again.
     pub fn hear_ack(&mut self, number: u16) -> bool
         ensures counts { result ≡ is_last self.old.sending.last number }
         ensures state { self.new ≡ with_ack self.old number }
@@ -71,8 +73,8 @@ impl ControllerAlarms {
         self.repeats.hear_ack(number)
     }
 
-    /// The header of a PDU of this type that is sent now, with these endpoints: it has the numbers of the last data that was sent
-    /// and that was taken.
+    /// The header of a PDU of this type that is sent now, with these endpoints. It has the numbers of the last data
+    /// that was sent and of the last data that was accepted.
     pub fn header(&self, kind: PduType, destination: u16, source: u16) -> Header
         ensures { result ≡ controller_header self.now kind destination source }
     {
@@ -85,7 +87,7 @@ impl ControllerAlarms {
         }
     }
 
-    /// A unit passes. Answers what is due.
+    /// Counts one unit of time. Returns what is due.
     pub fn tick(&mut self) -> Due
         ensures due { result ≡ due self.old.sending }
         ensures state { self.new ≡ controller_later self.old }

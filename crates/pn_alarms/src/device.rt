@@ -1,4 +1,4 @@
-//! A device's end of a relation's alarms.
+//! A device's end of the alarms of a relation.
 ghost use Rattle.std.specs.Prelude.{◌≡◌, ◌<◌, ◌≤◌, length, is_ok, is_none, IfSome, OnOk, OnErr};
 ghost use Rattle.std.specs.Prelude.{if◌then◌else◌};
 ghost use Rattle.pn_alarms.specs.declared.device.PduFate.TheVariants.{Done, Ignored};
@@ -13,27 +13,27 @@ use crate::{Alarm, Due, Header, Message, PduType, RaiseFault, Receiver, Reply, S
 use block_codec::{AlarmAck, AlarmNotification};
 use std::marker::Model;
 
-/// What becomes of a PDU.
+/// What happens to a PDU.
 #[derive(Clone, Copy, Debug, PartialEq, Eq)]
 pub enum PduFate {
-    /// It was data, which was taken or not, and is answered.
+    /// It was data, which was accepted or refused, and is answered.
     Data(Taken),
     /// It was an ACK of the last alarm.
     Done,
     /// It was another ACK, or a NACK.
     Ignored,
-    /// It was an ERR: the relation is over.
+    /// It was an ERR: the relation ends.
     Aborted,
 }
 
-/// A device's end of a relation's alarms: it sends alarms, one at a time, and takes AlarmAcks, each once.
+/// A device's end of the alarms of a relation: it sends alarms, one at a time, and accepts AlarmAcks, each once.
 #[derive(Drop)]
 pub struct DeviceAlarms {
     sender: Sender,
     receiver: Receiver,
 }
 
-// Clauses see who sends alarms, and the number of the last AlarmAck that was taken.
+// Its model: the state of the sender, and the number of the last AlarmAck that was accepted.
 impl Model for DeviceAlarms {
     ghost use Rattle.pn_alarms.specs.Ends.{DeviceEnd};
 
@@ -43,7 +43,7 @@ impl Model for DeviceAlarms {
 }
 
 impl DeviceAlarms {
-    /// Those of a new relation, with this RTATimeoutFactor, from 1, and RTARetries, up to 15.
+    /// The alarms of a new relation, with this RTATimeoutFactor, at least 1, and RTARetries, at most 15.
     pub fn new(timeout_factor: u16, retries: u16) -> DeviceAlarms
         requires factor { 0 < timeout_factor }
         requires few { retries ≤ 15 }
@@ -55,18 +55,18 @@ impl DeviceAlarms {
         }
     }
 
-    /// Raises an alarm, which is then to be sent as data.
+    /// Raises an alarm, which the caller then sends as data.
     pub fn raise(&mut self, alarm: &Alarm) -> Result<(), RaiseFault>
         requires { length alarm.now.alarm_data.now ≤ 32 }
         ensures ok { OnOk result (self.new ≡ end_raised self.old alarm.now) }
         ensures err { OnErr result (self.new ≡ self.old) }
-        // It is refused exactly where one stands.
+        // It succeeds exactly if no alarm is active.
         ensures busy { is_ok result ≡ is_none self.old.sender.standing }
     {
         self.sender.raise(alarm)
     }
 
-    /// The block of the alarm that stands.
+    /// The block of the active alarm, if there is one.
     pub fn standing(&self) -> Option<AlarmNotification<'_>>
         ensures value { result ≡ self.now.sender.standing }
         ensures few { IfSome result (λ alarm. length alarm.alarm_data ≤ 32) }
@@ -74,8 +74,8 @@ impl DeviceAlarms {
         self.sender.standing()
     }
 
-    /// The header of a PDU of this type that is sent now, with these endpoints: it has the numbers of the last data that was sent
-    /// and that was taken.
+    /// The header of a PDU of this type that is sent now, with these endpoints. It has the numbers of the last data
+    /// that was sent and of the last data that was accepted.
     pub fn header(&self, kind: PduType, destination: u16, source: u16) -> Header
         ensures { result ≡ header_now self.now kind destination source }
     {
@@ -88,7 +88,7 @@ impl DeviceAlarms {
         }
     }
 
-    /// A unit passes. Answers what is due.
+    /// Counts one unit of time. Returns what is due.
     pub fn tick(&mut self) -> Due
         ensures due { result ≡ due self.old.sender.sending }
         ensures state { self.new ≡ end_later self.old }
@@ -96,7 +96,7 @@ impl DeviceAlarms {
         self.sender.tick()
     }
 
-    /// A PDU of the relation comes. Answers what becomes of it.
+    /// Receives a PDU of the relation. Returns what happens to it.
     pub fn hear(&mut self, message: &Message) -> PduFate
         ensures heard { result ≡ heard_as self.old message.now }
         ensures state { self.new ≡ end_behind self.old message.now }
@@ -104,13 +104,14 @@ impl DeviceAlarms {
         match message {
             Message::Data(number, ack) => PduFate::Data(self.take(*number, ack)),
             Message::Ack(number) => self.hear_ack(*number),
-            // The alarm is sent again at its time anyway: a NACK says that a number was not expected, which a repeat mends.
+            // The alarm is sent again after its interval anyway. A NACK says that a number was not expected, and the
+            // repeat corrects that.
             Message::Nack => PduFate::Ignored,
             Message::Abort => PduFate::Aborted,
         }
     }
 
-    /// Data comes. What is taken may end the alarm that stands.
+    /// Receives data. An AlarmAck that is accepted may end the active alarm.
     fn take(&mut self, number: u16, ack: &AlarmAck) -> Taken
         ensures taken { result ≡ taken_as self.old.seen number }
         ensures state { self.new ≡ record {
@@ -119,7 +120,7 @@ impl DeviceAlarms {
               last_behind self.old.seen number;
         } }
     {
-        // An AlarmAck that came before its ACK counts: it can only answer an alarm that arrived.
+        // An AlarmAck that arrives before its ACK counts: it can only be a response to an alarm that arrived.
         let taken = self.receiver.take(number);
         match taken {
             Taken::New => {
@@ -130,7 +131,7 @@ impl DeviceAlarms {
         taken
     }
 
-    /// An ACK comes.
+    /// Receives an ACK. Returns what happens to it.
     fn hear_ack(&mut self, number: u16) -> PduFate
         ensures heard { result ≡ (if is_last self.old.sender.sending.last number then Done else Ignored) }
         ensures state { self.new ≡ record { sender = answered self.old.sender (Ack number); seen = self.old.seen } }

@@ -1,12 +1,13 @@
-/// Why octets are no PDU of an alarm, or carry no block of the type that is wanted. Of a PDU's faults the first from the left counts.
+/// Why octets are not a PDU of an alarm, or do not carry a block of the expected type. If a PDU has several faults, the
+/// leftmost counts.
 #[derive(Clone, Copy, Debug, PartialEq, Eq)]
 pub enum AlarmFault {
-    /// The header of 12 octets is not whole, or fewer octets than VarPartLen counts follow it.
+    /// The header of 12 octets is incomplete, or fewer octets than VarPartLen counts follow it.
     Short,
-    /// PDUType is none of the four.
+    /// PDUType is not one of the four types.
     Type,
-    /// An ERR has fewer than the four octets that say why.
+    /// An ERR has fewer than the four octets of its PNIOStatus.
     Cause,
-    /// Data does not begin with a whole block of the type that is wanted.
+    /// Data does not begin with a complete block of the expected type.
     Block,
 }

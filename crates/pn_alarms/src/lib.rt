@@ -1,5 +1,5 @@
-//! Alarms of PROFINET IO (IEC 61158-6-10, 4.8): the PDUs by which they are sent and acknowledged, the one that ends a relation,
-//! who sends alarms and repeats them, and who takes each of them once.
+//! Alarms of PROFINET IO (IEC 61158-6-10, 4.8): the PDUs that send and acknowledge alarms, the PDU that ends a
+//! relation, the sender that repeats alarms, and the receiver that accepts each alarm once.
 #![tactic(auto)]
 
 mod abort;

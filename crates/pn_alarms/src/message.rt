@@ -1,4 +1,4 @@
-//! What a PDU says to the station that gets it.
+//! What a PDU says to the station that receives it.
 ghost use Rattle.std.specs.Prelude.{◌≡◌};
 ghost use Rattle.pn_alarms.specs.Format.{said};
 ghost use Rattle.pn_alarms.specs.Message.{alarm_in, alarm_of, message_in, message_of};
@@ -6,23 +6,23 @@ ghost use Rattle.pn_alarms.specs.Message.{alarm_in, alarm_of, message_in, messag
 use crate::{AlarmFault, Header, Pdu, PduType, read_ack, read_notification, read_pdu};
 use block_codec::{AlarmAck, AlarmNotification};
 
-/// What a PDU says to the station that gets it, which reads one type of block in data.
+/// What a PDU says to the station that receives it. `B` is the type of block that this station reads from data.
 #[derive(Clone, Copy)]
 pub enum Notice<B> {
     /// Data of this number, and the block that it carries.
     Data(u16, B),
     /// Data was refused.
     Nack,
-    /// The partner got the data of this number.
+    /// The partner received the data of this number.
     Ack(u16),
     /// The partner ends the relation.
     Abort,
 }
 
-/// What a PDU says to a device: data is the AlarmAck of an alarm that the controller took.
+/// What a PDU says to a device: data carries the AlarmAck of an alarm that the controller accepted.
 pub type Message = Notice<AlarmAck>;
 
-/// What a PDU says.
+/// What this PDU says.
 fn message_in_pdu(pdu: &Pdu) -> Result<Message, AlarmFault>
     ensures { result ≡ message_in pdu.now.header.kind (said pdu.now) }
 {
@@ -37,8 +37,8 @@ fn message_in_pdu(pdu: &Pdu) -> Result<Message, AlarmFault>
     }
 }
 
-/// Reads what follows the FrameID of a frame to a device: the header, and what the PDU says. Data without a whole AlarmAck has a
-/// fault; what an ERR carries is not looked at.
+/// Reads the octets that follow the FrameID of a frame to a device. Returns the header and what the PDU says. Data
+/// without a complete AlarmAck is a fault. The body of an ERR is ignored.
 pub fn read_message(bytes: &[u8]) -> Result<(Header, Message), AlarmFault>
     ensures { result ≡ message_of bytes.now }
 {
@@ -47,7 +47,7 @@ pub fn read_message(bytes: &[u8]) -> Result<(Header, Message), AlarmFault>
     Ok((pdu.header, message))
 }
 
-/// What a PDU says to a controller.
+/// What this PDU says to a controller.
 fn alarm_in_pdu<'a>(pdu: &Pdu<'a>) -> Result<Notice<AlarmNotification<'a>>, AlarmFault>
     ensures { result ≡ alarm_in pdu.now.header.kind (said pdu.now) }
 {
@@ -62,8 +62,8 @@ fn alarm_in_pdu<'a>(pdu: &Pdu<'a>) -> Result<Notice<AlarmNotification<'a>>, Alar
     }
 }
 
-/// Reads what follows the FrameID of a frame to a controller: the header, and what the PDU says. Data without a whole
-/// AlarmNotification has a fault; what an ERR carries is not looked at.
+/// Reads the octets that follow the FrameID of a frame to a controller. Returns the header and what the PDU says. Data
+/// without a complete AlarmNotification is a fault. The body of an ERR is ignored.
 pub fn read_alarm(bytes: &[u8]) -> Result<(Header, Notice<AlarmNotification<'_>>), AlarmFault>
     ensures { result ≡ alarm_of bytes.now }
 {

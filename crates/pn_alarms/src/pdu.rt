@@ -2,21 +2,21 @@
 ghost use Rattle.std.specs.Prelude.{◌≡◌};
 ghost use Rattle.pn_alarms.specs.Format.{octet_of, kind_of, flags_of, frame_id_of, is_long};
 
-/// What a PDU is for (PDUType, IEC 61158-6-10, 4.8).
+/// The type of a PDU (PDUType, IEC 61158-6-10, 4.8).
 #[derive(Clone, Copy, Debug, PartialEq, Eq)]
 pub enum PduType {
-    /// 0x11: it carries a block, is numbered, and is acknowledged.
+    /// 0x11: it carries a block, has a number, and is acknowledged.
     Data,
     /// 0x12: data was refused.
     Nack,
-    /// 0x13: data was taken, now or before.
+    /// 0x13: data was accepted, now or before.
     Ack,
-    /// 0x14: ERR, which ends the relation and says why.
+    /// 0x14: ERR, which ends the relation and carries the reason.
     Error,
 }
 
 impl PduType {
-    /// The type of an octet, if there is one.
+    /// The type with this octet, if there is one.
     pub(crate) fn of(octet: u8) -> Option<PduType>
         ensures { result ≡ kind_of octet }
     {
@@ -29,7 +29,7 @@ impl PduType {
         }
     }
 
-    /// Its octet.
+    /// The octet of this type.
     pub fn octet(self) -> u8
         ensures { result ≡ octet_of self }
     {
@@ -41,7 +41,7 @@ impl PduType {
         }
     }
 
-    /// AddFlags: the window size 1 and, in data, that it is to be acknowledged.
+    /// AddFlags: the window size 1 and, for data, the request to acknowledge it.
     pub(crate) fn flags(self) -> u8
         ensures { result ≡ flags_of self }
     {
@@ -51,7 +51,7 @@ impl PduType {
         }
     }
 
-    /// The FrameID under which it is sent: ERR as an alarm of low priority, the others as one of high priority.
+    /// The FrameID of the frame: ERR is sent as an alarm of low priority, the other types as alarms of high priority.
     pub fn frame_id(self) -> u16
         ensures { result ≡ frame_id_of self }
     {
@@ -61,7 +61,7 @@ impl PduType {
         }
     }
 
-    /// Whether so many octets can follow the header.
+    /// Whether a body of this many octets is long enough for this type.
     pub(crate) fn is_long(self, size: usize) -> bool
         ensures { result ≡ is_long self size }
     {
@@ -72,24 +72,24 @@ impl PduType {
     }
 }
 
-/// What stands in front of what a PDU carries.
+/// The fields before the body of a PDU.
 #[derive(Clone, Copy, Debug, PartialEq, Eq)]
 pub struct Header {
-    /// AlarmDstEndpoint: for which relation of the receiver it is.
+    /// AlarmDstEndpoint: the relation of the receiver that the PDU belongs to.
     pub destination: u16,
-    /// AlarmSrcEndpoint: of which relation of the sender it is.
+    /// AlarmSrcEndpoint: the relation of the sender that the PDU belongs to.
     pub source: u16,
     pub kind: PduType,
     /// SendSeqNum: the number of the last data that the sender sent.
     pub send_number: u16,
-    /// AckSeqNum: the number of the last data that the sender took.
+    /// AckSeqNum: the number of the last data that the sender accepted.
     pub ack_number: u16,
 }
 
-/// A PDU of an alarm: what follows the FrameID.
+/// A PDU of an alarm: the octets that follow the FrameID.
 #[derive(Clone, Copy)]
 pub struct Pdu<'a> {
     pub header: Header,
-    /// As many octets as VarPartLen counts: the block of data, or the PNIOStatus of an ERR.
+    /// The VarPartLen octets of the body: the block of data, or the PNIOStatus of an ERR.
     pub body: &'a [u8],
 }

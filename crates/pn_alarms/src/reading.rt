@@ -1,4 +1,4 @@
-//! From octets to PDUs and to the blocks that they carry.
+//! From octets to PDUs, and to the blocks that PDUs carry.
 ghost use Rattle.std.specs.Prelude.{◌≡◌, ◌<◌, ◌++◌, List, ℕ, IfOk, Ok, Err, length};
 ghost use Rattle.wire.specs.Codec.{Gives};
 ghost use Rattle.block_codec.specs.Block.{in_alarm_ack, in_alarm_notification};
@@ -11,10 +11,10 @@ use crate::{AlarmFault, Header, Pdu, PduType};
 use block_codec::{AlarmAck, AlarmNotification, Block, BlockFault, read_alarm_ack, read_block};
 use wire::{split, u8_at, u16_at};
 
-/// How many octets stand in front of what a PDU carries.
+/// The number of octets before the body of a PDU.
 const FRONT: usize = 12;
 
-/// PDUType, and what is behind it.
+/// Reads PDUType. Returns it and the octets after it.
 #[tactic(auto, unfolding(crate::specs::Format::kind))]
 fn kind_at(bytes: &[u8]) -> Result<(PduType, &[u8]), AlarmFault>
     ensures { Gives (λ x. (x.0, x.1.now)) result (kind.read bytes.now) }
@@ -26,7 +26,7 @@ fn kind_at(bytes: &[u8]) -> Result<(PduType, &[u8]), AlarmFault>
     }
 }
 
-/// From AlarmDstEndpoint to AckSeqNum, and what is behind them. AddFlags is not looked at.
+/// Reads the fields from AlarmDstEndpoint to AckSeqNum. Returns them and the octets after them. AddFlags is ignored.
 #[tactic(auto, unfolding(crate::specs::Format::header))]
 #[inline(always)]
 fn header_at(bytes: &[u8]) -> Result<(Header, &[u8]), AlarmFault>
@@ -35,7 +35,7 @@ fn header_at(bytes: &[u8]) -> Result<(Header, &[u8]), AlarmFault>
     let (destination, rest) = u16_at(bytes, AlarmFault::Short)?;
     let (source, rest) = u16_at(rest, AlarmFault::Short)?;
     let (kind, rest) = kind_at(rest)?;
-    // AddFlags: one window size is all there is, and data is always acknowledged.
+    // AddFlags is ignored: only one window size exists, and data is always acknowledged.
     let (_flags, rest) = u8_at(rest, AlarmFault::Short)?;
     let (send_number, rest) = u16_at(rest, AlarmFault::Short)?;
     let (ack_number, rest) = u16_at(rest, AlarmFault::Short)?;
@@ -51,7 +51,7 @@ fn header_at(bytes: &[u8]) -> Result<(Header, &[u8]), AlarmFault>
     ))
 }
 
-/// The fault of octets that are too few for a PDU: that of its header, or that VarPartLen is not whole.
+/// The fault of octets that are too few for a PDU: the fault of its header, or that VarPartLen is incomplete.
 #[inline(never)]
 fn short_fault(bytes: &[u8]) -> AlarmFault
     requires { length bytes.now < 12 }
@@ -67,7 +67,7 @@ fn short_fault(bytes: &[u8]) -> AlarmFault
 fn pdu_in(bytes: &[u8]) -> Result<Pdu<'_>, AlarmFault>
     ensures { Gives said result (pdu_of bytes.now) }
 {
-    // Judged once: no field in front of the body is missing behind this.
+    // The length is checked once: after this no field before the body can be missing.
     if bytes.len() < FRONT {
         return Err(short_fault(bytes));
     }
@@ -80,23 +80,23 @@ fn pdu_in(bytes: &[u8]) -> Result<Pdu<'_>, AlarmFault>
     Ok(Pdu { header, body })
 }
 
-/// Reads a PDU from what follows the FrameID of a frame. What is behind the octets that VarPartLen counts is padding, and is
-/// not read. Of the faults the first from the left counts.
+/// Reads a PDU from the octets that follow the FrameID of a frame. The octets after those that VarPartLen counts are
+/// padding and are ignored. If there are several faults, the leftmost is returned.
 pub fn read_pdu(bytes: &[u8]) -> Result<Pdu<'_>, AlarmFault>
-    // What is read is spelled so.
+    // If a value is read, the octets encode that value.
     ensures found { IfOk result (λ found. IsPdu bytes.now (said found)) }
-    // What is spelled so is read, and as nothing else.
+    // Octets that encode a value are read as that value, and as no other.
     ensures only { (meaning : Said) → IsPdu bytes.now meaning → Gives said result (Ok meaning) }
-    // With anything behind it, too.
+    // Octets that encode a value, followed by any others, are read as that value.
     ensures behind { (first more : List ℕ) (meaning : Said) → IsPdu first meaning → bytes.now ≡ first ++ more →
         Gives said result (Ok meaning) }
-    // Which fault it is.
+    // The result is the PDU or the fault that the format defines for these octets.
     ensures exact { Gives said result (pdu_of bytes.now) }
 {
     pdu_in(bytes)
 }
 
-/// What was read, if it is an AlarmAck.
+/// The AlarmAck, if the block that was read is one.
 fn ack_in(read: Result<(Block<'_>, &[u8]), BlockFault>) -> Result<AlarmAck, AlarmFault>
     ensures { result ≡ wanted in_alarm_ack read.entry }
 {
@@ -109,7 +109,7 @@ fn ack_in(read: Result<(Block<'_>, &[u8]), BlockFault>) -> Result<AlarmAck, Alar
     }
 }
 
-/// What was read, if it is an AlarmNotification.
+/// The AlarmNotification, if the block that was read is one.
 fn notification_in<'a>(
     read: Result<(Block<'a>, &'a [u8]), BlockFault>,
 ) -> Result<AlarmNotification<'a>, AlarmFault>
@@ -124,7 +124,7 @@ fn notification_in<'a>(
     }
 }
 
-/// The AlarmAck in front of these octets, which do not begin like one.
+/// Reads the AlarmAck from octets that do not begin with the BlockType of one.
 #[inline(never)]
 fn other_ack(body: &[u8]) -> Result<AlarmAck, AlarmFault>
     ensures found { IfOk result (λ found. IsAck body.now found) }
@@ -134,14 +134,14 @@ fn other_ack(body: &[u8]) -> Result<AlarmAck, AlarmFault>
     ack_in(read_block(body))
 }
 
-/// Reads the AlarmAck that data carries at a device. What is behind the block is not looked at. It is read by itself, since each
-/// alarm brings one.
+/// Reads the AlarmAck that data carries to a device. Octets after the block are ignored. It has its own reader because
+/// each alarm brings one.
 pub fn read_ack(body: &[u8]) -> Result<AlarmAck, AlarmFault>
-    // What is read is spelled so.
+    // If a value is read, the octets encode that value.
     ensures found { IfOk result (λ found. IsAck body.now found) }
-    // What is spelled so is read, and as nothing else.
+    // Octets that encode a value are read as that value, and as no other.
     ensures only { (meaning : Ack) → IsAck body.now meaning → result ≡ Ok meaning }
-    // Which it is.
+    // The result is the block or the fault that the format defines for these octets.
     ensures exact { result ≡ ack_of body.now }
 {
     let Ok((0x8001, _)) = u16_at(body, BlockFault::Truncated) else {
@@ -153,13 +153,13 @@ pub fn read_ack(body: &[u8]) -> Result<AlarmAck, AlarmFault>
     }
 }
 
-/// Reads the AlarmNotification that data carries at a controller. What is behind the block is not looked at.
+/// Reads the AlarmNotification that data carries to a controller. Octets after the block are ignored.
 pub fn read_notification(body: &[u8]) -> Result<AlarmNotification<'_>, AlarmFault>
-    // What is read is spelled so.
+    // If a value is read, the octets encode that value.
     ensures found { IfOk result (λ found. IsNotification body.now found) }
-    // What is spelled so is read, and as nothing else.
+    // Octets that encode a value are read as that value, and as no other.
     ensures only { (meaning : Notification) → IsNotification body.now meaning → result ≡ Ok meaning }
-    // Which it is.
+    // The result is the block or the fault that the format defines for these octets.
     ensures exact { result ≡ notification_of body.now }
 {
     notification_in(read_block(body))

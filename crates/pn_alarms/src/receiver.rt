@@ -1,4 +1,4 @@
-//! Who takes data.
+//! The receiver of data.
 ghost use Rattle.std.specs.Prelude.{◌≡◌, None};
 ghost use Rattle.pn_alarms.specs.Numbers.{ack_number};
 ghost use Rattle.pn_alarms.specs.Receiver.{taken_as, last_behind, answer_to};
@@ -7,19 +7,19 @@ use crate::PduType;
 use crate::numbers::next_number;
 use std::marker::Model;
 
-/// What becomes of data that comes.
+/// What happens to data that arrives.
 #[derive(Clone, Copy, Debug, PartialEq, Eq)]
 pub enum Taken {
-    /// It has the expected number: it is taken, and acknowledged.
+    /// It has the expected number: it is accepted and acknowledged.
     New,
-    /// It is the last one that was taken: it is acknowledged again.
+    /// It is the last data that was accepted: it is acknowledged again.
     Again,
-    /// It has another number, and is refused.
+    /// It has another number and is refused.
     Refused,
 }
 
 impl Taken {
-    /// The type of the PDU that answers it.
+    /// The type of the PDU that is the response.
     pub fn answer(self) -> PduType
         ensures { result ≡ answer_to self }
     {
@@ -30,13 +30,13 @@ impl Taken {
     }
 }
 
-/// One who takes data: each number once, in order.
+/// A receiver of data: it accepts each number once, in order.
 #[derive(Drop)]
 pub struct Receiver {
     last: Option<u16>,
 }
 
-// Clauses see the number of the last data that was taken.
+// Its model: the number of the last data that was accepted.
 impl Model for Receiver {
     ghost use Rattle.std.specs.Prelude.{ℕ, Option};
 
@@ -46,21 +46,21 @@ impl Model for Receiver {
 }
 
 impl Receiver {
-    /// One who took nothing yet.
+    /// A receiver that has accepted nothing yet.
     pub fn new() -> Receiver
         ensures { result ≡ None }
     {
         Receiver { last: None }
     }
 
-    /// AckSeqNum of what is sent now: the number of the last data that was taken, 0xFFFE before the first.
+    /// AckSeqNum of a PDU that is sent now: the number of the last data that was accepted, 0xFFFE before the first.
     pub fn number(&self) -> u16
         ensures { result ≡ ack_number self.now }
     {
         self.last.unwrap_or(0xFFFE)
     }
 
-    /// Data of this number comes. Answers what becomes of it.
+    /// Receives data of this number. Returns what happens to it.
     pub fn take(&mut self, number: u16) -> Taken
         ensures taken { result ≡ taken_as self.old number }
         ensures state { self.new ≡ last_behind self.old number }
@@ -69,7 +69,7 @@ impl Receiver {
             self.last = Some(number);
             return Taken::New;
         }
-        // The partner did not hear the answer: it gets it again, and the data is not taken twice.
+        // The partner did not receive the response: it gets it again, and the data is not accepted twice.
         if self.last == Some(number) {
             Taken::Again
         } else {

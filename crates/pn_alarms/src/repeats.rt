@@ -6,14 +6,14 @@ ghost use Rattle.pn_alarms.specs.Sending.{silent, sent, due, ticked, rested, ack
 use crate::numbers::next_number;
 use std::marker::Model;
 
-/// What a unit brings.
+/// What is due with a unit of time.
 #[derive(Clone, Copy, Debug, PartialEq, Eq)]
 pub enum Due {
-    /// Nothing.
+    /// Nothing is due.
     Nothing,
     /// The last data is sent again.
     Again,
-    /// It was sent again as often as it may be, and was not acknowledged: the relation ends.
+    /// It was repeated as often as RTARetries allows and was not acknowledged: the relation ends.
     Spent,
 }
 
@@ -26,8 +26,8 @@ pub struct Repeats {
     waiting: Option<u32>,
 }
 
-// Clauses see the units after which data is sent again and given up, the number of the last data, and the units since that was
-// first sent, while it is not acknowledged.
+// Its model: the numbers of units after which data is sent again and given up, the number of the last data, and, while
+// that is not acknowledged, the units since it was first sent.
 impl Model for Repeats {
     ghost use Rattle.pn_alarms.specs.Sending.{Sending};
 
@@ -48,8 +48,8 @@ impl Model for Repeats {
 }
 
 impl Repeats {
-    /// Nothing was sent yet. RTATimeoutFactor, from 1, is in 3,200 units of 31.25 microseconds; RTARetries, up to 15, is how often
-    /// data is sent again at most.
+    /// Repeats of a relation that has sent nothing yet. RTATimeoutFactor, at least 1, is in 3,200 units of 31.25
+    /// microseconds. RTARetries, at most 15, is the maximum number of repeats.
     pub fn new(timeout_factor: u16, retries: u16) -> Repeats
         requires factor { 0 < timeout_factor }
         requires few { retries ≤ 15 }
@@ -64,14 +64,14 @@ impl Repeats {
         }
     }
 
-    /// SendSeqNum of what is sent now: the number of the last data that was sent, 0xFFFF before the first.
+    /// SendSeqNum of a PDU that is sent now: the number of the last data that was sent, 0xFFFF before the first.
     pub fn number(&self) -> u16
         ensures { result ≡ send_number self.now.last }
     {
         self.last.unwrap_or(0xFFFF)
     }
 
-    /// The next data is sent, under a new number.
+    /// Sends the next data, under a new number.
     pub fn send(&mut self)
         ensures { self.new ≡ sent self.old }
     {
@@ -79,7 +79,7 @@ impl Repeats {
         self.waiting = Some(0);
     }
 
-    /// A unit passes. Answers what is due.
+    /// Counts one unit of time. Returns what is due.
     pub fn tick(&mut self) -> Due
         ensures due { result ≡ due self.old }
         ensures state { self.new ≡ ticked self.old }
@@ -88,7 +88,8 @@ impl Repeats {
             return Due::Nothing;
         };
         let units = units + 1;
-        // Given up where it would be sent once more than allowed, and not before: the last repeat has its whole time for an answer.
+        // It is given up at the time of the first repeat that is not allowed, and not earlier: the last repeat gets its
+        // whole interval for a response.
         if units == self.limit {
             self.waiting = None;
             return Due::Spent;
@@ -101,7 +102,8 @@ impl Repeats {
         }
     }
 
-    /// An ACK comes. Answers whether it is of the last data that was sent, which then is not sent again.
+    /// Receives an ACK. Returns whether it acknowledges the last data that was sent; if so, that data is not sent
+    /// again.
     pub fn hear_ack(&mut self, number: u16) -> bool
         ensures counts { result ≡ is_last self.old.last number }
         ensures state { self.new ≡ acked self.old number }
@@ -113,7 +115,7 @@ impl Repeats {
         true
     }
 
-    /// Nothing is sent again.
+    /// Stops the repeats.
     pub fn rest(&mut self)
         ensures { self.new ≡ rested self.old }
     {

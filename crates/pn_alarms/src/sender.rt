@@ -1,4 +1,4 @@
-//! Who sends alarms.
+//! The sender of alarms.
 ghost use Rattle.std.specs.Prelude.{◌≡◌, ◌<◌, ◌≤◌, [], length, is_ok, is_none, IfSome, OnOk, OnErr};
 ghost use Rattle.pn_alarms.specs.Numbers.{send_number};
 ghost use Rattle.pn_alarms.specs.Sending.{due};
@@ -17,18 +17,18 @@ pub struct Alarm<'a> {
     pub slot_number: u16,
     /// SubslotNumber.
     pub subslot_number: u16,
-    /// ModuleIdentNumber of what is plugged in the slot.
+    /// ModuleIdentNumber of the module that is plugged in the slot.
     pub module_ident_number: u32,
-    /// SubmoduleIdentNumber of what is plugged in the subslot.
+    /// SubmoduleIdentNumber of the submodule that is plugged in the subslot.
     pub submodule_ident_number: u32,
-    /// At most 32 octets.
+    /// The alarm's data, at most 32 octets.
     pub alarm_data: &'a [u8],
 }
 
-/// Why no alarm is raised.
+/// Why an alarm is not raised.
 #[derive(Clone, Copy, Debug, PartialEq, Eq)]
 pub enum RaiseFault {
-    /// One stands.
+    /// An alarm is already active.
     Busy,
 }
 
@@ -41,19 +41,19 @@ impl RaiseFault {
     }
 }
 
-/// What the partner says of an alarm.
+/// What the partner says about an alarm.
 #[derive(Clone, Copy)]
 pub enum Reply {
-    /// It got data of this number.
+    /// It received data of this number.
     Ack(u16),
-    /// It took an alarm.
+    /// It accepted an alarm.
     AlarmAck(AlarmAck),
 }
 
 /// AlarmType of a process alarm (IEC 61158-6-10, 5.2.5).
 const PROCESS: u16 = 2;
 
-/// The alarm that stands.
+/// The active alarm.
 #[derive(Drop)]
 struct Standing {
     slot_number: u16,
@@ -65,7 +65,7 @@ struct Standing {
 }
 
 impl Standing {
-    /// An alarm, with its AlarmSpecifier, without its data.
+    /// An alarm with this AlarmSpecifier, still without its data.
     fn new(alarm: &Alarm, alarm_specifier: u16) -> Standing
         ensures { kept_as result ≡ notice_of alarm_specifier alarm.now.slot_number alarm.now.subslot_number alarm.now.module_ident_number
             alarm.now.submodule_ident_number [] }
@@ -80,7 +80,7 @@ impl Standing {
         }
     }
 
-    /// Its block.
+    /// The block of this alarm.
     fn notification(&self) -> AlarmNotification<'_>
         ensures value { result ≡ kept_as self.now }
         ensures few { length result.alarm_data ≤ 32 }
@@ -97,11 +97,11 @@ impl Standing {
         }
     }
 
-    /// Whether an AlarmAck is of this alarm.
+    /// Whether this AlarmAck acknowledges this alarm.
     fn is_ended_by(&self, ack: &AlarmAck) -> bool
         ensures { result ≡ is_of ack.now (kept_as self.now) }
     {
-        // PNIOStatus is not looked at: an AlarmAck that tells of an error still says that the alarm was taken.
+        // PNIOStatus is ignored: an AlarmAck that reports an error still says that the alarm was accepted.
         ack.alarm_type == PROCESS
             && ack.api == 0
             && ack.slot_number == self.slot_number
@@ -110,7 +110,7 @@ impl Standing {
     }
 }
 
-/// One who sends process alarms: one at a time, until it is over.
+/// A sender of process alarms. One alarm at a time is active, until it is acknowledged.
 #[derive(Drop)]
 pub struct Sender {
     repeats: Repeats,
@@ -118,7 +118,7 @@ pub struct Sender {
     standing: Option<Standing>,
 }
 
-// Clauses see how alarms are sent, the AlarmSpecifier of the next one, and the one that stands.
+// Its model: how alarms are sent, the AlarmSpecifier of the next alarm, and the active alarm.
 impl Model for Sender {
     ghost use Rattle.pn_alarms.specs.Alarming.{Alarming};
 
@@ -138,7 +138,7 @@ impl Model for Sender {
 }
 
 impl Sender {
-    /// One who raised none yet, of a relation with this RTATimeoutFactor, from 1, and RTARetries, up to 15.
+    /// A sender without an alarm, for a relation with this RTATimeoutFactor, at least 1, and RTARetries, at most 15.
     pub fn new(timeout_factor: u16, retries: u16) -> Sender
         requires factor { 0 < timeout_factor }
         requires few { retries ≤ 15 }
@@ -151,14 +151,14 @@ impl Sender {
         }
     }
 
-    /// SendSeqNum of what is sent now: the number of the last alarm, 0xFFFF before the first.
+    /// SendSeqNum of a PDU that is sent now: the number of the last alarm, 0xFFFF before the first.
     pub fn number(&self) -> u16
         ensures { result ≡ send_number self.now.sending.last }
     {
         self.repeats.number()
     }
 
-    /// The block of the alarm that stands.
+    /// The block of the active alarm, if there is one.
     pub fn standing(&self) -> Option<AlarmNotification<'_>>
         ensures value { result ≡ self.now.standing }
         ensures few { IfSome result (λ alarm. length alarm.alarm_data ≤ 32) }
@@ -169,19 +169,20 @@ impl Sender {
         }
     }
 
-    /// Raises an alarm, which is then to be sent.
+    /// Raises an alarm, which the caller then sends.
     pub fn raise(&mut self, alarm: &Alarm) -> Result<(), RaiseFault>
         requires { length alarm.now.alarm_data.now ≤ 32 }
         ensures ok { OnOk result (self.new ≡ raised alarm.now self.old) }
         ensures err { OnErr result (self.new ≡ self.old) }
-        // It is refused exactly where one stands.
+        // It succeeds exactly if no alarm is active.
         ensures busy { is_ok result ≡ is_none self.old.standing }
     {
-        // One at a time: the window of alarms is one, and an AlarmAck has to find the alarm that it is of.
+        // One alarm at a time: the window size of alarms is one, and an AlarmAck must find the alarm that it belongs
+        // to.
         if self.standing.is_some() {
             return Err(RaiseFault::Busy);
         }
-        // The data is written where it stays.
+        // The data is written directly to its final place.
         let standing = self.standing.insert(Standing::new(alarm, self.specifier));
         let _ = standing.alarm_data.try_extend_from_slice(alarm.alarm_data);
         self.specifier = (self.specifier + 1) % 2048;
@@ -189,7 +190,7 @@ impl Sender {
         Ok(())
     }
 
-    /// A unit passes. Answers what is due.
+    /// Counts one unit of time. Returns what is due.
     pub fn tick(&mut self) -> Due
         ensures due { result ≡ due self.old.sending }
         ensures state { self.new ≡ later self.old }
@@ -197,7 +198,8 @@ impl Sender {
         self.repeats.tick()
     }
 
-    /// The partner replies. Answers whether it counts: an AlarmAck does, and an ACK of the last alarm that was sent.
+    /// Receives the partner's reply. Returns whether it counts: an AlarmAck does, and an ACK of the last alarm that was
+    /// sent.
     pub fn hear(&mut self, reply: &Reply) -> bool
         ensures counts { result ≡ counts self.old reply.now }
         ensures state { self.new ≡ answered self.old reply.now }
@@ -211,7 +213,7 @@ impl Sender {
         }
     }
 
-    /// An AlarmAck ends the alarm if it is of it.
+    /// Ends the active alarm if this AlarmAck acknowledges it.
     fn end(&mut self, ack: &AlarmAck)
         ensures { self.new ≡ ended_by self.old ack.now }
     {

@@ -11,7 +11,8 @@ use crate::{Header, Pdu};
 use block_codec::{AlarmNotification, notification_front};
 use wire::join;
 
-/// The octets from AlarmDstEndpoint to VarPartLen, which counts so many: in one array, as two that are joined would be copied.
+/// The octets from AlarmDstEndpoint to VarPartLen, which is `size`. They are built in one array: to join two arrays
+/// would copy them.
 #[tactic(auto, unfolding(crate::specs::Format::header, crate::specs::Format::kind))]
 #[inline(always)]
 fn header_octets(value: &Header, size: u16) -> [u8; 12]
@@ -41,33 +42,34 @@ fn header_octets(value: &Header, size: u16) -> [u8; 12]
     ]
 }
 
-/// A PDU, which follows the FrameID of a frame, up to what it carries, which is to follow.
+/// Encodes a PDU, which follows the FrameID of a frame, up to its body. The caller appends the body.
 #[inline(always)]
 pub fn pdu_front(pdu: &Pdu) -> [u8; 12]
-    // VarPartLen can count the octets.
+    // VarPartLen can count the octets of the body.
     requires few { length pdu.now.body.now < 65536 }
-    // An ERR says why.
+    // An ERR carries its PNIOStatus.
     requires long { is_long pdu.now.header.kind (length pdu.now.body.now) ≡ true }
-    // With what it carries behind them they are all octets.
+    // These octets followed by the body are the encoding of the PDU.
     ensures exact { result ++ pdu.now.body.now ≡ pdu_bytes (said pdu.now) }
     ensures len { length result ≡ 12 }
-    // They spell what was given.
+    // The octets encode the PDU that was given.
     ensures spelled { IsPdu (pdu_bytes (said pdu.now)) (said pdu.now) }
-    // With anything behind it, it is read as that.
+    // Followed by any octets, they are read as this PDU.
     ensures behind { (more : List ℕ) → pdu_of (pdu_bytes (said pdu.now) ++ more) ≡ Ok (said pdu.now) }
 {
     header_octets(&pdu.header, pdu.body.len() as u16)
 }
 
-/// Data that carries an alarm, which follows the FrameID of a frame, up to the alarm's own data, which are to follow.
+/// Encodes data that carries an alarm, which follows the FrameID of a frame, up to the alarm's own data. The caller
+/// appends the alarm's data.
 #[inline(always)]
 pub fn alarm_front(header: &Header, alarm: &AlarmNotification) -> [u8; 40]
     requires kind { header.now.kind ≡ Data }
     requires few { length alarm.now.alarm_data ≤ 32 }
-    // With the alarm's data behind them they are all octets.
+    // These octets followed by the alarm's data are the encoding of the PDU.
     ensures exact { result ++ alarm.now.alarm_data ≡ pdu_bytes (alarm_pdu header.now alarm.now) }
     ensures len { length result ≡ 40 }
-    // With anything behind it, it is read as that, and what it carries as the alarm.
+    // Followed by any octets, they are read as this PDU, and the block that it carries is read as the alarm.
     ensures behind { (more : List ℕ) → pdu_of (pdu_bytes (alarm_pdu header.now alarm.now) ++ more) ≡ Ok (alarm_pdu header.now alarm.now) }
     ensures carried { notification_of (alarm_pdu header.now alarm.now).body ≡ Ok alarm.now }
 {

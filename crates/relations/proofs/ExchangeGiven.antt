@@ -1,4 +1,4 @@
--- Inputs that are given, event after event.
+-- Inputs that are given, event by event.
 use Rattle.std.proofs.Common.{◌≡◌, inl, inr, ◌==◌, ◌&&◌, ℕ, true, false, List, [], ◌∷◌, length, map, Option, Some, None, option_map, unwrap_or, refl, sym, ap, ◌∙◌}
 use Rattle.std.proofs.lemmas.Bool.{and_from, and_parts, cases_Bool, eq-eqb, eqb-true, true≢false}
 use Rattle.module_diff.specs.Plugged.{module_ident, submodule_ident}
@@ -21,7 +21,7 @@ use Rattle.relations.proofs.ExchangeKept.{cyclic_raised, shown_behind}
 
 -- ---- cells of an image in which one is changed
 
--- the one that is changed
+-- The cell that is changed.
 changed_here : (slot subslot : ℕ) (value : List ℕ) (cells : List Cell)
     → cell_at Data slot subslot (map (changed_in Data slot subslot (with_value value)) cells) ≡ option_map (with_value value) (cell_at Data slot subslot cells)
 changed_here slot subslot value [] = refl
@@ -31,14 +31,14 @@ changed_here slot subslot value (cell ∷ cells) =
       | inr t ↦ rw t (rw t (changed_here slot subslot value cells))
     ]
 
--- the slot and subslot of a place of a submodule
+-- The slot and subslot of the place of a submodule.
 of_parts : (slot subslot : ℕ) (place : Place) → is_of Data slot subslot place ≡ true → (slot ≡ place.slot) × (subslot ≡ place.subslot)
 of_parts slot subslot place h =
     let all = and_parts (is_same_kind Data place.kind) ((place.slot == slot) && (place.subslot == subslot)) h in
     let two = and_parts (place.slot == slot) (place.subslot == subslot) all.1 in
     (sym (eqb-true place.slot slot two.0), sym (eqb-true place.subslot subslot two.1))
 
--- two submodules in one place are one
+-- Two submodules in one place are the same submodule.
 same_submodule : (slot subslot to_slot to_subslot : ℕ) (place : Place) → is_of Data to_slot to_subslot place ≡ true → is_of Data slot subslot place ≡ true
     → ((to_slot == slot) && (to_subslot == subslot)) ≡ true
 same_submodule slot subslot to_slot to_subslot place one other =
@@ -46,7 +46,7 @@ same_submodule slot subslot to_slot to_subslot place one other =
     let at = of_parts slot subslot place other in
     and_from _ _ (eq-eqb to_slot slot (to.0 ∙ sym at.0)) (eq-eqb to_subslot subslot (to.1 ∙ sym at.1))
 
--- another
+-- Another cell.
 changed_elsewhere : (slot subslot to_slot to_subslot : ℕ) (value : List ℕ) → ((to_slot == slot) && (to_subslot == subslot)) ≡ false → (cells : List Cell)
     → cell_at Data slot subslot (map (changed_in Data to_slot to_subslot (with_value value)) cells) ≡ cell_at Data slot subslot cells
 changed_elsewhere slot subslot to_slot to_subslot value apart [] = refl
@@ -61,7 +61,7 @@ changed_elsewhere slot subslot to_slot to_subslot value apart (cell ∷ cells) =
       | inr t ↦ rw t (elim (cases_Bool (is_of Data slot subslot cell.place)) [ inl u ↦ rw u refl | inr u ↦ rw u behind ])
     ]
 
--- the status of each is what it was
+-- The status of each cell is unchanged.
 status_kept : (kind : PlaceKind) (slot subslot to_slot to_subslot : ℕ) (value : List ℕ) (cells : List Cell)
     → option_map (λ (cell : Cell). cell.status) (cell_at kind slot subslot (map (changed_in Data to_slot to_subslot (with_value value)) cells))
     ≡ option_map (λ (cell : Cell). cell.status) (cell_at kind slot subslot cells)
@@ -75,14 +75,14 @@ status_kept kind slot subslot to_slot to_subslot value (cell ∷ cells) =
 
 -- ---- events
 
--- a cell behind an event, and behind several
+-- A cell after an event, and after several events.
 abbrev given_to : ℕ → ℕ → Event → Cell → Cell
 given_to slot subslot event cell = with_value (unwrap_or (given_with slot subslot cell.place.size event) cell.value) cell
 
 abbrev given_by : ℕ → ℕ → List Event → Cell → Cell
 given_by slot subslot events cell = with_value (unwrap_or (last_given slot subslot cell.place.size events) cell.value) cell
 
--- one that nothing is given to
+-- A cell whose submodule is given nothing.
 untouched : (found : Option Cell) → found ≡ option_map (λ (cell : Cell). with_value cell.value cell) found
 untouched None = refl
 untouched (Some cell) = refl
@@ -140,7 +140,7 @@ inputs_beside : (flow : Flow) (slot subslot : ℕ) (octets : List ℕ) (ident pa
     → (unwrap_or (raised_by flow slot subslot octets ident part) flow).cyclic.shown ≡ flow.cyclic.shown
 inputs_beside flow slot subslot octets ident part = ap (λ (cyclic : Cyclic). cyclic.shown) (cyclic_raised flow slot subslot octets ident part)
 
--- where the inputs are the same
+-- If the inputs are the same.
 unchanged : (slot subslot : ℕ) (old new : Shown) → new ≡ old
     → cell_at Data slot subslot new.cells ≡ option_map (λ (cell : Cell). with_value cell.value cell) (cell_at Data slot subslot old.cells)
 unchanged slot subslot old new same =

@@ -21,7 +21,7 @@ use Rattle.relations.specs.exchange.Process.{with_cyclic}
 use Rattle.relations.specs.exchange.Notices.{may_raise, raised_by}
 use Rattle.relations.specs.exchange.Runs.{Event, Begins, Passes, Comes, Gives, Raises, Says, behind, behind_all, cyclic_event, cyclic_events, units_in, last_taken, AreNoRenewals, IsDueEachInterval, AreOfTheLast, IsHeldSoLong}
 
--- an alarm that is raised leaves cyclic data
+-- Raising an alarm does not change cyclic data.
 pub cyclic_raised : (flow : Flow) (slot subslot : ℕ) (octets : List ℕ) (ident part : Option ℕ)
     → (unwrap_or (raised_by flow slot subslot octets ident part) flow).cyclic ≡ flow.cyclic
 cyclic_raised flow slot subslot octets (Some ident) (Some part) =
@@ -33,7 +33,7 @@ cyclic_where : (flow : Flow) (given : Option Cyclic) → (unwrap_or (option_map 
 cyclic_where flow (Some cyclic) = refl
 cyclic_where flow None = refl
 
--- an event is to cyclic data what it is to it
+-- An event changes the cyclic data of an exchange as it changes an end of cyclic data.
 cyclic_with : (event : Event) (flow : Flow) → (behind event flow).cyclic ≡ core.behind (cyclic_event event) flow.cyclic
 cyclic_with Begins flow = refl
 cyclic_with Passes flow = refl
@@ -59,7 +59,7 @@ pub is_held_so_long : core.IsHeldSoLong → IsHeldSoLong
 is_held_so_long law events flow begun fresh none =
     ap is_cyclic_silent (cyclic_all events flow) ∙ law (cyclic_events events) flow.cyclic begun fresh none
 
--- ---- frames leave the inputs
+-- ---- frames do not change the inputs
 
 shown_read : (cyclic : Cyclic) (r : Result (List ℕ × CyclicTail) ShortFrame) → (behind_read cyclic r).shown ≡ cyclic.shown
 shown_read cyclic (Ok x) = elim (cases_Bool (is_new cyclic x.1)) [ inl t ↦ rw t refl | inr t ↦ rw t refl ]

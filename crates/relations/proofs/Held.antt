@@ -21,7 +21,7 @@ use Rattle.relations.specs.Timers.{ending_of, unit_later, due_of}
 use Rattle.relations.specs.Runs.{unit_over, units_over, EndsBehind, IsPatientFor, IsHeldFor, IsGivenUp}
 use Rattle.relations.proofs.Kept.{moved_on, moved_off, due_off, same_farewell}
 
--- a relation in which data is exchanged, and nothing came for so many units: the same, but for its timers
+-- A relation that exchanges data and heard nothing for this many units: it is the same except for its timers.
 record IsOn (link : Link) (units : ℕ) (later : Link) : Type 0 where
   phase : later.phase ≡ Exchanging
   request : later.request ≡ link.request
@@ -44,7 +44,7 @@ tick_ending : (cyclic : Cyclic) (alarm : Due) (ending : Option Abort) → (tick_
 tick_ending cyclic alarm (Some reason) = refl
 tick_ending cyclic alarm None = refl
 
--- what is exchanged alone ends it
+-- Only the exchange ends it.
 ending_there : (link : Link) → link.phase ≡ Exchanging → ending_of link ≡ exchange_ending link.flow
 ending_there link at = rw at (tick_ending link.flow.cyclic (alarm_due link.flow) (exchange_ending link.flow))
 
@@ -60,7 +60,7 @@ heard_still flow begun h = rw begun (rw (min_below flow.cyclic.hearing.limit flo
 heard_no_more : (flow : Flow) → flow.cyclic.begun ≡ true → flow.cyclic.hearing.held + 1 ≡ flow.cyclic.hearing.limit → exchange_ending flow ≡ Some DataHold
 heard_no_more flow begun h = rw begun (rw (min_at flow.cyclic.hearing.limit flow.cyclic.hearing.held h) refl)
 
--- an alarm that waits is not given up with the next unit
+-- An alarm that waits is not given up with the next unit.
 abbrev IsPatient : Sending → Option ℕ → Type 0
 IsPatient sending waiting = (waited : ℕ) → waiting ≡ Some waited → waited + 1 < sending.limit
 
@@ -150,7 +150,7 @@ stands_on link (suc units) at begun below patient =
       same = on_next link before.later units below patient before.same;
     }
 
--- what ends it with the next unit ends it with the ERR that says why
+-- If something ends it with the next unit, it ends with the ERR for that reason.
 ends_behind : (link : Link) (units : ℕ) (reason : Abort) → link.phase ≡ Exchanging → (so : StandsOn link units) → ending_of so.later ≡ Some reason → EndsBehind units reason link
 ends_behind link units reason at so over = (
   ap phase_of so.is ∙ ap (λ (p : Phase). let o : Option Phase = Some p in o) (so.same.phase ∙ sym at),

@@ -15,7 +15,7 @@ use Rattle.relations.specs.Timers.{is_timed, ending_of, is_again, limit_of, wait
 use Rattle.relations.specs.Phases.{moved, passing_by}
 use Rattle.relations.specs.Runs.{unit_over, units_over, StandsUntil, EndsAt, IsDueEachSecond}
 
--- a relation of which nothing was heard for so many units: the same, but for its timers
+-- A relation that heard nothing for this many units: it is the same except for its timers.
 pub record IsLater (link : Link) (units : ℕ) (later : Link) : Type 0 where
   pub phase : later.phase ≡ link.phase
   pub request : later.request ≡ link.request
@@ -62,7 +62,7 @@ due_on ending link h = ap (λ (e : Option Abort). (due_by link e).is_ready) h
 pub due_off : (ending : Option Abort) (reason : Abort) (link : Link) → ending ≡ Some reason → (due_by link ending).farewell ≡ Some (farewell_of reason link)
 due_off ending reason link h = ap (λ (e : Option Abort). (due_by link e).farewell) h
 
--- the ERR hangs on what was asked for, and on the last data that was sent and that was taken
+-- The ERR depends on the request, and on the last data that was sent and the last that was accepted.
 abbrev farewell_at : Abort → Request → Option ℕ → Option ℕ → Farewell
 farewell_at reason request last seen = record {
   initiator = request.ar.initiator;
@@ -81,7 +81,7 @@ same_farewell reason link later request last seen =
     ∙ (ap (λ (n : Option ℕ). farewell_at reason link.request n later.flow.alarms.seen) last
     ∙ ap (λ (n : Option ℕ). farewell_at reason link.request link.flow.alarms.sender.sending.last n) seen)
 
--- ApplicationReady was waited for so many units
+-- ApplicationReady has waited for this many units.
 wraps : (waited units : ℕ) → waited ≡ units % 32000 → (if (waited + 1 == 32000) then 0 else waited + 1) ≡ (units + 1) % 32000
 wraps waited units h = grind (arith, nat_tests)
 

@@ -1,4 +1,4 @@
--- What leads from phase to phase.
+-- How a relation moves from phase to phase.
 use Rattle.std.proofs.Common.{◌≡◌, refl, Option, Some, None}
 use Rattle.relations.specs.declared.phase.Phase.TheVariants.{Started, Awaiting, Exchanging}
 use Rattle.relations.specs.Phases.{Made, Parameterized, Confirmed, Named, Took, Exchanged, Passed, Ended, Unmoved}

@@ -1,4 +1,4 @@
--- Whatever comes while a relation waits for the answer to ApplicationReady.
+-- For any events while a relation waits for the answer to ApplicationReady.
 use Rattle.std.proofs.Common.{◌≡◌, ◌+◌, ◌%◌, ◌==◌, ℕ, true, List, [], ◌∷◌, Some, ap, arith, subst, ◌∙◌}
 use Rattle.relations.specs.Link.{Link, is_awaiting}
 use Rattle.relations.specs.Phases.{Judged, Made, Parameterized, Confirmed, Named, Took, Exchanged, Passed, Ended, Unmoved, restarted, with_flow, with_taken}
@@ -6,7 +6,7 @@ use Rattle.relations.specs.Timers.{unit_later}
 use Rattle.relations.specs.Runs.{AreWaiting, IsDueWhateverComes, all_moved, units_of}
 use Rattle.relations.proofs.Kept.{again_with, waited_next}
 
--- it waits on, and has waited for the units that were among them
+-- The relation still waits, and has waited for the units among the events.
 waits_on : (events : List Judged) (link now : Link) (units : ℕ) → is_awaiting link.phase ≡ true → link.waited ≡ units % 32000 → AreWaiting events
     → all_moved events (Some link) ≡ Some now → (is_awaiting now.phase ≡ true) × (now.waited ≡ (units_of events + units) % 32000)
 waits_on [] link now units waits so still e =

@@ -1,4 +1,4 @@
--- PrmEnd and Release: how a device judges them, and what it answers (IEC 61158-6-10, 5.2.4.5).
+-- PrmEnd and Release: how a device checks them, and what it answers (IEC 61158-6-10, 5.2.4.5).
 use Rattle.std.specs.Prelude.{◌==◌, ℕ, not, List, [], ◌∷◌, Option, Some, None, Result, Ok}
 use Rattle.wire.specs.Codec.{◌>>=◌}
 use Rattle.wire.specs.Checks.{or_fault}
@@ -14,7 +14,7 @@ use Rattle.records.specs.calls.Judged.{judged}
 use Rattle.records.specs.calls.Single.{single_of}
 use Rattle.relations.specs.Link.{Link, is_named, is_session, is_started, phase_of}
 
--- the block that a call of this type consists of
+-- The one block of a call of this type.
 abbrev pub in_control : Block → Option ControlBlock
 in_control (is.PrmEnd block) = Some block
 in_control (is.Release block) = Some block
@@ -23,7 +23,7 @@ in_control _ = None
 abbrev pub control_block : BlockType → List ℕ → Result ControlBlock CallFault
 control_block type blocks = single_of type blocks >>= λ x. or_fault fault.BlockForm (in_control x.0)
 
--- a block names the relation, its session, and then the command of its kind
+-- A block must name the relation and its session, and have the command of its kind. They are checked in this order.
 abbrev pub named_of : Option Link → ControlBlock → ℕ → Result (Unit {0}) CallFault
 named_of link block command = judged
     ((not (is_named block.ar_uuid link), fault.UnknownRelation)
@@ -32,7 +32,7 @@ named_of link block command = judged
     ∷ [])
     (Ok tt)
 
--- PrmEnd, command 1, of a relation that waits for it
+-- PrmEnd, command 1, of a relation that waits for it.
 abbrev pub in_started : Option Link → Result (Unit {0}) CallFault
 in_started link = judged ((not (is_started (phase_of link)), fault.Phase) ∷ []) (Ok tt)
 
@@ -40,11 +40,11 @@ unfoldable pub prm_end_of : Option Link → List ℕ → Result ControlBlock Cal
 prm_end_of link blocks =
     control_block kind.PrmEnd blocks >>= λ block. named_of link block 1 >>= λ _. in_started link >>= λ _. Ok block
 
--- Release, command 4, in whatever phase
+-- Release, command 4, in any phase.
 unfoldable pub release_of : Option Link → List ℕ → Result ControlBlock CallFault
 release_of link blocks = control_block kind.Release blocks >>= λ block. named_of link block 4 >>= λ _. Ok block
 
--- the answer repeats the block, with command 8, Done
+-- The answer repeats the block, with command 8, Done.
 abbrev pub done_of : ControlBlock → ControlBlock
 done_of block = record block { control_command = 8 }
 

@@ -1,4 +1,4 @@
--- Connect: which relation a device makes, and what it answers (IEC 61158-6-10, 5.2.4).
+-- Connect: which relation a device establishes, and what it answers (IEC 61158-6-10, 5.2.4).
 use Rattle.std.specs.Prelude.{◌++◌, ℕ, List, Option, Result, Ok, Err, if◌then◌else◌}
 use Rattle.pn_values.specs.declared.identity.Identity.{Identity}
 use Rattle.pn_values.specs.declared.real.Real.{Real}
@@ -17,7 +17,7 @@ use Rattle.relations.specs.declared.phase.Partner.{Partner}
 use Rattle.relations.specs.Link.{Link, uuid_of}
 use Rattle.relations.specs.Phases.{Judged, Made, Unmoved, differing_octets}
 
--- what differs, and its ModuleDiffBlock, if there is one
+-- What differs, and its ModuleDiffBlock, if there is one.
 abbrev pub rows_of : Request → Real → Listed DiffModule DiffSubmodule
 rows_of request real = diff_of request.expected real.modules.items
 
@@ -26,17 +26,17 @@ differing_of request real = differing_octets (rows_of request real)
 
 -- ---- the answer
 
--- an IOCRBlockRes: IOCRType 1 for inputs, 2 for outputs, and the FrameID that is given
+-- An IOCRBlockRes: IOCRType 1 for inputs, 2 for outputs, and the FrameID that is assigned.
 abbrev pub iocr_answer : ℕ → Iocr → List ℕ
 iocr_answer type iocr = block_bytes (is.IocrBlockRes (record { iocr_type = type; iocr_reference = iocr.reference; frame_id = iocr.frame_id }))
 
--- both, in the order in which they were asked for
+-- Both, in the order in which they were asked for.
 abbrev pub iocrs_answer : Request → List ℕ
 iocrs_answer request = if request.input_first
     then iocr_answer 1 request.input ++ iocr_answer 2 request.output
     else iocr_answer 2 request.output ++ iocr_answer 1 request.input
 
--- ARBlockRes
+-- ARBlockRes.
 abbrev pub ar_answer : Identity → Request → List ℕ
 ar_answer identity request = block_bytes (is.ArBlockRes (record {
   ar_uuid = request.ar.uuid;
@@ -44,21 +44,22 @@ ar_answer identity request = block_bytes (is.ArBlockRes (record {
   cm_responder_mac_add = identity.mac;
 }))
 
--- the blocks that answer it: ARBlockRes, an IOCRBlockRes for each, AlarmCRBlockRes, and the ModuleDiffBlock, if there is one
+-- The blocks of the answer: ARBlockRes, an IOCRBlockRes for each, AlarmCRBlockRes, and the ModuleDiffBlock, if there is
+-- one.
 unfoldable pub connect_blocks : Identity → Request → List ℕ → List ℕ
 connect_blocks identity request differing =
     ar_answer identity request ++ iocrs_answer request ++ block_bytes (is.AlarmCrBlockRes (record {})) ++ differing
 
 -- ---- the call
 
--- what is asked for, or why it is refused
+-- What is asked for, or why it is refused.
 abbrev pub connect_of : Option Link → List ℕ → Result Request CallFault
 connect_of link blocks = request_of (uuid_of link) blocks
 
 abbrev pub connect_answer : Identity → Real → Option Link → List ℕ → Result (List ℕ) CallFault
 connect_answer identity real link blocks = connect_of link blocks >>= λ request. Ok (connect_blocks identity request (differing_of request real))
 
--- what was judged of it
+-- The outcome of the Connect.
 abbrev pub making : Real → Partner → Result Request CallFault → Judged
 making real partner (Ok request) = Made request partner (rows_of request real)
 making real partner (Err fault) = Unmoved

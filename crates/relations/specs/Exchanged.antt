@@ -15,7 +15,7 @@ use Rattle.relations.specs.exchange.Notices.{behind_message, raised_at}
 use Rattle.relations.specs.Link.{Link}
 use Rattle.relations.specs.Phases.{Judged, Ended, Exchanged, Unmoved}
 
--- a cyclic frame: what becomes of it, and of the relation
+-- What happens to a cyclic frame, and to the relation.
 abbrev pub received_by : Mac → ℕ → List ℕ → Option Link → Received
 received_by source frame_id body None = Foreign
 received_by source frame_id body (Some link) = received_as link.flow source frame_id body
@@ -31,12 +31,12 @@ receiving source frame_id body None = Unmoved
 receiving source frame_id body (Some link) =
     receiving_as (received_as link.flow source frame_id body) (behind_frame link.flow source frame_id body)
 
--- what was exchanged became this, or it stays as it was
+-- The exchange became this, or is unchanged.
 abbrev pub becoming : Option Flow → Judged
 becoming (Some flow) = Exchanged flow
 becoming None = Unmoved
 
--- what is exchanged behind an input that is given, and behind an alarm that is raised, if it may be
+-- The exchange after an input is given, and after an alarm is raised, if it may be.
 abbrev pub given_to : ℕ → ℕ → List ℕ → Option Link → Option Flow
 given_to slot subslot value None = None
 given_to slot subslot value (Some link) = given_at link.flow slot subslot value
@@ -45,12 +45,12 @@ abbrev pub raised_to : List RealModule → ℕ → ℕ → List ℕ → Option L
 raised_to real slot subslot octets None = None
 raised_to real slot subslot octets (Some link) = raised_at link.flow real slot subslot octets
 
--- the output of a submodule, if it has a place
+-- The output of a submodule, if it has a place.
 abbrev pub output_in : ℕ → ℕ → Option Link → Option (List ℕ)
 output_in slot subslot None = None
 output_in slot subslot (Some link) = output_at link.flow slot subslot
 
--- a PDU of the partner: what becomes of it, and of the relation, which ERR ends
+-- What happens to a PDU of the partner, and to the relation, which ERR ends.
 abbrev pub heard_by : ToDevice → Option Link → PduFate
 heard_by message None = Ignored
 heard_by message (Some link) = heard_as link.flow.alarms message

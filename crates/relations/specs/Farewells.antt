@@ -1,4 +1,4 @@
--- The ERR by which a device ends a relation (IEC 61158-6-10, 5.2.6).
+-- The ERR with which a device ends a relation (IEC 61158-6-10, 5.2.6).
 use Rattle.pn_alarms.specs.declared.abort.Abort.{Abort}
 use Rattle.pn_alarms.specs.Abort.{abort_of}
 use Rattle.pn_alarms.specs.Format.{Said}
@@ -9,8 +9,8 @@ use Rattle.relations.specs.exchange.Notices.{header_of}
 use Rattle.relations.specs.declared.farewell.Farewell.{Farewell}
 use Rattle.relations.specs.Link.{Link}
 
--- it goes to CMInitiatorMacAdd, to the LocalAlarmReference there, with the tag of low priority, and with the numbers of the last data
--- that was sent and that was taken
+-- It goes to CMInitiatorMacAdd, to the LocalAlarmReference there, with the tag of low priority, and with the numbers of
+-- the last data that was sent and of the last data that was accepted.
 abbrev pub farewell_by : Abort → Request → Header → Farewell
 farewell_by reason request header = record {
   initiator = request.ar.initiator;
@@ -24,6 +24,6 @@ farewell_by reason request header = record {
 abbrev pub farewell_of : Abort → Link → Farewell
 farewell_of reason link = farewell_by reason link.request (header_of link.flow Error)
 
--- its PDU, from endpoint 1 of the device
+-- Its PDU, from endpoint 1 of the device.
 abbrev pub said_by : Farewell → Said
 said_by farewell = abort_of farewell.reason farewell.reference 1 farewell.send_number farewell.ack_number

@@ -1,4 +1,4 @@
--- What is kept of an application relation.
+-- The state of an application relation.
 use Rattle.std.specs.Prelude.{◌≡◌, ◌==◌, ◌&&◌, ℕ, Bool, true, false, nat_eq, List, [], Option, Some, None, option_map}
 use Rattle.std.specs.Cmp.Lexicographic.{pointwise}
 use Rattle.pn_values.specs.declared.mac.Mac.{Mac}
@@ -10,9 +10,9 @@ use Rattle.relations.specs.declared.phase.Phase.{Phase}
 use Rattle.relations.specs.declared.phase.Phase.TheVariants.{Started, Awaiting, Exchanging}
 use Rattle.relations.specs.declared.phase.Partner.{Partner}
 
--- A relation: what it waits for, what its Connect asked for and who sent that, for how many units the activity timer runs, how
--- many are over since ApplicationReady was sent, the parameter records that were taken, the octets of its ModuleDiffBlock, none where
--- no module differs, and what it exchanges.
+-- A relation: its phase, what its Connect asked for and who sent that, how many units the activity timer has run, how
+-- many units have passed since ApplicationReady was sent, the parameter records that were accepted, the octets of its
+-- ModuleDiffBlock, none if no module differs, and its exchange.
 pub record Link : Type 0 where
   pub phase : Phase
   pub request : Request
@@ -23,7 +23,7 @@ pub record Link : Type 0 where
   pub differing : List ℕ
   pub flow : Flow
 
--- a relation in a phase, if there is one
+-- A relation in a phase, if there is one.
 abbrev pub link_in : Option Phase → (Phase → Link) → Option Link
 link_in None link = None
 link_in (Some phase) link = Some (link phase)
@@ -34,7 +34,7 @@ phase_of link = option_map (λ l. l.phase) link
 abbrev pub uuid_of : Option Link → Option (List ℕ)
 uuid_of link = option_map (λ l. l.request.ar.uuid) link
 
--- the records that it took, and its ModuleDiffBlock
+-- The records that it accepted, and its ModuleDiffBlock.
 abbrev pub taken_of : Option Link → List TakenRecord
 taken_of None = []
 taken_of (Some link) = link.taken
@@ -43,20 +43,20 @@ abbrev pub differing_in : Option Link → List ℕ
 differing_in None = []
 differing_in (Some link) = link.differing
 
--- what it exchanges
+-- What it exchanges.
 abbrev pub flow_of : Option Link → Option Flow
 flow_of link = option_map (λ l. l.flow) link
 
--- whether this is its ARUUID
+-- Whether this is its ARUUID.
 abbrev pub is_named : List ℕ → Option Link → Bool
 is_named uuid link = is_relation (uuid_of link) uuid
 
--- whether this is its SessionKey
+-- Whether this is its SessionKey.
 abbrev pub is_session : ℕ → Option Link → Bool
 is_session key None = false
 is_session key (Some link) = link.request.ar.session_key == key
 
--- whether it waits for PrmEnd, and whether for the answer to ApplicationReady
+-- Whether it waits for PrmEnd, and whether it waits for the answer to ApplicationReady.
 abbrev pub is_started : Option Phase → Bool
 is_started (Some Started) = true
 is_started (Some Awaiting) = false
@@ -68,23 +68,23 @@ is_awaiting Started = false
 is_awaiting Awaiting = true
 is_awaiting Exchanging = false
 
--- whether data is exchanged in a phase
+-- Whether data is exchanged in a phase.
 abbrev pub is_exchanging : Phase → Bool
 is_exchanging Started = false
 is_exchanging Awaiting = false
 is_exchanging Exchanging = true
 
--- where there is a relation in a phase, its exchange has begun exactly if data is exchanged in it
+-- If there is a relation in a phase, its exchange has begun exactly if data is exchanged in that phase.
 abbrev pub HasBegunIn : Option Phase → Flow → Type 0
 HasBegunIn None flow = Unit {0}
 HasBegunIn (Some phase) flow = flow.cyclic.begun ≡ is_exchanging phase
 
--- the same of what is kept of the relation
+-- The same for the state of the relation.
 abbrev pub IsInStep : Option Link → Type 0
 IsInStep None = Unit {0}
 IsInStep (Some link) = HasBegunIn (Some link.phase) link.flow
 
--- whether an alarm frame from this station, to this endpoint and from this one, belongs to it
+-- Whether an alarm frame with this source, to this endpoint and from this one, belongs to it.
 abbrev pub is_alarm_of : Mac → ℕ → ℕ → Option Link → Bool
 is_alarm_of source destination endpoint None = false
 is_alarm_of source destination endpoint (Some link) =

@@ -5,14 +5,14 @@ use Rattle.pn_values.specs.declared.real.Real.{Real}
 use Rattle.pn_values.specs.declared.real.RealModule.{RealModule}
 use Rattle.pn_values.specs.declared.real.RealSubmodule.{RealSubmodule}
 
--- the submodule in a subslot of a module that has an output, and the module in a slot
+-- The submodule in a subslot of a module, if it has an output, and the module in a slot.
 abbrev pub output_part : ℕ → List RealSubmodule → Option RealSubmodule
 output_part subslot parts = find (λ part. part.subslot == subslot && not (part.output == 0)) parts
 
 abbrev pub module_at : ℕ → List RealModule → Option RealModule
 module_at slot modules = find (λ entry. entry.slot == slot) modules
 
--- as many zeros as the output of what is plugged there has, at most 1,440
+-- As many zeros as the output of the submodule that is plugged there has octets, at most 1,440.
 abbrev pub zeros_of : RealSubmodule → List ℕ
 zeros_of part = replicate (min part.output 1440) 0
 
@@ -23,7 +23,7 @@ zero_part subslot (Some entry) = option_map zeros_of (output_part subslot entry.
 abbrev pub zero_output : Real → ℕ → ℕ → Option (List ℕ)
 zero_output real slot subslot = zero_part subslot (module_at slot real.modules.items)
 
--- the output of a submodule: what its relation has, or zeros where that has none
+-- The output of a submodule: the output in its relation, or zeros if the relation has none for it.
 abbrev pub output_of : Real → ℕ → ℕ → Option (List ℕ) → Option (List ℕ)
 output_of real slot subslot (Some value) = Some value
 output_of real slot subslot None = zero_output real slot subslot

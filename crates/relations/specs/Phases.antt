@@ -18,10 +18,10 @@ use Rattle.relations.specs.declared.phase.Partner.{Partner}
 use Rattle.relations.specs.Link.{Link}
 use Rattle.relations.specs.Timers.{ending_of, unit_later}
 
--- What was judged of an event: a Connect is accepted; PrmEnd is; ApplicationReady was confirmed; another call that names the
--- relation is answered positively; one more parameter record is taken, which makes it these; what is exchanged became this; a unit of
--- time is over, and ends nothing; the relation ended, by Release, a timeout, a reset, the ERR of the controller, or because ApplicationReady was refused; or nothing
--- of these.
+-- The outcome of an event. A Connect is accepted; PrmEnd is accepted; ApplicationReady was confirmed; another call that
+-- names the relation is answered positively; one more parameter record is accepted, after which the records are these;
+-- the exchange became this; a unit of time is over and ends nothing; the relation ended, by Release, a timeout, a
+-- reset, the ERR of the controller, or because ApplicationReady was refused; or none of these.
 pub data Judged : Type 0 where
   Made : (request : Request) → (partner : Partner) → (rows : Listed DiffModule DiffSubmodule) → Judged
   Parameterized : Judged
@@ -33,11 +33,11 @@ pub data Judged : Type 0 where
   Ended : Judged
   Unmoved : Judged
 
--- the ModuleDiffBlock with these rows, which is there exactly when there is a row
+-- The ModuleDiffBlock with these rows, which exists exactly if there is a row.
 abbrev pub differing_octets : Listed DiffModule DiffSubmodule → List ℕ
 differing_octets rows = if length rows.modules == 0 then [] else block_bytes (is.ModuleDiffBlock (record { api = 0; modules = rows }))
 
--- a relation that is made now, where these modules differ
+-- A relation that is established now, if these modules differ.
 abbrev pub made_of : Request → Partner → Listed DiffModule DiffSubmodule → Link
 made_of request partner rows = record {
   phase = Started;
@@ -50,27 +50,27 @@ made_of request partner rows = record {
   flow = opened request rows;
 }
 
--- its parameters are all written, and ApplicationReady is sent
+-- All its parameters are written, and ApplicationReady is sent.
 abbrev pub awaiting_from : Link → Link
 awaiting_from link = record link { phase = Awaiting; quiet = 0; waited = 0 }
 
--- data is exchanged
+-- Data is exchanged.
 abbrev pub exchanging_from : Link → Link
 exchanging_from link = record link { phase = Exchanging; flow = begun_of link.flow }
 
--- the activity timer starts again
+-- The activity timer restarts.
 abbrev pub restarted : Link → Link
 restarted link = record link { quiet = 0 }
 
--- it has taken these parameter records
+-- It has accepted these parameter records.
 abbrev pub with_taken : List TakenRecord → Link → Link
 with_taken taken link = record link { taken = taken }
 
--- what it exchanges became this
+-- Its exchange became this.
 abbrev pub with_flow : Flow → Link → Link
 with_flow flow link = record link { flow = flow }
 
--- what was judged moves the relation
+-- The outcome moves the relation.
 abbrev pub moved : Judged → Option Link → Option Link
 moved (Made request partner rows) link = Some (made_of request partner rows)
 moved Parameterized link = option_map awaiting_from link
@@ -82,7 +82,8 @@ moved Passed link = option_map unit_later link
 moved Ended link = None
 moved Unmoved link = link
 
--- ---- what was judged of a unit of time, of a call that is answered positively or not, and of a parameter record that is written
+-- ---- the outcome of a unit of time, of a call that is answered positively or not, and of a parameter record that is
+-- written
 
 abbrev pub passing_by : Option Abort → Judged
 passing_by (Some reason) = Ended

@@ -17,7 +17,8 @@ use Rattle.relations.specs.Link.{Link, is_awaiting}
 use Rattle.relations.specs.Farewells.{farewell_of}
 use Rattle.relations.specs.Phases.{Judged, Confirmed, Ended, Unmoved}
 
--- the call: the ARUUID as activity, sequence 0, operation 4, Control; to the object and the station that asked for the relation
+-- The call: the ARUUID as activity, sequence 0, operation 4, Control. It goes to the object and the station that asked
+-- for the relation.
 abbrev pub ready_of : Link → Ready
 ready_of link = record {
   partner = link.partner;
@@ -38,20 +39,20 @@ ready_of link = record {
 
 -- ---- the answer
 
--- it answers that call
+-- It is the answer to that call.
 abbrev pub is_answer_to : List ℕ → CallHeader → Bool
 is_answer_to uuid header = pointwise nat_eq header.activity uuid && (header.sequence == 0 && header.operation == 4)
 
--- it is wanted: the relation waits for it
+-- The relation waits for it.
 abbrev pub is_wanted : Answered → Link → Bool
 is_wanted response link = is_awaiting link.phase && is_answer_to link.request.ar.uuid response.header
 
--- its block: the first one, if it is the answer to ApplicationReady, whose ControlCommand is Done
+-- Its block: the first one, if it is the answer to ApplicationReady and its ControlCommand is Done.
 abbrev pub confirmed_block : Result (Block × List ℕ) BlockFault → Option ControlBlock
 confirmed_block (Ok x) = in_application_ready_res x.0
 confirmed_block (Err fault) = None
 
--- a positive one confirms if its block names the relation
+-- A positive answer confirms ApplicationReady if its block names the relation.
 abbrev pub confirmed_by : List ℕ → Option ControlBlock → ReadyAnswer
 confirmed_by uuid None = heard.Garbled
 confirmed_by uuid (Some block) = if pointwise nat_eq block.ar_uuid uuid then heard.Confirmed else heard.NotWanted
@@ -62,12 +63,12 @@ answer_in response link =
     then (if is_done response.status then confirmed_by link.request.ar.uuid (confirmed_block (block_of response.blocks)) else heard.Refused (farewell_of Other link))
     else heard.NotWanted
 
--- what an answer is to a device
+-- What an answer means to a device.
 unfoldable pub answer_of : Answered → Option Link → ReadyAnswer
 answer_of response None = heard.NotWanted
 answer_of response (Some link) = answer_in response link
 
--- what it does to the relation
+-- What it does to the relation.
 abbrev pub judged_by : ReadyAnswer → Judged
 judged_by heard.NotWanted = Unmoved
 judged_by heard.Garbled = Unmoved

@@ -11,39 +11,41 @@ use Rattle.relations.specs.declared.time.Elapsed.{Elapsed}
 use Rattle.relations.specs.Link.{Link, is_awaiting}
 use Rattle.relations.specs.Farewells.{farewell_of}
 
--- the activity timer runs until data is exchanged
+-- The activity timer runs until data is exchanged.
 abbrev pub is_timed : Phase → Bool
 is_timed Started = true
 is_timed Awaiting = true
 is_timed Exchanging = false
 
--- it has CMInitiatorActivityTimeoutFactor times 100 ms, 3,200 units
+-- The activity timer has CMInitiatorActivityTimeoutFactor times 100 ms, which are 3,200 units each.
 abbrev pub limit_of : Link → ℕ
 limit_of link = link.request.ar.timeout_factor * 3200
 
--- whether it is over with the next unit
+-- Whether the activity timer is over with the next unit.
 abbrev pub is_over : Link → Bool
 is_over link = nat_le (limit_of link) (link.quiet + 1)
 
--- why the relation ends with the next unit, if it does: the activity timer is over, or, once data is exchanged, what is exchanged ends it
+-- Why the relation ends with the next unit, if it does: the activity timer is over, or, once data is exchanged, the
+-- exchange ends it.
 abbrev pub ending_of : Link → Option Abort
 ending_of link = if is_timed link.phase then (if is_over link then Some Activity else None) else (tick_of link.flow).ending
 
--- in which phase a timeout ends a relation: the activity timer before data is exchanged, data hold and an alarm without an ACK only then
+-- The phase in which a timeout ends a relation: the activity timer only before data is exchanged, data hold and an
+-- alarm without an ACK only while data is exchanged.
 abbrev pub EndsIn : Abort → Option Phase → Type 0
 EndsIn Activity phase = (phase ≡ Some Started) ⊎ (phase ≡ Some Awaiting)
 EndsIn DataHold phase = phase ≡ Some Exchanging
 EndsIn Other phase = phase ≡ Some Exchanging
 
--- whether the data hold time is over with the next unit, if data is exchanged
+-- Whether the data hold time is over with the next unit, if data is exchanged.
 abbrev pub is_unheard : Link → Bool
 is_unheard link = (held_on link.flow.cyclic.hearing).held == link.flow.cyclic.hearing.limit
 
--- ApplicationReady is sent again each second, 32,000 units, until it is answered
+-- ApplicationReady is sent again each second, 32,000 units, until it is answered.
 abbrev pub is_again : Link → Bool
 is_again link = is_awaiting link.phase && (link.waited + 1 == 32000)
 
--- a unit later
+-- The state after a unit of time.
 abbrev pub quiet_later : Link → ℕ
 quiet_later link = if is_timed link.phase then link.quiet + 1 else link.quiet
 
@@ -53,15 +55,15 @@ waited_later link = if is_again link then 0 else (if is_awaiting link.phase then
 abbrev pub unit_later : Link → Link
 unit_later link = record link { quiet = quiet_later link; waited = waited_later link; flow = flow_later link.flow }
 
--- what is due with a unit
+-- What is due with a unit.
 pub record Due : Type 0 where
   pub farewell : Option Farewell
   pub is_alarm : Bool
   pub is_ready : Bool
   pub is_cyclic : Bool
 
--- what a unit brings: a timeout ends the relation, and nothing more is done; else the alarm that stands may be due again, then
--- ApplicationReady, and then a frame of inputs
+-- What a unit brings: if a timeout ends the relation, nothing more is done. Otherwise the active alarm may be due
+-- again, then ApplicationReady, and then a frame of inputs.
 abbrev pub due_by : Link → Option Abort → Due
 due_by link (Some reason) = record { farewell = Some (farewell_of reason link); is_alarm = false; is_ready = false; is_cyclic = false }
 due_by link None =
@@ -77,12 +79,12 @@ abbrev pub due_of : Option Link → Due
 due_of None = nothing
 due_of (Some link) = due_in link
 
--- the ERR of a relation that is to end for this reason, if it is
+-- The ERR of a relation that must end for this reason, if it must.
 abbrev pub farewell_for : Option Abort → Option Link → Option Farewell
 farewell_for (Some reason) link = option_map (farewell_of reason) link
 farewell_for None link = None
 
--- what is due behind a unit that brought this, of the relation that stands then
+-- What is due after a unit that brought this, for the relation that exists then.
 abbrev pub due_behind : Elapsed → Option Link → Due
 due_behind elapsed link = record {
   farewell = farewell_for elapsed.tick.ending link;
@@ -91,15 +93,15 @@ due_behind elapsed link = record {
   is_cyclic = elapsed.tick.is_cyclic;
 }
 
--- whether nothing is to be sent
+-- Whether nothing is due.
 abbrev pub brings_nothing : Elapsed → Bool
 brings_nothing elapsed = is_none elapsed.tick.ending && (not elapsed.tick.is_alarm && (not elapsed.is_ready && not elapsed.tick.is_cyclic))
 
--- whether inputs are to be sent, and nothing else
+-- Whether only inputs are due.
 abbrev pub brings_inputs : Elapsed → Bool
 brings_inputs elapsed = is_none elapsed.tick.ending && (not elapsed.tick.is_alarm && (not elapsed.is_ready && elapsed.tick.is_cyclic))
 
--- the relation once it has ended for this reason, if it is to end
+-- The relation after it has ended for this reason, if it must end.
 abbrev pub left_behind : Option Abort → Option Link → Option Link
 left_behind (Some reason) link = None
 left_behind None link = link

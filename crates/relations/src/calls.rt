@@ -19,7 +19,7 @@ const RELEASE: u16 = 4;
 /// ControlCommand of their answers.
 const DONE: u16 = 8;
 
-/// The block of this type that a call consists of: PrmEnd or Release.
+/// The one block of a call, which must have this type: PrmEnd or Release.
 fn control_block(blocks: &[u8], kind: BlockType) -> Result<ControlBlock, CallFault>
     ensures { Gives (λ x. x) result (control_block kind blocks.now) }
 {
@@ -31,7 +31,7 @@ fn control_block(blocks: &[u8], kind: BlockType) -> Result<ControlBlock, CallFau
     }
 }
 
-/// The answer to a block.
+/// The block of the answer to this block.
 fn done(block: ControlBlock) -> ControlBlock
     ensures { result ≡ done_of block }
 {
@@ -42,7 +42,7 @@ fn done(block: ControlBlock) -> ControlBlock
 }
 
 impl Relation {
-    /// Whether a block is one of the relation, and asks for this.
+    /// Checks that a block belongs to the relation and has this ControlCommand.
     fn check_control(&self, block: &ControlBlock, command: u16) -> Result<(), CallFault>
         ensures { result ≡ named_of self.now block.now command }
     {
@@ -58,8 +58,9 @@ impl Relation {
         Ok(())
     }
 
-    /// PrmEnd, which a Control (operation 4) consists of: the parameters of a relation in `Started` are all written, and
-    /// ApplicationReady is to be sent. Puts the block of the answer into an empty list, or says why the call is refused.
+    /// Handles PrmEnd, the block of a Control (operation 4): all parameters of a relation in `Started` are written, and
+    /// ApplicationReady must be sent. Writes the block of the answer into an empty list, or returns why the call is
+    /// refused.
     #[tactic(auto, unfolding(crate::specs::Calls::prm_end_of, block_codec::specs::Block::block_size, block_codec::specs::Block::fields_of, block_fields::specs::Fields::body, block_fields::specs::Fields::version))]
     pub fn control<const N: usize>(
         &mut self,
@@ -71,12 +72,13 @@ impl Relation {
         ensures done { IfOk result (λ _. prm_end_answer self.old blocks.now ≡ Ok answer.new.items) }
         ensures refused { IfErr result (λ fault. (prm_end_answer self.old blocks.now ≡ Err fault) × (answer.new.items ≡ [])) }
         ensures state { self.new ≡ moved (answered Parameterized (prm_end_of self.old blocks.now)) self.old }
-        // Nothing but this leads from Started to Awaiting.
+        // It succeeds only in Started, and the relation is in Awaiting afterwards.
         ensures phase { OnOk result ((phase_of self.old ≡ Some Started) × (phase_of self.new ≡ Some Awaiting)) }
     {
         let block = control_block(blocks, BlockType::PrmEnd)?;
         self.check_control(&block, PRM_END)?;
-        // A second PrmEnd would begin ApplicationReady anew; a repeat of the first is answered from what is kept and never comes here.
+        // A second PrmEnd would restart ApplicationReady. A repeat of the first is answered from the stored answer and
+        // never gets here.
         if !matches!(self.phase, Some(Phase::Started)) {
             return Err(CallFault::Phase);
         }
@@ -89,8 +91,8 @@ impl Relation {
         Ok(())
     }
 
-    /// Release (operation 1): the controller ends the relation, in whatever phase. Puts the block of the answer into an empty list,
-    /// or says why the call is refused.
+    /// Handles Release (operation 1): the controller ends the relation, in any phase. Writes the block of the answer
+    /// into an empty list, or returns why the call is refused.
     #[tactic(auto, unfolding(crate::specs::Calls::release_of, block_codec::specs::Block::block_size, block_codec::specs::Block::fields_of, block_fields::specs::Fields::body, block_fields::specs::Fields::version))]
     pub fn release<const N: usize>(
         &mut self,
@@ -108,7 +110,7 @@ impl Relation {
         let done = done(block);
         let _size = control_len(&done);
         write_block(answer, &Block::ReleaseRes(done));
-        // What stands in the other fields means nothing from here on, and the next Connect fills them anew.
+        // The other fields are stale from here on, and the next Connect overwrites them.
         self.phase = None;
         Ok(())
     }

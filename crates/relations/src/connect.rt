@@ -20,7 +20,7 @@ const INPUT: u16 = 1;
 /// IOCRType of outputs.
 const OUTPUT: u16 = 2;
 
-/// Puts the ModuleDiffBlock with these rows in the place of what is there: nothing where no module differs.
+/// Replaces the ModuleDiffBlock by one with these rows; it is empty if no module differs.
 #[tactic(auto, unfolding(block_codec::specs::Block::block_size, block_codec::specs::Block::fields_of, block_fields::specs::Fields::body, block_fields::specs::Fields::version))]
 fn put_differing(octets: &mut ArrayVec<u8, 1166>, rows: &DiffRows)
     ensures { octets.new.items ≡ differing_octets rows.now }
@@ -30,7 +30,7 @@ fn put_differing(octets: &mut ArrayVec<u8, 1166>, rows: &DiffRows)
         return;
     }
     let block = rows.to_block();
-    // what counts its octets says that there is room for them
+    // The function that counts its octets guarantees that there is room for them.
     let _size = module_diff_len(&block);
     write_block(octets, &Block::ModuleDiffBlock(block));
 }
@@ -51,7 +51,8 @@ fn put_iocr<const N: usize>(answer: &mut ArrayVec<u8, N>, iocr_type: u16, iocr: 
     write_block(answer, &Block::IocrBlockRes(block));
 }
 
-/// Appends the IOCRBlockRes of both, in the order in which they were asked for. There must be room.
+/// Appends the IOCRBlockRes of both communication relations, in the order in which they were asked for. There must be
+/// room.
 fn put_iocrs<const N: usize>(answer: &mut ArrayVec<u8, N>, request: &ConnectRequest)
     requires { array_vec_len answer.old + 24 ≤ N }
     ensures items { answer.new.items ≡ answer.old.items ++ iocrs_answer request.now }
@@ -66,7 +67,8 @@ fn put_iocrs<const N: usize>(answer: &mut ArrayVec<u8, N>, request: &ConnectRequ
     }
 }
 
-/// Puts the blocks that answer a Connect into an empty list: ARBlockRes, both IOCRBlockRes, AlarmCRBlockRes and these octets.
+/// Writes the blocks of the answer to a Connect into an empty list: ARBlockRes, both IOCRBlockRes, AlarmCRBlockRes, and
+/// `differing`.
 #[tactic(auto, unfolding(crate::specs::Connect::connect_blocks, block_codec::specs::Block::block_size, block_codec::specs::Block::fields_of, block_fields::specs::Fields::body, block_fields::specs::Fields::version))]
 fn put_answer<const N: usize>(
     answer: &mut ArrayVec<u8, N>,
@@ -94,8 +96,8 @@ fn put_answer<const N: usize>(
 }
 
 impl Relation {
-    /// Connect (operation 0): a relation is asked for by a station. Puts the blocks of the answer into an empty list, or says why the
-    /// call is refused; while a relation stands each one is.
+    /// Handles Connect (operation 0), with which a station asks for a relation. Writes the blocks of the answer into an
+    /// empty list, or returns why the call is refused. While a relation exists, each Connect is refused.
     pub fn connect<const N: usize>(
         &mut self,
         identity: &Identity,
@@ -111,7 +113,8 @@ impl Relation {
             × (answer.new.items ≡ [])) }
         ensures state { self.new ≡ moved (making real.now partner (connect_of self.old blocks.now)) self.old }
     {
-        // One relation, and whoever has it keeps it: a second controller must not take a running station from the first.
+        // Only one relation, and the controller that has it keeps it: a second controller must not take a running
+        // station from the first.
         if let Some(_) = self.phase {
             return Err(refuse(&self.request.ar().uuid, blocks));
         }
@@ -119,7 +122,7 @@ impl Relation {
         let rows = diff(self.request.expected(), real);
         put_differing(&mut self.differing, &rows);
         self.exchange.open(&self.request, &rows);
-        // Parameters of an earlier relation are not those of this one.
+        // Parameters of an earlier relation do not belong to this one.
         self.taken.clear();
         self.partner = partner;
         self.quiet = 0;

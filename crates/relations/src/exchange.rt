@@ -1,8 +1,9 @@
-//! What the communication relations of an application relation exchange (IEC 61158-6-10, 4.7 and 4.8; protocol machines PPM, CPM
-//! and ALPMI of a device): frames of inputs, which are sent each interval, frames of outputs, which are taken or not, and alarms.
+//! What the communication relations of an application relation exchange (IEC 61158-6-10, 4.7 and 4.8; protocol machines
+//! PPM, CPM and ALPMI of a device): frames of inputs, which are sent each interval, frames of outputs, which are
+//! accepted or not, and alarms.
 //!
-//! An exchange is opened with the answer to a Connect, and begins with the answer to ApplicationReady. Who holds it knows whether
-//! its relation stands, and makes frames of what it says; what follows the FrameID of a frame is written here.
+//! An exchange is opened with the answer to a Connect, and begins with the answer to ApplicationReady. Its owner knows
+//! whether its relation exists, and builds the frames. This crate writes the octets that follow the FrameID.
 
 mod alarms;
 mod cyclic;

@@ -11,7 +11,7 @@ use pn_alarms::{Message, PduFate};
 use pn_values::{Mac, Real};
 
 impl Relation {
-    /// What is exchanged, if there is a relation: of it the frames are made that are sent.
+    /// The data exchange, if there is a relation. Frames to be sent are built from it.
     pub fn exchange(&self) -> Option<&DataExchange>
         ensures { option_map (λ exchange. exchange.now) result ≡ flow_of self.now }
     {
@@ -21,7 +21,8 @@ impl Relation {
         }
     }
 
-    /// A cyclic frame comes: from this station, of this FrameID, and all that follows it. Where it is not taken nothing changes.
+    /// Receives a cyclic frame: its source, its FrameID, and the octets that follow it. If it is not accepted nothing
+    /// changes.
     pub fn receive(&mut self, source: Mac, frame_id: u16, body: &[u8]) -> Received
         ensures received { result ≡ received_by source frame_id body.now self.old }
         ensures state { self.new ≡ moved (receiving source frame_id body.now self.old) self.old }
@@ -32,8 +33,8 @@ impl Relation {
         }
     }
 
-    /// Gives a submodule its input. Answers whether there is a relation in which it has an input of this length; if not, nothing
-    /// changes.
+    /// Sets the input of a submodule. Returns whether there is a relation in which the submodule has an input of this
+    /// length; if not, nothing changes.
     pub fn give(&mut self, slot: u16, subslot: u16, value: &[u8]) -> bool
         ensures done { result ≡ is_some (given_to slot subslot value.now self.old) }
         ensures state { self.new ≡ moved (becoming (given_to slot subslot value.now self.old)) self.old }
@@ -55,11 +56,12 @@ impl Relation {
         }
     }
 
-    /// Raises a process alarm of a submodule, which then is to be sent. Answers whether it may be; if not, nothing changes.
+    /// Raises a process alarm of a submodule, which the caller then sends. Returns whether it was raised; if not,
+    /// nothing changes.
     pub fn raise(&mut self, real: &Real, slot: u16, subslot: u16, octets: &[u8]) -> bool
         ensures done { result ≡ is_some (raised_to real.now.modules.items slot subslot octets.now self.old) }
         ensures state { self.new ≡ moved (becoming (raised_to real.now.modules.items slot subslot octets.now self.old)) self.old }
-        // It may be only while data is exchanged.
+        // An alarm is raised only while data is exchanged.
         ensures phase { result ≡ true → phase_of self.old ≡ Some Exchanging }
     {
         match self.phase {
@@ -68,7 +70,7 @@ impl Relation {
         }
     }
 
-    /// A PDU of the partner comes. Answers what becomes of it: data is to be answered, and an ERR has ended the relation.
+    /// Receives a PDU of the partner. Returns what happens to it: data must be answered; an ERR has ended the relation.
     pub fn hear(&mut self, message: &Message) -> PduFate
         ensures heard { result ≡ heard_by message.now self.old }
         ensures state { self.new ≡ moved (hearing message.now self.old) self.old }

@@ -8,25 +8,25 @@ use connect_requests::ConnectRequest;
 use pn_alarms::{Abort, Header, Pdu};
 use pn_values::Mac;
 
-/// The ERR by which a device ends a relation: a frame of low priority.
+/// The ERR with which a device ends a relation: a frame of low priority.
 #[derive(Clone, Copy, Debug, PartialEq, Eq)]
 pub struct Farewell {
-    /// To whom: CMInitiatorMacAdd.
+    /// The destination: CMInitiatorMacAdd.
     pub initiator: Mac,
-    /// The tag of the frame: TagHeaderLow.
+    /// The tag of the frame: AlarmCRTagHeaderLow.
     pub tag: u16,
-    /// The endpoint there: its LocalAlarmReference.
+    /// The endpoint of the controller: its LocalAlarmReference.
     pub reference: u16,
-    /// SendSeqNum of the last alarm that was sent, 0xFFFF where none was.
+    /// SendSeqNum of the last alarm that was sent, 0xFFFF if none was sent.
     pub send_number: u16,
-    /// SendSeqNum of the last data that was taken, 0xFFFE where none was.
+    /// SendSeqNum of the last data that was accepted, 0xFFFE if none was accepted.
     pub ack_number: u16,
-    /// Why.
+    /// The reason.
     pub reason: Abort,
 }
 
 impl Farewell {
-    /// The ERR of a relation that was asked for so, with the numbers of this header.
+    /// The ERR of a relation with this request, with the numbers of this header.
     pub(crate) fn of(request: &ConnectRequest, header: &Header, reason: Abort) -> Farewell
         ensures { result ≡ farewell_by reason request.now header.now }
     {
@@ -41,10 +41,10 @@ impl Farewell {
         }
     }
 
-    /// Its PDU.
+    /// The PDU of this ERR.
     pub fn pdu(&self) -> Pdu<'static>
         ensures exact { said result ≡ said_by self.now }
-        // It can be written.
+        // It can be encoded: its body has 4 octets, which is long enough for its type.
         ensures few { length result.body.now ≡ 4 }
         ensures long { is_long result.header.kind (length result.body.now) ≡ true }
     {

@@ -14,28 +14,29 @@ use pn_alarms::{Abort, PduType};
 use rpc_core::{CallHeader, Response};
 use uuid::Uuid;
 
-/// What an answer is.
+/// What an answer means to the device.
 #[derive(Clone, Copy, Debug, PartialEq, Eq)]
 pub enum ReadyAnswer {
-    /// It answers no ApplicationReady that is waiting for an answer, or is that of another relation.
+    /// It is not the answer to an ApplicationReady that waits for one, or it belongs to another relation.
     NotWanted,
-    /// It is positive, and holds no whole answer to ApplicationReady.
+    /// It is positive, but does not contain a complete answer to ApplicationReady.
     Garbled,
     /// ApplicationReady is confirmed: data is exchanged from now on.
     Confirmed,
-    /// ApplicationReady is refused: the relation has ended, and this is sent.
+    /// ApplicationReady is refused: the relation has ended, and this ERR must be sent.
     Refused(Farewell),
 }
 
 impl Relation {
-    /// Hears a response of the controller. One is wanted while ApplicationReady waits for its answer, with the ARUUID as activity,
-    /// sequence 0 and operation Control. A status other than 0 ends the relation; a positive one has to hold the block that
-    /// confirms ApplicationReady, and of this relation.
+    /// Receives a response of the controller. The device waits for one while ApplicationReady is unanswered, with the
+    /// ARUUID as activity, sequence 0 and operation Control. A status other than 0 ends the relation. A positive
+    /// response must hold the block that confirms ApplicationReady of this relation.
     #[tactic(auto, unfolding(crate::specs::Ready::answer_of))]
     pub fn hear_ready(&mut self, response: &Response<'_>) -> ReadyAnswer
         ensures heard { result ≡ answer_of (answered response.now) self.old }
         ensures state { self.new ≡ moved (judged_by result) self.old }
-        // Nothing else leads to the exchange of data, and from nowhere else.
+        // Data is exchanged afterwards only if it was before, or if the relation waited for this answer and the answer
+        // confirms it.
         ensures phase { phase_of self.new ≡ Some Exchanging →
             (phase_of self.old ≡ Some Exchanging) ⊎ ((phase_of self.old ≡ Some Awaiting) × (result ≡ ReadyAnswer.Confirmed)) }
     {
@@ -43,11 +44,11 @@ impl Relation {
             return ReadyAnswer::NotWanted;
         };
         let uuid = self.request.ar().uuid;
-        // Who sent it is not looked at: an activity is unique, and a controller may answer from another port.
+        // The sender is not checked: an activity is unique, and a controller may answer from another port.
         if !is_answer_to(&uuid, &response.header) {
             return ReadyAnswer::NotWanted;
         }
-        // Before its blocks: a refusal may have none.
+        // This is checked before the blocks: a refusal may have none.
         if !response.status.is_done() {
             self.phase = None;
             let header = self.exchange.header(PduType::Error);
@@ -62,14 +63,14 @@ impl Relation {
     }
 }
 
-/// Whether a response with this header answers the ApplicationReady of the relation with this ARUUID.
+/// Whether a response with this header is the answer to the ApplicationReady of the relation with this ARUUID.
 fn is_answer_to(uuid: &Uuid, header: &CallHeader) -> bool
     ensures { result ≡ is_answer_to uuid.now header.now }
 {
     header.activity == *uuid && header.sequence == 0 && header.operation == CONTROL
 }
 
-/// What the blocks of a positive answer are to the relation with this ARUUID.
+/// What the blocks of a positive answer mean to the relation with this ARUUID.
 fn confirmed_by(uuid: &Uuid, blocks: &[u8]) -> ReadyAnswer
     ensures { result ≡ confirmed_by uuid.now (confirmed_block (block_of blocks.now)) }
 {

@@ -1,27 +1,33 @@
-//! What holds of relations over many events.
+//! What holds for relations over many events.
 ghost use Rattle.relations.specs.Runs.{StandsUntil, EndsAt, IsByPrmEnd, IsByReady, IsDueEachSecond, IsDueWhateverComes, IsGivenUp};
 ghost use Rattle.relations.specs.Runs.{IsHeldFor};
 
-/// The timers, over any number of units with nothing else between: a law of the definitions by which `Relation::elapse` is stated, and no
-/// code.
+/// The timers over any number of units without other events, and ApplicationReady with other events between. These are
+/// laws of the definitions that specify `Relation::elapse`; the function has no code.
 pub fn time_is_kept()
-    // A relation of which nothing is heard stands until the last unit of its activity timer, which ends it with ERR.
+    // Before data is exchanged, a relation that receives nothing exists until the last unit of its activity timer, which
+    // ends it with ERR.
     ensures stands { StandsUntil }
     ensures ends { EndsAt }
-    // ApplicationReady is sent again with each 32,000th unit, and with no other.
+    // While a relation waits for the answer to ApplicationReady and receives nothing, ApplicationReady is sent again with
+    // each 32,000th unit since it was sent, and with no other unit, as long as the activity timer is not over.
     ensures again { IsDueEachSecond }
-    // So it is where calls and frames come between.
+    // While a relation waits for the answer to ApplicationReady, ApplicationReady is due again with each 32,000th unit
+    // since it was sent, and with no other unit, for any calls and frames between.
     ensures whatever { IsDueWhateverComes }
-    // Once data is exchanged a relation of which nothing is heard stands until the last unit of its data hold time, which ends it,
+    // While data is exchanged, a relation that receives nothing exists until the last unit of its data hold time, which
+    // ends it with ERR, if no alarm is given up before.
     ensures hold { IsHeldFor }
-    // or until an alarm without an ACK is given up before.
+    // While data is exchanged and nothing is received, an alarm without an ACK that is given up before the data hold time
+    // is over ends the relation with ERR.
     ensures spent { IsGivenUp }
 {}
 
-/// What leads from phase to phase: a law of the definition by which each call of a relation is stated, and no code.
+/// How a relation moves from phase to phase. This is a law of the definition that specifies each call of a relation;
+/// the function has no code.
 pub fn phases_are_kept()
-    // Whoever was in started and is in awaiting was judged by PrmEnd,
+    // Only an accepted PrmEnd moves a relation from Started to Awaiting.
     ensures ready { IsByPrmEnd }
-    // and whoever was in awaiting and exchanges data, by the answer to ApplicationReady.
+    // Only the answer that confirms ApplicationReady moves a relation from Awaiting to Exchanging.
     ensures exchanging { IsByReady }
 {}

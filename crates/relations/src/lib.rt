@@ -1,8 +1,8 @@
-//! The application relation of a device with its controller (IEC 61158-6-10, protocol machine CMDEV): how it is made, controlled
-//! and ended, and how long each of its phases waits.
+//! The application relation of a device with its controller (IEC 61158-6-10, protocol machine CMDEV): how it is
+//! established, controlled and ended, and how long each of its phases waits.
 //!
-//! A relation says by value what is to be sent, `Ready` for the call ApplicationReady and `Farewell` for the ERR that ends it; who
-//! holds it makes frames of these. The blocks of answers and calls are made here.
+//! A relation returns what must be sent as a value: `Ready` for the call ApplicationReady, and `Farewell` for the ERR
+//! that ends it. Its owner builds the frames. The blocks of answers and calls are built here.
 #![tactic(auto)]
 
 mod calls;

@@ -1,4 +1,4 @@
-//! ApplicationReady, the call by which a device says that its parameters are taken (IEC 61158-6-10, 5.2.4.5).
+//! ApplicationReady, the call with which a device says that it has accepted its parameters (IEC 61158-6-10, 5.2.4.5).
 ghost use Rattle.std.specs.Prelude.{◌≡◌, ◌+◌, ◌≤◌, ◌++◌, option_map};
 ghost use Rattle.arrayvec.specs.ArrayVec.{array_vec_len};
 ghost use Rattle.block_codec.specs.Block.{block_bytes};
@@ -17,14 +17,14 @@ const APPLICATION_READY: u16 = 2;
 /// Operation of Control.
 pub(crate) const CONTROL: u16 = 4;
 
-/// ApplicationReady: a call to the controller, which is sent again as it is.
+/// ApplicationReady: a call to the controller. It is repeated unchanged.
 #[derive(Clone, Copy)]
 pub struct Ready {
-    /// To whom: whence the Connect came.
+    /// The destination: the station that the Connect came from.
     pub partner: Partner,
     /// The header of the call.
     pub header: CallHeader,
-    /// Its one block.
+    /// The one block of the call.
     pub block: ControlBlock,
 }
 
@@ -41,7 +41,8 @@ impl Ready {
 }
 
 impl Relation {
-    /// The call ApplicationReady of the relation, if there is one: to the station of its Connect, with the ARUUID as activity.
+    /// The call ApplicationReady of the relation, if there is one: to the station that sent its Connect, with the
+    /// ARUUID as activity.
     pub fn ready(&self) -> Option<Ready>
         ensures { result ≡ option_map ready_of self.now }
     {

@@ -14,8 +14,8 @@ use records::{CallFault, TakenRecord, TakenRecords, is_relation};
 use std::marker::Model;
 use uuid::Uuid;
 
-/// The one application relation that a device may have. It is large, and stays in its place: what is left in it behind the end of
-/// a relation means nothing.
+/// The one application relation that a device may have. It is large and stays in place. When the relation ends only
+/// `phase` changes; stale content is ignored and overwritten by the next Connect.
 #[derive(Drop)]
 pub struct Relation {
     pub(crate) phase: Option<Phase>,
@@ -28,11 +28,11 @@ pub struct Relation {
     pub(crate) taken: TakenRecords,
     /// The ModuleDiffBlock, if there is one.
     pub(crate) differing: ArrayVec<u8, 1166>,
-    /// What is exchanged.
+    /// The data exchange.
     pub(crate) exchange: DataExchange,
 }
 
-// Clauses see what is kept of the relation, where there is one.
+// Its model: the state of the relation, if there is one.
 impl Model for Relation {
     ghost use Rattle.std.specs.Prelude.{Option};
     ghost use Rattle.relations.specs.Link.{Link};
@@ -58,7 +58,7 @@ impl Model for Relation {
 }
 
 impl Relation {
-    /// None.
+    /// No relation.
     pub fn new() -> Relation
         ensures { result ≡ None }
     {
@@ -77,16 +77,16 @@ impl Relation {
         }
     }
 
-    /// What the relation waits for, if there is one.
+    /// The phase of the relation, if there is one.
     pub fn phase(&self) -> Option<Phase>
         ensures phase { result ≡ phase_of self.now }
-        // Data is exchanged in the last phase alone.
+        // If there is a relation, its exchange has begun exactly if the phase is `Exchanging`.
         ensures step { IsInStep self.now }
     {
         self.phase
     }
 
-    /// Its ARUUID, if there is one.
+    /// The ARUUID of the relation, if there is one.
     pub fn uuid(&self) -> Option<&Uuid>
         ensures { option_map (λ uuid. uuid.now) result ≡ uuid_of self.now }
     {
@@ -96,7 +96,7 @@ impl Relation {
         }
     }
 
-    /// The parameter records that it took, in their order; none where there is no relation.
+    /// The parameter records that the relation accepted, in order. Empty if there is no relation.
     pub fn taken(&self) -> &[TakenRecord]
         ensures { result.now ≡ taken_of self.now }
     {
@@ -106,7 +106,8 @@ impl Relation {
         }
     }
 
-    /// The octets of its ModuleDiffBlock, which are its record 0xE002; none where no module differs, or there is no relation.
+    /// The octets of the ModuleDiffBlock of the relation, which are its record 0xE002. Empty if no module differs, or
+    /// if there is no relation.
     pub fn differing(&self) -> &[u8]
         ensures value { result.now ≡ differing_in self.now }
         ensures few { length result.now ≤ 1166 }
@@ -117,7 +118,7 @@ impl Relation {
         }
     }
 
-    /// Takes a parameter record that was written, behind the others: TooManyRecords where there are 64.
+    /// Appends a parameter record that was written. Returns TooManyRecords if there are 64 already.
     pub fn keep(&mut self, parameter: TakenRecord) -> Result<(), CallFault>
         ensures kept { OnOk result (IsOk (keeping parameter self.old)) }
         ensures refused { IfErr result (λ fault. keeping parameter self.old ≡ Err fault) }
@@ -136,8 +137,9 @@ impl Relation {
         is_relation(self.uuid(), uuid)
     }
 
-    /// Whether an alarm frame from this station, between these endpoints, belongs to the relation: from CMInitiatorMacAdd, to
-    /// endpoint 1 of the device, and from the endpoint that is the LocalAlarmReference of the controller.
+    /// Whether an alarm frame with this source, between these endpoints, belongs to the relation: it comes from
+    /// CMInitiatorMacAdd, goes to endpoint 1 of the device, and comes from the endpoint that is the LocalAlarmReference
+    /// of the controller.
     pub fn is_alarm(&self, source: Mac, destination: u16, endpoint: u16) -> bool
         ensures { result ≡ is_alarm_of source destination endpoint self.now }
     {
@@ -147,18 +149,18 @@ impl Relation {
             && endpoint == self.request.alarm().reference
     }
 
-    /// A call was answered. Where it names the relation, and the answer is positive, the controller is there: the activity timer
-    /// starts again.
+    /// Records that a call was answered. If it names the relation and the answer is positive, the controller is alive:
+    /// the activity timer restarts.
     pub fn hear_controller(&mut self, is_named: bool, came: Result<(), CallFault>)
         ensures { self.new ≡ moved (answered (if is_named then Named else Unmoved) came) self.old }
     {
-        // A refused call shows that somebody is there, and not that it is the controller with a purpose.
+        // A refused call shows that somebody is there, but not that it is the controller at work.
         if is_named && came.is_ok() {
             self.quiet = 0;
         }
     }
 
-    /// The device ends the relation for this reason, as at a reset. Answers the ERR that is sent, if there was one.
+    /// Ends the relation for this reason, as at a reset. Returns the ERR to send, if there was a relation.
     pub fn end(&mut self, reason: Abort) -> Option<Farewell>
         ensures farewell { result ≡ option_map (farewell_of reason) self.old }
         ensures state { self.new ≡ moved Ended self.old }

@@ -1,6 +1,7 @@
 //! The units of time.
 //!
-//! `inline(always)` stands where instructions were counted (`bench/figures/exchange.py`): most units bring nothing, and cost little.
+//! `inline(always)` is used where instructions were counted (`bench/figures/exchange.py`): with most units nothing is
+//! due, and they cost little.
 ghost use Rattle.std.specs.Prelude.{◌≡◌, ◌==◌, ◌+◌, ◌<◌, IfSome, None, Option, Some, false, nat_le, true, if◌then◌else◌};
 ghost use Rattle.pn_alarms.specs.declared.abort.Abort.TheVariants.{Activity, DataHold};
 ghost use Rattle.relations.specs.declared.phase.Phase.TheVariants.{Exchanging};
@@ -18,32 +19,32 @@ use pn_alarms::Abort;
 /// 100 ms, in units of 31.25 microseconds: what CMInitiatorActivityTimeoutFactor counts.
 const TENTH_OF_A_SECOND: u32 = 3_200;
 
-/// One second, in units of 31.25 microseconds: after so long ApplicationReady is sent again.
+/// One second, in units of 31.25 microseconds: ApplicationReady is sent again after this time.
 const SECOND: u32 = 32_000;
 
-/// What a unit of time brings, before it is sent.
+/// What is due with a unit of time, before it is sent.
 #[derive(Drop)]
 pub struct Elapsed {
-    /// What it brings to the exchange: the alarm that stands is sent again, a frame of inputs is sent. Or the relation is to end, for the
-    /// activity timer's sake too, and nothing else is sent.
+    /// What is due of the exchange: the active alarm again, or a frame of inputs. Or the relation must end, also
+    /// because of the activity timer, and nothing else is sent.
     pub tick: Tick,
-    /// ApplicationReady is sent again.
+    /// Whether ApplicationReady is due again.
     pub is_ready: bool,
 }
 
 impl Elapsed {
-    /// Whether nothing is to be sent.
+    /// Whether nothing is due.
     #[inline(always)]
     pub fn is_nothing(&self) -> bool
         ensures value { result ≡ brings_nothing self.now }
         ensures nothing { (link : Option Link) → result ≡ true → due_behind self.now link ≡ nothing }
         ensures left { (link : Option Link) → result ≡ true → left_behind self.now.tick.ending link ≡ link }
     {
-        // In an exchange ApplicationReady is never due, which is known first.
+        // While data is exchanged ApplicationReady is never due, so this is checked first.
         !self.is_ready && self.tick.is_nothing()
     }
 
-    /// Whether inputs are to be sent, and nothing else.
+    /// Whether only inputs are due.
     #[inline(always)]
     pub fn is_inputs(&self) -> bool
         ensures value { result ≡ brings_inputs self.now }
@@ -53,7 +54,7 @@ impl Elapsed {
         !self.is_ready && self.tick.is_cyclic_alone()
     }
 
-    /// What the exchange brings, and nothing else.
+    /// What is due of the exchange, and nothing else.
     #[inline(always)]
     fn of(tick: Tick) -> Elapsed
         ensures { result ≡ record { tick = tick; is_ready = false } }
@@ -86,29 +87,32 @@ fn is_awaiting(phase: Phase) -> bool
 }
 
 impl Relation {
-    /// A unit of 31.25 microseconds passes. The activity timer ends the relation at CMInitiatorActivityTimeoutFactor times 3,200
-    /// units; once data is exchanged data hold does, and then an alarm that was sent as often as it may be. Where none does, the alarm
-    /// that stands may be due again, ApplicationReady is each 32,000 units until it is answered, and a frame of inputs each interval.
-    /// A relation that a timeout ends still stands: who calls this has it end for that reason.
+    /// Counts a unit of 31.25 microseconds and returns what is due. The activity timer ends the relation after
+    /// CMInitiatorActivityTimeoutFactor times 3,200 units. Once data is exchanged, the data hold time ends it instead,
+    /// or else an alarm that was sent as often as allowed. If no timeout is over, the active alarm may be due again,
+    /// ApplicationReady is due each 32,000 units until it is answered, and a frame of inputs is due each interval. This
+    /// function does not end the relation: if the result says that it ends, the caller must call `end` with that
+    /// reason.
     #[inline(always)]
     pub fn elapse(&mut self) -> Elapsed
         ensures due { due_of self.old ≡ due_behind result self.new }
         ensures state { moved (passing self.old) self.old ≡ left_behind result.tick.ending self.new }
-        // The activity timer ends a relation before data is exchanged, data hold and an alarm without an ACK only then.
+        // The activity timer ends a relation only before data is exchanged; data hold and an alarm without an ACK end
+        // it only while data is exchanged.
         ensures reason { IfSome result.tick.ending (λ reason. EndsIn reason (phase_of self.old)) }
-        // What still stands is in its phase and has its records, also where it is to end.
+        // The relation keeps its phase and its records, even if it must end.
         ensures stands { phase_of self.new ≡ phase_of self.old }
         ensures records { taken_of self.new ≡ taken_of self.old }
-        // Once data is exchanged data hold always ends it where it is over.
+        // Once data is exchanged, the relation always ends when the data hold time is over.
         ensures hold { (old : Link) → self.old ≡ Some old → old.phase ≡ Exchanging → is_unheard old ≡ true →
             farewell_for result.tick.ending self.new ≡ Some (farewell_of DataHold old) }
-        // ApplicationReady is sent again as it was.
+        // ApplicationReady is repeated unchanged.
         ensures same { (old new : Link) → self.old ≡ Some old → self.new ≡ Some new → ready_of new ≡ ready_of old }
     {
         let Some(phase) = self.phase else {
             return Elapsed::of(Tick::nothing());
         };
-        // In each phase: inputs are sent from the answer to the Connect on.
+        // This is done in each phase: inputs are sent from the answer to the Connect on.
         let tick = self.exchange.tick();
         if !is_timed(phase) {
             return Elapsed::of(tick);
@@ -124,7 +128,8 @@ impl Relation {
     }
 }
 
-/// A unit passes in which the activity timer of so many units runs, which ends the relation where it is over.
+/// Counts a unit of the activity timer, which has `limit` units. Returns the reason to end the relation if the timer is
+/// over.
 fn unit_quiet(quiet: &mut u32, limit: u32) -> Option<Abort>
     requires few { quiet.old + 1 < 4294967296 }
     ensures ending { result ≡ (if nat_le limit (quiet.old + 1) then Some Activity else None) }
@@ -137,7 +142,7 @@ fn unit_quiet(quiet: &mut u32, limit: u32) -> Option<Abort>
     None
 }
 
-/// A unit passes in which ApplicationReady waits for its answer. Answers whether it is due again.
+/// Counts a unit in which ApplicationReady waits for its answer. Returns whether it is due again.
 fn unit_waited(waited: &mut u32) -> bool
     requires { waited.old < 32000 }
     ensures again { result ≡ (waited.old + 1 == 32000) }

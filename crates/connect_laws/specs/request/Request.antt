@@ -1,4 +1,4 @@
--- What the Connect of a plan asks for, by the parts of the plan.
+-- What the Connect of a plan asks for, from the parts of the plan.
 use Rattle.std.specs.Prelude.{ℕ, true, List, [], ◌∷◌, ◌++◌, map}
 use Rattle.pn_values.specs.declared.real.RealModule.{RealModule}
 use Rattle.connect_blocks.specs.declared.iocr.IocrType.{IocrType}
@@ -18,25 +18,25 @@ use Rattle.plans.specs.Parts.{data_of, module_of, submodule_of}
 use Rattle.plans.specs.Connect.{asked_id, initiator_object, reference_of}
 use Rattle.plans.specs.Numbers.{activity_factor, alarm_endpoint, alarm_factor, alarm_retries, high_tag, low_tag, session_number}
 
--- the submodules of modules, in their order
+-- The submodules of modules, in order.
 abbrev pub submodules_in : List RealModule → List ExpectedSubmodule
 submodules_in [] = []
 submodules_in (entry ∷ modules) = map submodule_of entry.submodules.items ++ submodules_in modules
 
--- modules are expected as they are
+-- Modules are expected as they are.
 abbrev pub expected_of : List RealModule → Expected
 expected_of modules = record { modules = record { items = map module_of modules }; submodules = record { items = submodules_in modules } }
 
--- the relation of this ARUUID, to the controller
+-- The relation with this ARUUID, to the controller.
 abbrev pub ar_for : Parts → List ℕ → Ar
 ar_for parts ar = record { uuid = ar; session_key = session_number; initiator = parts.controller.mac; object = initiator_object; timeout_factor = activity_factor }
 
--- the FrameIDs: the controller chooses that of inputs, and the device that of outputs
+-- The FrameIDs: the controller chooses that of inputs, and the device that of outputs.
 abbrev pub frame_id_of : IocrType → ℕ
 frame_id_of Input = asked_id Input
 frame_id_of Output = 0xC000
 
--- the communication relation of a direction, with the plan's times and its layout
+-- The communication relation of a direction, with the plan's times and its layout.
 abbrev pub iocr_for : Parts → IocrType → Iocr
 iocr_for parts direction = record {
   reference = reference_of direction;
@@ -48,11 +48,11 @@ iocr_for parts direction = record {
   layout = layout_in direction (data_of parts.real.modules.items);
 }
 
--- that of alarms
+-- The communication relation of alarms.
 abbrev pub alarm_for : AlarmCr
 alarm_for = record { timeout_factor = alarm_factor; retries = alarm_retries; reference = alarm_endpoint; tag_high = high_tag; tag_low = low_tag }
 
--- the request of a plan
+-- The request of a plan.
 abbrev pub request_for : Parts → List ℕ → Request
 request_for parts ar = record {
   ar = ar_for parts ar;
@@ -63,6 +63,6 @@ request_for parts ar = record {
   expected = expected_of parts.real.modules.items;
 }
 
--- no module differs
+-- No module differs.
 abbrev pub no_rows : Listed DiffModule DiffSubmodule
 no_rows = record { modules = []; submodules = [] }

@@ -1,6 +1,7 @@
--- What an operation of a host comes to. `asked` is the operation as the host wrote it, `told` as it finds it afterwards: an equation of
--- the whole operation says which fields are written, and with what. All other fields are unchanged, and so are the octets after those
--- that are told. What is refused changes nothing, neither in the port nor in the operation.
+-- The result of an operation of a host. `asked` is the operation as the host wrote it, `told` as the host finds it
+-- afterwards: an equation of the whole operation says which fields are written, and with what. All other fields are
+-- unchanged, and so are the octets after those that are written. A refused operation changes nothing, neither in the
+-- port nor in the operation.
 use Rattle.std.specs.Prelude.{◌≡◌, ◌==◌, ◌++◌, ℕ, if◌then◌else◌, List, [], ◌∷◌, take, slice_get, Option, Some, None, Result, Ok, Err, MatchResult}
 use Rattle.flash_model.specs.Calls.{Call, Programs, Erases, Arms}
 use Rattle.flash_model.specs.declared.flash.Sector.{Sector}
@@ -29,7 +30,7 @@ use Rattle.device_abi.specs.port.Steps.{Answers, KnowsOrNot, PassesOrNot, Starts
 use Rattle.device_abi.specs.declared.operations.operation.Operation.{Operation}
 use Rattle.device_abi.specs.declared.operations.operation.Operation.TheVariants as operation
 
--- the operation of a number
+-- The operation of a number.
 abbrev pub operation_of : ℕ → Option Operation
 operation_of what =
     if what == 1 then Some operation.Sector else
@@ -47,24 +48,24 @@ operation_of what =
     if what == 13 then Some operation.Record else
     if what == 14 then Some operation.Left else None
 
--- the answer to what was done, or to what was refused
+-- The result of what was done, or of what was refused.
 abbrev pub answer_of : {T : Type 0} → Result T Refusal → ℕ
 answer_of (Ok done) = 0
 answer_of (Err refusal) = refusal_number refusal
 
 -- ---- events
 
--- what became of an event
+-- The outcome of an event.
 abbrev pub noted : Result Note Refusal → Op → Op
 noted (Ok note) asked = record asked { note = note_number note }
 noted (Err refusal) asked = asked
 
--- an event was taken, and what became of it is told, or it was refused and nothing changed
+-- An event was handled, and its outcome is reported, or it was refused and nothing changed.
 abbrev pub IsEvent : State → Event → Op → ℕ → State → Op → Type 0
 IsEvent old event asked answer new told =
     (result : Result Note Refusal) × Answers old event result new × (answer ≡ answer_of result) × (told ≡ noted result asked)
 
--- 9 if the slot or the subslot is no number of 16 bits: nothing is plugged there
+-- 9 if the slot or the subslot is not a number of 16 bits: nothing is plugged there.
 abbrev pub IsInput : Option (ℕ × ℕ) → State → List ℕ → Op → ℕ → State → Op → Type 0
 IsInput (Some place) old given asked answer new told =
     IsEvent old (Input place.0 place.1 (record { items = take 1519 given })) asked answer new told
@@ -75,12 +76,13 @@ IsAlarm (Some place) old given asked answer new told =
     IsEvent old (Alarm place.0 place.1 (record { items = take 1519 given })) asked answer new told
 IsAlarm None old given asked answer new told = (answer ≡ 9) × (new ≡ old) × (told ≡ asked)
 
--- how many units are left; the note is 0, done
+-- The number of units that remain. The note is 0, done.
 abbrev pub passed : Result ℕ Refusal → Op → Op
 passed (Ok left) asked = record asked { units = left; note = 0 }
 passed (Err refusal) asked = asked
 
--- the units of time that are asked for went by, and how many are left is told, or none did and nothing changed
+-- The units of time that are asked for passed, and the number that remains is reported, or none passed and nothing
+-- changed.
 abbrev pub IsTick : State → Op → ℕ → State → Op → Type 0
 IsTick old asked answer new told =
     (result : Result ℕ Refusal) × PassesOrNot old asked.units result new × (answer ≡ answer_of result) × (told ≡ passed result asked)
@@ -94,7 +96,7 @@ sector_number Second = 1
 abbrev pub sector_of : ℕ → Option Sector
 sector_of number = if number == 0 then Some First else if number == 1 then Some Second else None
 
--- a sector of the chip is taken, or not, and then nothing changed; 8 if there is no such sector
+-- The content of a sector of the chip is accepted, or not, and then nothing changed; 8 if there is no such sector.
 abbrev pub IsSector : Option Sector → State → List ℕ → ℕ → State → Type 0
 IsSector (Some sector) old octets answer new = (result : Result (Unit {0}) Refusal) × KnowsOrNot old sector octets result new × (answer ≡ answer_of result)
 IsSector None old octets answer new = (answer ≡ 8) × (new ≡ old)
@@ -104,47 +106,47 @@ IsBoot old answer new = (result : Result (Unit {0}) Refusal) × StartsOrNot old 
 
 -- ---- work
 
--- a call of the flash as it is told: 1 is a program call, 2 an erase
+-- A flash call as it is reported: 1 is a program call, 2 an erase.
 abbrev pub IsCall : Call → Op → Op → Type 0
 IsCall (Programs sector place bytes) asked told =
     told ≡ with_octets bytes (record asked { work = 1; sector = sector_number sector; place = place })
 IsCall (Erases sector) asked told = told ≡ record asked { work = 2; sector = sector_number sector; length = 0 }
 IsCall (Arms order) asked told = ⊥
 
--- a frame, 3
+-- A frame, 3.
 abbrev pub with_frame : List ℕ → Op → Op
 with_frame frame asked = with_octets frame (record asked { work = 3 })
 
--- no more work, 0
+-- No more work, 0.
 abbrev pub with_nothing : Op → Op
 with_nothing asked = record asked { work = 0; length = 0 }
 
--- what is handed out next: a call if one is left, a frame only if no call is, and 0 if no work is left
+-- What is handed out next: a call if one remains, a frame only if no call does, and 0 if no work remains.
 abbrev pub IsHanded : List Call → List (List ℕ) → Op → Op → Type 0
 IsHanded [] [] asked told = told ≡ with_nothing asked
 IsHanded [] (frame ∷ frames) asked told = told ≡ with_frame frame asked
 IsHanded (call ∷ calls) frames asked told = IsCall call asked told
 
--- a piece of work as it is told
+-- A piece of work as it is reported.
 abbrev pub IsPiece : Work → Op → Op → Type 0
 IsPiece Nothing asked told = told ≡ with_nothing asked
 IsPiece (Carry call) asked told = IsCall (call_of call.now) asked told
 IsPiece (Send frame) asked told = told ≡ with_frame frame.now.items asked
 
--- the next piece of work is told and taken, if the port is open
+-- The next piece of work is reported and marked as fetched, if the port is open.
 abbrev pub IsNextOf : Option Refusal → State → Op → ℕ → State → Op → Type 0
 IsNextOf (Some refusal) old asked answer new told = (answer ≡ refusal_number refusal) × (new ≡ old) × (told ≡ asked)
 IsNextOf None old asked answer new told = (answer ≡ 0) × IsHanded old.calls old.frames asked told × (new ≡ advanced old)
 
--- power is lost
+-- Power is lost.
 abbrev pub IsLoss : State → ℕ → State → Type 0
 IsLoss old answer new = (result : Result (Unit {0}) Refusal)
     × MatchResult result (λ done. (closed old.stage ≡ None) × (new ≡ lost old)) (λ refusal. (closed old.stage ≡ Some refusal) × (new ≡ old))
     × (answer ≡ answer_of result)
 
--- ---- what is told: what a closed port answers, and what an open one tells
+-- ---- values that are reported: what a closed port returns, and what an open one reports
 
--- address, mask and gateway, the I&M texts, and the name, one after the other
+-- Address, mask and gateway, the I&M texts, and the name, one after the other.
 abbrev pub settings_octets : Settings → List ℕ
 settings_octets settings =
     ((((((settings.suite.address ++ settings.suite.mask) ++ settings.suite.gateway) ++ settings.im1) ++ settings.im2) ++ settings.im3) ++ settings.im4) ++ settings.name
@@ -153,7 +155,7 @@ abbrev pub IsSettings : Option Refusal → Settings → Op → ℕ → Op → Ty
 IsSettings (Some refusal) settings asked answer told = (answer ≡ refusal_number refusal) × (told ≡ asked)
 IsSettings None settings asked answer told = (answer ≡ 0) × (told ≡ with_octets (settings_octets settings) asked)
 
--- how many commits the flash still takes
+-- The number of commits that the flash still accepts.
 abbrev pub IsLeft : Option Refusal → ℕ → Op → ℕ → Op → Type 0
 IsLeft (Some refusal) left asked answer told = (answer ≡ refusal_number refusal) × (told ≡ asked)
 IsLeft None left asked answer told = (answer ≡ 0) × (told ≡ record asked { place = left })
@@ -164,13 +166,13 @@ phase_number (Some Started) = 1
 phase_number (Some Awaiting) = 2
 phase_number (Some Exchanging) = 3
 
--- the phase, and for how many units the lamp still flashes
+-- The phase, and the number of units for which the lamp still flashes.
 abbrev pub IsState : Option Refusal → State → Op → ℕ → Op → Type 0
 IsState (Some refusal) port asked answer told = (answer ≡ refusal_number refusal) × (told ≡ asked)
 IsState None port asked answer told =
     (answer ≡ 0) × (told ≡ record asked { phase = phase_number (phase_of port.device.live.rest.link); units = port.device.live.rest.lamp })
 
--- The output of a submodule; 9 if nothing with an output is plugged there.
+-- The output of a submodule; 9 if no submodule with an output is plugged there.
 abbrev pub IsValue : Option (List ℕ) → Op → ℕ → Op → Type 0
 IsValue (Some value) asked answer told = (answer ≡ 0) × (told ≡ with_octets value asked)
 IsValue None asked answer told = (answer ≡ 9) × (told ≡ asked)
@@ -186,7 +188,8 @@ abbrev pub IsOutput : Option (ℕ × ℕ) → State → Op → ℕ → Op → Ty
 IsOutput (Some place) port asked answer told = IsValueOf (closed port.stage) (value_of port place.0 place.1) asked answer told
 IsOutput None port asked answer told = (answer ≡ 9) × (told ≡ asked)
 
--- A parameter record that the relation took: its submodule, its index and its octets; 15 if no record has this number.
+-- A parameter record that the relation accepted: its submodule, its index and its octets; 15 if no record has this
+-- number.
 abbrev pub with_record : TakenRecord → Op → Op
 with_record taken asked =
     with_octets taken.value.items (record asked { slot = taken.slot; subslot = taken.subslot; place = taken.index })
@@ -201,7 +204,7 @@ IsRecordOf None taken asked answer told = IsRecordAt taken asked answer told
 
 -- ---- all of them
 
--- What an operation comes to: 10 if there is no such operation.
+-- The result of an operation: 10 if there is no such operation.
 abbrev pub Serves : Option Operation → State → Op → List ℕ → ℕ → State → Op → Type 0
 Serves (Some operation.Sector) old asked given answer new told = (told ≡ asked) × IsSector (sector_of asked.sector) old given answer new
 Serves (Some operation.Boot) old asked given answer new told = (told ≡ asked) × IsBoot old answer new

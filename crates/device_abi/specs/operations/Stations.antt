@@ -1,4 +1,4 @@
--- What a device is, as a host writes it down.
+-- The fixed properties of a device, as a host writes them.
 use Rattle.std.specs.Prelude.{◌&&◌, Bool, nat_le, List, take, map}
 use Rattle.std.specs.List.{list_all}
 use Rattle.pn_values.specs.declared.real.Real.{Real}
@@ -8,15 +8,15 @@ use Rattle.c_layout.specs.declared.plugged.Module.{Module}
 use Rattle.c_layout.specs.Modules.{is_module, module_of}
 use Rattle.device_abi.specs.declared.operations.station.Station.{Station}
 
--- the modules that count
+-- The modules that are counted.
 abbrev pub modules_in : Station → List Module
 modules_in station = take station.module_count station.modules
 
--- no count is more than its list holds
+-- No count is greater than its list can hold.
 abbrev pub is_station : Station → Bool
 is_station station = nat_le station.station_type_length 25 && (nat_le station.module_count 16 && list_all is_module (modules_in station))
 
--- ---- what they are
+-- ---- the values
 
 abbrev pub identity_of : Station → Identity
 identity_of station = record {
@@ -36,6 +36,6 @@ identity_of station = record {
 abbrev pub real_of : Station → Real
 real_of station = record { modules = record { items = map module_of (modules_in station) } }
 
--- identity, and what is plugged in
+-- The identity, and the modules that are plugged.
 abbrev pub station_of : Station → device.Station
 station_of station = record { identity = identity_of station; real = real_of station }

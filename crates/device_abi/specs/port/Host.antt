@@ -1,4 +1,4 @@
--- What a host's cycle comes to, wherever it is cut off.
+-- The result of a host's cycle, at whatever point it is cut off.
 use Rattle.std.specs.Prelude.{◌≡◌, ◌≢◌, ◌⊎◌, ◌≤◌, ℕ, false, List, [], ◌∷◌, ◌++◌, length, Result, Ok, Err, IsOk, None}
 use Rattle.pn_values.specs.declared.settings.Settings.{Settings}
 use Rattle.flash_model.specs.Calls.{Call}
@@ -21,19 +21,20 @@ use Rattle.device_abi.specs.port.Steps.{Takes}
 
 -- ---- the law
 
--- A cycle begins: what the device is, the first settings with room for so many commits, and what was sent before.
+-- A cycle begins: the fixed properties of the device, the first settings with room for this many commits, and what was
+-- sent before.
 pub record Begun : Type 0 where
   pub station : Station
   pub first : Settings
   pub room : ℕ
   pub sent : List (List ℕ)
 
--- the device after these events of the cycle: the frames that it sent in answer, and the commands that it accepted
+-- The device after these events of the cycle: the frames that it sent, and the commands that it accepted.
 unfoldable pub after : Begun → List Event → Ran
 after begun events = cycle_of [] begun.station begun.first begun.room events
 
--- A start on the chip gives what all accepted commands of the answered events, and some first ones of those that were accepted
--- beyond them, make of the first settings.
+-- A start on the chip gives the first settings changed by all accepted commands of the answered events, and by a prefix
+-- of the commands accepted after them.
 pub record Stores (begun : Begun) (answered taken : List Event) (chip : Image) : Type 0 where
   pub stored : List Accepted
   pub unstored : List Accepted
@@ -41,9 +42,9 @@ pub record Stores (begun : Begun) (answered taken : List Event) (chip : Image) :
   pub left : LeftByDevice chip
   pub boots : BootsTo chip (made_of ((after begun answered).accepted ++ stored) begun.first)
 
--- Where a host that has sent all this was cut off, or how far it came. The events are, in order: those that are answered, of which
--- each call was carried out and a frame may have been sent; at most one that is under way, of which no frame was sent; and those
--- that it missed.
+-- The point at which a host that has sent all this was cut off, or has reached. The events are, in order: those that
+-- are answered, of which each call was carried out and a frame may have been sent; at most one that is under way, of
+-- which no frame was sent; and those that the host missed.
 pub record Ends (begun : Begun) (events : List Event) (now : List (List ℕ)) (chip : Image) : Type 0 where
   pub answered : List Event
   pub under_way : List Event
@@ -54,19 +55,20 @@ pub record Ends (begun : Begun) (events : List Event) (now : List (List ℕ)) (c
   pub frames : now ++ unsent ≡ begun.sent ++ (after begun answered).frames
   pub stores : Stores begun answered (answered ++ under_way) chip
 
--- a host that was not cut off missed no event, and where it has taken all work each event is answered and each frame is sent
+-- A host that was not cut off missed no event. If it has fetched all work, each event is answered and each frame is
+-- sent.
 abbrev pub EndsBy : {E : Type 0} → Result (Unit {0}) E → Begun → List Event → List (List ℕ) → State → Image → Type 0
 EndsBy (Ok done) begun events now port chip =
     (ends : Ends begun events now chip) × (ends.missed ≡ []) × (IsIdle port → (ends.under_way ≡ []) × (ends.unsent ≡ []))
 EndsBy (Err fault) begun events now port chip = Ends begun events now chip
 
--- the events among operations, in order
+-- The events among operations, in order.
 abbrev pub events_of : List Operation → List Event
 events_of [] = []
 events_of (operation.Happens event ∷ more) = event ∷ events_of more
 events_of (operation.Works ∷ more) = events_of more
 
--- a port that has just started from what the chip holds
+-- A port that has just started from the content of the chip.
 pub record IsFresh (port : State) (chip : Image) : Type 0 where
   pub stage : port.stage ≡ Booted
   pub idle : IsIdle port
@@ -75,30 +77,30 @@ pub record IsFresh (port : State) (chip : Image) : Type 0 where
   pub starts : StartsWith chip port.device.live.values.stored port.device.live.values.room
   pub left : LeftByDevice chip
 
--- the cycle that begins with this port, and with this sent before
+-- The cycle that begins with this port, and with this sent before.
 abbrev pub begun_by : State → List (List ℕ) → Begun
 begun_by port sent = record { station = port.device.station; first = port.device.live.values.stored; room = port.device.live.values.room; sent = sent }
 
--- ---- how a host stands from operation to operation
+-- ---- the state of a host from operation to operation
 
--- a call was carried out on a chip, or it failed, and then it was cut short
+-- A call was carried out on a chip, or it failed, and then it was cut short.
 abbrev pub Carries : {E : Type 0} → Image → Call → Result (Unit {0}) E → Image → Type 0
 Carries old call (Ok done) new = new ≡ carried_out old call
 Carries old call (Err fault) new = IsCutShort old call new
 
--- an event is taken, or it is refused, and then nothing changes
+-- An event is handled, or it is refused, and then nothing changes.
 abbrev pub HandsIn : State → Event → State → Type 0
 HandsIn old event new = ((barred old ≡ None) × ((note : Note) × Takes old event note new)) ⊎ ((barred old ≢ None) × (new ≡ old))
 
--- The next piece of work of these calls and frames: the first call is carried out on the chip, or it fails; where no call is left
--- the first frame is sent; and where nothing is left nothing happens.
+-- The next piece of work of these calls and frames: the first call is carried out on the chip, or it fails; if no call
+-- remains, the first frame is sent; if nothing remains, nothing happens.
 abbrev pub Performs : {E : Type 0} → List Call → List (List ℕ) → Image → List (List ℕ) → Result (Unit {0}) E → Image → List (List ℕ) → Type 0
 Performs (call ∷ calls) frames chip sent result chip_then now = Carries chip call result chip_then × (now ≡ sent)
 Performs [] (frame ∷ frames) chip sent result chip_then now = IsOk result × (chip_then ≡ chip) × (now ≡ sent ++ frame ∷ [])
 Performs [] [] chip sent result chip_then now = IsOk result × (chip_then ≡ chip) × (now ≡ sent)
 
--- The calls of the last event are not all carried out: none of its frames was sent, and wherever they are cut off the chip stores
--- what all events before it, and some first commands of it, make.
+-- The calls of the last event are not all carried out: none of its frames was sent, and at whatever point they are cut
+-- off, the chip stores the result of all events before it and of a prefix of its commands.
 pub record UnderWay (begun : Begun) (events : List Event) (now : List (List ℕ)) (calls : List Call) (chip : Image) : Type 0 where
   pub earlier : List Event
   pub last : Event
@@ -110,8 +112,9 @@ abbrev pub IsOpen : Begun → List Event → List (List ℕ) → List Call → I
 IsOpen begun events now [] chip = Unit {0}
 IsOpen begun events now (call ∷ calls) chip = UnderWay begun events now (call ∷ calls) chip
 
--- These events were taken. The device is what they make of it, the calls that are left make the chip what the device's own image
--- is, on which a start gives what all accepted commands make, and the frames that are left complete what was sent.
+-- These events were handled. The device is in the state that they make. The remaining calls turn the chip into the
+-- device's own image, on which a start gives the result of all accepted commands. The remaining frames complete what
+-- was sent.
 pub record Stands (begun : Begun) (events : List Event) (now : List (List ℕ)) (port : State) (chip : Image) : Type 0 where
   pub stage : port.stage ≡ Booted
   pub station : port.device.station ≡ begun.station
@@ -124,12 +127,12 @@ pub record Stands (begun : Begun) (events : List Event) (now : List (List ℕ)) 
   pub frames : now ++ port.frames ≡ begun.sent ++ (after begun events).frames
   pub opened : IsOpen begun events now port.calls chip
 
--- it goes on with these events more, or it is cut off
+-- It goes on with these further events, or it is cut off.
 abbrev pub GoesOn : {E : Type 0} → Result (Unit {0}) E → Begun → List Event → List Event → List (List ℕ) → State → Image → Type 0
 GoesOn (Ok done) begun events more now port chip = Stands begun (events ++ more) now port chip
 GoesOn (Err fault) begun events more now port chip = Ends begun events now chip
 
--- all work is taken, or it is cut off
+-- All work is fetched, or it is cut off.
 abbrev pub Settles : {E : Type 0} → Result (Unit {0}) E → Begun → List Event → List (List ℕ) → State → Image → Type 0
 Settles (Ok done) begun events now port chip = Stands begun events now port chip × IsIdle port
 Settles (Err fault) begun events now port chip = Ends begun events now chip

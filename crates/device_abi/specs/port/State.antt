@@ -11,42 +11,42 @@ use Rattle.device_abi.specs.declared.port.refusal.Refusal.TheVariants as refusal
 use Rattle.device_abi.specs.declared.port.stage.Stage.{Stage}
 use Rattle.device_abi.specs.declared.port.stage.Stage.TheVariants.{Made, Booted, Lost}
 
--- The device, how far it came, and the work of its last step that the host has not taken yet: calls of the flash, and frames.
+-- The device, its stage, and the work of its last step that the host has not fetched yet: flash calls, and frames.
 pub record State : Type 0 where
   pub device : device.State (RecordedFlash 4096)
   pub stage : Stage
   pub calls : List Call
   pub frames : List (List ℕ)
 
--- all work is taken
+-- All work is fetched.
 abbrev pub IsIdle : State → Type 0
 IsIdle port = (port.calls ≡ []) × (port.frames ≡ [])
 
--- Nothing is stored before a start, no commit fails behind it, and only a port that started has work.
+-- Nothing is stored before a start, no commit fails after it, and only a port that started has work.
 abbrev pub IsSteady : Stage → Bool → List Call → List (List ℕ) → Type 0
 IsSteady Made has_failed calls frames = (has_failed ≡ true) × (calls ≡ []) × (frames ≡ [])
 IsSteady Booted has_failed calls frames = has_failed ≡ false
 IsSteady Lost has_failed calls frames = (calls ≡ []) × (frames ≡ [])
 
--- why a port tells nothing: it did not start, or power was lost
+-- Why a port reports nothing: it did not start, or power was lost.
 abbrev pub closed : Stage → Option Refusal
 closed Made = Some refusal.NotBooted
 closed Booted = None
 closed Lost = Some refusal.PowerLost
 
--- why it may not be started: it was, or power was lost
+-- Why a port may not be started: it was started before, or power was lost.
 abbrev pub past_start : Stage → Option Refusal
 past_start Made = None
 past_start Booted = Some refusal.IsBooted
 past_start Lost = Some refusal.PowerLost
 
--- whether work is left
+-- Whether work remains.
 abbrev pub has_work : List Call → List (List ℕ) → Bool
 has_work [] [] = false
 has_work [] (frame ∷ frames) = true
 has_work (call ∷ calls) frames = true
 
--- why it takes no event: it is closed, or work of the step before is left
+-- Why it accepts no event: it is closed, or work of the step before remains.
 abbrev pub barred_by : Stage → Bool → Option Refusal
 barred_by Made is_left = Some refusal.NotBooted
 barred_by Booted is_left = if is_left then Some refusal.HasWork else None
@@ -55,13 +55,13 @@ barred_by Lost is_left = Some refusal.PowerLost
 abbrev pub barred : State → Option Refusal
 barred port = barred_by port.stage (has_work port.calls port.frames)
 
--- The next piece of work: a call of the flash where one is left, a frame only where none is, and nothing where no work is left.
+-- The next piece of work: a flash call if one remains, a frame only if no call remains, and nothing if no work remains.
 abbrev pub IsNext : State → Work → Type 0
 IsNext port Nothing = IsIdle port
 IsNext port (Carry call) = (rest : List Call) × (port.calls ≡ call_of call.now ∷ rest)
 IsNext port (Send frame) = (port.calls ≡ []) × ((rest : List (List ℕ)) × (port.frames ≡ frame.now.items ∷ rest))
 
--- the first piece of work is taken
+-- The first piece of work is fetched.
 abbrev pub advanced_by : State → List Call → State
 advanced_by port [] = record port { frames = drop 1 port.frames }
 advanced_by port (call ∷ calls) = record port { calls = calls }
@@ -69,11 +69,11 @@ advanced_by port (call ∷ calls) = record port { calls = calls }
 abbrev pub advanced : State → State
 advanced port = advanced_by port port.calls
 
--- power is lost, and with it the work that was left
+-- Power is lost, and the remaining work with it.
 abbrev pub lost : State → State
 lost port = record port { stage = Lost; calls = []; frames = [] }
 
--- why no output is told: the port is closed, or nothing with an output is plugged there
+-- Why no output is reported: the port is closed, or no submodule with an output is plugged there.
 abbrev pub IsUntold : Option Refusal → Option (List ℕ) → Refusal → Type 0
 IsUntold (Some why) value refused = refused ≡ why
 IsUntold None value refused = (value ≡ None) × (refused ≡ refusal.NoSlot)

@@ -20,19 +20,19 @@ use pn_values::Settings;
 use records::TakenRecord;
 use relations::Phase;
 
-/// What an operation is answered with that is none.
+/// The result if there is no such operation.
 const UNKNOWN: u32 = 10;
 
-/// What is answered where nothing can be plugged.
+/// The result if nothing can be plugged there.
 const NO_SLOT: u32 = 9;
 
-/// What is answered of a sector that there is not.
+/// The result if there is no such sector.
 const NO_SECTOR: u32 = 8;
 
-/// What is answered where no record has this number.
+/// The result if no record has this number.
 const NO_RECORD: u32 = 15;
 
-/// Carries one operation out, with the octets that are given. The answer is 0, or why nothing changed.
+/// Carries out one operation, with the given octets. Returns 0, or why nothing changed.
 pub fn serve(port: &mut Port, op: &mut Op, given: &[u8]) -> u32
     ensures { Serves (operation_in op.old.what) port.old op.old given.now result port.new op.new }
 {
@@ -42,7 +42,7 @@ pub fn serve(port: &mut Port, op: &mut Op, given: &[u8]) -> u32
     }
 }
 
-// Carries out what is an operation.
+// Carries out a known operation.
 fn perform(operation: Operation, port: &mut Port, op: &mut Op, given: &[u8]) -> u32
     ensures { Serves (Some operation) port.old op.old given.now result port.new op.new }
 {
@@ -66,7 +66,7 @@ fn perform(operation: Operation, port: &mut Port, op: &mut Op, given: &[u8]) -> 
 
 // ---- a start
 
-// The octets of a sector of the chip, in front of a start.
+// The content of a sector of the chip, before a start.
 fn fill(port: &mut Port, op: &Op, given: &[u8]) -> u32
     ensures { IsSector (sector_of op.now.sector) port.old given.now result port.new }
 {
@@ -76,7 +76,7 @@ fn fill(port: &mut Port, op: &Op, given: &[u8]) -> u32
     }
 }
 
-// The sector of a number.
+// The sector of this number.
 fn sector_at(number: u32) -> Option<Sector>
     ensures { result ≡ sector_of number }
 {
@@ -95,7 +95,7 @@ fn boot(port: &mut Port) -> u32
     done(port.boot())
 }
 
-// The answer to what was done, or refused.
+// The result of what was done, or refused.
 fn done(outcome: Result<(), Refusal>) -> u32
     ensures { result ≡ answer_of outcome }
 {
@@ -131,7 +131,7 @@ fn alarm(port: &mut Port, op: &mut Op, given: &[u8]) -> u32
     }
 }
 
-// What became of an event, or why it was refused.
+// The outcome of an event, or why it was refused.
 fn noted(outcome: Result<Note, Refusal>, op: &mut Op) -> u32
     ensures answer { result ≡ answer_of outcome }
     ensures told { op.new ≡ is_noted outcome op.old }
@@ -152,7 +152,7 @@ fn tick(port: &mut Port, op: &mut Op) -> u32
     passed(port.tick(units), op)
 }
 
-// How many units are left, or why none went by.
+// The number of units that remain, or why none passed.
 fn passed(outcome: Result<u32, Refusal>, op: &mut Op) -> u32
     ensures answer { result ≡ answer_of outcome }
     ensures told { op.new ≡ is_passed outcome op.old }
@@ -176,7 +176,7 @@ fn lose(port: &mut Port) -> u32
 
 // ---- work
 
-// The next piece of work, which is taken with that.
+// The next piece of work, which is marked as fetched.
 fn next(port: &mut Port, op: &mut Op) -> u32
     ensures { IsNextOf (closed port.old.stage) port.old op.old result port.new op.new }
 {
@@ -190,7 +190,7 @@ fn next(port: &mut Port, op: &mut Op) -> u32
     }
 }
 
-// What a piece of work is.
+// Reports a piece of work.
 fn tell(work: Work<'_>, op: &mut Op)
     ensures { IsPiece work.entry op.old op.new }
 {
@@ -207,7 +207,7 @@ fn tell(work: Work<'_>, op: &mut Op)
     }
 }
 
-// A call of the flash.
+// Reports a flash call.
 fn tell_call(call: &Recorded, op: &mut Op)
     ensures { IsCall (call_of call.now) op.old op.new }
 {
@@ -239,7 +239,7 @@ fn sector_number(sector: Sector) -> u32
     }
 }
 
-// ---- what is told
+// ---- values that are reported
 
 fn output(port: &Port, op: &mut Op) -> u32
     ensures { IsOutput (place_in op.old.slot op.old.subslot) port.now op.old result op.new }
@@ -272,7 +272,7 @@ fn state(port: &Port, op: &mut Op) -> u32
     }
 }
 
-// The phase, and for how many units the lamp still flashes.
+// The phase, and the number of units for which the lamp still flashes.
 fn tell_state(phase: Option<Phase>, port: &Port, op: &mut Op) -> u32
     requires { phase ≡ phase_of port.now.device.live.rest.link }
     ensures { IsState (closed port.now.stage) port.now op.old result op.new }
@@ -336,7 +336,7 @@ fn put_settings(settings: &Settings, op: &mut Op)
     put_more(op, settings.name.as_bytes());
 }
 
-// How many commits the flash still takes.
+// The number of commits that the flash still accepts.
 fn left(port: &Port, op: &mut Op) -> u32
     ensures { IsLeft (closed port.now.stage) port.now.device.live.values.room op.old result op.new }
 {
@@ -349,7 +349,7 @@ fn left(port: &Port, op: &mut Op) -> u32
     }
 }
 
-// A parameter record that the relation took, by its number.
+// A parameter record that the relation accepted, by its number.
 fn tell_taken(port: &Port, op: &mut Op) -> u32
     ensures { IsRecordOf (closed port.now.stage) (slice_get (taken_of port.now.device.live.rest.link) op.old.place) op.old result op.new }
 {

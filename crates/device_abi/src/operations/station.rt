@@ -1,4 +1,4 @@
-//! What a device is, as it lies in the memory of the host.
+//! The fixed properties of a device, as they lie in the memory of the host.
 ghost use Rattle.std.specs.Prelude.{◌≡◌, ◌≤◌, true};
 ghost use Rattle.std.specs.List.{list_all};
 ghost use Rattle.c_layout.specs.Modules.{is_module};
@@ -13,13 +13,13 @@ use pn_values::{Identity, Mac, Real};
 /// The version of the header.
 const ABI: u32 = 1;
 
-/// Octets of a room.
+/// The number of octets of the memory for a port.
 const ROOM: usize = 81920;
 
-/// Octets of an operation.
+/// The number of octets of an operation.
 const OP_SIZE: usize = 1560;
 
-/// What a device is from the factory on, and the modules that are plugged in it, at most 16.
+/// The identity that a device has from the factory, and the modules that are plugged, at most 16.
 #[repr(C)]
 #[derive(Drop)]
 pub struct Station {
@@ -39,8 +39,8 @@ pub struct Station {
     pub modules: [Module; 16],
 }
 
-/// Why no device is made of this station, or 0: another version or size of an operation than the library's, a room that is too
-/// small, or a list of the station that is too long.
+/// Why no device is made from this station, or 0: another version or size of an operation than the library's, too
+/// little memory, or a list of the station that is too long.
 pub fn judge(size: usize, abi: u32, op_size: usize, station: &Station) -> u32
     ensures { result ≡ why_not_made size abi op_size station.now }
 {
@@ -65,7 +65,7 @@ pub fn port_of(station: &Station) -> Port
     Port::new(identity_in(station), real_in(station))
 }
 
-// Whether no count of a station is more than its list holds.
+// Whether no count of a station is greater than its list can hold.
 fn is_station(station: &Station) -> bool
     ensures { result ≡ is_written station.now }
 {
@@ -74,7 +74,7 @@ fn is_station(station: &Station) -> bool
         && are_modules(&station.modules[..station.module_count as usize])
 }
 
-// The identity of a device.
+// The identity of the device.
 fn identity_in(station: &Station) -> Identity
     requires { station.now.station_type_length ≤ 25 }
     ensures { result ≡ identity_of station.now }
@@ -100,7 +100,7 @@ fn identity_in(station: &Station) -> Identity
     }
 }
 
-// What is plugged in.
+// The modules that are plugged.
 #[inline(never)]
 fn real_in(station: &Station) -> Real
     requires few { station.now.module_count ≤ 16 }

@@ -1,4 +1,4 @@
-//! A device, and the work of its last step that the host has not taken yet.
+//! A device, and the work of its last step that the host has not fetched yet.
 ghost use Rattle.std.specs.Prelude.{◌≡◌, ◌+◌, ◌-◌, ◌<◌, ◌≤◌, ◌%◌, ◌^◌, None, Some, IfOk, MatchResult, ℕ, length, take};
 ghost use Rattle.flash_model.specs.Image.{erased};
 ghost use Rattle.device_abi.specs.recorded.Record.{image_of, record_of};
@@ -23,22 +23,22 @@ use settings_journal::Fill;
 use std::marker::Model;
 use wire::at_most;
 
-/// Octets of each of both sectors.
+/// The number of octets of each of the two sectors.
 pub const SECTOR_SIZE: usize = 4096;
 
-/// A device, and the work of its last step that the host has not taken yet: calls of the flash, then frames.
+/// A device, and the work of its last step that the host has not fetched yet: flash calls, then frames.
 ///
-/// It is made, given what both sectors of the chip hold, and booted. Then events go in, one at a time, and behind each the
-/// host takes all work: it carries each call of the flash out, durably, before the next one, and all of them before it sends the
-/// first frame. A call that fails on its side is power that is lost.
+/// A port is made, given the content of both sectors of the chip, and booted. Then events go in, one at a time, and
+/// after each the host fetches all work. It carries out each flash call, durably, before the next one, and all of them
+/// before it sends the first frame. A call that fails on its side counts as lost power.
 #[derive(Drop)]
 pub struct Port {
     device: Device<RecordedFlash<4096>, 4096>,
     outbox: Outbox,
     stage: Stage,
-    /// How many of the calls that the flash keeps are behind the host.
+    /// The number of recorded flash calls that the host has fetched.
     calls_past: usize,
-    /// How many of the frames in the box are behind it.
+    /// The number of frames in the outbox that the host has fetched.
     frames_past: usize,
 }
 
@@ -66,9 +66,9 @@ impl Model for Port {
 /// A piece of work.
 #[derive(Drop)]
 pub enum Work<'a> {
-    /// All is taken.
+    /// No work remains.
     Nothing,
-    /// A call of the flash.
+    /// A flash call.
     Carry(&'a Recorded),
     /// A frame to be sent.
     Send(&'a Frame),
@@ -94,7 +94,7 @@ impl Fill<RecordedFlash<4096>> for Chip<'_> {
 }
 
 impl Port {
-    /// A device that did not start, over a chip of which nothing is known yet.
+    /// A device that did not start, over a chip whose content is not known yet.
     #[inline(always)]
     pub fn new(identity: Identity, real: Real) -> Port
         ensures station { result.device.station ≡ record { identity = identity; real = real } }
@@ -111,14 +111,14 @@ impl Port {
         }
     }
 
-    /// How far it came.
+    /// The stage of the port.
     pub fn stage(&self) -> Stage
         ensures { result ≡ self.now.stage }
     {
         self.stage
     }
 
-    /// Whether work of the last step is left.
+    /// Whether work of the last step remains.
     pub fn has_work(&self) -> bool
         ensures { result ≡ is_left self.now.calls self.now.frames }
     {
@@ -127,7 +127,7 @@ impl Port {
 
     // ---- a start
 
-    /// Takes the octets of a sector of the chip, before a start: 4,096 of them.
+    /// Sets the content of a sector of the chip, before a start. Returns `BadLength` if it does not have 4,096 octets.
     pub fn fill(&mut self, sector: Sector, octets: &[u8]) -> Result<(), Refusal>
         ensures { KnowsOrNot self.old sector octets.now result self.new }
     {
@@ -141,7 +141,7 @@ impl Port {
         Ok(())
     }
 
-    /// Starts from what the chip holds, and writes nothing.
+    /// Starts from the content of the chip, and writes nothing. Returns `Foreign` if the content cannot be read.
     pub fn boot(&mut self) -> Result<(), Refusal>
         ensures { StartsOrNot self.old result self.new }
     {
@@ -167,7 +167,8 @@ impl Port {
 
     // ---- events
 
-    /// A frame came in: its octets from the destination address on. Of one that is longer than any frame the first 1,519 are read.
+    /// Handles a received frame: its octets from the destination address on. Of a frame that is longer than any valid
+    /// one only the first 1,519 octets are read.
     #[inline(never)]
     pub fn frame(&mut self, octets: &[u8]) -> Result<Note, Refusal>
         ensures { Answers self.old (Framed (record { items = take 1519 octets.now })) result self.new }
@@ -175,7 +176,7 @@ impl Port {
         self.offer(&Event::Frame(first_of(octets)))
     }
 
-    /// The application gives the input of a submodule.
+    /// Sets the input of a submodule.
     #[inline(never)]
     pub fn input(&mut self, slot: u16, subslot: u16, octets: &[u8]) -> Result<Note, Refusal>
         ensures { Answers self.old (Input slot subslot (record { items = take 1519 octets.now })) result self.new }
@@ -183,7 +184,7 @@ impl Port {
         self.offer(&Event::Input(slot, subslot, first_of(octets)))
     }
 
-    /// The application raises an alarm of a submodule.
+    /// Raises an alarm of a submodule.
     #[inline(never)]
     pub fn alarm(&mut self, slot: u16, subslot: u16, octets: &[u8]) -> Result<Note, Refusal>
         ensures { Answers self.old (Alarm slot subslot (record { items = take 1519 octets.now })) result self.new }
@@ -191,7 +192,7 @@ impl Port {
         self.offer(&Event::Alarm(slot, subslot, first_of(octets)))
     }
 
-    /// Lets units of time go by, up to the first that sends something. How many are left is the answer.
+    /// Lets units of time pass, up to the first that sends something. Returns how many remain.
     pub fn tick(&mut self, units: u32) -> Result<u32, Refusal>
         ensures { PassesOrNot self.old units result self.new }
     {
@@ -201,8 +202,8 @@ impl Port {
         }
     }
 
-    /// A call of the flash failed on the side of the host, which counts as power that is lost. The work that is left is
-    /// dropped, and nothing is handed out any more.
+    /// Reports that a flash call failed on the host's side, which counts as lost power. The remaining work is dropped,
+    /// and nothing is handed out any more.
     pub fn lose(&mut self) -> Result<(), Refusal>
         ensures { MatchResult result (λ _. (closed self.old.stage ≡ None)
             × (self.new ≡ lost self.old)) (λ refusal. (closed self.old.stage ≡ Some refusal) × (self.new ≡ self.old)) }
@@ -218,7 +219,7 @@ impl Port {
 
     // ---- work
 
-    /// The next piece of work: the calls of the flash in their order, and behind the last of them the frames.
+    /// The next piece of work: the flash calls in order, and after the last of them the frames.
     pub fn work(&self) -> Result<Work<'_>, Refusal>
         ensures { MatchResult result (λ work. (closed self.now.stage ≡ None)
             × IsNext self.now work) (λ refusal. closed self.now.stage ≡ Some refusal) }
@@ -229,7 +230,7 @@ impl Port {
         }
     }
 
-    // The piece of work that is next.
+    // The next piece of work.
     fn next(&self) -> Work<'_>
         ensures { IsNext self.now result }
     {
@@ -243,7 +244,7 @@ impl Port {
         Work::Nothing
     }
 
-    /// That piece is taken.
+    /// Marks that piece as fetched.
     pub fn advance(&mut self)
         ensures { self.new ≡ advanced self.old }
     {
@@ -254,9 +255,9 @@ impl Port {
         }
     }
 
-    // ---- what it tells
+    // ---- what it reports
 
-    /// The settings that run.
+    /// The running settings.
     pub fn running(&self) -> Result<&Settings, Refusal>
         ensures { MatchResult result (λ settings. (closed self.now.stage ≡ None)
             × (settings.now ≡ self.now.device.live.values.running)) (λ refusal. closed self.now.stage ≡ Some refusal) }
@@ -267,7 +268,7 @@ impl Port {
         }
     }
 
-    /// The settings that a restart finds, once all work is taken and carried out.
+    /// The settings that a restart finds, once all work is fetched and carried out.
     pub fn stored(&self) -> Result<&Settings, Refusal>
         ensures { MatchResult result (λ settings. (closed self.now.stage ≡ None)
             × (settings.now ≡ self.now.device.live.values.stored)) (λ refusal. closed self.now.stage ≡ Some refusal) }
@@ -278,8 +279,8 @@ impl Port {
         }
     }
 
-    /// How many commits are left, once all work is taken and carried out: that many further ones are accepted. 0 is a chip that
-    /// keeps nothing more.
+    /// The number of remaining commits, once all work is fetched and carried out: that many further ones are accepted.
+    /// With 0 the chip stores nothing more.
     pub fn left(&self) -> Result<u32, Refusal>
         ensures { MatchResult result (λ left. (closed self.now.stage ≡ None)
             × (left ≡ self.now.device.live.values.room)) (λ refusal. closed self.now.stage ≡ Some refusal) }
@@ -290,7 +291,7 @@ impl Port {
         }
     }
 
-    /// What the application relation waits for, if there is one.
+    /// The phase of the application relation, if there is one.
     pub fn phase(&self) -> Result<Option<Phase>, Refusal>
         ensures { MatchResult result (λ phase. (closed self.now.stage ≡ None)
             × (phase ≡ phase_of self.now.device.live.rest.link)) (λ refusal. closed self.now.stage ≡ Some refusal) }
@@ -301,7 +302,7 @@ impl Port {
         }
     }
 
-    /// For how many units the lamp still flashes.
+    /// The number of units for which the lamp still flashes.
     pub fn lamp(&self) -> Result<u32, Refusal>
         ensures { MatchResult result (λ lamp. (closed self.now.stage ≡ None)
             × (lamp ≡ self.now.device.live.rest.lamp)) (λ refusal. closed self.now.stage ≡ Some refusal) }
@@ -312,7 +313,7 @@ impl Port {
         }
     }
 
-    /// The parameter records that the relation took, in their order.
+    /// The parameter records that the relation accepted, in order.
     pub fn taken(&self) -> Result<&[TakenRecord], Refusal>
         ensures { MatchResult result (λ taken. (closed self.now.stage ≡ None)
             × (taken.now ≡ taken_of self.now.device.live.rest.link)) (λ refusal. closed self.now.stage ≡ Some refusal) }
@@ -323,7 +324,7 @@ impl Port {
         }
     }
 
-    /// The output of a submodule: NoSlot where nothing with an output is plugged.
+    /// The output of a submodule. Returns NoSlot if no submodule with an output is plugged there.
     pub fn output(&self, slot: u16, subslot: u16) -> Result<&[u8], Refusal>
         ensures value { let value = output_of self.now.device.station.real slot subslot
             (output_in slot subslot self.now.device.live.rest.link) in
@@ -342,7 +343,7 @@ impl Port {
 
     // ---- one step
 
-    // Why no event is taken now.
+    // Why no event is accepted now.
     fn barred(&self) -> Option<Refusal>
         ensures { result ≡ barred self.now }
     {
@@ -354,7 +355,7 @@ impl Port {
         }
     }
 
-    // Takes an event, where none is barred.
+    // Handles an event, if none is refused now.
     pub(crate) fn offer(&mut self, event: &Event) -> Result<Note, Refusal>
         ensures { Answers self.old event.now result self.new }
     {
@@ -364,7 +365,7 @@ impl Port {
         }
     }
 
-    // Takes an event. All work of the step before is taken.
+    // Handles an event. All work of the step before is fetched.
     fn take(&mut self, event: &Event) -> Note
         requires { barred self.old ≡ None }
         ensures { Takes self.old event.now result self.new }
@@ -376,7 +377,7 @@ impl Port {
         note
     }
 
-    // Lets units of time go by, up to the first that sends something. How many are left is the result.
+    // Lets units of time pass, up to the first that sends something. Returns how many remain.
     fn pass(&mut self, units: u32) -> u32
         requires { barred self.old ≡ None }
         ensures { Passes self.old units result self.new }
@@ -391,7 +392,7 @@ impl Port {
     }
 }
 
-// Why a port tells nothing at this stage.
+// Why a port reports nothing at this stage.
 fn why_closed(stage: Stage) -> Option<Refusal>
     ensures { result ≡ closed stage }
 {
@@ -402,7 +403,7 @@ fn why_closed(stage: Stage) -> Option<Refusal>
     }
 }
 
-// Why it may not be started at this stage.
+// Why a port may not be started at this stage.
 fn past_start(stage: Stage) -> Option<Refusal>
     ensures { result ≡ too_late stage }
 {
@@ -413,7 +414,7 @@ fn past_start(stage: Stage) -> Option<Refusal>
     }
 }
 
-// The first octets of those that are given, as many as an event has.
+// The given octets, cut to the most that an event has.
 fn first_of(octets: &[u8]) -> Bytes
     ensures { result ≡ record { items = take 1519 octets.now } }
 {
@@ -422,7 +423,7 @@ fn first_of(octets: &[u8]) -> Bytes
     bytes
 }
 
-// How many calls a flash ever recorded, modulo 2 to the 32.
+// The number of calls that a flash ever recorded, modulo 2 to the 32.
 fn counted(flash: &RecordedFlash<4096>) -> u32
     ensures value { result ≡ (record_of flash.now).count }
     ensures small { (record_of flash.now).count < 2 ^ 32 }
@@ -430,7 +431,7 @@ fn counted(flash: &RecordedFlash<4096>) -> u32
     flash.count()
 }
 
-// How many of the calls that a flash keeps are older than those that it recorded since it had recorded so many.
+// The number of stored calls that are older than those recorded since the count was `before`.
 fn older(before: u32, flash: &RecordedFlash<4096>) -> usize
     ensures most { result ≤ length (record_of flash.now).recent }
     ensures exact { (calls : ℕ) → (record_of flash.now).count ≡ (before + calls) % 2 ^ 32 → calls ≤ length (record_of flash.now).recent →

@@ -1,4 +1,4 @@
-//! A host: it hands events in, carries the calls of the flash out on its chip, and sends the frames behind them.
+//! A host: it hands in events, carries out the flash calls on its chip, and then sends the frames.
 ghost use Rattle.std.specs.Prelude.{◌≡◌, List, [], ◌∷◌, OnOk};
 ghost use Rattle.device_abi.specs.recorded.Entry.{call_of};
 ghost use Rattle.device_frames.specs.declared.event.Event.{Event};
@@ -13,14 +13,14 @@ use flash_model::{Flash, FlashFault};
 /// What a host does next.
 #[derive(Drop)]
 pub enum Operation {
-    /// It hands an event in, after it has taken all work of the one before.
+    /// It hands in an event, after it has fetched all work of the one before.
     Happens(Event),
-    /// It takes one piece of work.
+    /// It fetches one piece of work.
     Works,
 }
 
-/// Does what it is told to, in order, over a port that has just started from what the chip holds. A call of the chip that fails
-/// cuts the host off: it sends nothing more, and has to start again from the chip.
+/// Carries out these operations, in order, over a port that has just started from the content of the chip. A chip call
+/// that fails cuts the host off: it sends nothing more, and must start again from the chip.
 pub fn play<C: Flash<4096>, K: Sink>(
     port: &mut Port,
     chip: &mut C,
@@ -57,7 +57,7 @@ fn go_on<C: Flash<4096>, K: Sink>(
     }
 }
 
-// Takes all work that is left.
+// Fetches all remaining work.
 fn settle<C: Flash<4096>, K: Sink>(
     port: &mut Port,
     chip: &mut C,
@@ -72,14 +72,14 @@ fn settle<C: Flash<4096>, K: Sink>(
     Ok(())
 }
 
-// Hands an event in, as a product does.
+// Hands in an event, as a product does.
 fn hand_in(port: &mut Port, event: &Event)
     ensures { HandsIn port.old event.now port.new }
 {
     let _ = port.offer(event);
 }
 
-// Takes the next piece of work. A call that fails is power that is lost.
+// Fetches the next piece of work. A call that fails counts as lost power.
 fn work<C: Flash<4096>, K: Sink>(
     port: &mut Port,
     chip: &mut C,
@@ -101,7 +101,7 @@ fn work<C: Flash<4096>, K: Sink>(
     }
 }
 
-// Carries the next call out on the chip, or sends the next frame.
+// Carries out the next call on the chip, or sends the next frame.
 fn perform<C: Flash<4096>, K: Sink>(
     port: &Port,
     chip: &mut C,
@@ -120,7 +120,7 @@ fn perform<C: Flash<4096>, K: Sink>(
     }
 }
 
-// Carries a call out on the chip.
+// Carries out a call on the chip.
 fn carry<C: Flash<4096>>(chip: &mut C, call: &Recorded) -> Result<(), FlashFault>
     ensures { Carries (C.image chip.old) (call_of call.now) result (C.image chip.new) }
 {
@@ -131,7 +131,7 @@ fn carry<C: Flash<4096>>(chip: &mut C, call: &Recorded) -> Result<(), FlashFault
             bytes,
         } => {
             let place = *place as usize;
-            // What lies past the end of a sector cannot be carried out.
+            // A call past the end of a sector cannot be carried out.
             if place + bytes.len() > SECTOR_SIZE {
                 return Err(FlashFault);
             }

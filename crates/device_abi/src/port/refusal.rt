@@ -5,24 +5,24 @@ ghost use Rattle.device_abi.specs.port.Refusals.{refusal_number};
 /// Why a port did nothing.
 #[derive(Clone, Copy, Debug, PartialEq, Eq)]
 pub enum Refusal {
-    /// It did not start yet.
+    /// The port has not started yet.
     NotBooted = 5,
-    /// It started already.
+    /// The port has already started.
     IsBooted = 6,
-    /// Work of the step before was not taken yet.
+    /// Work of the step before was not fetched yet.
     HasWork = 7,
     /// A sector has another number of octets.
     BadLength = 8,
-    /// Nothing with an output is plugged there.
+    /// No submodule with an output is plugged there.
     NoSlot = 9,
-    /// The flash holds what no device of this layout left there.
+    /// The content of the flash was not written by a device with this layout.
     Foreign = 11,
     /// Power was lost since it started.
     PowerLost = 14,
 }
 
 impl Refusal {
-    /// Its number.
+    /// The number of this refusal.
     pub fn number(self) -> u32
         ensures { result ≡ refusal_number self }
     {

@@ -1,12 +1,12 @@
-//! How far a port came.
+//! The stage of a port.
 
-/// How far a port came.
+/// The stage of a port.
 #[derive(Clone, Copy, Debug, PartialEq, Eq)]
 pub enum Stage {
-    /// It was made, and waits for what the chip holds.
+    /// It was made, and waits for the content of the chip.
     Made,
-    /// It started, and takes events.
+    /// It started, and accepts events.
     Booted,
-    /// A call of the flash failed on the host's side, which counts as power that is lost: it has to be made anew.
+    /// A flash call failed on the host's side, which counts as lost power: the port must be made again.
     Lost,
 }

@@ -1,4 +1,5 @@
--- The alarms of a relation, between a device's end of them and a controller: what may happen to either, in any order and number.
+-- The alarms of a relation, between a device's end and a controller: what may happen to either, in any order and
+-- number.
 use Rattle.std.specs.Prelude.{◌≡◌, ◌≤◌, ◌+◌, ◌&&◌, ◌++◌, ℕ, Bool, List, [], ◌∷◌, length, nat_le, slice_get, if◌then◌else◌, Option, Some, None}
 use Rattle.pn_values.specs.declared.mac.Mac.{Mac}
 use Rattle.record_blocks.specs.declared.alarm_notification.AlarmNotification.{AlarmNotification}
@@ -22,9 +23,9 @@ use Rattle.controller_core.specs.Alarms.{is_alarm, kept_alarm}
 use Rattle.controller_core.specs.Machine.{Turn, alarmed, first, given, stays, stopped, ticked, turned}
 use Rattle.controller_core.specs.State.{Live}
 
--- The device's end; what the controller keeps; the alarms: those that were raised, each PDU of one that the device's end ever sent, and
--- those that the controller took; each ACK that the device's end ever sent, by the number that it acknowledges; and each message that the
--- controller ever sent.
+-- The device's end; the state of the controller; the alarms: those that were raised, each PDU of one that the device's
+-- end ever sent, and those that the controller accepted; each ACK that the device's end ever sent, by the number that
+-- it acknowledges; and each message that the controller ever sent.
 pub record Relation : Type 0 where
   pub device : DeviceEnd
   pub live : Live
@@ -32,10 +33,10 @@ pub record Relation : Type 0 where
   pub acks : List ℕ
   pub told : List Sent
 
--- What may happen: the device raises an alarm; a unit passes at its end; the message of this place, of all that the controller ever sent,
--- comes to it; the data, or the ACK, of this place, of all that it ever sent, comes to the controller in a frame of this station with these
--- endpoints; anything else is heard by the controller, an ERR and a NACK too; a unit passes at the controller; or its application gives an
--- output, or stops it.
+-- What may happen: the device raises an alarm; a unit passes at its end; the message at this position, of all that the
+-- controller ever sent, arrives at it; the data, or the ACK, at this position, of all that it ever sent, arrives at the
+-- controller in a frame of this station with these endpoints; anything else is received by the controller, also an ERR
+-- or a NACK; a unit passes at the controller; or its application sets an output, or stops it.
 pub data Move : Type 0 where
   Raises : (alarm : Alarm) → Move
   PassesAtDevice : Move
@@ -49,7 +50,7 @@ pub data Move : Type 0 where
 
 -- ---- at the device
 
--- an alarm of at most 32 octets is raised, and sent as data, where none stands
+-- An alarm of at most 32 octets is raised, and sent as data, if no alarm is active.
 abbrev pub raised_by : Relation → Alarm → Option AlarmNotification → Relation
 raised_by r alarm None =
     if nat_le (length alarm.alarm_data.now) 32
@@ -60,15 +61,15 @@ raised_by r alarm None =
     else r
 raised_by r alarm (Some standing) = r
 
--- a unit passes: the alarm that stands may be due again
+-- A unit passes: the active alarm may be due again.
 abbrev pub passed_at_device : Relation → Relation
 passed_at_device r = record r {
   device = end_later r.device;
   alarms = line_after r.alarms (send_number r.device.sender.sending.last) r.device.sender.standing (due r.device.sender.sending);
 }
 
--- a message of the controller comes: an AlarmAck, which is answered where it is taken or was, an ACK or a NACK; what else the controller
--- sends has nothing to do with alarms
+-- A message of the controller arrives: an AlarmAck, which is answered if it is accepted now or was before, an ACK or a
+-- NACK. Its other messages do not concern alarms.
 abbrev pub replied_by : Relation → Header → PduType → Relation
 replied_by r header pdu.Ack = record r { device = end_behind r.device (notice.Ack header.ack_number) }
 replied_by r header pdu.Nack = record r { device = end_behind r.device notice.Nack }
@@ -86,15 +87,16 @@ comes_to_device r None = r
 
 -- ---- at the controller
 
--- it makes a turn
+-- It makes a turn.
 abbrev pub turns : Relation → Turn → Relation
 turns r turn = record r { live = turn.live; told = r.told ++ turn.sent }
 
--- whether it looks at an alarm frame of this station with these endpoints: while its relation stands, if it is of that
+-- Whether it handles an alarm frame of this station with these endpoints: while its relation is established, if the
+-- frame belongs to that.
 abbrev pub is_looked_at : Relation → Mac → Header → Bool
 is_looked_at r source header = r.live.stands && is_alarm r.live.cyclic.route source header
 
--- an alarm comes, which is taken as its number says; or an ACK
+-- An alarm arrives, which is accepted if its number is the expected one; or an ACK arrives.
 abbrev pub alarm_comes : Relation → Mac → Header → Option (ℕ × AlarmNotification) → Relation
 alarm_comes r source header (Some came) = record (turns r (alarmed r.live source header (notice.Data came.0 came.1))) {
   alarms = if is_looked_at r source header then with_come r.alarms r.live.alarms.seen came else r.alarms;
@@ -105,7 +107,7 @@ abbrev pub ack_comes : Relation → Mac → Header → Option ℕ → Relation
 ack_comes r source header (Some number) = turns r (alarmed r.live source header (notice.Ack number))
 ack_comes r source header None = r
 
--- anything else is heard
+-- Anything else is received.
 abbrev pub hears : Setup → Relation → Heard → Relation
 hears setup r (Alarms source header (notice.Data number alarm)) = r
 hears setup r (Alarms source header (notice.Ack number)) = r
@@ -113,7 +115,7 @@ hears setup r heard = turns r (turned setup r.live heard)
 
 -- ----
 
--- behind a move, and behind moves
+-- The relation after a move, and after several moves.
 abbrev pub behind_one : Setup → Relation → Move → Relation
 behind_one setup r (Raises alarm) = raised_by r alarm r.device.sender.standing
 behind_one setup r PassesAtDevice = passed_at_device r
@@ -129,28 +131,30 @@ abbrev pub behind : Setup → List Move → Relation → Relation
 behind setup [] r = r
 behind setup (move ∷ moves) r = behind setup moves (behind_one setup r move)
 
--- a new controller, and a device's end with the RTATimeoutFactor and RTARetries of its Connect: nothing happened yet
+-- A new controller, and a device's end with the RTATimeoutFactor and RTARetries of its Connect: nothing has happened
+-- yet.
 abbrev pub start : Setup → Relation
 start setup = record { device = idle 1 3; live = first setup.plan; alarms = empty; acks = []; told = [] }
 
--- the last of the alarms that were taken, as a controller keeps it
+-- The last of the alarms that were accepted, as a controller stores it.
 abbrev pub last_of : List AlarmNotification → Option AlarmNotification
 last_of [] = None
 last_of (alarm ∷ []) = Some (kept_alarm alarm)
 last_of (alarm ∷ next ∷ alarms) = last_of (next ∷ alarms)
 
--- ---- the law: over any moves, from the start,
+-- ---- the law: over any moves, from the start
 
--- while at most 32,768 alarms are raised, those that the controller takes begin those that were raised,
+-- While at most 32,768 alarms are raised, the alarms that the controller accepted are a prefix of those that were
+-- raised.
 abbrev pub AreTakenInOrder : Type 0
 AreTakenInOrder = (setup : Setup) (moves : List Move) → length (behind setup moves (start setup)).alarms.sent ≤ 32768
     → IsPrefixOf (behind setup moves (start setup)).alarms.taken (behind setup moves (start setup)).alarms.sent
 
--- and lack at most the last.
+-- While at most 32,768 alarms are raised, at most the last one is missing.
 abbrev pub LackAtMostTheLast : Type 0
 LackAtMostTheLast = (setup : Setup) (moves : List Move) → length (behind setup moves (start setup)).alarms.sent ≤ 32768
     → length (behind setup moves (start setup)).alarms.sent ≤ length (behind setup moves (start setup)).alarms.taken + 1
 
--- The controller shows the last that it took.
+-- The controller reports the last alarm that it accepted.
 abbrev pub ShowsTheLast : Type 0
 ShowsTheLast = (setup : Setup) (moves : List Move) → (behind setup moves (start setup)).live.alarm ≡ last_of (behind setup moves (start setup)).alarms.taken

@@ -1,4 +1,4 @@
--- What holds of a controller that ended.
+-- What holds for a controller that ended.
 use Rattle.std.specs.Prelude.{◌≡◌, ◌⊎◌, ℕ, Bool, true, false, List, [], ◌∷◌, if◌then◌else◌, Option, Some, None}
 use Rattle.std.specs.List.{AllByRecursion}
 use Rattle.pn_values.specs.declared.mac.Mac.{Mac}
@@ -18,14 +18,14 @@ use Rattle.controller_core.specs.Answers.{is_answer}
 use Rattle.controller_core.specs.Machine.{is_again, later, step_of}
 use Rattle.message_laws.specs.turns.Runs.{IsReached, behind_all, frames_of}
 
--- a controller that ended for this cause, at any time of any run
+-- A controller that ended for this cause, at any time of any run.
 pub record HasEnded (cause : Cause) (controller : Controlling) : Type 0 where
   pub reached : IsReached controller
   pub phase : controller.live.phase ≡ Ended cause
 
 -- ---- its Release
 
--- the frame of the Release that stands, if one does
+-- The frame of the active Release, if there is one.
 abbrev pub release_in : Setup → Mac → Option Request → Option (List ℕ)
 release_in setup device (Some (asks.Release sequence)) = Some (bytes_of setup (Requests device (asks.Release sequence)))
 release_in setup device _ = None
@@ -33,7 +33,7 @@ release_in setup device _ = None
 abbrev pub release_of : Controlling → Option (List ℕ)
 release_of controller = release_in controller.setup controller.live.device controller.live.asked
 
--- the causes of which the device may be told by a Release: modules that differ, and the application
+-- The causes of which the device may be informed by a Release: modules that differ, and a stop by the application.
 abbrev pub may_release : Cause → Bool
 may_release why.ModuleDiff = true
 may_release why.Stopped = true
@@ -41,7 +41,7 @@ may_release _ = false
 
 -- ---- what comes
 
--- the response to the Release that stands: of the activity of the controller, and of the number of its call
+-- The response to the active Release: with the activity of the controller, and the number of its call.
 pub record IsAnswered (setup : Setup) (live : Live) (heard : Heard) : Type 0 where
   pub response : Response
   pub sequence : ℕ
@@ -49,7 +49,8 @@ pub record IsAnswered (setup : Setup) (live : Live) (heard : Heard) : Type 0 whe
   pub comes : heard ≡ Responds response
   pub right : is_answer setup (asks.Release sequence) response.header ≡ true
 
--- What comes is dropped: a frame, but that a Release does not stand any more that is answered; a stop; and an output, which goes to nobody.
+-- What comes is dropped: a frame, except that a Release that is answered is no longer active; a stop; and an output,
+-- which is sent to nobody.
 abbrev pub IsDropped : Setup → Event → Live → Live → Type 0
 IsDropped setup (Frame bytes) before after =
     (after ≡ before) ⊎ (IsAnswered setup before (heard_of setup.plan.controller bytes.items) × (after ≡ record before { asked = None }))
@@ -57,38 +58,40 @@ IsDropped setup Tick before after = ⊥
 IsDropped setup (Give slot subslot value) before after = after ≡ record before { cyclic = record before.cyclic { shown = after.cyclic.shown } }
 IsDropped setup Stop before after = after ≡ before
 
--- whether an event is a unit of time
+-- Whether an event is a unit of time.
 abbrev pub is_unit : Event → Bool
 is_unit Tick = true
 is_unit _ = false
 
--- a frame, if there is one and it is due
+-- A frame, if there is one and it is due.
 abbrev pub where_due : Bool → Option (List ℕ) → List (List ℕ)
 where_due is_due (Some frame) = if is_due then frame ∷ [] else []
 where_due is_due None = []
 
 -- ---- the law
 
--- Whatever comes, it stays ended, for the same cause,
+-- For any events, an ended controller stays ended, for the same cause.
 abbrev pub KeepsItsCause : Type 0
 KeepsItsCause = (controller : Controlling) (cause : Cause) (events : List Event) → HasEnded cause controller → HasEnded cause (behind_all events controller)
 
--- each frame that it sends is the Release that stands, octet by octet, and there is none where none stands,
+-- Each frame that an ended controller sends is its active Release, octet by octet; without an active Release it sends
+-- none.
 abbrev pub RepeatsItsRelease : Type 0
 RepeatsItsRelease = (controller : Controlling) (cause : Cause) (events : List Event) → HasEnded cause controller
     → AllByRecursion (λ frame. Some frame ≡ release_of controller) (frames_of events controller)
 
--- and none does where it ended for another cause than modules that differ or the application.
+-- A controller that ended for another cause than modules that differ or a stop by the application sends nothing.
 abbrev pub IsSilent : Type 0
 IsSilent = (controller : Controlling) (cause : Cause) (events : List Event) → HasEnded cause controller → may_release cause ≡ false
     → frames_of events controller ≡ []
 
--- What comes is dropped, and nothing is sent for it.
+-- For an event other than a unit of time no frame is sent. It changes nothing, except that the response to the active
+-- Release ends that, and that an output is stored.
 abbrev pub DropsWhatComes : Type 0
 DropsWhatComes = (controller : Controlling) (cause : Cause) (event : Event) → HasEnded cause controller → is_unit event ≡ false
     → ((step_of controller event).frames ≡ []) × IsDropped controller.setup event controller.live (step_of controller event).controller.live
 
--- A unit is counted, and the Release that stands is sent with each 32,000th.
+-- A unit is counted, and the active Release is sent when the units since it was last sent reach 32,000.
 abbrev pub CountsUnits : Type 0
 CountsUnits = (controller : Controlling) (cause : Cause) → HasEnded cause controller
     → ((step_of controller Tick).controller ≡ with_live controller (later controller.live))

@@ -5,17 +5,17 @@ use Rattle.controller_core.specs.declared.event.Event.{Event}
 use Rattle.controller_core.specs.State.{Controlling}
 use Rattle.controller_core.specs.Machine.{fresh, step_of}
 
--- behind events, one after the other
+-- The controller after events, one after the other.
 abbrev pub behind_all : List Event → Controlling → Controlling
 behind_all [] controller = controller
 behind_all (event ∷ events) controller = behind_all events (step_of controller event).controller
 
--- the frames that are sent with them
+-- The frames that are sent with them.
 abbrev pub frames_of : List Event → Controlling → List (List ℕ)
 frames_of [] controller = []
 frames_of (event ∷ events) controller = (step_of controller event).frames ++ frames_of events (step_of controller event).controller
 
--- any events made it of a new controller, of whatever plan
+-- A controller that some events made of a new controller, of any plan.
 pub record IsReached (controller : Controlling) : Type 0 where
   pub plan : Parts
   pub ar : List ℕ

@@ -1,4 +1,4 @@
--- Each turn of a controller is of one of these kinds: what it keeps then, what it sends, and when it makes such a turn.
+-- Each turn of a controller is of one of these kinds: its next state, what it sends, and when it makes such a turn.
 use Rattle.std.specs.Prelude.{◌≡◌, ◌⊎◌, ◌+◌, ◌∷◌, [], ℕ, true, false, List, option_and_then, Option, Some, None}
 use Rattle.pn_values.specs.declared.mac.Mac.{Mac}
 use Rattle.frame_codec.specs.declared.udp.Caller.{Caller}
@@ -32,7 +32,7 @@ use Rattle.message_laws.specs.turns.Ended.{IsAnswered, may_release}
 
 -- ---- what comes
 
--- something is heard, whatever octets told it; a unit passes; an output is given; or the application stops the controller
+-- A frame is received, with any octets; a unit passes; an output is set; or the application stops the controller.
 pub data Came : Type 0 where
   Hears : (heard : Heard) → Came
   Passes : Came
@@ -51,31 +51,32 @@ turn_for setup live Passes = ticked live
 turn_for setup live (Gets slot subslot value) = stays (given live slot subslot value)
 turn_for setup live Halts = stopped setup live live.phase
 
--- ---- a whole end
+-- ---- a complete end
 
--- what is asked once a controller ended for this cause: nothing, or the Release, where the device may be told by one
+-- The request after a controller ended for this cause: none, or the Release, if the device may be informed by one.
 abbrev pub IsTold : Cause → Option Request → Type 0
 IsTold cause None = Unit {0}
 IsTold cause (Some (asks.Release sequence)) = may_release cause ≡ true
 IsTold cause (Some _) = ⊥
 
--- it ended, its relation is over, and no request stands but its Release
+-- It ended, its relation is over, and no request is active except its Release.
 pub record IsEnd (cause : Cause) (live : Live) : Type 0 where
   pub phase : live.phase ≡ Ended cause
   pub down : live.stands ≡ false
   pub asked : IsTold cause live.asked
 
--- it did not come to such an end
+-- It did not reach such an end.
 abbrev pub IsGoing : Live → Type 0
 IsGoing live = (cause : Cause) → IsEnd cause live → ⊥
 
 -- ---- the kinds
 
--- Nothing changes, and nothing is sent; a station is asked for the relation, or given its address; the controller ends, or ends and tells the
--- device; the relation stands by the FrameID that the device chose, and the first record is written; the record behind this one is written;
--- ApplicationReady is waited for; a Release is asked no more; ApplicationReady is answered, and data is exchanged from then on, or was; a
--- cyclic frame is heard; an alarm comes, or the ACK of an AlarmAck; an output is given; a unit passes of the relation, ends it, or passes
--- where there is none.
+-- Nothing changes, and nothing is sent; a station is asked for the relation, or its address is set; the controller
+-- ends, or ends and informs the device; the relation is established with the FrameID that the device chose, and the
+-- first record is written; the record after this one is written; the controller waits for ApplicationReady; a Release
+-- is no longer active; ApplicationReady is answered, and data is exchanged from then on, or was before; a cyclic frame
+-- is received; an alarm is received, or the ACK of an AlarmAck; an output is set; a unit of the relation passes, or
+-- ends it, or a unit passes without a relation.
 pub data Kind : Type 0 where
   Rests : Kind
   Connects : (source : Mac) → Kind
@@ -96,7 +97,7 @@ pub data Kind : Type 0 where
   Breaks : (reason : Abort) → Kind
   Idles : Kind
 
--- what such a turn is
+-- The turn of each kind.
 abbrev pub turn_by : Setup → Live → Kind → Turn
 turn_by setup live Rests = stays live
 turn_by setup live (Connects source) = asking Connecting asks.Connect (record live { device = source })
@@ -120,14 +121,14 @@ turn_by setup live Flows = record { live = flow_later live; sent = due_frames (f
 turn_by setup live (Breaks reason) = ended_by (flow_later live) reason
 turn_by setup live Idles = record { live = later live; sent = where_due (is_again live) (requests_of live.device live.asked) }
 
--- ---- when
+-- ---- when each kind occurs
 
--- it looks for its station, which is the one that it knows, or answered
+-- It looks for its station, which is the known one, or one that answered.
 pub record IsSought (live : Live) (came : Came) (source : Mac) : Type 0 where
   pub seeking : (live.phase ≡ Looking) ⊎ (live.phase ≡ Addressing)
   pub known : (source ≡ live.device) ⊎ ((answer : Answered) × (came ≡ Hears (Answers source answer)))
 
--- the request that stands is answered positively
+-- The active request is answered positively.
 pub record IsGranted (setup : Setup) (live : Live) (came : Came) (request : Request) : Type 0 where
   pub stood : live.asked ≡ Some request
   pub response : Response
@@ -135,24 +136,24 @@ pub record IsGranted (setup : Setup) (live : Live) (came : Came) (request : Requ
   pub right : is_answer setup request response.header ≡ true
   pub granted : is_done response.status ≡ true
 
--- what a controller finds in the answer to a Connect
+-- What a controller finds in the answer to a Connect.
 abbrev TypeOf : {A : Type 0} → A → Type 0
 TypeOf {A = A} value = A
 
 abbrev pub Found : Type 0
 Found = TypeOf nothing
 
--- the FrameID that the device chose for outputs, if these blocks are the answer to a Connect
+-- The FrameID that the device chose for outputs, if these blocks are the answer to a Connect.
 abbrev pub chosen_in : List ℕ → Option ℕ
 chosen_in blocks = option_and_then (λ (found : Found). found.output) (found_in 400 blocks nothing)
 
--- ApplicationReady of the relation comes
+-- ApplicationReady of the relation is received.
 pub record IsReadied (setup : Setup) (came : Came) (caller : Caller) (call : Call) (block : ControlBlock) : Type 0 where
   pub comes : came ≡ Hears (Calls caller call)
   pub is : ready_in call ≡ Some block
   pub right : is_ready setup block ≡ true
 
--- when a controller makes a turn of a kind
+-- When a controller makes a turn of a kind.
 abbrev pub IsKind : Setup → Live → Came → Kind → Type 0
 IsKind setup live came Rests = Unit {0}
 IsKind setup live came (Connects source) = IsSought live came source
@@ -174,7 +175,7 @@ IsKind setup live came Flows = (came ≡ Passes) × (live.stands ≡ true) × ((
 IsKind setup live came (Breaks reason) = (came ≡ Passes) × (live.stands ≡ true) × ((brought live).ending ≡ Some reason)
 IsKind setup live came Idles = (came ≡ Passes) × (live.stands ≡ false)
 
--- a turn of one of these kinds
+-- A turn of one of these kinds.
 pub record IsTurn (setup : Setup) (live : Live) (came : Came) (turn : Turn) : Type 0 where
   pub kind : Kind
   pub holds : IsKind setup live came kind

@@ -1,30 +1,33 @@
-//! The laws.
+//! The laws of a controller.
 ghost use Rattle.message_laws.specs.turns.Alarms.{AreTakenInOrder, LackAtMostTheLast, ShowsTheLast};
 ghost use Rattle.message_laws.specs.turns.Ended.{CountsUnits, DropsWhatComes, IsSilent, KeepsItsCause, RepeatsItsRelease};
 
-/// What is left of a controller that ended, whatever comes behind its end: a law of the definition by which `Controller::step` is stated,
-/// and no code.
+/// What remains of a controller that ended, for any events after its end. These are laws of the definition that
+/// specifies `Controller::step`; the function has no code.
 pub fn ended_is_kept()
-    // Whatever comes, it stays ended, for the same cause,
+    // For any events, an ended controller stays ended, for the same cause.
     ensures cause { KeepsItsCause }
-    // each frame that it sends is the Release that stands, octet by octet, and there is none where none stands,
+    // Each frame that an ended controller sends is its active Release, octet by octet; without an active Release it
+    // sends none.
     ensures release { RepeatsItsRelease }
-    // and none does where it ended for another cause than modules that differ or the application.
+    // A controller that ended for another cause than modules that differ or a stop by the application sends nothing.
     ensures silent { IsSilent }
-    // What comes is dropped, and nothing is sent for it.
+    // For an event other than a unit of time no frame is sent. It changes nothing, except that the response to the
+    // active Release ends that, and that an output is stored.
     ensures dropped { DropsWhatComes }
-    // A unit is counted, and the Release that stands is sent with each 32,000th.
+    // A unit is counted, and the active Release is sent when the units since it was last sent reach 32,000.
     ensures units { CountsUnits }
 {}
 
-/// The alarms of a relation, between a device's end of them, by which `DeviceAlarms` is stated, and a controller, whatever a network
-/// loses, repeats or reorders: a law of the definitions, and no code.
+/// The alarms of a relation between a device's end, by the definition that specifies `DeviceAlarms`, and a controller,
+/// over a network that may lose, repeat or reorder frames. These are laws of the definitions; the function has no code.
 pub fn alarms_are_taken_in_order()
-    // While at most 32,768 alarms are raised, those that the controller takes begin those that were raised,
+    // While at most 32,768 alarms are raised, the alarms that the controller accepted are a prefix of those that were
+    // raised.
     ensures prefix { AreTakenInOrder }
-    // and lack at most the last.
+    // While at most 32,768 alarms are raised, at most the last one is missing.
     ensures last { LackAtMostTheLast }
-    // It shows the last that it took.
+    // The controller reports the last alarm that it accepted.
     ensures shown { ShowsTheLast }
 {
     codec_laws::alarms_are_taken_in_order();

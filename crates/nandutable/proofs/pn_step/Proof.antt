@@ -1,4 +1,4 @@
--- The port in the room is lent for the call of `serve`, and comes back. The operation is handed on.
+-- The port in the memory is lent for the call of `serve`, and comes back. The operation is passed on.
 use Rattle.std.proofs.Common.{ℕ, List, [], ◌∷◌, refl, w32, MutBor}
 use Rattle.std.proofs.raw_atomic.Walks.{proved}
 use base.Fraction.{full_share}
@@ -61,7 +61,7 @@ pn_step_spec 𝓤 𝓛 𝓜 𝓡 wired =
     qed 𝓛 (‵ (lies_at R full_share (block_ptr b o) new) ∷ []) ∵ show ! (Told b o r last) new $ says ! served $ done ! in
     qed 𝓛 ((Tokens ⊛ ‵ (owns Params a (vals a.0))) ∷ ‵ (lies_at R full_share a.0 s) ∷ []) ∵
     split ! $ move ! (1 ∷ []) $ fsplit ! $ drop ! $ fsplit ! $ move ! (1 ∷ []) $ fsplit ! $ move ! (1 ∷ []) $ drop ! $ move ! (3 ∷ 2 ∷ 1 ∷ []) $
-    -- [the port in the room; the tokens; the operation; what is given]
+    -- [the port in the memory; the tokens; the operation; the given octets]
     in_a_block ! a.0 (λ p. lies_at R full_share p s) (id⊢ 𝓤 _) (λ b o e.
     regoal ! (λ p. prop (WpFn 𝓤 𝓛.H 𝓣.C 𝓣.Λ code.function (flat Params (vals p)) (W.post (y p)))) e refl $
     enter ! _ _ _ _ _ $ alloc_all ! (λ l. pass_all ! refl ((tt, tt), ((tt, tt), ((tt, (tt, (record { fits = are.1.1.0.0.1.0 }, tt))), tt))) $
@@ -76,7 +76,7 @@ pn_step_spec 𝓤 𝓛 𝓜 𝓡 wired =
     lft_new ! tt (λ α. move ! (1 ∷ []) $
     use1 𝓛 (later (some (λ (γ : ℕ). ‵ ((MutRef (named 0) (α ∷ []) R).own_val (record { ref_ptr = (b, o); ghost_name = γ; now = s }) (vptr b o ∷ [])) ⊛ ‵ (flent (α ∷ []) (Body (mem R) b o γ)))))
     (lends_ref 𝓛 R (named 0) (α ∷ []) s b o) $ await ! tt $ pick ! (λ γ. split ! $
-    -- [the loan; what the lender keeps; its token; the tokens; the operation; what is given]
+    -- [the loan; what the lender keeps; its token; the tokens; the operation; the given octets]
     let G = triple_of 𝓛 g.signature (g.spec 𝓛 𝓜.mem 𝓡.returns) in
     let loan : MutBor State = record { ref_ptr = (b, o); ghost_name = γ; now = s } in
     let z : G.Ghost = (((α ∷ [], (κ, (η, tt))), (full_share, (qs.0, (qs.1.0, tt))), tt, (loan, a.1), (mut_vals loan, (mut_vals op, (shr_slice_vals given, tt)))), tt) in
@@ -86,14 +86,15 @@ pn_step_spec 𝓤 𝓛 𝓜 𝓡 wired =
     use1 𝓛 (later (some (λ (r : ℕ). ((‵ (flft (α ∷ []) full_share) ⊛ Tokens) ⊛ ‵ (u32.own_val r (v ∷ []))) ⊛
     some (λ (ws : State × (O.Denot × (Unit {0} × Unit {0}))). ‵ (lasts g.ended z.0.0 z.0.3 ws) ⊛ raw (fact 𝓤 (IsServed r ws.0 ws.1.0)))))) (id⊢ 𝓤 _) $
     await ! tt $ pick ! (λ r. split ! $ split ! $ split ! $ lft_end ! tt $
-    -- [that its lifetime is over; the tokens; the answer; the last values; what the lender keeps]
+    -- [that its lifetime is over; the tokens; the result; the last values; what the lender keeps]
     move ! (2 ∷ []) $ peeks ! u32 (Is u32) (shows 𝓛 u32) r (v ∷ []) (λ is. lands_as ! refl refl ((uint_Lawful 𝓛 w32).typed r _ is).0 $
     move ! (3 ∷ []) $ pick ! (λ ws. split ! $ move ! (1 ∷ []) $ heard ! _ (λ served. fsplit ! $ fsplit ! $
-    -- [the port's last value; its borrow; the last value of the operation; the answer; the lifetime is over; the tokens; what the lender keeps]
+    -- [the port's last value; its borrow; the last value of the operation; the result; the lifetime is over; the
+    -- tokens; what the lender keeps]
     move ! (4 ∷ 6 ∷ 0 ∷ []) $ use3 𝓛 (later (‵ (part_at R full_share ws.0 b o))) (ref_back 𝓛 R (α ∷ []) γ ws.0 b o) $ await ! tt $
     returns ! (look_at ! 0 refl) $ free_all ! refl $
-    -- [the port in the room; its borrow; the last value of the operation; the answer; the tokens]
+    -- [the port in the memory; its borrow; the last value of the operation; the result; the tokens]
     use1 𝓛 (raw (ex 𝓤 (Told b o r ws.1.0))) (told b o r ws.1.0 ws.0 served) $ move ! (1 ∷ []) $ drop ! $ move ! (1 ∷ []) $ fsplit ! $ move ! (1 ∷ []) $ drop ! $
-    -- [the last value of the operation; what is told of the room; the answer; the tokens]
+    -- [the last value of the operation; the facts of the memory; the result; the tokens]
     suffices ! _ (ends_at 𝓛 f.ended stayed c (y (block_ptr b o)) v r (tt, (ws.1.0, (tt, tt))) (tt, (tt, (tt, tt)))) $
     nothing ! $ nothing ! $ join ! $ move ! (1 ∷ 0 ∷ []) $ join ! $ nothing ! $ join ! $ move ! (3 ∷ 0 ∷ 2 ∷ 1 ∷ []) $ group ! 3 $ done !))))))))))

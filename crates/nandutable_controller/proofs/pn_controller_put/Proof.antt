@@ -1,4 +1,4 @@
--- The controller of the plan is made by a call, and then written into the room.
+-- The controller of the plan is made by a call, and then written into the memory.
 use Rattle.std.proofs.Common.{◌≡◌, ℕ, List, [], ◌∷◌, true, refl}
 use Rattle.std.proofs.raw_atomic.Walks.{proved}
 use base.Fraction.{full_share}
@@ -71,7 +71,7 @@ pn_controller_put_spec 𝓤 𝓛 𝓜 𝓡 wired =
     qed 𝓛 ((Tokens ⊛ ‵ (owns Params a (vals a.0))) ∷ (‵ (room_at R a.0) ⊛ raw (fact 𝓤 (is_plan plan.now ≡ true))) ∷ []) ∵
     split ! $ move ! (1 ∷ []) $ fsplit ! $ drop ! $ fsplit ! $ move ! (1 ∷ []) $ fsplit ! $ move ! (1 ∷ []) $ fsplit ! $ move ! (1 ∷ []) $ drop !
     $ move ! (4 ∷ 2 ∷ 1 ∷ 0 ∷ []) $ split ! $ move ! (1 ∷ []) $ heard ! _ (λ fits.
-    -- [the room; the plan; both numbers; the tokens]
+    -- [the memory; the plan; both UUIDs; the tokens]
     in_a_block ! a.0 (λ p. room_at R p) (id⊢ 𝓤 _) (λ b o e.
     regoal ! (λ p. prop (WpFn 𝓤 𝓛.H 𝓣.C 𝓣.Λ code.function (flat Params (vals p)) (W.post (y p)))) e refl $
     enter ! _ _ _ _ _ $ alloc_all ! (λ l. pass_all ! refl ((tt, tt), ((tt, tt), ((tt, tt), ((tt, tt), tt)))) $
@@ -85,17 +85,17 @@ pn_controller_put_spec 𝓤 𝓛 𝓜 𝓡 wired =
     use1 𝓛 (later (some (λ (port : State). (Tokens ⊛ ‵ (R.own_val port (v ∷ []))) ⊛
     some (λ (ws : Unit {0} × (Unit {0} × (Unit {0} × Unit {0}))). ‵ (lasts g.ended z.0.0 z.0.3 ws) ⊛ raw (fact 𝓤 (IsMade port)))))) (id⊢ 𝓤 _) $
     await ! tt $ pick ! (λ port. split ! $ split ! $
-    -- [the tokens; the port; what is said of it; the room]
+    -- [the tokens; the port; its facts; the memory]
     move ! (1 ∷ []) $ peeks ! R _ (shows 𝓛 R) port (v ∷ []) (λ is.
     let typed = ((port_laws.lawful 𝓛).typed port _ is).0 in
     lands_as ! refl refl typed $ move ! (2 ∷ []) $ pick ! (λ ws. split ! $ drop ! $ heard ! _ (λ made.
-    -- [the port; the tokens; the room]
+    -- [the port; the tokens; the memory]
     assigns_last ! (of_opd ! (get ! refl)) (through ! refl (stop !)) (init ! 2 refl typed) $
     exec ! 𝓣.C 𝓣.Λ (env code.Mir.locals l) code.Mir.t-2 (at_ret _ (W.post (y (block_ptr b o)))) $
     sets ! (of_opd ! (unit_lit !)) refl (tt, tt) $
     returns ! (look_at ! 0 refl) $ free_all ! refl $
     move ! (2 ∷ 0 ∷ []) $ use2 𝓛 (‵ (part_at R full_share port b o)) (part_in 𝓛 R refl full_share port b o v) $
     use1 𝓛 (raw (ex 𝓤 (Told b o))) (told b o port made) $
-    -- [what is told of the room; the tokens]
+    -- [the facts of the memory; the tokens]
     suffices ! _ (ends_at 𝓛 f.ended stayed c (y (block_ptr b o)) vunit tt (tt, (tt, (tt, (tt, tt)))) (tt, (tt, (tt, (tt, tt))))) $
     feq_i ! _ (vunit ∷ []) _ refl $ nothing ! $ nothing ! $ join ! $ nothing ! $ join ! $ nothing ! $ join ! $ nothing ! $ join ! $ move ! (3 ∷ 0 ∷ 1 ∷ 2 ∷ []) $ group ! 3 $ done !)))))))))

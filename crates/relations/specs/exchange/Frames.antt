@@ -1,4 +1,4 @@
--- The frames by which a device exchanges, by what they mean.
+-- The frames of a device's exchange, by their meaning.
 use Rattle.std.specs.Prelude.{ℕ, List, [], Option, Some, None, option_map}
 use Rattle.record_blocks.specs.declared.alarm_notification.AlarmNotification.{AlarmNotification}
 use Rattle.cyclic_data.specs.Image.{Shown}
@@ -13,13 +13,14 @@ use Rattle.cyclic_exchange.specs.Frames.{cyclic_body}
 use Rattle.relations.specs.exchange.Flow.{Flow}
 use Rattle.relations.specs.exchange.Notices.{header_of}
 
--- A frame to the partner: the inputs, at this CycleCounter; an alarm; or the ACK or NACK that answers an AlarmAck.
+-- A frame to the partner: the inputs, at this CycleCounter; an alarm; or the ACK or NACK that is the response to an
+-- AlarmAck.
 pub data Frame : Type 0 where
   Inputs : (inputs : Shown) → (counter : ℕ) → Frame
   Notifies : (header : Header) → (alarm : AlarmNotification) → Frame
   Replies : (header : Header) → Frame
 
--- the inputs now; the alarm that stands, if one does; the reply to data that was taken so
+-- The current inputs; the active alarm, if there is one; the reply to data with this outcome.
 abbrev pub inputs_frame : Flow → ℕ → Frame
 inputs_frame flow counter = Inputs flow.cyclic.shown counter
 
@@ -29,7 +30,7 @@ alarm_frame flow = option_map (Notifies (header_of flow Data)) flow.alarms.sende
 abbrev pub reply_frame : Flow → Taken → Frame
 reply_frame flow taken = Replies (header_of flow (answer_to taken))
 
--- the word of the tag, the FrameID, and what follows it
+-- The tag, the FrameID, and the octets that follow it.
 abbrev pub tag_of : Route → Frame → ℕ
 tag_of route (Inputs inputs counter) = route.sent_tag
 tag_of route (Notifies header alarm) = route.alarm_tag
@@ -45,7 +46,7 @@ body_of (Inputs inputs counter) = cyclic_body inputs counter
 body_of (Notifies header alarm) = pdu_bytes (alarm_pdu header alarm)
 body_of (Replies header) = pdu_bytes (record { header = header; body = [] })
 
--- the same of a frame that there may be
+-- The same for an optional frame.
 abbrev pub body_in : Option Frame → List ℕ
 body_in (Some frame) = body_of frame
 body_in None = []

@@ -9,11 +9,12 @@ use Rattle.pn_alarms.specs.Device.{end_behind, end_with, header_now}
 use Rattle.pn_alarms.specs.Sender.{notice_of}
 use Rattle.relations.specs.exchange.Flow.{Flow}
 
--- whether an alarm with these octets may be raised: data is exchanged, they are at most 32, and none stands
+-- Whether an alarm with these octets may be raised: data is exchanged, there are at most 32 octets, and no alarm is
+-- active.
 abbrev pub may_raise : Flow → List ℕ → Bool
 may_raise flow octets = flow.cyclic.begun && (nat_le (length octets) 32 && is_none flow.alarms.sender.standing)
 
--- behind an alarm of a subslot, where it may be raised and a submodule is plugged there; else there is none
+-- The state after an alarm of a subslot, if it may be raised and a submodule is plugged there; otherwise there is none.
 abbrev pub raised_by : Flow → ℕ → ℕ → List ℕ → Option ℕ → Option ℕ → Option Flow
 raised_by flow slot subslot octets (Some ident) (Some part) =
     if may_raise flow octets
@@ -25,10 +26,10 @@ raised_by flow slot subslot octets None part = None
 abbrev pub raised_at : Flow → List RealModule → ℕ → ℕ → List ℕ → Option Flow
 raised_at flow real slot subslot octets = raised_by flow slot subslot octets (module_ident real slot) (submodule_ident real slot subslot)
 
--- behind a PDU of the partner
+-- The state after a PDU of the partner.
 abbrev pub behind_message : Flow → ToDevice → Flow
 behind_message flow message = record flow { alarms = end_behind flow.alarms message }
 
--- the header of a PDU that is sent now, from endpoint 1 of the device to that of the partner
+-- The header of a PDU that is sent now, from endpoint 1 of the device to the endpoint of the partner.
 abbrev pub header_of : Flow → PduType → Header
 header_of flow kind = header_now flow.alarms kind flow.cyclic.route.reference 1

@@ -1,4 +1,4 @@
--- The exchange of a relation that is made now, with the answer to its Connect (IEC 61158-6-10, 5.2.4).
+-- The exchange of a relation that is established now, with the answer to its Connect (IEC 61158-6-10, 5.2.4).
 use Rattle.std.specs.Prelude.{◌*◌, ◌-◌, ℕ, None, replicate, if◌then◌else◌}
 use Rattle.block_fields.specs.modules.Lists.{Listed}
 use Rattle.module_blocks.specs.declared.module_diff.DiffModule.{DiffModule}
@@ -14,7 +14,7 @@ use Rattle.cyclic_exchange.specs.Opening.{StatusOf}
 use Rattle.cyclic_exchange.specs.Opening.{begun_of as cyclic_begun, first_cell as first_with, opened as cyclic_opened}
 use Rattle.relations.specs.exchange.Flow.{Flow}
 
--- cyclic frames and alarms go to CMInitiatorMacAdd and come from there
+-- Cyclic frames and alarms go to CMInitiatorMacAdd and come from there.
 abbrev pub route_of : Request → Route
 route_of request = record {
   partner = request.ar.initiator;
@@ -25,23 +25,23 @@ route_of request = record {
   reference = request.alarm.reference;
 }
 
--- an interval is SendClockFactor times ReductionRatio, in units of 31.25 microseconds
+-- An interval is SendClockFactor times ReductionRatio, in units of 31.25 microseconds.
 abbrev pub interval_of : Iocr → ℕ
 interval_of iocr = iocr.send_clock_factor * iocr.reduction_ratio
 
--- IOPS and IOCS of a submodule: 0, bad, where the ModuleDiffBlock lists it, and else good
+-- The IOPS and IOCS of a submodule: 0, bad, if the ModuleDiffBlock lists it, otherwise good.
 abbrev pub status_of : Listed DiffModule DiffSubmodule → ℕ → ℕ → ℕ
 status_of rows slot subslot = if is_listed slot subslot rows then 0 else good
 
 abbrev pub statuses_of : Listed DiffModule DiffSubmodule → StatusOf
 statuses_of rows kind slot subslot = status_of rows slot subslot
 
--- a place of the inputs, of which none was given: zeros
+-- A place of an input that was not given yet: zeros.
 abbrev pub first_cell : Listed DiffModule DiffSubmodule → Place → Cell
 first_cell rows place = first_with (statuses_of rows) place
 
--- The exchange that a Connect asks for, where these modules and submodules differ. The interval of the inputs is counted from now; the
--- data hold time is DataHoldFactor times the interval of the outputs.
+-- The exchange that a Connect asks for, if these modules and submodules differ. The interval of the inputs is counted
+-- from now. The data hold time is DataHoldFactor times the interval of the outputs.
 abbrev pub opened : Request → Listed DiffModule DiffSubmodule → Flow
 opened request rows = record {
   cyclic = cyclic_opened (route_of request) (record { interval = interval_of request.input; elapsed = 0 })
@@ -50,6 +50,6 @@ opened request rows = record {
   alarms = idle request.alarm.timeout_factor request.alarm.retries;
 }
 
--- ApplicationReady was answered: data is exchanged, and the data hold time runs from now on
+-- ApplicationReady was answered: data is exchanged, and the data hold time runs from now on.
 abbrev pub begun_of : Flow → Flow
 begun_of flow = record flow { cyclic = cyclic_begun flow.cyclic }

@@ -21,7 +21,7 @@ use Rattle.relations.specs.exchange.Received.{behind_frame}
 use Rattle.relations.specs.exchange.Process.{given_at}
 use Rattle.relations.specs.exchange.Notices.{behind_message, raised_at}
 
--- what happens to an exchange that was opened: each call that changes it
+-- What happens to an exchange that was opened: each call that changes it.
 pub data Event : Type 0 where
   Begins : Event
   Passes : Event
@@ -30,7 +30,7 @@ pub data Event : Type 0 where
   Raises : (real : List RealModule) → (slot : ℕ) → (subslot : ℕ) → (octets : List ℕ) → Event
   Says : (message : ToDevice) → Event
 
--- behind it, and behind several in order
+-- The state after an event, and after several events in order.
 abbrev pub behind : Event → Flow → Flow
 behind Begins flow = begun_of flow
 behind Passes flow = flow_later flow
@@ -43,7 +43,7 @@ abbrev pub behind_all : List Event → Flow → Flow
 behind_all [] flow = flow
 behind_all (event ∷ events) flow = behind_all events (behind event flow)
 
--- what it is to the end of cyclic data
+-- What the event is for the end of cyclic data.
 abbrev pub cyclic_event : Event → core.Event
 cyclic_event Begins = core.Begins
 cyclic_event Passes = core.Passes
@@ -55,15 +55,16 @@ cyclic_event (Says message) = core.Rests
 abbrev pub cyclic_events : List Event → List core.Event
 cyclic_events events = map cyclic_event events
 
--- how many units passed
+-- How many units passed.
 abbrev pub units_in : List Event → ℕ
 units_in events = core.units_in (cyclic_events events)
 
--- the octets of the last frame that is taken
+-- The octets of the last accepted frame.
 abbrev pub last_taken : List Event → Flow → Option (List ℕ)
 last_taken events flow = core.last_taken (cyclic_events events) flow.cyclic
 
--- the value that a submodule is given, if its length is that of the place: so many octets with its IOPS; and the last one
+-- The value that a submodule is given, if its length is that of the place, which includes the octet of IOPS; and the
+-- last such value.
 abbrev pub given_with : ℕ → ℕ → ℕ → Event → Option (List ℕ)
 given_with slot subslot size Begins = None
 given_with slot subslot size Passes = None
@@ -77,39 +78,41 @@ abbrev pub last_given : ℕ → ℕ → ℕ → List Event → Option (List ℕ)
 last_given slot subslot size [] = None
 last_given slot subslot size (event ∷ events) = later_one (last_given slot subslot size events) (given_with slot subslot size event)
 
--- what lies at the place of an input: the value last given, and zeros where none was; and the status of the opening
+-- The content of the place of an input: the value that was given last, and zeros if none was given; and the status of
+-- the opening.
 abbrev pub input_cell : Listed DiffModule DiffSubmodule → ℕ → ℕ → List Event → Place → Cell
 input_cell rows slot subslot events place =
     with_value (unwrap_or (last_given slot subslot place.size events) (replicate (place.size - 1) 0)) (first_cell rows place)
 
--- whether the data hold time begins anew with none of them
+-- Whether none of the events restarts or stops the data hold time.
 abbrev pub AreNoRenewals : List Event → Flow → Type 0
 AreNoRenewals events flow = core.AreNoRenewals (cyclic_events events) flow.cyclic
 
--- Whatever happens, a frame of inputs is due with each unit whose number, counted from the answer to the Connect, is a multiple of the
--- interval, and with no other.
+-- For any events, a frame of inputs is due with each unit whose number, counted from the answer to the Connect, is a
+-- multiple of the interval, and with no other unit.
 abbrev pub IsDueEachInterval : Type 0
 IsDueEachInterval = (request : Request) (rows : Listed DiffModule DiffSubmodule) (events : List Event) → 0 < interval_of request.input
     → is_due (behind_all events (opened request rows)).cyclic.sending ≡ ((units_in events + 1) % interval_of request.input == 0)
 
--- Whatever happens, the outputs are those that the last frame that was taken holds, and as they were where none was.
+-- For any events, the outputs are those of the last accepted frame, and are unchanged if no frame was accepted.
 abbrev pub AreOfTheLast : Type 0
 AreOfTheLast = (events : List Event) (flow : Flow) → (behind_all events flow).cyclic.taken ≡ held_in flow.cyclic.taken (last_taken events flow)
 
--- Whatever happens, the input of a submodule is the value last given since the answer to the Connect, and zeros where none was.
+-- For any events, the input of a submodule is the value that was given last since the answer to the Connect, and zeros
+-- if none was given.
 abbrev pub AreTheLastGiven : Type 0
 AreTheLastGiven = (request : Request) (rows : Listed DiffModule DiffSubmodule) (events : List Event) (slot subslot : ℕ)
     → cell_at Data slot subslot (behind_all events (opened request rows)).cyclic.shown.cells
     ≡ option_map (input_cell rows slot subslot events) (place_at Data slot subslot request.input.layout.places)
 
--- Whatever happens, IOPS and IOCS that are sent are those of the answer to the Connect.
+-- For any events, the IOPS and IOCS that are sent are those of the answer to the Connect.
 abbrev pub AreStillTheStatuses : Type 0
 AreStillTheStatuses = (request : Request) (rows : Listed DiffModule DiffSubmodule) (events : List Event) (kind : PlaceKind) (slot subslot : ℕ)
     → option_map (λ cell. cell.status) (cell_at kind slot subslot (behind_all events (opened request rows)).cyclic.shown.cells)
     ≡ option_map (λ place. status_of rows place.slot place.subslot) (place_at kind slot subslot request.input.layout.places)
 
--- Once data is exchanged, and behind a frame that is taken, the data hold time is over with the unit that completes it, and with none
--- before, unless a frame is taken.
+-- While data is exchanged, and counted from its start, the data hold time is over from the unit on that completes it,
+-- and not before, unless meanwhile a frame is accepted, or the exchange begins again or ends.
 abbrev pub IsHeldSoLong : Type 0
 IsHeldSoLong = (events : List Event) (flow : Flow) → flow.cyclic.begun ≡ true → flow.cyclic.hearing.held ≡ 0 → AreNoRenewals events flow
     → is_silent (behind_all events flow) ≡ nat_le flow.cyclic.hearing.limit (units_in events + 1)

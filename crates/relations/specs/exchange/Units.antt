@@ -8,22 +8,23 @@ use Rattle.cyclic_exchange.specs.Units.{cyclic_later}
 use Rattle.cyclic_exchange.specs.Units.{Brought, ending_of as cyclic_ending, is_silent as is_cyclic_silent, tick_of as cyclic_tick}
 use Rattle.relations.specs.exchange.Flow.{Flow}
 
--- whether the data hold time is over with this unit: it runs while data is exchanged
+-- Whether the data hold time is over with this unit. It runs while data is exchanged.
 abbrev pub is_silent : Flow → Bool
 is_silent flow = is_cyclic_silent flow.cyclic
 
--- what becomes of the alarm that waits for its ACK
+-- What is due of the alarm that waits for its ACK.
 abbrev pub alarm_due : Flow → Due
 alarm_due flow = due flow.alarms.sender.sending
 
--- why the relation ends with this unit, if it does: because no frame came, before because no ACK did
+-- Why the relation ends with this unit, if it does: no frame was accepted in time, or else an alarm was not
+-- acknowledged.
 abbrev pub ending_of : Flow → Option Abort
 ending_of flow = cyclic_ending flow.cyclic (alarm_due flow)
 
--- where the relation ends nothing more is done; else the alarm may be due again, and a frame of inputs
+-- If the relation ends, nothing more is done. Otherwise the alarm may be due again, and a frame of inputs.
 abbrev pub tick_of : Flow → Brought
 tick_of flow = cyclic_tick flow.cyclic (alarm_due flow)
 
--- a unit later
+-- The state after a unit of time.
 abbrev pub flow_later : Flow → Flow
 flow_later flow = record { cyclic = cyclic_later flow.cyclic; alarms = end_later flow.alarms }

@@ -1,4 +1,4 @@
-//! Alarms.
+//! The alarms of a relation.
 ghost use Rattle.std.specs.Prelude.{◌≡◌, ◌+◌, ◌≤◌, ◌++◌, IfSome, is_some, length, unwrap_or};
 ghost use Rattle.pn_alarms.specs.Device.{heard_as};
 ghost use Rattle.relations.specs.exchange.Frames.{alarm_frame, body_in, body_of, reply_frame};
@@ -9,12 +9,13 @@ use module_diff::{module_in, part_ident};
 use pn_alarms::{Alarm, Header, Message, Pdu, PduFate, PduType, Taken, alarm_front, pdu_front};
 use pn_values::Real;
 
-/// The endpoint of the device: the LocalAlarmReference that it answers in AlarmCRBlockRes.
+/// The endpoint of the device: the LocalAlarmReference that it returns in AlarmCRBlockRes.
 pub const OWN_REFERENCE: u16 = 1;
 
 impl DataExchange {
-    /// Raises a process alarm of a submodule, which then is to be sent. Answers whether it may be: once data is exchanged, with at
-    /// most 32 octets, where this submodule is plugged and no alarm stands; if not, nothing changes.
+    /// Raises a process alarm of a submodule, which the caller then sends. Returns whether it was raised. It is raised
+    /// only while data is exchanged, with at most 32 octets, if this submodule is plugged and no alarm is active;
+    /// otherwise nothing changes.
     pub fn raise(&mut self, real: &Real, slot: u16, subslot: u16, octets: &[u8]) -> bool
         ensures done { result ≡ is_some (raised_at self.old real.now.modules.items slot subslot octets.now) }
         ensures state { self.new ≡ unwrap_or (raised_at self.old real.now.modules.items slot subslot octets.now) self.old }
@@ -38,18 +39,19 @@ impl DataExchange {
         self.alarms.raise(&alarm).is_ok()
     }
 
-    /// A PDU of the partner comes. Answers what becomes of it: data is answered by ACK or NACK, an ERR ends the relation.
+    /// Receives a PDU of the partner. Returns what happens to it: the response to data is an ACK or a NACK; an ERR ends
+    /// the relation.
     pub fn hear(&mut self, message: &Message) -> PduFate
         ensures heard { result ≡ heard_as self.old.alarms message.now }
         ensures state { self.new ≡ behind_message self.old message.now }
-        // One that is ignored changes nothing.
+        // A PDU that is ignored changes nothing.
         ensures ignored { result ≡ PduFate.Ignored → self.new ≡ self.old }
     {
         self.alarms.hear(message)
     }
 
-    /// The header of a PDU of this type that is sent now: with the endpoints of the relation, and the numbers of the last data that
-    /// was sent and that was taken.
+    /// The header of a PDU of this type that is sent now: with the endpoints of the relation, and the numbers of the
+    /// last data that was sent and of the last data that was accepted.
     pub fn header(&self, kind: PduType) -> Header
         ensures { result ≡ header_of self.now kind }
     {
@@ -57,7 +59,8 @@ impl DataExchange {
             .header(kind, self.cyclic.route().reference, OWN_REFERENCE)
     }
 
-    /// What follows the FrameID of the alarm that stands, if one does: 40 octets, and behind them its data, at most 32.
+    /// The octets that follow the FrameID of the active alarm, if there is one: 40 octets, and after them its data, at
+    /// most 32.
     #[inline(always)]
     pub fn alarm(&self) -> Option<([u8; 40], &[u8])>
         ensures stands { is_some result ≡ is_some (alarm_frame self.now) }
@@ -72,7 +75,7 @@ impl DataExchange {
         Some((front, alarm.alarm_data.octets()))
     }
 
-    /// What follows the FrameID of the answer to data that was taken so.
+    /// The octets that follow the FrameID of the response to data with this outcome.
     #[inline(always)]
     pub fn reply(&self, taken: Taken) -> [u8; 12]
         ensures exact { result ≡ body_of (reply_frame self.now taken) }

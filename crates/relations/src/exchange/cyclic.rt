@@ -9,24 +9,25 @@ use pn_alarms::Due;
 use pn_values::Mac;
 
 impl DataExchange {
-    /// A cyclic frame comes: from this station, of this FrameID, and all that follows it.
+    /// Receives a cyclic frame: its source, its FrameID, and the octets that follow it.
     pub fn receive(&mut self, source: Mac, frame_id: u16, body: &[u8]) -> Received
         ensures received { result ≡ received_as self.old source frame_id body.now }
         ensures state { self.new ≡ behind_frame self.old source frame_id body.now }
-        // One that is not taken changes nothing.
+        // A frame that is not accepted changes nothing.
         ensures refused { result ≢ Received.Taken → self.new ≡ self.old }
     {
         self.cyclic.receive(source, frame_id, body)
     }
 
-    /// A unit of 31.25 microseconds passes. A frame of inputs is due each interval. Once data is exchanged the relation ends where no
-    /// frame of outputs was taken for the data hold time, and then where an alarm was sent as often as it may be without an ACK.
+    /// Counts a unit of 31.25 microseconds. A frame of inputs is due each interval. Once data is exchanged, the
+    /// relation ends if no frame of outputs was accepted for the data hold time, or else if an alarm was sent as often
+    /// as allowed without an ACK.
     pub fn tick(&mut self) -> Tick
         ensures brought { result ≡ tick_of self.old }
         ensures state { self.new ≡ flow_later self.old }
     {
         match self.alarms.tick() {
-            // Mostly no alarm is due: what follows from one is then not even asked.
+            // Usually no alarm is due: then the checks for alarms are skipped.
             Due::Nothing => self.cyclic.tick(Due::Nothing),
             due => self.cyclic.tick(due),
         }

@@ -1,4 +1,4 @@
-//! What is exchanged.
+//! The data exchange of a relation.
 ghost use Rattle.std.specs.Prelude.{◌≡◌, ◌≤◌, IfSome, None, [], false, is_some, length, option_map, unwrap_or};
 ghost use Rattle.relations.specs.exchange.Opening.{begun_of, opened};
 ghost use Rattle.relations.specs.exchange.Process.{given_at, output_at};
@@ -11,15 +11,15 @@ use module_diff::DiffRows;
 use pn_alarms::DeviceAlarms;
 use std::marker::Model;
 
-/// What a relation exchanges with its partner. It is large, and stays in its place: what was exchanged is filled anew as the next
-/// relation opens it, so that no end of a relation has to clear it.
+/// What a relation exchanges with its partner. It is large and stays in place: the next relation that opens it
+/// overwrites its content, so that the end of a relation need not clear it.
 #[derive(Drop)]
 pub struct DataExchange {
     pub(crate) cyclic: CyclicExchange,
     pub(crate) alarms: DeviceAlarms,
 }
 
-// Clauses see one value a place, and the states of those who send and take.
+// Its model: one value for each place, and the states of the sender and of the receiver.
 impl Model for DataExchange {
     ghost use Rattle.relations.specs.exchange.Flow.{Flow};
 
@@ -29,7 +29,8 @@ impl Model for DataExchange {
 }
 
 impl DataExchange {
-    /// One of nobody, to be opened: no data is exchanged, no submodule has an input or an output, and no alarm stands.
+    /// An exchange that is not open: no data is exchanged, no submodule has an input or an output, and no alarm is
+    /// active.
     pub fn new() -> DataExchange
         ensures begun { result.cyclic.begun ≡ false }
         ensures inputs { result.cyclic.shown.cells ≡ [] }
@@ -42,8 +43,9 @@ impl DataExchange {
         }
     }
 
-    /// A Connect is answered, where these modules and submodules differ: nothing was given and nothing taken, and the interval of the
-    /// inputs is counted from now. Nothing is left of an earlier relation.
+    /// Opens the exchange when a Connect is answered; `rows` lists the modules and submodules that differ. No data was
+    /// given and none accepted, and the interval of the inputs is counted from now. Nothing of an earlier relation
+    /// remains.
     pub fn open(&mut self, request: &ConnectRequest, rows: &DiffRows)
         ensures { self.new ≡ opened request.now rows.now }
     {
@@ -59,21 +61,22 @@ impl DataExchange {
         self.alarms = DeviceAlarms::new(alarm.timeout_factor, alarm.retries);
     }
 
-    /// ApplicationReady is answered: data is exchanged, and the data hold time runs from now on.
+    /// Begins the exchange when ApplicationReady is answered: data is exchanged, and the data hold time runs from now
+    /// on.
     pub fn begin(&mut self)
         ensures { self.new ≡ begun_of self.old }
     {
         self.cyclic.begin();
     }
 
-    /// With whom, and the numbers of its frames.
+    /// The partner, and the numbers of its frames.
     pub fn route(&self) -> &Route
         ensures { result.now ≡ self.now.cyclic.route }
     {
         self.cyclic.route()
     }
 
-    /// The end of cyclic data, of which the frames of inputs are made.
+    /// The end of cyclic data, from which the frames of inputs are built.
     #[inline(always)]
     pub fn cyclic(&self) -> &CyclicExchange
         ensures { result.now ≡ self.now.cyclic }
@@ -81,8 +84,8 @@ impl DataExchange {
         &self.cyclic
     }
 
-    /// Gives a submodule its input, which the frames have from now on. Answers whether it has an input of this length; if not,
-    /// nothing changes. One with no data has an input of no octets.
+    /// Sets the input of a submodule, which frames carry from now on. Returns whether the submodule has an input of
+    /// this length; if not, nothing changes. A submodule without data has an input of no octets.
     pub fn give(&mut self, slot: u16, subslot: u16, value: &[u8]) -> bool
         ensures done { result ≡ is_some (given_at self.old slot subslot value.now) }
         ensures state { self.new ≡ unwrap_or (given_at self.old slot subslot value.now) self.old }
@@ -90,8 +93,8 @@ impl DataExchange {
         self.cyclic.give(slot, subslot, value)
     }
 
-    /// The output of a submodule, if it has one: what the last frame that was taken holds, and zeros where none was taken or its IOPS
-    /// is not good.
+    /// The output of a submodule, if it has one: its data in the last accepted frame. All zeros if no frame was
+    /// accepted yet, or if the IOPS is not good.
     pub fn output(&self, slot: u16, subslot: u16) -> Option<&[u8]>
         ensures value { option_map (λ value. value.now) result ≡ output_at self.now slot subslot }
         ensures short { IfSome result (λ value. length value.now ≤ 1440) }

@@ -1,19 +1,22 @@
-//! What holds of exchanges over many events.
+//! What holds for exchanges over many events.
 ghost use Rattle.relations.specs.exchange.Runs.{AreOfTheLast, AreStillTheStatuses, AreTheLastGiven, IsDueEachInterval, IsHeldSoLong};
 
 use cyclic_exchange::cyclic_data_is_kept;
 
-/// What is exchanged, over any list of events: laws of the definitions by which `DataExchange` is stated, and no code.
+/// How data is exchanged over any list of events. These are laws of the definitions that specify `DataExchange`; the
+/// function has no code.
 pub fn exchange_is_kept()
-    // A frame of inputs is due each interval, counted from the answer to the Connect, whatever happens meanwhile.
+    // A frame of inputs is due each interval, counted from the answer to the Connect, for any events.
     ensures interval { IsDueEachInterval }
-    // The outputs are those of the last frame that was taken.
+    // For any events, the outputs are those of the last accepted frame, and are unchanged if there was none.
     ensures last { AreOfTheLast }
-    // The inputs are those that were given last, and zeros where none was.
+    // For any events, the input of a submodule is the value that was given last since the answer to the Connect, and
+    // zeros if none was given.
     ensures given { AreTheLastGiven }
-    // What is sent of IOPS and IOCS is that of the answer to the Connect.
+    // For any events, the IOPS and IOCS that are sent are those of the answer to the Connect.
     ensures statuses { AreStillTheStatuses }
-    // The data hold time is over with the unit that completes it, unless a frame is taken before.
+    // Counted from its start, the data hold time is over from the unit on that completes it, and not before, unless
+    // meanwhile a frame is accepted, or the exchange begins again or ends.
     ensures hold { IsHeldSoLong }
 {
     cyclic_data_is_kept();

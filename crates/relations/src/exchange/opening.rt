@@ -1,4 +1,4 @@
-//! An exchange that is opened.
+//! Opening an exchange.
 ghost use Rattle.std.specs.Prelude.{◌≡◌};
 ghost use Rattle.relations.specs.exchange.Opening.{route_of, status_of};
 
@@ -7,11 +7,12 @@ use cyclic_data::{GOOD, PlaceKind};
 use cyclic_exchange::{Route, Statuses};
 use module_diff::DiffRows;
 
-/// IOPS and IOCS of a submodule: bad where these rows list it, and else good.
+/// The IOPS and IOCS of a submodule: bad if these rows list it, otherwise good.
 fn status_of(rows: &DiffRows, slot: u16, subslot: u16) -> u8
     ensures { result ≡ status_of rows.now slot subslot }
 {
-    // A module that is not the expected one must not be taken for it: its data is marked bad from the first frame on.
+    // A module that is not the expected one must not be mistaken for it: its data is marked bad from the first frame
+    // on.
     if rows.is_listed(slot, subslot) {
         0
     } else {
@@ -19,7 +20,7 @@ fn status_of(rows: &DiffRows, slot: u16, subslot: u16) -> u8
     }
 }
 
-/// The statuses of a device of which these modules and submodules differ.
+/// The statuses of a device in which these modules and submodules differ.
 #[derive(Drop)]
 pub(crate) struct Differing<'a>(pub(crate) &'a DiffRows);
 
@@ -33,7 +34,7 @@ impl Statuses for Differing<'_> {
     }
 }
 
-/// What a Connect asks for.
+/// The route that a Connect asks for.
 pub(crate) fn route_of(request: &ConnectRequest) -> Route
     ensures { result ≡ route_of request.now }
 {

@@ -1,4 +1,4 @@
--- An operation with no octets yet.
+-- An operation without octets yet.
 use Rattle.std.proofs.Common.{[], refl}
 use Rattle.c_layout.proofs.op.put.Goals as goal
 

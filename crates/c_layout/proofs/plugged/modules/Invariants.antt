@@ -1,4 +1,4 @@
--- those so far, and those that are left
+-- The items so far, and the remaining ones.
 use Rattle.std.proofs.Common.{◌≡◌, ◌++◌, drop, length, map, true}
 use Rattle.std.specs.List.{list_all}
 use Rattle.c_layout.specs.Modules.{is_module, module_of}

@@ -1,4 +1,4 @@
--- those so far, and those that are left
+-- The items so far, and the remaining ones.
 use Rattle.std.proofs.Common.{◌≡◌, ◌++◌, drop, length, map}
 use Rattle.c_layout.specs.Modules.{parameter_of}
 use Rattle.c_layout.proofs.plugged.parameters.Given as goal

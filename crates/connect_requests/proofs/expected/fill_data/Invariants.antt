@@ -1,4 +1,4 @@
--- what the submodules of the modules so far have, and that there is room for those that are left
+-- What the submodules of the modules so far have, and that there is room for the rest.
 use Rattle.std.proofs.Common.{◌≡◌, ◌+◌, ◌≤◌, ◌++◌, length, drop}
 use Rattle.connect_requests.specs.Layouts.{data_of, data_of_modules}
 use Rattle.connect_requests.proofs.expected.fill_data.Given as goal

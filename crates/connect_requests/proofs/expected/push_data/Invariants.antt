@@ -1,4 +1,4 @@
--- what the submodules so far have, and that there is room for those that are left
+-- What the submodules so far have, and that there is room for the rest.
 use Rattle.std.proofs.Common.{◌≡◌, ◌+◌, ◌++◌, length, drop}
 use Rattle.connect_requests.specs.Layouts.{data_in_slot}
 use Rattle.connect_requests.proofs.expected.push_data.Given as goal

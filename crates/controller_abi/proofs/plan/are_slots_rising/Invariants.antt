@@ -1,4 +1,4 @@
--- what is judged of all is judged of those that are left
+-- The test of all items is the test of the remaining ones.
 use Rattle.std.proofs.Common.{◌≡◌, ◌≤◌, drop, map}
 use Rattle.controller_abi.specs.Plans.{is_rising}
 use Rattle.controller_abi.proofs.plan.are_slots_rising.Given as goal

@@ -1,4 +1,4 @@
--- what is judged of all is judged of those that are left
+-- The test of all items is the test of the remaining ones.
 use Rattle.std.proofs.Common.{◌≡◌, drop, true}
 use Rattle.std.specs.List.{list_all}
 use Rattle.c_layout.specs.Modules.{is_module}

@@ -1,4 +1,4 @@
--- what is judged of all is judged of those that are left
+-- The test of all items is the test of the remaining ones.
 use Rattle.std.proofs.Common.{◌≡◌, drop}
 use Rattle.std.specs.List.{list_any}
 use Rattle.controller_abi.specs.Plans.{is_item}

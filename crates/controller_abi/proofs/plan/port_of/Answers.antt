@@ -1,4 +1,4 @@
--- The controller of what is written down.
+-- The controller of the plan that a host wrote.
 use Rattle.std.proofs.Common.{◌∙◌}
 use Rattle.controller_core.specs.Machine.{fresh}
 use Rattle.controller_abi.specs.Plans.{parts_of}

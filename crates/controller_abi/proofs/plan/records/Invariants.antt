@@ -1,4 +1,4 @@
--- those so far, and those that are left
+-- The items so far, and the remaining ones.
 use Rattle.std.proofs.Common.{◌≡◌, ◌++◌, drop, length, map}
 use Rattle.std.specs.List.{AllByRecursion}
 use Rattle.controller_abi.specs.Plans.{IsShort, record_of}

@@ -1,4 +1,4 @@
--- The place that is given to, or none.
+-- The place whose output is set, or none.
 use Rattle.std.proofs.Common.{refl, sym, subst}
 use Rattle.controller_core.specs.declared.event.Event.TheVariants.{Give}
 use Rattle.controller_abi.specs.State.{has_frames}

@@ -1,4 +1,4 @@
--- what is left of the blocks gives, behind those so far, what all of them give
+-- The rest of the blocks, added to those so far, gives what all of them give.
 use Rattle.std.proofs.Common.{◌≡◌, ◌-◌}
 use Rattle.controller_core.specs.Connect.{found_in, nothing}
 use Rattle.controller_core.proofs.connect.found_in.Given as goal

@@ -1,4 +1,4 @@
--- Behind all places no place is left.
+-- After all places no place remains.
 use Rattle.std.proofs.Common.{List, drop, length, ap, arith}
 use Rattle.std.proofs.lemmas.List.{drop_all}
 use Rattle.cyclic_data.specs.declared.place.Place.{Place}

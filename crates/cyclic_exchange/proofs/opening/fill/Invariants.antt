@@ -1,4 +1,4 @@
--- behind the places that are left the image is what it is behind all of them
+-- After the remaining places the image is what it is after all of them.
 use Rattle.std.proofs.Common.{◌≡◌, drop}
 use Rattle.cyclic_exchange.specs.Opening.{first_taken}
 use Rattle.cyclic_exchange.proofs.Stated.{stated}

@@ -1,4 +1,4 @@
--- Some item is a Signal where the test of each says so.
+-- Some item is a Signal if the test of each says so.
 use Rattle.std.proofs.Common.{rules, tests}
 use Rattle.std.proofs.lemmas.Iterator.{YieldsList-from_slice}
 use Rattle.std.proofs.lemmas.Iterator.Search.{any_from_yields_List}

@@ -1,4 +1,4 @@
--- Some pair is a reset that is done where the test of each says so.
+-- Some pair is a reset that is done if the test of each says so.
 use Rattle.std.proofs.Common.{rules, tests}
 use Rattle.std.proofs.lemmas.Iterator.{YieldsList-from_slice, YieldsList-from_zip}
 use Rattle.std.proofs.lemmas.Iterator.Consumers.{YieldsList-at}

@@ -45,7 +45,7 @@ pub returns-in_err-device-clause-left : goal.returns-in_err-device-clause-left
 returns-in_err-device-clause-left g c = λ left.
     let p = err_from_is_err_and c.from_residual.result c.from_residual.ensures.1 in rw (p.1, p.2) (c.in_err-device.ensures.left left)
 
--- a device whose flash does not fail starts on what a device left
+-- A device whose flash does not fail starts on what a device left.
 pub returns-in_err-device-clause-reliable : goal.returns-in_err-device-clause-reliable
 returns-in_err-device-clause-reliable g c = λ reliable powers left.
     let failed = c.in_err-device.ensures.left left in

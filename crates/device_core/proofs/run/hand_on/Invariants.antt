@@ -1,4 +1,4 @@
--- the frames so far are handed on
+-- The frames so far are handed on.
 use Rattle.std.proofs.Common.{◌≡◌, ◌++◌, map, take}
 use Rattle.device_core.proofs.run.hand_on.Given as goal
 

@@ -1,4 +1,4 @@
--- The number that was read is the one in front.
+-- The number that was read is the number at the start.
 use Rattle.std.proofs.Common.{sym, ◌∙◌}
 use Rattle.wire.proofs.Fields.{number_in_front}
 use Rattle.block_fields.specs.declared.fault.BlockFault.TheVariants.{Truncated}

@@ -1,4 +1,4 @@
--- What is read is spelled, and what is spelled is read.
+-- A value that is read is encoded by the octets, and octets that encode a value are read as it.
 use Rattle.std.proofs.Common.{ℕ, List, sym, subst}
 use Rattle.wire.proofs.Given.{found, only}
 use Rattle.pn_alarms.specs.Format.{Said, said, IsPdu, pdu_of}

@@ -1,4 +1,4 @@
--- The header, VarPartLen and the block up to its data, with these behind them, are the PDU.
+-- The header, VarPartLen and the block up to its data, followed by the data, are the PDU.
 use Rattle.std.proofs.Common.{◌≡◌, ◌<◌, ◌^◌, ℕ, ◌+◌, List, [], ◌++◌, length, true, append_assoc, arith, refl, sym, ap, ◌∙◌}
 use Rattle.std.proofs.lemmas.List.{length-append}
 use Rattle.wire.specs.Formats.{big_bytes}
@@ -10,11 +10,11 @@ use Rattle.pn_alarms.proofs.Carried.{carried}
 use Rattle.pn_alarms.proofs.Sound.{pdu_parts, pdu_spelled, pdu_again, pdu_behind}
 use Rattle.pn_alarms.proofs.writing.alarm_front.Goals as goal
 
--- how many octets the block has
+-- The number of octets of the block.
 counted : (front value block : List ℕ) → front ++ value ≡ block → length front ≡ 28 → length block ≡ 28 + length value
 counted front value block e n = omega (arith, ap (λ (xs : List ℕ). length xs) e, length-append front value, n)
 
--- four parts, one behind the other
+-- Four parts, one after the other.
 apart : (first lengths front value : List ℕ) → ((first ++ lengths) ++ front) ++ value ≡ first ++ (lengths ++ (front ++ value))
 apart first lengths front value = append_assoc (first ++ lengths) front value ∙ append_assoc first lengths (front ++ value)
 

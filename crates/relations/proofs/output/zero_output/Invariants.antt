@@ -1,4 +1,4 @@
--- the modules so far are in other slots
+-- The modules so far are in other slots.
 use Rattle.std.proofs.Common.{◌≡◌, drop}
 use Rattle.relations.specs.Outputs.{module_at}
 use Rattle.relations.proofs.output.zero_output.Given as goal

@@ -1,4 +1,4 @@
--- the submodules so far are others, or have no output
+-- The submodules so far are others, or have no output.
 use Rattle.std.proofs.Common.{◌≡◌, drop}
 use Rattle.relations.specs.Outputs.{output_part}
 use Rattle.relations.proofs.output.zero_part.Given as goal

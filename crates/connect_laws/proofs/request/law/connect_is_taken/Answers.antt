@@ -1,4 +1,4 @@
--- Each block of the Connect is read as it.
+-- Each block of the Connect is read as it was written.
 use Rattle.connect_laws.proofs.request.law.connect_is_taken.Goals as goal
 
 pub returns-clause-read : goal.returns-clause-read

@@ -1,4 +1,4 @@
--- The first block, and those behind it.
+-- The first block, and those after it.
 use Rattle.std.proofs.Common.{◌≡◌, ◌==◌, true, false, length, None, sym, ◌∙◌}
 use Rattle.connect_requests.proofs.Read.{nothing_there, first_faulty, first_good}
 use Rattle.connect_requests.proofs.request.ConnectRequest.read.Goals as goal

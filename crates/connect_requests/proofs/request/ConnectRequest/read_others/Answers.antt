@@ -1,4 +1,4 @@
--- The blocks behind the first one, beginning with nothing.
+-- The blocks after the first one, starting with nothing.
 use Rattle.std.proofs.lemmas.Result.{err_from_is_err_and}
 use Rattle.connect_requests.specs.Pieces.{pieces_in}
 use Rattle.connect_requests.proofs.Read.{from_nothing, fails_behind, goes_behind}

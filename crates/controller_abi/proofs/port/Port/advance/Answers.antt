@@ -1,4 +1,4 @@
--- The next frame is taken.
+-- The next frame is fetched.
 use Rattle.std.proofs.Common.{ℕ, List, map, ap, ◌∙◌}
 use Rattle.controller_abi.specs.State.{advanced}
 use Rattle.controller_abi.specs.contracts.port.Port.{the_view}

@@ -1,4 +1,4 @@
--- One more unit goes by, or what is left of them stays.
+-- One more unit passes, or the rest of them remains.
 use Rattle.std.proofs.Common.{◌≡◌, ℕ, Bool, true, sym, ap, subst, ◌∙◌, arith}
 use Rattle.controller_abi.specs.State.{is_over, is_stopped}
 use Rattle.controller_abi.specs.Steps.{Ticks}
@@ -10,7 +10,7 @@ loop-passed-preserved c =
     one_more _ c.loop-passed.passed c.args.self.now c.loop-passed.self c.take.new.self c.loop-passed.invariant
     (sym c.if-is_stopped.ensures) c.take.ensures
 
--- as many went by as are not left
+-- All units passed except those that remain.
 pub returns-then-is_stopped : goal.returns-then-is_stopped
 returns-then-is_stopped c =
     let was = c.is_over-was_over.ensures ∙ ap is_over c.state.ensures ∙ ap (λ port. is_over port.controller.live.phase) c.self.view_is in

@@ -1,4 +1,4 @@
--- the units so far went by, one step each
+-- The units so far passed, one step each.
 use Rattle.controller_abi.specs.Steps.{Ticks}
 use Rattle.controller_abi.proofs.port.Port.pass.Given as goal
 

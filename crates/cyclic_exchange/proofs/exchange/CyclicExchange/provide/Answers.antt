@@ -1,4 +1,4 @@
--- Data and its status are both those of the cell.
+-- Data and status are both those of the cell.
 use Rattle.std.proofs.Common.{◌≡◌, true, length, refl, sym, ◌∙◌}
 use Rattle.cyclic_data.specs.declared.place.PlaceKind.TheVariants.{Data}
 use Rattle.cyclic_data.specs.Image.{cell_at, has_size}

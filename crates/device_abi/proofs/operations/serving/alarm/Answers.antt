@@ -1,4 +1,4 @@
--- It is taken, or refused.
+-- It is accepted, or refused.
 use Rattle.std.proofs.Common.{refl, sym}
 use Rattle.device_abi.proofs.operations.serving.alarm.Goals as goal
 

@@ -1,4 +1,4 @@
--- It is taken, or refused.
+-- It is accepted, or refused.
 use Rattle.device_abi.proofs.operations.serving.frame.Goals as goal
 
 pub returns : goal.returns

@@ -1,4 +1,4 @@
--- How many commits are left, or why it is not told.
+-- The number of remaining commits, or why it is not reported.
 use Rattle.std.proofs.Common.{ℕ, ap, refl}
 use Rattle.device_abi.proofs.operations.serving.left.Goals as goal
 

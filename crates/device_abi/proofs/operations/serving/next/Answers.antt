@@ -1,4 +1,4 @@
--- The piece of work that is next.
+-- The next piece of work.
 use Rattle.std.proofs.Common.{refl}
 use Rattle.device_abi.proofs.OperationsTold.{handed}
 use Rattle.device_abi.proofs.operations.serving.next.Goals as goal

@@ -1,4 +1,4 @@
--- Phase and lamp, or why they are not told.
+-- Phase and lamp, or why they are not reported.
 use Rattle.std.proofs.Common.{refl}
 use Rattle.device_abi.proofs.operations.serving.state.Goals as goal
 

@@ -1,4 +1,4 @@
--- Settings, or why they are not told.
+-- Settings, or why they are not reported.
 use Rattle.std.proofs.Common.{refl, ap, ◌∙◌}
 use Rattle.c_layout.specs.Told.{with_octets}
 use Rattle.device_abi.specs.operations.Serves.{settings_octets}

@@ -1,4 +1,4 @@
--- Phase and lamp, or why they are not told.
+-- Phase and lamp, or why they are not reported.
 use Rattle.std.proofs.Common.{ℕ, ap, refl, ◌∙◌}
 use Rattle.relations.specs.Link.{phase_of}
 use Rattle.device_abi.specs.operations.Serves.{phase_number}

@@ -1,4 +1,4 @@
--- A record, or why none is told.
+-- A record, or why none is reported.
 use Rattle.std.proofs.Common.{refl}
 use Rattle.device_abi.proofs.operations.serving.tell_taken.Goals as goal
 

@@ -1,4 +1,4 @@
--- Units go by, or none does.
+-- Units pass, or none does.
 use Rattle.device_abi.proofs.operations.serving.tick.Goals as goal
 
 pub returns : goal.returns

@@ -1,4 +1,4 @@
--- An event behind all work of those before it, or a piece of work.
+-- An event after all work of those before it, or a piece of work.
 use Rattle.std.proofs.lemmas.Result.{err_from_is_err_and}
 use Rattle.device_abi.proofs.PortHosted.{handed_in, went_on}
 use Rattle.device_abi.proofs.port.host.go_on.Goals as goal

@@ -1,4 +1,4 @@
--- One operation behind the others.
+-- One operation after another.
 use Rattle.std.proofs.Common.{subst, sym, take}
 use Rattle.std.proofs.lemmas.List.{take_all}
 use Rattle.std.proofs.lemmas.Result.{err_from_is_err_and}

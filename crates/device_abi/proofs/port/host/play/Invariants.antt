@@ -1,4 +1,4 @@
--- the host stands behind the events of the operations so far
+-- The host is in the state after the events of the operations so far.
 use Rattle.std.proofs.Common.{take}
 use Rattle.device_abi.specs.port.Host.{Stands, begun_by, events_of}
 use Rattle.device_abi.proofs.port.host.play.Given as goal

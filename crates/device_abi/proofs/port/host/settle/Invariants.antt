@@ -1,4 +1,4 @@
--- the host stands as it stood; the work that is left grows less
+-- The host is in the same state, and less work remains.
 use Rattle.std.proofs.Common.{◌+◌, List, length}
 use Rattle.device_frames.specs.declared.event.Event.{Event}
 use Rattle.device_abi.specs.port.Host.{Begun, Stands}

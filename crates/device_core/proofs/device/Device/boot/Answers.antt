@@ -1,4 +1,4 @@
--- What is loaded is what is started with.
+-- What is loaded is what the device starts with.
 use Rattle.device_core.proofs.device.Device.boot.Goals as goal
 
 pub returns-in-Ok-clause-known : goal.returns-in-Ok-clause-known

@@ -1,4 +1,4 @@
--- What a unit brings is sent: of a relation that a timeout ends its ERR, and else what is due.
+-- What a unit brings is sent: the ERR of a relation that a timeout ends, otherwise what is due.
 use Rattle.std.proofs.Common.{◌≡◌, Bool, true, false, [], refl}
 use Rattle.std.specs.Prelude.{option_map}
 use Rattle.std.proofs.lemmas.List.{append-nil}
@@ -6,7 +6,7 @@ use Rattle.relations.specs.Farewells.{farewell_of}
 use Rattle.device_frames.specs.Relation.{farewells_in, where_due}
 use Rattle.device_core.proofs.device.Device.bring.Goals as goal
 
--- of a relation that has ended nothing is due
+-- Nothing is due of a relation that has ended.
 idle : (is_due : Bool) → where_due is_due [] ≡ []
 idle true = refl
 idle false = refl

@@ -1,4 +1,4 @@
--- A PrmEnd that is accepted is answered, and ApplicationReady follows; one that is refused is answered alone.
+-- A PrmEnd that is accepted is answered, and ApplicationReady follows. One that is refused is only answered.
 use Rattle.std.proofs.Common.{◌≡◌, ℕ, true, false, List, [], ◌∷◌, map, Option, Result, Ok, Err, IfOk, IfErr, is_ok, refl, sym, ap, subst, ◌∙◌}
 use Rattle.connect_blocks.specs.declared.control.ControlBlock.{ControlBlock}
 use Rattle.records.specs.declared.status.call_fault.CallFault.{CallFault}
@@ -16,13 +16,13 @@ use Rattle.device_core.specs.Judged.{answer_from, came_with, ready_behind}
 use Rattle.device_core.proofs.device.Device.control.Goals as goal
 use Rattle.device_core.proofs.device.Device.control.Goals.{then-is_ok, else-is_ok}
 
--- the answer is the one that is judged
+-- The answer is the specified one.
 answer_as : (came : Result (Unit {0}) CallFault) (answer : Result (List ℕ) CallFault) (blocks : List ℕ)
     → IfOk came (λ _. answer ≡ Ok blocks) → IfErr came (λ fault. (answer ≡ Err fault) × (blocks ≡ [])) → came_with came blocks ≡ answer
 answer_as (Ok it) answer blocks done refused = sym done
 answer_as (Err fault) answer blocks done refused = sym refused.0
 
--- one that is done stands on a block, and one that is refused does not
+-- A call that is done has a block, and one that is refused has none.
 follows : (address : List ℕ) (now link : Option Link) (octets : List ℕ) (came : Result (Unit {0}) CallFault) (ended : Result ControlBlock CallFault) (blocks : List ℕ)
     → prm_end_of link octets ≡ ended → IfOk came (λ _. prm_end_answer link octets ≡ Ok blocks) → is_ok came ≡ true → ready_behind address now ended ≡ ready_calls address now
 follows address now link octets (Ok it) (Ok block) blocks is done so = refl
@@ -35,7 +35,7 @@ alone address now link octets (Ok it) ended blocks is refused so = cc
 alone address now link octets (Err fault) (Err other) blocks is refused so = refl
 alone address now link octets (Err fault) (Ok block) blocks is refused so = let e = rw is at refused.0 in cc
 
--- an answer, and what follows it
+-- An answer, and what follows it.
 behind_answer : (f : Sent → List ℕ) (frames : List (List ℕ)) (answer : Sent) (ready behind : List Sent)
     → frames ≡ f answer ∷ map f ready → behind ≡ ready → frames ≡ map f (answer ∷ behind)
 behind_answer f frames answer ready behind is same = is ∙ ap (λ sent. f answer ∷ map f sent) (sym same)

@@ -1,4 +1,4 @@
--- A real-time frame says what stands in it, and any other one what it is read as.
+-- A real-time frame by its own reader, and any other frame by the general one.
 use Rattle.std.proofs.Common.{map, subst, sym}
 use Rattle.device_core.specs.Steps.{Steps}
 use Rattle.device_core.proofs.device.Device.hear.Goals as goal

@@ -1,4 +1,4 @@
--- What becomes of a cyclic frame.
+-- What happens to a cyclic frame.
 use Rattle.std.proofs.Common.{◌≡◌, refl}
 use Rattle.relations.specs.Exchanged.{receiving}
 use Rattle.relations.specs.Phases.{moved}

@@ -1,4 +1,4 @@
--- A datagram by its address, and then by what it says.
+-- A datagram by its address, and then by its content.
 use Rattle.std.proofs.Common.{◌≡◌, true, false, map, refl, sym, ap, ◌∙◌}
 use Rattle.std.proofs.lemmas.Bool.{cond-true, cond-false}
 use Rattle.rpc_core.specs.Call.{asked}

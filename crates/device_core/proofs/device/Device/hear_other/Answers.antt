@@ -1,4 +1,4 @@
--- A frame is heard by its kind, or cannot be read.
+-- A frame is handled by its kind, or cannot be read.
 use Rattle.std.proofs.Common.{ap, map, refl, ◌∙◌}
 use Rattle.frame_codec.specs.declared.ethernet.ContentKind.TheVariants as kind
 use Rattle.device_frames.specs.declared.note.Note.TheVariants.{Fault}

@@ -1,4 +1,4 @@
--- A packet of ARP to this station or to all is looked at.
+-- An ARP packet to this station or to all stations is handled.
 use Rattle.std.proofs.Common.{ap, map, nat_eq, refl, subst, sym, ◌∙◌, ◌||◌, if◌then◌else◌}
 use Rattle.std.specs.Cmp.Lexicographic.{pointwise}
 use Rattle.frame_codec.specs.Meaning.{ArpPacket}

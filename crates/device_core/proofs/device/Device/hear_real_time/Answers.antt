@@ -1,4 +1,4 @@
--- What a frame of EtherType 0x8892 asks of the relation is carried out, and what is for nobody here is refused.
+-- What a frame of EtherType 0x8892 asks of the relation is carried out, and a frame for another station is refused.
 use Rattle.std.proofs.Common.{ap, map, refl, sym, ◌∙◌}
 use Rattle.device_frames.specs.declared.note.Note.TheVariants.{NotMine}
 use Rattle.device_frames.specs.Sent.{bytes_of}

@@ -1,4 +1,4 @@
--- The answer to ApplicationReady, by what it is to the relation: ERR follows a refusal, and nothing else is sent.
+-- The answer to ApplicationReady, by what it means to the relation: ERR follows a refusal, and nothing else is sent.
 use Rattle.std.proofs.Common.{◌≡◌, [], ◌∷◌, map, sym, ap, ◌∙◌}
 use Rattle.rpc_core.specs.Response.{answered}
 use Rattle.relations.specs.Ready.{answer_of}

@@ -1,4 +1,4 @@
--- A datagram to the port of calls is looked at.
+-- A datagram to the port of calls is handled.
 use Rattle.std.proofs.Common.{ap, map, refl, subst, sym, ◌∙◌, ◌==◌, ◌&&◌, if◌then◌else◌}
 use Rattle.frame_codec.specs.Meaning.{UdpDatagram}
 use Rattle.device_frames.specs.declared.note.Note.TheVariants.{NotMine}

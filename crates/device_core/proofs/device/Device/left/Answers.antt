@@ -1,4 +1,4 @@
--- How many commits are left.
+-- The number of remaining commits.
 use Rattle.device_core.proofs.device.Device.left.Goals as goal
 
 pub returns-clause-read : goal.returns-clause-read

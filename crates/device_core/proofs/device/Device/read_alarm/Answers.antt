@@ -1,4 +1,4 @@
--- An alarm frame is judged by what it says, or cannot be read.
+-- The outcome of an alarm frame follows from its content, or it cannot be read.
 use Rattle.std.proofs.Common.{ap, map, refl, subst, sym, ◌∙◌}
 use Rattle.pn_alarms.specs.Message.{message_of}
 use Rattle.device_frames.specs.declared.note.Note.TheVariants.{Fault}

@@ -1,4 +1,4 @@
--- What cannot be read is refused.
+-- A request that cannot be read is refused.
 use Rattle.std.proofs.Common.{ap, map, refl}
 use Rattle.device_frames.specs.declared.note.Note.TheVariants.{Fault}
 use Rattle.device_frames.specs.Heard.{Unreadable}

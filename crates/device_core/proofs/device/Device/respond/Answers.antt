@@ -1,4 +1,4 @@
--- A unit of time is a move, and so is what the application gives and raises.
+-- A unit of time is a move, and so are inputs and alarms of the application.
 use Rattle.std.proofs.Common.{ap, map, refl, rules, subst, sym, ◌∙◌}
 use Rattle.device_frames.specs.Sent.{bytes_of}
 use Rattle.settings_store.specs.Carries.{Holds}

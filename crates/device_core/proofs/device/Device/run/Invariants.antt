@@ -1,4 +1,4 @@
--- the events so far are run
+-- The events so far are run.
 use Rattle.std.proofs.Common.{◌≡◌, false, take}
 use Rattle.device_core.specs.Faults.{RunGoesOn}
 use Rattle.device_core.specs.Steps.{Runs}

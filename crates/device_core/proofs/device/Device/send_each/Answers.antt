@@ -1,4 +1,4 @@
--- What is due is sent, of what runs in the device, one behind the other.
+-- What is due is sent, in order.
 use Rattle.std.proofs.Common.{◌≡◌, ℕ, List, ◌++◌, map, append_assoc, sym, ap, ◌∙◌}
 use Rattle.std.proofs.lemmas.List.{map-append}
 use Rattle.relations.specs.Link.{flow_of}

@@ -1,4 +1,4 @@
--- A call by its operation, its blocks and what the cache tells of it.
+-- A call by its operation, its blocks and the result of the cache.
 use Rattle.std.proofs.Common.{◌≡◌, [], ◌∷◌, map, Some, None, Err, refl, sym, ap, ◌∙◌}
 use Rattle.rpc_core.specs.Call.{asked}
 use Rattle.rpc_core.specs.Cache.{looked, again, old}

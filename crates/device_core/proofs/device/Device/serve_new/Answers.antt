@@ -1,4 +1,4 @@
--- Each operation asks nothing of the settings, but for a Write.
+-- No operation except a Write asks anything of the settings.
 use Rattle.std.proofs.Common.{refl, ap, ◌∙◌}
 use Rattle.rpc_core.specs.Call.{asked}
 use Rattle.records.specs.declared.status.operation.Operation.TheVariants as operation

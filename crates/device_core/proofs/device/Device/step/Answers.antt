@@ -1,4 +1,4 @@
--- What is said of the event, from what its step does.
+-- The clauses on the event, from what its step does.
 use Rattle.std.proofs.Common.{refl, ◌∙◌}
 use Rattle.device_core.proofs.Faults.{heard_goes_on}
 use Rattle.device_core.proofs.Steps.{refused_step, none_sent, identify_step, again_step}

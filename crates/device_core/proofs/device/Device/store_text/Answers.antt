@@ -1,4 +1,4 @@
--- The answer is made from what became of the command.
+-- The answer depends on the outcome of the command.
 use Rattle.std.proofs.Common.{◌≡◌, [], ◌∷◌, refl, sym, ap, ◌∙◌}
 use Rattle.rpc_core.specs.Call.{asked}
 use Rattle.records.specs.writes.Answer.{answer_of}

@@ -1,4 +1,4 @@
--- What a unit brings is sent, of the relation as it is a unit later: inputs alone, or all that is due.
+-- What a unit brings is sent, of the relation as it is a unit later: only inputs, or all that is due.
 use Rattle.std.proofs.Common.{◌∙◌, refl}
 use Rattle.device_core.proofs.device.Device.tick.Goals as goal
 

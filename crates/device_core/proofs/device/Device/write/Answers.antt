@@ -1,4 +1,4 @@
--- What is judged of a Write is carried out.
+-- What a Write asks for is carried out.
 use Rattle.std.proofs.Common.{◌≡◌, Ok, Err, refl, sym, ap, ◌∙◌}
 use Rattle.rpc_core.specs.Call.{asked}
 use Rattle.records.specs.writes.Judged.{write_of}

@@ -1,4 +1,4 @@
--- A piece of work is taken.
+-- A piece of work is fetched.
 use Rattle.std.proofs.Common.{◌<◌, ℕ, List, length, map, refl, sym, ap, ◌∙◌, arith}
 use Rattle.std.proofs.lemmas.List.{length-map}
 use Rattle.device_abi.specs.recorded.Entry.{call_of}

@@ -1,4 +1,4 @@
--- How many commits are left of a port that started.
+-- The number of remaining commits of a port that started.
 use Rattle.std.proofs.Common.{◌≡◌, sym, ap, ◌∙◌, None}
 use Rattle.settings_journal.specs.Image.{commits_left}
 use Rattle.device_abi.specs.port.State.{closed}

@@ -1,4 +1,4 @@
--- The piece of work that is next.
+-- The next piece of work.
 use Rattle.std.proofs.Common.{◌<◌, ◌≤◌, length, map, ap, ◌∙◌, arith}
 use Rattle.std.proofs.lemmas.List.{length-map, drop_all}
 use Rattle.device_abi.specs.recorded.Entry.{call_of}

@@ -1,4 +1,4 @@
--- One more unit goes by, or work stops it.
+-- One more unit passes, or work stops it.
 use Rattle.std.proofs.Common.{◌≡◌, true, false, sym, subst, arith}
 use Rattle.device_abi.specs.port.State.{has_work}
 use Rattle.device_abi.specs.port.Steps.{Ticks}
@@ -15,7 +15,7 @@ loop-passed-preserved c =
       stage = c.take.ensures.stage;
     }
 
--- as many went by as are not left
+-- All units passed except those that remain.
 pub returns-then-has_work : goal.returns-then-has_work
 returns-then-has_work c =
     let now = c.loop-passed.self in

@@ -1,4 +1,4 @@
--- the units so far went by, one step each
+-- The units so far passed, one step each.
 use Rattle.std.proofs.Common.{◌≡◌}
 use Rattle.device_abi.specs.declared.port.stage.Stage.TheVariants.{Booted}
 use Rattle.device_abi.specs.port.Steps.{Ticks}

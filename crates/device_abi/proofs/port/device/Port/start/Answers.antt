@@ -1,4 +1,4 @@
--- A start, or a chip that is foreign.
+-- A start, or a foreign chip.
 use Rattle.std.proofs.Common.{◌≡◌, None, refl, sym, ap, subst, ◌∙◌}
 use Rattle.std.specs.Prelude.{drop}
 use Rattle.device_abi.specs.port.State.{past_start}

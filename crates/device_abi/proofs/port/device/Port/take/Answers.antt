@@ -1,4 +1,4 @@
--- An event is taken.
+-- An event is handled.
 use Rattle.std.proofs.Common.{◌≡◌, ◌+◌, ◌-◌, ◌<◌, ◌≤◌, ◌%◌, ◌^◌, None, length, sym, ap, subst, ◌∙◌, arith}
 use Rattle.device_abi.specs.recorded.Record.{record_of}
 use Rattle.device_abi.specs.port.State.{barred}
