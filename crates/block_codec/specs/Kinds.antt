@@ -33,7 +33,7 @@ number_of kind.ImFilterDataDevice = 0x0032
 number_of kind.AlarmNotification = 0x0001
 number_of kind.AlarmAck = 0x8001
 
--- the type of a number, if there is one
+-- the type with a number, if there is one
 unfoldable pub type_of : ℕ → Option BlockType
 type_of number =
     if number == 0x0101 then Some kind.ArBlockReq

@@ -16,19 +16,19 @@ use Rattle.connect_blocks.specs.declared.ar_block.ArBlockRes.{ArBlockRes}
 abbrev pub is_some_uuid : List ℕ → Bool
 is_some_uuid octets = not (pointwise nat_eq octets (replicate 16 0))
 
--- an ARUUID, which is field 5
+-- an ARUUID, field 5
 unfoldable pub ar_uuid : Codec BlockFault (List ℕ)
 ar_uuid = checked is_some_uuid (Field 5) (octets 16)
 
--- whether an address is that of one station: its first octet is even
+-- whether an address is a unicast address: its first octet is even
 abbrev pub is_unicast : Mac → Bool
 is_unicast address = not (slice_index address.octets 0 % 2 == 1)
 
--- a CMInitiatorMacAdd, which is field 7
+-- a CMInitiatorMacAdd, field 7
 unfoldable pub initiator_mac : Codec BlockFault Mac
 initiator_mac = checked is_unicast (Field 7) mac
 
--- a StationNameLength, which is field 12, and the name
+-- a StationNameLength, field 12, and the name
 unfoldable pub station_name : Codec BlockFault (ArrayVec ℕ)
 station_name = seen (λ x. record { items = x.1 }) (λ name. (length name.items, name.items))
     (then_by (ranged 12 0 240) octets)
@@ -66,7 +66,7 @@ ar_block_req = seen
     (fixed 4 1 ⨾ ar_uuid ⨾ two ⨾ initiator_mac ⨾ octets 16
     ⨾ four ⨾ ranged 10 1 1000 ⨾ two ⨾ station_name)
 
--- its fields are accepted
+-- the fields of an ARBlockReq are accepted
 pub record IsArBlockReq (block : ArBlockReq) : Type 0 where
   pub uuid : is_some_uuid block.ar_uuid ≡ true
   pub address : is_unicast block.cm_initiator_mac_add ≡ true

@@ -1,4 +1,4 @@
--- Record 0xF840: which submodules have I&M records (IEC 61158-6-10, 5.2.3.22).
+-- Record 0xF840: the submodules that have I&M records (IEC 61158-6-10, 5.2.3.22).
 use Rattle.std.specs.Prelude.{◌==◌, ◌++◌, ℕ, List, [], ◌∷◌, length, Option, Some, None, if◌then◌else◌}
 use Rattle.pn_values.specs.declared.real.Real.{Real}
 use Rattle.pn_values.specs.declared.real.RealModule.{RealModule}
@@ -19,7 +19,7 @@ abbrev pub parts_in : List RealSubmodule → List FilterSubmodule
 parts_in [] = []
 parts_in (part ∷ parts) = part_of part ∷ parts_in parts
 
--- the entry of a module, which is not listed without a submodule
+-- the entry of a module; a module without submodules has none
 abbrev pub entry_of : RealModule → List FilterModule
 entry_of entry = if length entry.submodules.items == 0 then []
     else (record { slot_number = entry.slot; module_ident_number = entry.ident; number_of_submodules = length entry.submodules.items } ∷ [])
@@ -29,7 +29,7 @@ abbrev pub modules_in : List RealModule → List FilterModule
 modules_in [] = []
 modules_in (entry ∷ entries) = entry_of entry ++ modules_in entries
 
--- the entries of all their submodules
+-- the entries of the submodules of all modules
 abbrev pub submodules_in : List RealModule → List FilterSubmodule
 submodules_in [] = []
 submodules_in (entry ∷ entries) = parts_in entry.submodules.items ++ submodules_in entries
@@ -39,7 +39,7 @@ abbrev pub ident_in : ℕ → List RealSubmodule → Option ℕ
 ident_in subslot [] = None
 ident_in subslot (part ∷ parts) = if part.subslot == subslot then Some part.ident else ident_in subslot parts
 
--- the one or, where there is none, the other, with an ident number in front
+-- the ident number with `front` before it, or `other` if there is no ident number
 abbrev pub ident_or : ℕ → Option ℕ → Option (ℕ × ℕ) → Option (ℕ × ℕ)
 ident_or front (Some ident) other = Some (front, ident)
 ident_or front None other = other
@@ -68,6 +68,6 @@ all_of real = record {
 abbrev pub device_of : Real → ImFilterData
 device_of real = record { api = 0; modules = device_entries (device_in real.modules.items) }
 
--- the record: 0x0030 with all real submodules, and then 0x0032 with the one that stands for the device
+-- the record: 0x0030 with all real submodules, followed by 0x0032 with the one that stands for the device
 abbrev pub filter_record : Real → List ℕ
 filter_record real = block_bytes (is.ImFilterDataSubmodule (all_of real)) ++ block_bytes (is.ImFilterDataDevice (device_of real))

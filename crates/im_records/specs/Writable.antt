@@ -1,4 +1,4 @@
--- Which records of identification and maintenance are written.
+-- The records of identification and maintenance that are writable.
 use Rattle.std.specs.Prelude.{◌&&◌, ℕ, Bool}
 use Rattle.im_records.specs.Indices.{is_text, record_with}
 use Rattle.im_records.specs.Records.{is_device}

@@ -1,5 +1,5 @@
--- ModuleDiffBlock (IEC 61158-6-10, 5.2.4.11): which modules are not as they were asked for. The submodules of all modules
--- stand in one list, those of the first module first.
+-- ModuleDiffBlock (IEC 61158-6-10, 5.2.4.11): the modules that are not as requested. The submodules of all modules are in
+-- one list, those of the first module first.
 use Rattle.std.specs.Prelude.{◌≡◌, ℕ, length, sum_by}
 use Rattle.wire.specs.Codec.{Codec}
 use Rattle.wire.specs.Formats.{◌⨾◌, seen}
@@ -26,7 +26,7 @@ diff_submodule = seen
     (λ entry. (entry.subslot_number, (entry.submodule_ident_number, entry.submodule_state)))
     (two ⨾ four ⨾ two)
 
--- how many submodules stand behind a module
+-- the number of submodules that follow a module
 abbrev pub own_of : DiffModule → ℕ
 own_of entry = entry.number_of_submodules
 
@@ -41,10 +41,10 @@ unfoldable pub module_diff : Codec BlockFault ModuleDiffBlock
 module_diff = seen (λ x. record { api = x.1.0; modules = x.1.1 }) (λ block. (tt, (block.api, block.modules)))
     (fixed 4 1 ⨾ four ⨾ diff_modules)
 
--- the modules count the submodules that there are
+-- the counts of the modules add up to the number of submodules
 abbrev pub IsCounted : Listed DiffModule DiffSubmodule → Type 0
 IsCounted value = sum_by own_of value.modules ≡ length value.submodules
 
--- its fields are accepted
+-- the fields of a ModuleDiffBlock are accepted
 abbrev pub IsModuleDiff : ModuleDiffBlock → Type 0
 IsModuleDiff block = IsCounted block.modules

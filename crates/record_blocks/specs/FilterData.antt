@@ -1,4 +1,4 @@
--- I&M0FilterData (IEC 61158-6-10, 5.2.3.22): which modules and submodules there are. The submodules of all modules stand in
+-- I&M0FilterData (IEC 61158-6-10, 5.2.3.22): the modules and submodules of a device. The submodules of all modules are in
 -- one list, those of the first module first.
 use Rattle.std.specs.Prelude.{◌≡◌, ℕ, length, sum_by}
 use Rattle.wire.specs.Codec.{Codec}
@@ -26,7 +26,7 @@ filter_submodule = seen
     (λ entry. (entry.subslot_number, entry.submodule_ident_number))
     (two ⨾ four)
 
--- how many submodules stand behind a module
+-- the number of submodules that follow a module
 abbrev pub own_of : FilterModule → ℕ
 own_of entry = entry.number_of_submodules
 
@@ -41,10 +41,10 @@ unfoldable pub filter_data : Codec BlockFault ImFilterData
 filter_data = seen (λ x. record { api = x.1.0; modules = x.1.1 }) (λ block. (tt, (block.api, block.modules)))
     (fixed 4 1 ⨾ four ⨾ filter_modules)
 
--- the modules count the submodules that there are
+-- the counts of the modules add up to the number of submodules
 abbrev pub IsCounted : Listed FilterModule FilterSubmodule → Type 0
 IsCounted value = sum_by own_of value.modules ≡ length value.submodules
 
--- its fields are accepted
+-- the fields of an I&M0FilterData are accepted
 abbrev pub IsFilterData : ImFilterData → Type 0
 IsFilterData block = IsCounted block.modules

@@ -1,4 +1,4 @@
--- the octets so far, and those of the entries that are left
+-- the octets counted so far, and those of the remaining entries
 use Rattle.std.proofs.Common.{◌≡◌, ◌+◌, ◌*◌, ◌≤◌, drop}
 use Rattle.module_lists.specs.Lists.{submodules_size}
 use Rattle.module_lists.proofs.writing.submodules_len.Given as goal
