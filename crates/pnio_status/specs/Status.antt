@@ -1,4 +1,4 @@
--- PNIOStatus (IEC 61158-6-10, 5.2.6): how a call came out.
+-- PNIOStatus (IEC 61158-6-10, 5.2.6): the result of a call.
 use Rattle.std.specs.Prelude.{ℕ}
 use Rattle.rpc_core.specs.declared.response.Status.{Status}
 use Rattle.pnio_status.specs.declared.operation.Operation.{Operation}
@@ -6,23 +6,23 @@ use Rattle.pnio_status.specs.declared.call_fault.CallFault.{CallFault}
 use Rattle.pnio_status.specs.declared.call_fault.CallFault.TheVariants as fault
 use Rattle.pnio_status.specs.Operation.{code_of}
 
--- the call is done
+-- the call succeeded
 abbrev pub done : Status
 done = record { code = 0; decode = 0; code1 = 0; code2 = 0 }
 
--- ErrorDecode 0x81, PNIO: a field of the block of this kind is faulty
+-- ErrorDecode 0x81, PNIO: a field of this kind of block is faulty
 abbrev pub faulty : Operation → ℕ → ℕ → Status
 faulty operation kind field = record { code = code_of operation; decode = 0x81; code1 = kind; code2 = field }
 
--- ErrorDecode 0x81, PNIO, and ErrorCode1 0x40, CMRPC: the call does not stand as it should
+-- ErrorDecode 0x81, PNIO, and ErrorCode1 0x40, CMRPC: the form of the call is wrong
 abbrev pub cm_rpc : Operation → ℕ → Status
 cm_rpc operation which = faulty operation 0x40 which
 
--- ErrorDecode 0x80, PNIORW: the record can't be read or written so
+-- ErrorDecode 0x80, PNIORW: the record cannot be read or written in this way
 abbrev pub access : Operation → ℕ → ℕ → Status
 access operation class which = record { code = code_of operation; decode = 0x80; code1 = class; code2 = which }
 
--- the status of a call of this operation that is refused so
+-- the status of a call of this operation that is refused for this fault
 unfoldable pub status_of : Operation → CallFault → Status
 -- args length invalid
 status_of operation fault.Arguments = cm_rpc operation 0
@@ -52,7 +52,7 @@ status_of operation (fault.ArField field) = faulty operation 1 field
 status_of operation (fault.IocrField field) = faulty operation 2 field
 status_of operation (fault.ExpectedField field) = faulty operation 3 field
 status_of operation (fault.AlarmCrField field) = faulty operation 4 field
--- of an IOCRBlockReq, FrameOffset is field 24, SubslotNumber 23 and NumberOfIODataObjects 21
+-- in an IOCRBlockReq, FrameOffset is field 24, SubslotNumber 23 and NumberOfIODataObjects 21
 status_of operation fault.LayoutOutside = faulty operation 2 24
 status_of operation fault.LayoutOverlap = faulty operation 2 24
 status_of operation fault.LayoutUnknown = faulty operation 2 23
