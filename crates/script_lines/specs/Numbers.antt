@@ -5,21 +5,21 @@ use Rattle.std.specs.Prelude.{ℕ, ◌+◌, ◌-◌, ◌*◌, ◌%◌, ◌==◌,
 abbrev pub is_digit : ℕ → Bool
 is_digit byte = nat_le 48 byte && nat_le byte 57
 
--- the number that decimal digits spell behind others, if all of them are digits
+-- the number that decimal digits spell after others, if all of them are digits
 abbrev pub digits_from : ℕ → List ℕ → Option ℕ
 digits_from number [] = Some number
 digits_from number (digit ∷ digits) = if is_digit digit then digits_from (number * 10 + (digit - 48)) digits else None
 
--- a number that is not greater than another
+-- a number that is at most `most`
 abbrev pub at_most : ℕ → Option ℕ → Option ℕ
 at_most most None = None
 at_most most (Some number) = if nat_le number most then Some number else None
 
--- the number that decimal digits spell, at least one of them, where it is not greater than this
+-- the number that decimal digits spell, at least one of them, if it is at most `most`
 unfoldable pub number_of : ℕ → List ℕ → Option ℕ
 number_of most digits = if length digits == 0 then None else at_most most (digits_from 0 digits)
 
--- the byte at a place of some bytes that repeat
+-- the byte with this index in the endless repetition of some bytes
 abbrev pub turned : List ℕ → ℕ → ℕ
 turned bytes place = slice_index bytes (place % length bytes)
 

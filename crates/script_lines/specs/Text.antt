@@ -11,17 +11,17 @@ use Rattle.device_frames.specs.declared.note.Note.TheVariants.{Done, NotMine, Fa
 abbrev pub printed : List ℕ → List ℕ
 printed line = line ++ 10 ∷ []
 
--- a start: refused for this, or not
+-- the result of a start: refused for this reason, or not refused
 abbrev pub boot_line : Option BootFault → List ℕ
 boot_line None = printed (codes "boot ok")
 boot_line (Some FlashFault) = printed (codes "boot flash-fault")
 boot_line (Some Foreign) = printed (codes "boot foreign")
 
--- a line that is not heard, since there is no power
+-- the answer to a line while the power is off
 abbrev pub off_line : List ℕ
 off_line = printed (codes "off")
 
--- power was lost in an event
+-- the line for power that was lost in an event
 abbrev pub lost_line : List ℕ
 lost_line = printed (codes "power lost")
 
@@ -43,10 +43,10 @@ note_word NoRelation = codes "no-relation"
 note_word StaleCycle = codes "stale-cycle"
 note_word Refused = codes "refused"
 
--- what became of an event
+-- the result of an event
 unfoldable pub note_line : Note → List ℕ
 note_line note = printed (codes "note " ++ note_word note)
 
--- how many frames were handed over: to the device, and to the controller
+-- the number of frames handed to the device, and the number handed to the controller
 unfoldable pub moved_line : ℕ → ℕ → List ℕ
 moved_line to_device to_controller = printed (codes "moved " ++ decimal to_device ++ codes " " ++ decimal to_controller)

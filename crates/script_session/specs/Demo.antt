@@ -1,4 +1,4 @@
--- The device that scripts are run on.
+-- The device on which scripts run.
 use Rattle.demo_station.specs.Demo.{demo, demo_real}
 use Rattle.device_core.specs.State.{Station as Device}
 

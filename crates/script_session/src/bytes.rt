@@ -2,7 +2,7 @@ ghost use Rattle.std.specs.Prelude.{◌≡◌, ◌≤◌, length, take};
 
 use arrayvec::ArrayVec;
 
-/// A list of these bytes, which fit it.
+/// A list of these bytes. There must be at most `N`.
 pub(crate) fn copied<const N: usize>(bytes: &[u8]) -> ArrayVec<u8, N>
     requires { length bytes.now ≤ N }
     ensures { result ≡ record { items = bytes.now } }
@@ -12,7 +12,7 @@ pub(crate) fn copied<const N: usize>(bytes: &[u8]) -> ArrayVec<u8, N>
     copy
 }
 
-/// The first of some bytes, at most so many.
+/// The first `most` bytes, or all if there are fewer.
 pub(crate) fn front(bytes: &[u8], most: usize) -> &[u8]
     ensures value { result.now ≡ take most bytes.now }
     ensures most { length result.now ≤ most }

@@ -10,7 +10,7 @@ pub(crate) struct Table {
 }
 
 impl Table {
-    /// No line.
+    /// An empty table.
     pub(crate) fn new(alloc: Global) -> Table {
         Table {
             alloc,
@@ -18,12 +18,12 @@ impl Table {
         }
     }
 
-    /// All of the lines.
+    /// The text of the table.
     pub(crate) fn as_bytes(&self) -> &[u8] {
         self.text.as_slice()
     }
 
-    /// Appends words.
+    /// Appends text.
     pub(crate) fn put(&mut self, words: &str) -> Result<(), AllocError> {
         self.text.extend_from_slice(words.as_bytes())
     }
@@ -71,7 +71,7 @@ impl Table {
         self.put("\n")
     }
 
-    /// The front of a field's line: its name.
+    /// Appends the start of a field's line: its name.
     fn name(&mut self, name: &str) -> Result<(), AllocError> {
         self.put("  ")?;
         self.put(name)?;
@@ -79,7 +79,7 @@ impl Table {
     }
 }
 
-/// The lines of fields that are numbers, under their own names.
+/// Appends the lines of fields that are numbers, under their own names.
 macro_rules! numbers {
     ($table:ident $block:ident $($field:ident)*) => {{
         $($table.count(stringify!($field), $block.$field)?;)*
