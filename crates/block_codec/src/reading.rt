@@ -35,7 +35,7 @@ pub fn read_block(bytes: &[u8]) -> Result<(Block<'_>, &[u8]), BlockFault>
     // No block is a prefix of another one: the octets of a block, followed by any octets, are read as that block.
     ensures behind { (first more : List ℕ) (value : Block) → IsBlock first value [] → bytes.now ≡ first ++ more →
         Gives (λ x. (x.0, x.1.now)) result (front value more) }
-    // The result is exactly the block and the rest, or the fault, that the definition gives.
+    // The result is exactly the block and the rest, or the fault, that the definition `block_of` gives.
     ensures exact { Gives (λ x. (x.0, x.1.now)) result (block_of bytes.now) }
 {
     block_at(bytes)
@@ -74,7 +74,7 @@ pub fn read_alarm_ack(bytes: &[u8]) -> Result<(AlarmAck, &[u8]), BlockFault>
     // If the octets are those of a block followed by a rest, that block and that rest are returned.
     ensures only { (value : Block) (rest : List ℕ) → IsBlock bytes.now value rest →
         Gives (λ x. (Block.AlarmAck x.0, x.1.now)) result (front value rest) }
-    // The result is exactly the block and the rest, or the fault, that the definition gives.
+    // The result is exactly the block and the rest, or the fault, that the definition `block_of` gives.
     ensures exact { Gives (λ x. (Block.AlarmAck x.0, x.1.now)) result (block_of bytes.now) }
 {
     alarm_ack_in_front(bytes)

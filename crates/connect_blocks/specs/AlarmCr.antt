@@ -50,7 +50,7 @@ pub record IsAlarmCrBlockReq (block : AlarmCrBlockReq) : Type 0 where
   pub data_least : 200 ≤ block.max_alarm_data_length
   pub data_greatest : block.max_alarm_data_length ≤ 1432
 
--- AlarmCRType, LocalAlarmReference 1 and MaxAlarmDataLength 200
+-- the fields of an AlarmCRBlockRes: AlarmCRType, LocalAlarmReference 1 and MaxAlarmDataLength 200
 unfoldable pub alarm_cr_block_res : Codec BlockFault AlarmCrBlockRes
 alarm_cr_block_res = seen (λ _. record {}) (λ _. (tt, (tt, tt)))
     (unchecked_two 1 ⨾ fixed 5 1 ⨾ fixed 6 200)

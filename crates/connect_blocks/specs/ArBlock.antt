@@ -33,8 +33,8 @@ unfoldable pub station_name : Codec BlockFault (ArrayVec ℕ)
 station_name = seen (λ x. record { items = x.1 }) (λ name. (length name.items, name.items))
     (then_by (ranged 12 0 240) octets)
 
--- ARType 1, ARUUID, SessionKey, CMInitiatorMacAdd, CMInitiatorObjectUUID, ARProperties, CMInitiatorActivityTimeoutFactor,
--- CMInitiatorUDPRTPort and CMInitiatorStationName
+-- the fields of an ARBlockReq: ARType 1, ARUUID, SessionKey, CMInitiatorMacAdd, CMInitiatorObjectUUID, ARProperties,
+-- CMInitiatorActivityTimeoutFactor, CMInitiatorUDPRTPort and CMInitiatorStationName
 unfoldable pub ar_block_req : Codec BlockFault ArBlockReq
 ar_block_req = seen
     (λ x. record {
@@ -73,7 +73,7 @@ pub record IsArBlockReq (block : ArBlockReq) : Type 0 where
   pub least : 1 ≤ block.cm_initiator_activity_timeout_factor
   pub greatest : block.cm_initiator_activity_timeout_factor ≤ 1000
 
--- ARType, ARUUID, SessionKey, CMResponderMacAdd, ResponderUDPRTPort
+-- the fields of an ARBlockRes: ARType, ARUUID, SessionKey, CMResponderMacAdd, ResponderUDPRTPort
 unfoldable pub ar_block_res : Codec BlockFault ArBlockRes
 ar_block_res = seen
     (λ x. record { ar_uuid = x.1.0; session_key = x.1.1.0; cm_responder_mac_add = x.1.1.1.0 })

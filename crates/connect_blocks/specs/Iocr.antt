@@ -146,7 +146,7 @@ pub record IsIocrBlockReq (block : IocrBlockReq) : Type 0 where
   pub hold_least : 1 ≤ block.data_hold_factor
   pub hold_greatest : block.data_hold_factor ≤ 7680
 
--- IOCRType, IOCRReference, FrameID
+-- the fields of an IOCRBlockRes: IOCRType, IOCRReference, FrameID
 unfoldable pub iocr_block_res : Codec BlockFault IocrBlockRes
 iocr_block_res = seen (λ x. record { iocr_type = x.0; iocr_reference = x.1.0; frame_id = x.1.1 })
     (λ block. (block.iocr_type, (block.iocr_reference, block.frame_id))) (two ⨾ two ⨾ two)

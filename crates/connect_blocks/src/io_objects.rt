@@ -13,7 +13,7 @@ use std::marker::Model;
 /// The number of octets that a place takes.
 const OBJECT_LEN: usize = 6;
 
-/// A list of at most 256 places. It borrows them: from the octets that were read, or from a list that is to be written.
+/// A list of at most 256 places. It borrows them: from the octets that were read, or from a list to write.
 #[derive(Drop)]
 pub struct IoObjects<'a> {
     place: Place<'a>,

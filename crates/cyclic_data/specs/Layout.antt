@@ -29,7 +29,7 @@ IsInside data_length place = place.offset + place.size ≤ data_length
 abbrev pub IsOutside : ℕ → Place → Type 0
 IsOutside data_length place = data_length < place.offset + place.size
 
--- each place is apart from each later one
+-- no place overlaps a later one
 abbrev pub AreAllApart : List Place → Type 0
 AreAllApart [] = Unit {0}
 AreAllApart (place ∷ places) = AllByRecursion (AreApart place) places × AreAllApart places
@@ -103,7 +103,7 @@ fault_number fault.Overlap = 2
 fault_number fault.Unknown = 3
 fault_number fault.Missing = 4
 
--- the places of a frame, as a layout keeps them
+-- the places of a frame, as a layout stores them
 pub record Table : Type 0 where
   pub data_length : ℕ
   pub places : List Place

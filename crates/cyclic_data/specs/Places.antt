@@ -21,7 +21,7 @@ input_of (Some input) output = Some input
 input_of None None = Some 0
 input_of None (Some output) = None
 
--- how many octets of data a submodule has in the frames of a direction, if it has any there
+-- the number of octets of data that a submodule has in the frames of a direction, if it has data there
 abbrev pub data_in : IocrType → SubmoduleData → Option ℕ
 data_in Input io_data = input_of io_data.input io_data.output
 data_in Output io_data = io_data.output

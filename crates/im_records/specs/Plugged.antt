@@ -44,7 +44,7 @@ abbrev pub ident_or : ℕ → Option ℕ → Option (ℕ × ℕ) → Option (ℕ
 ident_or front (Some ident) other = Some (front, ident)
 ident_or front None other = other
 
--- the ident numbers of the module in slot 0 and of its submodule in subslot 1, which stands for the device
+-- the ident numbers of the module in slot 0 and of its submodule in subslot 1, which represents the device
 abbrev pub device_in : List RealModule → Option (ℕ × ℕ)
 device_in [] = None
 device_in (entry ∷ entries) = if entry.slot == 0 then ident_or entry.ident (ident_in 1 entry.submodules.items) (device_in entries) else device_in entries
@@ -68,6 +68,6 @@ all_of real = record {
 abbrev pub device_of : Real → ImFilterData
 device_of real = record { api = 0; modules = device_entries (device_in real.modules.items) }
 
--- the record: 0x0030 with all real submodules, followed by 0x0032 with the one that stands for the device
+-- the record: 0x0030 with all real submodules, followed by 0x0032 with the one that represents the device
 abbrev pub filter_record : Real → List ℕ
 filter_record real = block_bytes (is.ImFilterDataSubmodule (all_of real)) ++ block_bytes (is.ImFilterDataDevice (device_of real))

@@ -47,7 +47,7 @@ im3_record text = block_bytes (is.Im3 (record { im_descriptor = text }))
 abbrev pub im4_record : List ℕ → List ℕ
 im4_record text = block_bytes (is.Im4 (record { im_signature = text }))
 
--- whether this is the submodule that stands for the device: slot 0, subslot 1
+-- whether this is the submodule that represents the device: slot 0, subslot 1
 abbrev pub is_device : ℕ → ℕ → Bool
 is_device slot subslot = slot == 0 && subslot == 1
 

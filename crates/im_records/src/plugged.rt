@@ -10,7 +10,7 @@ use block_codec::{Block, FilterModule, FilterModules, FilterSubmodule, ImFilterD
 use pn_values::{Real, RealModule, RealSubmodule};
 use record_blocks::filter_data_len;
 
-/// Record 0xF840: all submodules that are plugged, and then the one that stands for the device. Its lists take ten
+/// Record 0xF840: all submodules that are plugged, and then the one that represents the device. Its lists take ten
 /// thousand octets of stack, so it is a function of its own.
 #[inline(never)]
 #[tactic(auto, unfolding(block_codec::specs::Block::block_size, block_codec::specs::Block::fields_of, block_fields::specs::Fields::body, block_fields::specs::Fields::version))]
@@ -80,7 +80,7 @@ fn push_parts(entries: &mut ArrayVec<FilterSubmodule, 256>, parts: &[RealSubmodu
     }
 }
 
-/// The ident numbers of the module in slot 0 and its submodule in subslot 1, which stands for the device.
+/// The ident numbers of the module in slot 0 and its submodule in subslot 1, which represents the device.
 fn device_of(real: &Real) -> Option<(u32, u32)>
     ensures { result ≡ device_in real.now.modules.items }
 {

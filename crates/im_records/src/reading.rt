@@ -61,7 +61,7 @@ fn has_subslot(entry: &RealModule, subslot: u16) -> bool
         .any(|part| part.subslot == subslot)
 }
 
-/// Whether the record with this index at this slot and subslot is writable: I&M1 to I&M4 of the submodule that stands for
+/// Whether the record with this index at this slot and subslot is writable: I&M1 to I&M4 of the submodule that represents
 /// the device.
 pub fn is_writable(index: u16, slot: u16, subslot: u16) -> bool
     ensures { result ≡ is_writable index slot subslot }
@@ -69,7 +69,7 @@ pub fn is_writable(index: u16, slot: u16, subslot: u16) -> bool
     is_text(index) && is_device(slot, subslot)
 }
 
-/// Whether this is the submodule that stands for the device.
+/// Whether this is the submodule that represents the device.
 fn is_device(slot: u16, subslot: u16) -> bool
     ensures { result ≡ is_device slot subslot }
 {
@@ -144,7 +144,7 @@ fn im4_of(text: &Padded<54>) -> ArrayVec<u8, 1024>
     block_record(&Block::Im4(im4))
 }
 
-/// A record that is this block.
+/// The octets of a record that is this block.
 fn block_record(block: &Block) -> ArrayVec<u8, 1024>
     requires { block_size block.now ≤ 1024 }
     ensures { result.items ≡ block_bytes block.now }

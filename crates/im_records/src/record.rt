@@ -7,7 +7,7 @@ ghost use Rattle.im_records.specs.Indices.{is_anywhere, is_module_diff, is_read_
 pub enum Record {
     /// I&M0, of each submodule that is plugged.
     Im0,
-    /// I&M1, of the submodule that stands for the device. This also holds for I&M2 to I&M4; these four are writable too.
+    /// I&M1, of the submodule that represents the device. This also holds for I&M2 to I&M4; these four are writable too.
     Im1,
     Im2,
     Im3,

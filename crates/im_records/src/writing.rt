@@ -15,7 +15,7 @@ pub fn read_write(index: u16, bytes: &[u8]) -> Result<Command, RecordFault>
     ensures whole { (value : ImValue) → IsWritten index bytes.now value → result ≡ Ok (SetIm value) }
     // A command that is returned sets the value of a whole record, and nothing else.
     ensures only { IfOk result (λ command. (value : ImValue) × (command ≡ SetIm value) × IsWritten index bytes.now value) }
-    // The result is exactly the command or the fault that the definition gives.
+    // The result is exactly the command or the fault that the definition `command_of` gives.
     ensures exact { result ≡ command_of index bytes.now }
 {
     command_at(index, bytes)

@@ -12,8 +12,7 @@ use arrayvec::ArrayVec;
 use block_fields::BlockFault;
 use std::marker::Model;
 
-/// Modules with their submodules. They are borrowed: from the octets that were read, or from lists that are to be
-/// written.
+/// Modules with their submodules. They are borrowed: from the octets that were read, or from lists to write.
 #[derive(Drop)]
 pub struct Modules<'a, M: Module, S: Entry> {
     place: Place<'a, M, S>,

@@ -19,9 +19,9 @@ pub fn read_implicit(
     answer: &mut Blocks,
 ) -> Result<(), CallFault>
     requires empty { answer.old.items ≡ [] }
-    // If the call succeeds, `answer` holds the blocks that the definition gives.
+    // If the call succeeds, `answer` holds the response that the definition `implicit_read` gives.
     ensures done { IfOk result (λ _. implicit_read identity.now real.now settings.now blocks.now ≡ Ok answer.new.items) }
-    // If the call is refused, the fault is the one that the definition gives, and `answer` is empty.
+    // If the call is refused, the fault is the one that `implicit_read` gives, and `answer` is empty.
     ensures refused { IfErr result (λ fault. (implicit_read identity.now real.now settings.now blocks.now ≡ Err fault)
         × (answer.new.items ≡ [])) }
 {

@@ -30,10 +30,10 @@ pub fn read_within(
 ) -> Result<(), CallFault>
     requires empty { answer.old.items ≡ [] }
     requires room { length differing.now ≤ 1308 }
-    // If the call succeeds, `answer` holds the blocks that the definition gives.
+    // If the call succeeds, `answer` holds the response that the definition `relation_read` gives.
     ensures done { IfOk result (λ _. relation_read (option_map (λ uuid. uuid.now) standing.entry) differing.now identity.now real.now
         settings.now blocks.now ≡ Ok answer.new.items) }
-    // If the call is refused, the fault is the one that the definition gives, and `answer` is empty.
+    // If the call is refused, the fault is the one that `relation_read` gives, and `answer` is empty.
     ensures refused { IfErr result (λ fault. (relation_read (option_map (λ uuid. uuid.now) standing.entry) differing.now identity.now
         real.now settings.now blocks.now ≡ Err fault) × (answer.new.items ≡ [])) }
 {

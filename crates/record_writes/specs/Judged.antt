@@ -31,7 +31,7 @@ is_known real request = is_read_only (record_with request.header.index)
     || is_writable request.header.index request.header.slot_number request.header.subslot_number
     || has_parameter real request.header.slot_number request.header.subslot_number request.header.index
 
--- the I&M text that a record is, if it is whole
+-- the I&M text of a record, if it is whole
 abbrev pub text_in : Result Command RecordFault → Option Effect
 text_in (Ok (SetIm value)) = Some (Stores value)
 text_in _ = None

@@ -57,7 +57,8 @@ impl TakenRecords {
     pub fn keep(&mut self, taken: TakenRecord) -> Result<(), CallFault>
         // If the call succeeds, the record is appended to the others.
         ensures kept { IfOk result (λ _. keep_of taken self.old ≡ Ok self.new) }
-        // If the call is refused, the fault is the one that the definition gives, and the records stay as they were.
+        // If the call is refused, the fault is the one that the definition `keep_of` gives, and the records stay as they
+        // were.
         ensures refused { IfErr result (λ fault. (keep_of taken self.old ≡ Err fault) × (self.new ≡ self.old)) }
     {
         if self.records.is_full() {

@@ -32,7 +32,7 @@ pub record AreTested (digits : List ℕ) (are : Bool) (place : ℕ) : Type 0 whe
   pub good : are ≡ true → AllPass is_hex_digit (take place digits)
   pub bad : AllPass is_hex_digit digits → are ≡ true
 
--- the fact of `AllPass is_hex_digit`
+-- the fact that a byte is a hex digit
 abbrev digit_holds : ℕ → Type 0
 digit_holds c = is_hex_digit c ≡ true
 

@@ -12,7 +12,7 @@ use Rattle.hex.specs.declared.error.FromHexError.{FromHexError}
 use Rattle.script_lines.specs.declared.command.Words.{Words}
 use Rattle.script_lines.specs.declared.command.Words.TheVariants.{One, Two, Three, Four, More}
 
--- the commands of a script: hand in these bytes, take the power away and give it back, let time pass, show the settings,
+-- the commands of a script: hand in these bytes, switch the power off and on again, let time pass, show the settings,
 -- order the flash to fail, set the input of the submodule in a slot and subslot, or raise an alarm of it with these
 -- octets; make a plan, start a controller with this ARUUID and activity UUID at the other end, set an output of the
 -- controller, end the relation, hand over the frames that wait

@@ -27,7 +27,7 @@ const MOST_TICKS: u32 = 1_000_000;
 pub enum Command<'a> {
     /// Hands these bytes to the device, as if from the network.
     Frame(&'a [u8]),
-    /// Takes the device's power away, and gives it back.
+    /// Switches the device's power off and on again.
     Restart,
     /// Lets this number of units of time pass.
     Tick(u32),

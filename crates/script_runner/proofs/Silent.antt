@@ -20,7 +20,7 @@ pub silent_put : (old new : Option (List ℕ)) (text : List ℕ) (result : Resul
 silent_put old new text (Ok done) puts = tt
 silent_put old new text (Err fault) puts = subst (λ fault. IsSilent old new (Err fault)) (sym puts.0) tt
 
--- a script was played
+-- a script was run
 pub silent_played : (old new : Option (List ℕ)) (result : Result (Unit {0}) RunFault) → IfErr result IsPlayFault → IsSilent old new result
 silent_played old new (Ok done) faults = tt
 silent_played old new (Err Read) faults = absurd faults

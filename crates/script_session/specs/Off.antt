@@ -24,18 +24,19 @@ PrintsOff text before now (Ok true) = (line : List ℕ) × (text ≡ Some line) 
 PrintsOff text before now (Ok false) = text ≡ None
 PrintsOff text before now (Err fault) = fault ≡ OutOfMemory
 
--- power was given back, no frame waits, and the result of the start is printed; or memory was refused
+-- power was switched on again, no frame waits, and the result of the start is printed; or memory was refused
 abbrev pub GivesBack : Held → Held → List ℕ → List ℕ → Result Bool PlanFault → Type 0
 GivesBack old new before now (Ok true) = IsBack old.power new.power × (new.other ≡ cleared old.other) × (now ≡ before ++ boot_line (refusal_of new.power))
 GivesBack old new before now (Ok false) = ⊥
 GivesBack old new before now (Err fault) = fault ≡ OutOfMemory
 
--- what a line does while the power is off: a restart gives it back, and no other line changes anything at either end
+-- what a line does while the power is off: a restart switches it on again, and no other line changes anything at either
+-- end
 abbrev pub TakesOff : Line → Held → Held → List ℕ → List ℕ → Result Bool PlanFault → Type 0
 TakesOff (Asks Restart) old new before now result = GivesBack old new before now result
 TakesOff line old new before now result = (new ≡ old) × PrintsOff (off_text line) before now result
 
--- a line that gives more than 'off' while the power is off: it is refused, is skipped, or gives the power back
+-- a line that gives more than 'off' while the power is off: it is refused, is skipped, or switches the power on again
 abbrev pub is_heard_off : Line → Bool
 is_heard_off Unfit = true
 is_heard_off Skipped = true

@@ -44,7 +44,7 @@ impl<'a> Power<'a> {
         }
     }
 
-    /// Takes the device's power away, and gives it back.
+    /// Switches the device's power off and on again.
     pub(crate) fn restart(self) -> Power<'a>
         ensures runs { (station : Station) → IsRunning station self.entry →
             IsRunning (demo_started station.live.values.stored station.live.values.room) result }
@@ -61,7 +61,7 @@ impl<'a> Power<'a> {
         }
     }
 
-    /// Gives a flash its power back, and starts the device. A pending order stays armed.
+    /// Switches the power of a flash on again, and starts the device. A pending order stays armed.
     fn with_power(flash: DemoFlash<'a>) -> Power<'a>
         ensures runs { (settings : Settings) (room : ℕ) → IsReliable flash.entry → LeftByDevice (image_of flash.entry) →
             StartsWith (image_of flash.entry) settings room →

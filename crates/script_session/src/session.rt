@@ -90,7 +90,7 @@ impl<'a> Session<'a> {
         ensures takes { (plans : List ℕ → Option Parts) (network : Network) → AreRightFor plans (meaning_of line.now) →
             Are network self.old → is_order (meaning_of line.now) ≡ false →
             Obeys (outcome_of plans network (meaning_of line.now)) self.new text.old.items text.new.items result }
-        // While the power is off, a restart gives it back, and no other line changes anything at either end.
+        // While the power is off, a restart switches it on again, and no other line changes anything at either end.
         ensures off { is_off self.old.power ≡ true → TakesOff (meaning_of line.now) self.old self.new text.old.items text.new.items result }
         // If power is lost while a line hands something to the device, and the call succeeds, only the loss is printed,
         // and the plan and the controller at the other end stay as they were.
@@ -226,7 +226,7 @@ impl<'a> Session<'a> {
         )
     }
 
-    /// Takes the device's power away, and gives it back. The frames that wait are lost.
+    /// Switches the device's power off and on again. The frames that wait are lost.
     fn restart(&mut self, text: &mut Vec<u8>) -> Result<(), AllocError>
         ensures obeys { (network : Network) → Are network self.old →
             OnOk result (IsObeyed (restart_answer network) self.new text.old.items text.new.items) }
@@ -432,8 +432,8 @@ fn handed(bytes: &[u8]) -> Bytes
     copied(front(bytes, 1519))
 }
 
-/// Whether a line gives more than `off` while the power is off: it is skipped, is not a valid script line, or gives the
-/// power back.
+/// Whether a line gives more than `off` while the power is off: it is skipped, is not a valid script line, or switches
+/// the power on again.
 fn is_heard_without_power(line: &Line<'_>) -> bool
     ensures { result ≡ is_heard_off (line_read line.now) }
 {

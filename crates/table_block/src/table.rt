@@ -42,21 +42,21 @@ impl Table {
         self.put(hex::encode(self.alloc, octets)?.as_str())
     }
 
-    /// The line of a field that is a number.
+    /// Appends the line of a field that is a number.
     pub(crate) fn count<I: Integer>(&mut self, name: &str, number: I) -> Result<(), AllocError> {
         self.name(name)?;
         self.number(number)?;
         self.put("\n")
     }
 
-    /// The line of a field that is octets.
+    /// Appends the line of a field that is octets.
     pub(crate) fn field(&mut self, name: &str, octets: &[u8]) -> Result<(), AllocError> {
         self.name(name)?;
         self.octets(octets)?;
         self.put("\n")
     }
 
-    /// The line of a list's entry, which is numbers.
+    /// Appends the line of a list entry, which is numbers.
     pub(crate) fn entry<I: Integer>(
         &mut self,
         name: &str,

@@ -140,7 +140,7 @@ pub fn put_ladder(alloc: Global, play: Play<'_>, text: &mut String) -> Result<()
     put_tally(alloc, &ended, text)
 }
 
-/// Appends how often something was at stake.
+/// Appends the counts that show how much the laws were exercised.
 fn put_tally(alloc: Global, ended: &Ended, text: &mut String) -> Result<(), AllocError> {
     let watched = match ended {
         Ended::Well(watched) => watched,
@@ -176,13 +176,13 @@ fn put_ended(alloc: Global, ended: &Ended, text: &mut String) -> Result<(), Allo
     }
 }
 
-/// Whether each law was at stake.
+/// Whether each law was exercised.
 fn is_full(watched: &Watched) -> bool {
     let tally = watched.tally();
     tally.exchanging != 0 && tally.shown != 0 && tally.alarmed != 0 && tally.skipped != 0
 }
 
-/// Plays a schedule, and prints only how it ends and how often something was at stake.
+/// Plays a schedule, and prints only how it ends and how much the laws were exercised.
 pub fn put_moves(alloc: Global, play: Play<'_>, text: &mut String) -> Result<(), AllocError> {
     let line = format!(in alloc; "moves {} {}: ", play.seed, play.moves)?;
     text.push_str(line.as_str())?;

@@ -10,7 +10,7 @@
 //! ladder SEED MOVES      a schedule from a seed, as a ladder: each frame that comes to its receiver and changes
 //! something there or is
 //!                        answered, and the states of both ends after it
-//! moves SEED MOVES       the same schedule; prints only how it ends, and how often something was at stake
+//! moves SEED MOVES       the same schedule; prints only how it ends, and how much the laws were exercised
 //! seeds COUNT MOVES      the schedules of COUNT seeds
 //! faults COUNT MOVES     the same over a flash of which one call fails, a later one with each seed
 //! growths SEED MOVES     the same schedule in calls of four moves, beside a world that makes them one by one (below)

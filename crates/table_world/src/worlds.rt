@@ -18,7 +18,7 @@ type Digits = [usize; MOST];
 enum Game {
     /// From the Connect on: a frame from the Connect on comes to the other end, or the controller is stopped.
     Starts,
-    /// While data is exchanged: everything.
+    /// While data is exchanged: every choice.
     Exchanges,
     /// While data is exchanged: outputs are set, sent and received.
     Outputs,

@@ -29,7 +29,7 @@ struct Seen {
     sum: u32,
 }
 
-/// How often something was at stake.
+/// Counts that show how much the laws were exercised.
 #[derive(Clone, Copy)]
 pub struct Tally {
     /// The moves after which both ends exchanged data.
@@ -157,7 +157,7 @@ impl Watched {
         self.relations
     }
 
-    /// How often something was at stake.
+    /// The counts that show how much the laws were exercised.
     pub fn tally(&self) -> Tally {
         self.tally
     }
@@ -337,7 +337,7 @@ impl Watched {
         }
     }
 
-    /// Counts what is at stake.
+    /// Updates the counts that show how much the laws were exercised.
     fn reckon(&mut self) {
         if self.told.is_exchanging() {
             self.tally.exchanging = self.tally.exchanging.saturating_add(1);

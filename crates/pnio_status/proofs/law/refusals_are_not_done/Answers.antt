@@ -1,4 +1,4 @@
--- By the ErrorCode of each operation.
+-- The proof uses the ErrorCode of each operation.
 use Rattle.pnio_status.proofs.Statuses.{not_done}
 use Rattle.pnio_status.proofs.law.refusals_are_not_done.Goals as goal
 
