@@ -46,7 +46,7 @@ octets_sound size = let sound = raw_sound {F = BlockFault} Length size in record
   sized = sound.sized;
 }
 
--- `zeros size` has `size` octets
+-- `zeros size` has `size` octets.
 zeros_long : (size : ℕ) → length (zeros size) ≡ size
 unfolding zeros
 zeros_long size = length-replicate size 0

@@ -2,11 +2,11 @@
 use Rattle.std.specs.Prelude.{Bool, List, [], ◌∷◌, Result, Err, if◌then◌else◌}
 use Rattle.pnio_status.specs.declared.call_fault.CallFault.{CallFault}
 
--- a check: whether it fails, and the fault of the call if it does
+-- A check: whether it fails, and the fault of the call if it does.
 abbrev pub Judgement : Type 0
 Judgement = Bool × CallFault
 
--- the fault of the first check that fails, or the other result if none fails
+-- The fault of the first check that fails, or the other result if none fails.
 abbrev pub judged : {A : Type 0} → List Judgement → Result A CallFault → Result A CallFault
 judged [] otherwise = otherwise
 judged (judgement ∷ others) otherwise = if judgement.0 then Err judgement.1 else judged others otherwise

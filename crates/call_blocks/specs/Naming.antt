@@ -5,11 +5,11 @@ use Rattle.pnio_status.specs.declared.call_fault.CallFault.{CallFault}
 use Rattle.pnio_status.specs.declared.call_fault.CallFault.TheVariants as fault
 use Rattle.call_blocks.specs.Judged.{judged}
 
--- whether this is the ARUUID of the active relation, if there is one
+-- Whether this is the ARUUID of the active relation, if there is one.
 abbrev pub is_relation : Option (List ℕ) → List ℕ → Bool
 is_relation (Some standing) uuid = pointwise nat_eq standing uuid
 is_relation None uuid = false
 
--- the call must name the active relation
+-- The call must name the active relation.
 unfoldable pub in_relation : Option (List ℕ) → List ℕ → Result (Unit {0}) CallFault
 in_relation standing uuid = judged ((not (is_relation standing uuid), fault.UnknownRelation) ∷ []) (Ok tt)

@@ -10,13 +10,13 @@ use Rattle.pnio_status.specs.declared.call_fault.CallFault.{CallFault}
 use Rattle.pnio_status.specs.declared.call_fault.CallFault.TheVariants as fault
 use Rattle.call_blocks.specs.Judged.{judged}
 
--- what was read; any fault of the block becomes the fault BlockForm of the call
+-- What was read; any fault of the block becomes the fault BlockForm of the call.
 abbrev pub formed : {A : Type 0} → Result A BlockFault → Result A CallFault
 formed (Ok value) = Ok value
 formed (Err _) = Err fault.BlockForm
 
--- the single block of a call, of this type, and the rest; the checks are, in order: there is a block, its header, its
--- type, its form
+-- The single block of a call, of this type, and the rest; the checks are, in order: there is a block, its header, its
+-- type, its form.
 unfoldable pub single_of : BlockType → List ℕ → Result (Block × List ℕ) CallFault
 single_of kind blocks = judged
     ((length blocks == 0, fault.BlockMissing)

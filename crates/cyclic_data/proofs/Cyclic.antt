@@ -54,7 +54,7 @@ pub cyclic_size : (n : ℕ) (bytes : List ℕ) (value : List ℕ × CyclicTail) 
 unfolding cyclic_frame
 cyclic_size n bytes value s = s.1.1.0
 
--- a number that is there is read
+-- A number that is there is read.
 number_there : (size : ℕ) (bytes : List ℕ) → size ≤ length bytes → (number short size).Spells bytes (big_number size (take size bytes)) (drop size bytes)
 number_there size bytes long = (take size bytes, length-take-le size bytes long, sym (take-append-drop size bytes), refl)
 

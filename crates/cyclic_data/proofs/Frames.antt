@@ -8,7 +8,7 @@ use Rattle.cyclic_data.specs.Image.{Cell, Shown, cell_of, zero_cell, AreHeld, Is
 use Rattle.cyclic_data.specs.Held.{IsImage}
 use Rattle.cyclic_data.proofs.Cells.{cell_is, zero_cells, zero_octets}
 
--- a slice of the first `n` octets is a slice of all octets
+-- A slice of the first `n` octets is a slice of all octets.
 slice_front : (n offset size : ℕ) (octets : List ℕ) → offset + size ≤ n → take size (drop offset (take n octets)) ≡ take size (drop offset octets)
 slice_front n offset size octets inside =
     let whole : n ≡ offset + (n - offset) = omega arith in
@@ -45,7 +45,7 @@ new_image n places octets blank table = record {
   zeros = λ k off. ap (λ (xs : List ℕ). get_or xs k 0) blank ∙ zero_octets 1440 k;
 }
 
--- a table with no places
+-- A table with no places.
 pub no_table : IsTable 0 []
 no_table = record { short = omega arith; inside = tt; apart = tt; solid = tt; once = λ kind slot subslot. omega arith }
 

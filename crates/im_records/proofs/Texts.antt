@@ -69,7 +69,7 @@ whole index bytes (im.Im4 text) w = rw (w.0, w.2, im4_bytes text w.1, whole_4 te
 
 -- ---- what is accepted is a whole record
 
--- a test that was passed
+-- A test that was passed.
 passed : {F A : Type 0} (b : Bool) (fault : F) (x : Result A F) (value : A) → cond b x (Err fault) ≡ Ok value → (b ≡ true) × (x ≡ Ok value)
 passed true fault x value e = (refl, e)
 passed false fault x value e = absurd cc
@@ -112,7 +112,7 @@ pub only : (index : ℕ) (bytes : List ℕ) (command : Command) → command_of i
 unfolding command_of
 only index bytes command e = only_in index bytes command (record_with index) refl e
 
--- a command that is returned sets the value of a whole record
+-- A command that is returned sets the value of a whole record.
 pub only_if : (index : ℕ) (bytes : List ℕ) (result : Result Command RecordFault) → result ≡ command_of index bytes
     → IfOk result (λ command. (value : ImValue) × (command ≡ SetIm value) × IsWritten index bytes value)
 only_if index bytes (Ok command) e = only index bytes command (sym e)

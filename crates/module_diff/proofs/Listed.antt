@@ -16,7 +16,7 @@ use Rattle.module_diff.specs.Rows.{AreRows}
 some_of : (n : ℕ) → nat_lt 0 (suc n) ≡ true
 some_of n = lt-ltb 0 (suc n) (omega arith)
 
--- some elements fail a test exactly if the list of those that fail it is not empty
+-- Some elements fail a test exactly if the list of those that fail it is not empty.
 some_fail : {A : Type 0} (test : A → Bool) (xs : List A) → nat_lt 0 (length (filter (λ x. not (test x)) xs)) ≡ list_any (λ x. not (test x)) xs
 some_fail test [] = refl
 some_fail test (x ∷ xs) =
@@ -25,7 +25,7 @@ some_fail test (x ∷ xs) =
       | false ↦ some_of (length (filter (λ y. not (test y)) xs))
     ]
 
--- a module differs exactly if it is not the expected one, or some of its submodules are listed
+-- A module differs exactly if it is not the expected one, or some of its submodules are listed.
 counted_so : {A : Type 0} (test : A → Bool) (proper : Bool) (xs : List A)
     → (not proper || nat_lt 0 (length (filter (λ x. not (proper && test x)) xs))) ≡ (not proper || list_any (λ x. not (test x)) xs)
 counted_so test true xs = some_fail test xs
@@ -53,7 +53,7 @@ one_module real w ident proper n e p k =
     ∙ (ap (λ (b : Bool). cond b (module_row real w ∷ []) []) d
     ∙ sym (map_one (module_row real) w (differs real w))))
 
--- no submodule is listed for a module that does not differ
+-- No submodule is listed for a module that does not differ.
 none_left : {A B : Type 0} (f : A → B) (proper : Bool) (xs : List A) → (not proper || nat_lt 0 (length xs)) ≡ false → [] ≡ map f xs
 none_left f proper [] e = refl
 none_left f true (x ∷ xs) e = absurd (true≢false (sym (some_of (length xs)) ∙ e))

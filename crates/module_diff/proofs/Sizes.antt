@@ -3,7 +3,7 @@ use Rattle.std.proofs.Common.{◌≤◌, ◌+◌, ◌*◌, length, arith}
 use Rattle.module_blocks.specs.declared.module_diff.ModuleDiffBlock.{ModuleDiffBlock}
 use Rattle.module_blocks.specs.ModuleDiff.{module_diff}
 
--- the clause of the format that bounds the size of a ModuleDiffBlock
+-- The clause of the format that bounds the size of a ModuleDiffBlock.
 abbrev pub DiffsAreShort : Type 0
 DiffsAreShort = (block : ModuleDiffBlock) → module_diff.size block ≤ 8 + length block.modules.modules * 10 + length block.modules.submodules * 8
 

@@ -81,7 +81,7 @@ module _ {M S : Type 0} (head : List M → Codec BlockFault M) (own : M → ℕ)
       rw (← length-append (take n submodules) (drop n submodules), take-append-drop n submodules) refl in
       omega (arith, others, sum, mine, both)
 
-  -- the counts of the modules add up to the number of submodules
+  -- The counts of the modules add up to the number of submodules.
   pub listed_counted : (bytes : List ℕ) (value : Listed M S) (rest : List ℕ) → (listed_modules head own item).Spells bytes value rest
       → sum_by own value.modules ≡ length value.submodules
   unfolding listed_modules module_list

@@ -7,17 +7,17 @@ use Rattle.module_lists.specs.declared.modules.Place.TheVariants.{Octets, Lists}
 use Rattle.module_lists.specs.Lists.{Listed, listed_modules, modules_in}
 
 module _ {M S : Type 0} (head : List M → Codec BlockFault M) (own : M → ℕ) (item : List S → Codec BlockFault S) where
-  -- the modules that are borrowed
+  -- The modules that are borrowed.
   abbrev pub modules_at : Place M S → Listed M S
   modules_at (Octets bytes size) = modules_in head own item bytes.now
   modules_at (Lists modules submodules) = record { modules = modules.now; submodules = submodules.now }
 
-  -- the stored size of modules that were read is the number of octets that they take
+  -- The stored size of modules that were read is the number of octets that they take.
   abbrev pub IsSized : Place M S → Type 0
   IsSized (Octets bytes size) = size ≡ (listed_modules head own item).size (modules_in head own item bytes.now)
   IsSized (Lists modules submodules) = Unit {0}
 
-  -- the stored size is right, and each list has at most 256 entries
+  -- The stored size is right, and each list has at most 256 entries.
   pub record IsPlace (place : Place M S) : Type 0 where
     pub sized : IsSized place
     pub few_modules : length (modules_at place).modules ≤ 256

@@ -9,7 +9,7 @@ use Rattle.pnio_status.specs.declared.operation.Operation.TheVariants.{Connect, 
 use Rattle.pnio_status.specs.Operation.{code_of}
 use Rattle.pnio_status.specs.Status.{status_of}
 
--- the ErrorCode is that of the operation
+-- The ErrorCode is that of the operation.
 coded : (operation : Operation) (why : CallFault) → (status_of operation why).code ≡ code_of operation
 unfolding status_of
 coded operation fault.Arguments = refl
@@ -45,7 +45,7 @@ coded operation fault.FlashFault = refl
 coded operation fault.TooManyRecords = refl
 coded operation fault.Access = refl
 
--- a status whose ErrorCode is that of an operation is not the status of success
+-- A status whose ErrorCode is that of an operation is not the status of success.
 failed : (status : Status) (operation : Operation) → status.code ≡ code_of operation → is_done status ≡ false
 failed status Connect e = rw e refl
 failed status Release e = rw e refl

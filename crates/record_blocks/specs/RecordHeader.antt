@@ -5,7 +5,7 @@ use Rattle.block_fields.specs.declared.fault.BlockFault.{BlockFault}
 use Rattle.block_fields.specs.Fields.{two, four, octets, blank}
 use Rattle.record_blocks.specs.declared.record_header.RecordHeader.{RecordHeader}
 
--- the fields from SeqNumber to RecordDataLength
+-- The fields from SeqNumber to RecordDataLength.
 unfoldable pub record_header : Codec BlockFault RecordHeader
 record_header = seen
     (λ x. record {

@@ -8,7 +8,7 @@ use Rattle.im_records.specs.Records.{record_of}
 use Rattle.pnio_status.specs.declared.call_fault.CallFault.{CallFault}
 use Rattle.record_reads.specs.Judged.{request_of, read_of}
 
--- the blocks of the response to a call, or why it is refused; ARUUID is ignored
+-- The blocks of the response to a call, or why it is refused; ARUUID is ignored.
 unfoldable pub implicit_read : Identity → Real → Settings → List ℕ → Result (List ℕ) CallFault
 implicit_read identity real settings blocks =
     request_of blocks >>= λ request. read_of real request (record_of request.header.index request.header.slot_number request.header.subslot_number identity real settings)

@@ -15,11 +15,11 @@ use Rattle.call_blocks.specs.Single.{single_of}
 use Rattle.record_reads.specs.Answer.{answer_of}
 use Rattle.record_reads.specs.Parameters.{parameter_length}
 
--- the IODReadReqHeader of a call, with any octets after it
+-- The IODReadReqHeader of a call, with any octets after it.
 unfoldable pub request_of : List ℕ → Result IodReadReq CallFault
 request_of blocks = single_of kind.IodReadReq blocks >>= λ x. or_fault fault.BlockForm (in_iod_read_req x.0)
 
--- the checks of the place of a record: the API, and then the slot and subslot
+-- The checks of the place of a record: the API, and then the slot and subslot.
 unfoldable pub placed : Real → ℕ → ℕ → ℕ → ℕ → Result (Unit {0}) CallFault
 placed real api slot subslot index = judged
     ((not (api == 0), fault.Api)
@@ -27,18 +27,18 @@ placed real api slot subslot index = judged
     ∷ [])
     (Ok tt)
 
--- whether the submodule in this slot and subslot has a parameter record with this index
+-- Whether the submodule in this slot and subslot has a parameter record with this index.
 abbrev pub has_parameter : Real → ℕ → ℕ → ℕ → Bool
 has_parameter real slot subslot index = is_some (parameter_length real.modules.items slot subslot index)
 
--- the checks of the record: there is one with this index at its place, and it is readable
+-- The checks of the record: there is one with this index at its place, and it is readable.
 abbrev pub found : Real → IodReadReq → Option (List ℕ) → Result (List ℕ) CallFault
 found real request readable = judged
     ((not (is_some readable || has_parameter real request.header.slot_number request.header.subslot_number request.header.index), fault.Index)
     ∷ [])
     (or_fault fault.Access readable)
 
--- the response to a request; `readable` is the record if there is a readable one
+-- The response to a request; `readable` is the record if there is a readable one.
 unfoldable pub read_of : Real → IodReadReq → Option (List ℕ) → Result (List ℕ) CallFault
 read_of real request readable = placed real request.header.api request.header.slot_number request.header.subslot_number request.header.index
     >>= λ _. found real request readable >>= λ octets. Ok (answer_of request octets)

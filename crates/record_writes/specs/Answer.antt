@@ -5,7 +5,7 @@ use Rattle.block_codec.specs.Block.{block_bytes}
 use Rattle.record_blocks.specs.declared.write_record.IodWriteReq.{IodWriteReq}
 use Rattle.record_blocks.specs.declared.write_record.IodWriteRes.{IodWriteRes}
 
--- the IODWriteResHeader of the response to a request that succeeded
+-- The IODWriteResHeader of the response to a request that succeeded.
 abbrev pub header_of : IodWriteReq → IodWriteRes
 header_of request = record {
   header = request.header;
@@ -14,6 +14,6 @@ header_of request = record {
   pnio_status = 0;
 }
 
--- the response: that header alone
+-- The response: that header alone.
 unfoldable pub answer_of : IodWriteReq → List ℕ
 answer_of request = block_bytes (is.IodWriteRes (header_of request))

@@ -4,6 +4,6 @@ use Rattle.pnio_status.specs.declared.call_fault.CallFault.{CallFault}
 use Rattle.pnio_status.specs.declared.call_fault.CallFault.TheVariants as fault
 use Rattle.record_writes.specs.declared.taken.TakenRecord.{TakenRecord}
 
--- the records with one more after them, if there are fewer than 64
+-- The records with one more after them, if there are fewer than 64.
 unfoldable pub keep_of : TakenRecord → List TakenRecord → Result (List TakenRecord) CallFault
 keep_of taken records = if nat_lt (length records) 64 then Ok (records ++ taken ∷ []) else Err fault.TooManyRecords

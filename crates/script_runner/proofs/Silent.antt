@@ -6,7 +6,7 @@ use Rattle.script_runner.specs.Output.{Puts}
 use Rattle.script_runner.specs.Told.{IsPlayFault, IsSilent}
 use Rattle.script_runner.proofs.Known.{same_keeps}
 
--- nothing was written
+-- Nothing was written.
 pub silent_same : (old : Option (List ℕ)) (fault : RunFault) → IsSilent old old (Err fault)
 silent_same old Read = same_keeps old
 silent_same old Write = tt
@@ -15,12 +15,12 @@ silent_same old OutOfMemory = tt
 silent_same old (Config n) = tt
 silent_same old EndlessInput = same_keeps old
 
--- a text was written, or a prefix of it
+-- A text was written, or a prefix of it.
 pub silent_put : (old new : Option (List ℕ)) (text : List ℕ) (result : Result (Unit {0}) RunFault) → Puts old new text result → IsSilent old new result
 silent_put old new text (Ok done) puts = tt
 silent_put old new text (Err fault) puts = subst (λ fault. IsSilent old new (Err fault)) (sym puts.0) tt
 
--- a script was run
+-- A script was run.
 pub silent_played : (old new : Option (List ℕ)) (result : Result (Unit {0}) RunFault) → IfErr result IsPlayFault → IsSilent old new result
 silent_played old new (Ok done) faults = tt
 silent_played old new (Err Read) faults = absurd faults

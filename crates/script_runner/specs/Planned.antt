@@ -23,21 +23,21 @@ abbrev pub kind_word : PlaceKind → List ℕ
 kind_word Data = codes "data "
 kind_word Iocs = codes "iocs "
 
--- the number of octets of data with its IOPS; omitted for an IOCS, which is always one octet
+-- The number of octets of data with its IOPS; omitted for an IOCS, which is always one octet.
 abbrev pub size_shown : PlaceKind → ℕ → List ℕ
 size_shown Data size = codes " " ++ decimal size
 size_shown Iocs size = []
 
--- a place: its kind, its slot and subslot, and its first octet
+-- A place: its kind, its slot and subslot, and its first octet.
 unfoldable pub place_line : Place → List ℕ
 place_line place =
     printed (kind_word place.kind ++ decimal place.slot ++ codes " " ++ decimal place.subslot ++ codes " " ++ decimal place.offset ++ size_shown place.kind place.size)
 
--- a layout: its DataLength and its places
+-- A layout: its DataLength and its places.
 abbrev pub layout_lines : List ℕ → Table → List ℕ
 layout_lines label layout = printed (label ++ decimal layout.data_length) ++ flat_map place_line layout.places
 
--- the layouts of a plan: of the frames from the device, and of the frames from the controller
+-- The layouts of a plan: of the frames from the device, and of the frames from the controller.
 abbrev pub plan_lines : Parts → List ℕ
 plan_lines parts =
     layout_lines (codes "input ") (layout_in Input (data_of parts.real.modules.items))
@@ -45,13 +45,13 @@ plan_lines parts =
 
 -- ---- the outcome for a catalogue
 
--- a text is a catalogue that has a plan, and these are the lines of the plan
+-- A text is a catalogue that has a plan, and these are the lines of the plan.
 pub record HasText (input text : List ℕ) : Type 0 where
   pub parts : Parts
   pub plan : IsPlanOf input parts
   pub lines : text ≡ plan_lines parts
 
--- a text has no plan for this fault, or memory was refused
+-- A text has no plan for this fault, or memory was refused.
 abbrev pub HasNoText : List ℕ → RunFault → Type 0
 HasNoText input fault = (fault ≡ OutOfMemory) ⊎ ((plan : PlanFault) × IsRefused input plan × (fault ≡ fault_of plan))
 

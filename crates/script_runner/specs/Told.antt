@@ -11,11 +11,11 @@ use Rattle.configurator.specs.Planned.{IsRefused}
 use Rattle.script_runner.specs.Fault.{fault_of}
 use Rattle.script_runner.specs.Script.{AllDone, ArePlansOf, Refused, Unplanned, output_of, end_of, has_order}
 
--- a catalogue has no plan, for the fault with this number
+-- A catalogue has no plan, for the fault with this number.
 abbrev pub IsUnplanned : List ℕ → RunFault → Type 0
 IsUnplanned catalogue fault = (plan : PlanFault) × IsRefused catalogue plan × (fault ≡ fault_of plan)
 
--- a run ends at a catalogue that has no plan, for the fault with this number
+-- A run ends at a catalogue that has no plan, for the fault with this number.
 pub record EndsWithoutPlan (plans : List ℕ → Option Parts) (input : List ℕ) (n : ℕ) : Type 0 where
   pub catalogue : List ℕ
   pub ended : end_of plans input ≡ Unplanned catalogue
@@ -41,11 +41,11 @@ pub record PlaysOn (plans : List ℕ → Option Parts) (old new : Option (List �
   pub more : List ℕ
   pub appended : Appends old new (output_of plans input ++ more)
 
--- the outcome of a script that was read whole
+-- The outcome of a script that was read whole.
 abbrev pub IsPlayed : (List ℕ → Option Parts) → Option (List ℕ) → Option (List ℕ) → List ℕ → Result (Unit {0}) RunFault → Type 0
 IsPlayed plans old new input result = Plays plans old new input result ⊎ PlaysOn plans old new input
 
--- the longest script
+-- The longest script.
 abbrev pub limit : ℕ
 limit = 16777216
 
@@ -85,7 +85,7 @@ IsSilent old new (Err Write) = Unit {0}
 abbrev pub IsToldByPlans : Option (List ℕ) → Option (List ℕ) → List ℕ → Result (Unit {0}) RunFault → Type 0
 IsToldByPlans old new input result = (plans : List ℕ → Option Parts) → ArePlansOf plans input → IsTold plans old new input result
 
--- a fault of a script that was read
+-- A fault of a script that was read.
 abbrev pub IsPlayFault : RunFault → Type 0
 IsPlayFault Read = ⊥
 IsPlayFault Write = Unit {0}

@@ -28,7 +28,7 @@ pub record IsUnderway (whole : DeviceRun) (left : List Event) (now : Station) (d
   pub waits : other ≡ with_sent far sent
   pub printed : text ≡ before ++ printed_for far.controller sent
 
--- frames are kept one after the other
+-- Frames are kept one after the other.
 kept_on : (controller : Option Controlling) (waiting a b : List (List ℕ)) → kept controller (kept controller waiting a) b ≡ kept controller waiting (a ++ b)
 kept_on None waiting a b = refl
 kept_on (Some controller) waiting a b = append_assoc waiting a b
@@ -51,7 +51,7 @@ sent_on far a b = ap (λ waiting. record far { to_controller = waiting }) (kept_
 sent_none : (far : Other) → with_sent far [] ≡ far
 sent_none far = ap (λ waiting. record far { to_controller = waiting }) (kept_none far.controller far.to_controller)
 
--- the state before the first event
+-- The state before the first event.
 pub underway_first : (events : List Event) (now : Station) (device : State (MemoryFlash 4096)) (far : Other) (before : List ℕ) → Runs now device → IsUnderway (device_run now events) events now device far far before before
 underway_first events now device far before runs = record {
   runs = runs;
@@ -62,7 +62,7 @@ underway_first events now device far before runs = record {
   printed = sym (ap (λ t. before ++ t) (printed_none far.controller) ∙ append-nil before);
 }
 
--- the state after one more event
+-- The state after one more event.
 pub underway_on : (whole : DeviceRun) (event : Event) (left : List Event) (now : Station) (device after : State (MemoryFlash 4096)) (far other later : Other) (before text more : List ℕ) → IsUnderway whole (event ∷ left) now device far other before text → IsTurned now (step_of [] now.device now.live event) after other later text more → IsUnderway whole left (turned_to now (step_of [] now.device now.live event).live) after far later before more
 underway_on whole event left now device after far other later before text more underway turned =
     let step = step_of [] now.device now.live event in
@@ -77,7 +77,7 @@ underway_on whole event left now device after far other later before text more u
           ∙ ap (λ t. t ++ printed_for far.controller step.frames) underway.printed ∙ append_assoc before _ _ ∙ ap (λ t. before ++ t) (printed_on far.controller underway.sent step.frames);
     }
 
--- the state after all events
+-- The state after all events.
 pub underway_all : (whole : DeviceRun) (left : List Event) (now : Station) (device : State (MemoryFlash 4096)) (far other : Other) (before text : List ℕ) → left ≡ [] → IsUnderway whole left now device far other before text → IsRunOf whole device far other before text
 underway_all whole left now device far other before text none underway =
     let frames : whole.frames ≡ underway.sent = underway.frames ∙ ap (λ events. underway.sent ++ (device_run now events).frames) none ∙ append-nil underway.sent in
@@ -88,7 +88,7 @@ underway_all whole left now device far other before text none underway =
       text = underway.printed ∙ ap (λ sent. before ++ printed_for far.controller sent) (sym frames);
     }
 
--- the remaining units of time
+-- The remaining units of time.
 pub some_left : (A : Type 0) (tick : A) (left : ℕ) → 0 < left → replicate left tick ≡ tick ∷ replicate (left - 1) tick
 some_left A tick left some =
     let e : left ≡ suc (left - 1) = omega arith in
@@ -121,7 +121,7 @@ handed_all whole left now device before waiting none handing =
       waits = sym (handing.frames ∙ ap (λ events. octets_of waiting ++ (device_run now events).frames) none ∙ append-nil (octets_of waiting));
     }
 
--- no frame remains after the last one
+-- No frame remains after the last one.
 pub no_frames : (frames : List (ArrayVec ℕ)) (i : ℕ) → length frames ≤ i → frames_for_device (octets_of (drop i frames)) ≡ []
 no_frames frames i all = ap (λ left. frames_for_device (octets_of left)) (drop_all i frames all)
 

@@ -2,6 +2,6 @@
 use Rattle.demo_station.specs.Demo.{demo, demo_real}
 use Rattle.device_core.specs.State.{Station as Device}
 
--- the demo station
+-- The demo station.
 abbrev pub demo_device : Device
 demo_device = record { identity = demo; real = demo_real }

@@ -15,24 +15,24 @@ use Rattle.controller_core.specs.State.{Controlling}
 use Rattle.controller_core.specs.Machine.{Stepped as ControllerRun, step_of as controller_step, fresh, opening_of}
 use Rattle.script_lines.specs.Text.{out_lines}
 
--- a device without its flash: what is fixed, and what changes
+-- A device without its flash: what is fixed, and what changes.
 pub record Station : Type 0 where
   pub device : Device
   pub live : Live
 
--- the fixed part of the device stays
+-- The fixed part of the device stays.
 abbrev pub turned_to : Station → Live → Station
 turned_to station live = record { device = station.device; live = live }
 
--- the other end: the plan of the next controller, the controller once there is one, and the frames that wait at either
--- end, in order
+-- The other end: the plan of the next controller, the controller once there is one, and the frames that wait at either
+-- end, in order.
 pub record Other : Type 0 where
   pub plan : Option Parts
   pub controller : Option Controlling
   pub to_device : List (List ℕ)
   pub to_controller : List (List ℕ)
 
--- both ends
+-- Both ends.
 pub record Network : Type 0 where
   pub station : Station
   pub other : Other
@@ -40,8 +40,8 @@ pub record Network : Type 0 where
 abbrev pub with_ends : Station → Other → Network
 with_ends station other = record { station = station; other = other }
 
--- the table of plans is right for a catalogue, as the configurator says: its plan if it has one, and none if it is
--- refused
+-- The table of plans is right for a catalogue, as the configurator says: its plan if it has one, and none if it is
+-- refused.
 pub record IsRightFor (plans : List ℕ → Option Parts) (catalogue : List ℕ) : Type 0 where
   pub planned : (plan : Parts) → IsPlanOf catalogue plan → plans catalogue ≡ Some plan
   pub refused : (fault : PlanFault) → IsRefused catalogue fault → (fault ≡ OutOfMemory) ⊎ (plans catalogue ≡ None)
@@ -55,13 +55,13 @@ KnowsThePlan = (plans : List ℕ → Option Parts) (catalogue : List ℕ) (plan 
 abbrev pub KnowsTheRefusal : Type 0
 KnowsTheRefusal = (plans : List ℕ → Option Parts) (catalogue : List ℕ) (fault : PlanFault) → IsRefused catalogue fault → fault ≢ OutOfMemory → plans catalogue ≡ None → IsRightFor plans catalogue
 
--- the other end before a catalogue was read
+-- The other end before a catalogue was read.
 abbrev pub nobody : Other
 nobody = record { plan = None; controller = None; to_device = []; to_controller = [] }
 
 -- ---- events, one after another, and the frames that they send
 
--- a run of events at the device, whose flash never fails
+-- A run of events at the device, whose flash never fails.
 pub record DeviceRun : Type 0 where
   pub station : Station
   pub frames : List (List ℕ)
@@ -73,7 +73,7 @@ device_run station (event ∷ events) =
     let later = device_run (turned_to station step.live) events in
     record { station = later.station; frames = step.frames ++ later.frames }
 
--- a run of events at the controller
+-- A run of events at the controller.
 abbrev pub controller_run : Controlling → List ControllerEvent → ControllerRun
 controller_run controller [] = record { controller = controller; frames = [] }
 controller_run controller (event ∷ events) =
@@ -81,7 +81,7 @@ controller_run controller (event ∷ events) =
     let later = controller_run step.controller events in
     record { controller = later.controller; frames = step.frames ++ later.frames }
 
--- frames that come from the network, as events of either end
+-- Frames that come from the network, as events of either end.
 abbrev pub frames_for_device : List (List ℕ) → List Event
 frames_for_device frames = map (λ frame. event.Frame (record { items = frame })) frames
 
@@ -90,7 +90,7 @@ frames_for_controller frames = map (λ frame. heard.Frame (record { items = fram
 
 -- ---- frames that wait
 
--- frames that the device sends wait once there is a controller
+-- Frames that the device sends wait once there is a controller.
 abbrev pub kept : Option Controlling → List (List ℕ) → List (List ℕ) → List (List ℕ)
 kept None waiting frames = waiting
 kept (Some controller) waiting frames = waiting ++ frames
@@ -98,60 +98,60 @@ kept (Some controller) waiting frames = waiting ++ frames
 abbrev pub with_sent : Other → List (List ℕ) → Other
 with_sent other frames = record other { to_controller = kept other.controller other.to_controller frames }
 
--- the other end after a run of the controller; what it sent waits
+-- The other end after a run of the controller; what it sent waits.
 abbrev pub with_run : Other → ControllerRun → Other
 with_run other run = record other { controller = Some run.controller; to_device = other.to_device ++ run.frames }
 
--- the other end after units of time at the controller, if there is one
+-- The other end after units of time at the controller, if there is one.
 abbrev pub ticked_by : Option Controlling → Other → ℕ → Other
 ticked_by None other units = other
 ticked_by (Some controller) other units = with_run other (controller_run controller (replicate units heard.Tick))
 
--- a new controller of a plan in place of the last one; its first request waits after the frames that wait already
+-- A new controller of a plan in place of the last one; its first request waits after the frames that wait already.
 abbrev pub with_fresh : Other → Parts → List ℕ → List ℕ → Other
 with_fresh other plan ar activity =
     let controller = fresh plan ar activity in
     record other { controller = Some controller; to_device = other.to_device ++ opening_of controller ∷ [] }
 
--- the other end with a plan for the next controller
+-- The other end with a plan for the next controller.
 abbrev pub with_plan : Other → Parts → Other
 with_plan other plan = record other { plan = Some plan }
 
--- the other end without frames that wait
+-- The other end without frames that wait.
 abbrev pub cleared : Other → Other
 cleared other = record other { to_device = []; to_controller = [] }
 
--- the frames that waited for the controller were handed over, if there is one
+-- The frames that waited for the controller were handed over, if there is one.
 abbrev pub arrived_at : Option Controlling → Other → Other
 arrived_at None other = other
 arrived_at (Some controller) other = with_run (record other { to_controller = [] }) (controller_run controller (frames_for_controller other.to_controller))
 
--- frames that the device sends are printed as long as there is no controller
+-- Frames that the device sends are printed as long as there is no controller.
 abbrev pub printed_for : Option Controlling → List (List ℕ) → List ℕ
 printed_for None frames = out_lines frames
 printed_for (Some controller) frames = []
 
 -- ---- the state of the code
 
--- the octets of frames
+-- The octets of frames.
 abbrev pub octets_of : List (ArrayVec ℕ) → List (List ℕ)
 octets_of frames = map (λ frame. frame.items) frames
 
--- a controller after a run of events: what it sent waits after the frames that waited already
+-- A controller after a run of events: what it sent waits after the frames that waited already.
 abbrev pub IsRun : ControllerRun → Controlling → List (ArrayVec ℕ) → List (ArrayVec ℕ) → Type 0
 IsRun run controller before after = (controller ≡ run.controller) × (octets_of after ≡ octets_of before ++ run.frames)
 
--- a catalogue was read: it has this plan, or it is refused
+-- A catalogue was read: it has this plan, or it is refused.
 abbrev pub Plans : List ℕ → Other → Other → Result (Unit {0}) PlanFault → Type 0
 Plans catalogue before after (Ok done) = (plan : Parts) × IsPlanOf catalogue plan × (after ≡ with_plan before plan)
 Plans catalogue before after (Err fault) = IsRefused catalogue fault
 
--- a controller was started, if there is a plan
+-- A controller was started, if there is a plan.
 abbrev pub Starts : Option Parts → Other → List ℕ → List ℕ → Other → Bool → Type 0
 Starts None before ar activity after started = started ≡ false
 Starts (Some plan) before ar activity after started = (started ≡ true) × (after ≡ with_fresh before plan ar activity)
 
--- the controller received the event, if there is a controller
+-- The controller received the event, if there is a controller.
 abbrev pub Hears : Option Controlling → Other → ControllerEvent → Other → Bool → Type 0
 Hears None before event after heard = heard ≡ false
 Hears (Some controller) before event after heard = (heard ≡ true) × (after ≡ with_run before (controller_step controller event))

@@ -17,7 +17,7 @@ use Rattle.script_session.specs.declared.power.Power.TheVariants.{On, Off, Away}
 use Rattle.script_session.specs.Demo.{demo_device}
 use Rattle.script_session.specs.Ends.{Other, Station}
 
--- this station runs over a flash whose calls do not fail, and none has failed
+-- This station runs over a flash whose calls do not fail, and none has failed.
 pub record Runs (station : Station) (device : State (MemoryFlash 4096)) : Type 0 where
   pub station_is : device.station ≡ station.device
   pub live_is : device.live ≡ station.live
@@ -25,25 +25,25 @@ pub record Runs (station : Station) (device : State (MemoryFlash 4096)) : Type 0
   pub unfailed : device.live.values.has_failed ≡ false
   pub left : LeftByDevice (image_of device.flash)
 
--- the device runs, in this state
+-- The device runs, in this state.
 abbrev pub IsRunning : Station → Power → Type 0
 IsRunning station (On device) = Runs station device
 IsRunning station (Off fault flash) = ⊥
 IsRunning station Away = ⊥
 
--- the reason why the device did not start, if it did not start
+-- The reason why the device did not start, if it did not start.
 abbrev pub refusal_of : Power → Option BootFault
 refusal_of (On device) = None
 refusal_of (Off fault flash) = Some fault
 refusal_of Away = None
 
--- whether there is no device with power
+-- Whether there is no device with power.
 abbrev pub is_off : Power → Bool
 is_off (On device) = is_powerless device.flash
 is_off (Off fault flash) = true
 is_off Away = true
 
--- the demo device runs, with any settings, or its start was refused
+-- The demo device runs, with any settings, or its start was refused.
 abbrev pub IsDemo : Power → Type 0
 IsDemo (On device) = device.station ≡ demo_device
 IsDemo (Off fault flash) = Unit {0}
@@ -72,13 +72,13 @@ IsArmed order (Off fault old) (Off still new) = (still ≡ fault) × IsAsked old
 IsArmed order Away Away = Unit {0}
 IsArmed order old new = ⊥
 
--- the flash has power again, and the demo device was started over it
+-- The flash has power again, and the demo device was started over it.
 abbrev pub IsBack : Power → Power → Type 0
 IsBack (On device) power = IsOver device.flash power
 IsBack (Off fault flash) power = IsOver flash power
 IsBack Away power = power ≡ Away
 
--- both ends, as a run holds them
+-- Both ends, as a run holds them.
 pub record Held : Type 0 where
   pub power : Power
   pub other : Other

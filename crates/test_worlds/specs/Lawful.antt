@@ -4,7 +4,7 @@ use Rattle.network_world.specs.World.{World}
 use Rattle.pn_values.specs.declared.identity.Identity.{Identity}
 use Rattle.world_ends.specs.Played.{Begins, CanMeet}
 
--- a world begins as the law of a start-up requires, with a device of this identity, and both ends can communicate
+-- A world begins as the law of a start-up requires, with a device of this identity, and both ends can communicate.
 pub record IsLawful {F : Type 0} (identity : Identity) (world : World F) : Type 0 where
   pub setup : Setup
   pub meets : CanMeet setup identity

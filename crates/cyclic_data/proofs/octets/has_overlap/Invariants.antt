@@ -1,4 +1,4 @@
--- the remaining places, checked with the marks of those before them, give the result for all places
+-- The remaining places, checked with the marks of those before them, give the result for all places.
 use Rattle.std.proofs.Common.{◌≡◌, drop, length}
 use Rattle.std.specs.List.{AllByRecursion}
 use Rattle.cyclic_data.specs.Layout.{IsInside, AreAllApart, DoMeet}

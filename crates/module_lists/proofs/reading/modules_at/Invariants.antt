@@ -1,4 +1,4 @@
--- the modules read so far, and those still to be read
+-- The modules read so far, and those still to be read.
 use Rattle.std.proofs.Common.{◌≡◌, ◌-◌}
 use Rattle.module_lists.specs.Lists.{modules_read}
 use Rattle.module_lists.proofs.reading.modules_at.Given as goal

@@ -1,4 +1,4 @@
--- the submodules read so far, and those still to be read
+-- The submodules read so far, and those still to be read.
 use Rattle.std.proofs.Common.{◌≡◌, ◌≤◌, ◌-◌, length}
 use Rattle.module_lists.specs.Lists.{submodules_read}
 use Rattle.module_lists.proofs.reading.submodules_at.Given as goal

@@ -1,4 +1,4 @@
--- the octets counted so far, and those of the remaining entries
+-- The octets counted so far, and those of the remaining entries.
 use Rattle.std.proofs.Common.{◌≡◌, ◌+◌, ◌*◌, ◌≤◌, drop}
 use Rattle.module_lists.specs.Lists.{submodules_size}
 use Rattle.module_lists.proofs.writing.submodules_len.Given as goal

@@ -1,4 +1,4 @@
--- the records so far have another index
+-- The records so far have another index.
 use Rattle.std.proofs.Common.{◌≡◌, drop}
 use Rattle.record_reads.specs.Parameters.{length_in}
 use Rattle.record_reads.proofs.parameters.length_in.Given as goal

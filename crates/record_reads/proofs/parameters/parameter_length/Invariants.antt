@@ -1,4 +1,4 @@
--- the modules so far do not have the record
+-- The modules so far do not have the record.
 use Rattle.std.proofs.Common.{◌≡◌, drop}
 use Rattle.record_reads.specs.Parameters.{parameter_length}
 use Rattle.record_reads.proofs.parameters.parameter_length.Given as goal

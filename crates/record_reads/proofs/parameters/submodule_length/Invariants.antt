@@ -1,4 +1,4 @@
--- the submodules so far do not have the record
+-- The submodules so far do not have the record.
 use Rattle.std.proofs.Common.{◌≡◌, drop}
 use Rattle.record_reads.specs.Parameters.{submodule_length}
 use Rattle.record_reads.proofs.parameters.submodule_length.Given as goal

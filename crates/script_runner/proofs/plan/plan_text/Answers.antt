@@ -24,7 +24,7 @@ planned_by_put (Some bytes) old new read input text shown (Err fault) all whole 
     subst (λ fault. IsPlanned old new bytes (Err fault)) (sym puts.0)
     (shown, subst (λ lines. HasText bytes lines) (sym same) (subst (λ bytes. HasText bytes text) (whole ∙ all) has), puts.1)
 
--- the fault of a catalogue is not the fault of a write or of a line
+-- The fault of a catalogue is not the fault of a write or of a line.
 no_write : (found : PlanFault) → Write ≡ fault_of found → ⊥
 no_write plan.OutOfMemory e = cc
 no_write plan.Json e = cc
@@ -51,7 +51,7 @@ no_line n plan.ConnectTooLong e = cc
 no_line n plan.Name e = cc
 no_line n plan.Address e = cc
 
--- there is no plan, and nothing is written
+-- There is no plan, and nothing is written.
 planned_by_none : (old new : Option (List ℕ)) (input : List ℕ) (fault : RunFault) → HasNoText input fault → Keeps old new
     → IsPlanned old new input (Err fault)
 planned_by_none old new input Read none keeps = keeps

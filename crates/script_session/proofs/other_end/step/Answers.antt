@@ -3,7 +3,7 @@ use Rattle.std.proofs.lemmas.Result.{on_ok_weaker}
 use Rattle.script_session.specs.Ends.{octets_of}
 use Rattle.script_session.proofs.other_end.step.Goals as goal
 
--- the outbox holds what the controller sent
+-- The outbox holds what the controller sent.
 pub returns : goal.returns
 returns c =
     on_ok_weaker c.append.result

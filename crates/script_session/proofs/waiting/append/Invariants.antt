@@ -1,4 +1,4 @@
--- the frames so far are appended
+-- The frames so far are appended.
 use Rattle.std.proofs.Common.{◌≡◌, ◌++◌, take}
 use Rattle.script_session.specs.Ends.{octets_of}
 use Rattle.script_session.proofs.waiting.append.Given as goal
