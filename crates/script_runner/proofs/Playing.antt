@@ -65,13 +65,13 @@ right_at plans rest line later right e plain = subst (AllRight plans) (left_plai
 
 -- ---- one line
 
--- The outcome of a line that a script may have here, whose text was rendered into an empty text.
+-- The outcome of a line that is valid here, whose text was rendered into an empty text.
 came_answered : (outcome : Outcome) (held : Held) (cleared text : List ℕ) (is : Bool) → cleared ≡ [] → is ≡ true → Comes outcome held cleared text is → (answer : Answer) × (outcome ≡ Answers answer) × IsObeyed answer held [] text
 came_answered (Answers answer) held cleared text is none may comes = (answer, refl, subst (λ before. IsObeyed answer held before text) none comes.1)
 came_answered Refuses held cleared text is none may comes = absurd (false≢true (sym comes ∙ may))
 came_answered (HasNoPlan catalogue) held cleared text is none may comes = absurd comes
 
--- The outcome of a line that a script may not have here.
+-- The outcome of a line that is not valid here.
 came_refused : (outcome : Outcome) (held : Held) (cleared text : List ℕ) (is : Bool) → is ≡ false → Comes outcome held cleared text is → outcome ≡ Refuses
 came_refused (Answers answer) held cleared text is may_not comes = absurd (false≢true (sym may_not ∙ comes.0))
 came_refused Refuses held cleared text is may_not comes = refl

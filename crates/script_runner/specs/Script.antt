@@ -20,7 +20,7 @@ abbrev pub told : (List ℕ → Option Parts) → Network → List (List ℕ) �
 told plans network [] = []
 told plans network (line ∷ lines) = then_told (outcome_of plans network (meaning_of line)) (λ next. told plans next lines)
 
--- How lines end: all of them were answered, a script may not have this line there, or this catalogue has no plan.
+-- How lines end: all of them were answered, this line is not valid there, or this catalogue has no plan.
 pub data End : Type 0 where
   AllDone : End
   Refused : (number : ℕ) → End

@@ -15,8 +15,8 @@ pub fn run<R: Read, W: Write>(alloc: Global, reader: &mut R, writer: &mut W) -> 
     // or memory is refused, and no other script gives it. Nothing is written after EndlessInput or a failed read.
     ensures whole { IfSome (R.remaining reader.old) (λ input. IsWhole (W.contents writer.old) (W.contents writer.new) input result) }
     // If the bytes of the reader are known: up to the first line that orders a failure of the flash, the output is a
-    // function of these bytes and of the plans of their catalogues. Only a prefix of it is written if a write fails or
-    // memory is refused, and nothing after EndlessInput or a failed read.
+    // function of these bytes and of the plans of the catalogues in them. Only a prefix of it is written if a write fails
+    // or memory is refused, and nothing is written after EndlessInput or a failed read.
     ensures told { IfSome (R.remaining reader.old) (λ input. IsToldByPlans (W.contents writer.old) (W.contents writer.new) input result) }
     // For any reader, also one that never ends: nothing is written after EndlessInput or a failed read.
     ensures silent { IsSilent (W.contents writer.old) (W.contents writer.new) result }

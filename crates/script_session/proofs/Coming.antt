@@ -1,4 +1,4 @@
--- The outcome of lines that a script may have only at some times, of units of time, and of frames that wait.
+-- The outcome of lines that are valid only at some times, of units of time, and of frames that wait.
 use Rattle.std.proofs.Common.{◌≡◌, ◌⊎◌, inl, inr, ℕ, List, ◌++◌, codes, Bool, true, false, Option, Some, None, Result, Ok, OnOk, IsErr, MatchResult, length, is_some, replicate, append_assoc, refl, sym, ap, subst, ◌∙◌}
 use Rattle.std.proofs.lemmas.Bool.{false≢true}
 use Rattle.std.proofs.lemmas.Result.{on_ok_weaker}

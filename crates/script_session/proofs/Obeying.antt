@@ -50,25 +50,25 @@ pub appended : {E : Type 0} (done : Result (Unit {0}) E) (now before more : List
 appended (Ok done) now before more e = e
 appended (Err fault) now before more e = tt
 
--- The effect of a line that a script may have at any time.
+-- The effect of a line that is valid at any time.
 pub always_obeys : {E : Type 0} (answer : Answer) (held : Held) (before now : List ℕ) (done : Result (Unit {0}) E) (result : Result Bool PlanFault) → OnOk done (IsObeyed answer held before now)
     → MatchResult result (λ is. (is ≡ true) × (done ≡ Ok tt)) (λ fault. (fault ≡ OutOfMemory) × IsErr done) → Obeys (Answers answer) held before now result
 always_obeys answer held before now done (Ok is) obeyed given = (given.0, subst (λ d. OnOk d (IsObeyed answer held before now)) given.1 obeyed)
 always_obeys answer held before now done (Err fault) obeyed given = inl given.0
 
--- The effect of a line that a script may have only if something exists.
+-- The effect of a line that is valid only if there is a plan or a controller.
 pub if_there_obeys : {E : Type 0} (outcome : Outcome) (held : Held) (before now : List ℕ) (is : Result Bool E) (result : Result Bool PlanFault) → IfOk is (Comes outcome held before now)
     → MatchResult result (λ there. is ≡ Ok there) (λ fault. (fault ≡ OutOfMemory) × IsErr is) → Obeys outcome held before now result
 if_there_obeys outcome held before now is (Ok there) comes given = subst (λ i. IfOk i (Comes outcome held before now)) given comes
 if_there_obeys outcome held before now is (Err fault) comes given = inl given.0
 
--- A line that a script may have at any time reports a loss of power.
+-- A line that is valid at any time reports a loss of power.
 pub always_tells : {E : Type 0} (A : Type 0) (done : Result (Unit {0}) E) (result : Result Bool PlanFault) → OnOk done A
     → MatchResult result (λ is. (is ≡ true) × (done ≡ Ok tt)) (λ fault. (fault ≡ OutOfMemory) × IsErr done) → OnOk result A
 always_tells A done (Ok is) told given = subst (λ d. OnOk d A) given.1 told
 always_tells A done (Err fault) told given = tt
 
--- A line that a script may have only if something exists reports a loss of power.
+-- A line that is valid only if there is a plan or a controller reports a loss of power.
 pub if_there_tells : {E : Type 0} (A : Type 0) (is : Result Bool E) (result : Result Bool PlanFault) → OnOk is A
     → MatchResult result (λ there. is ≡ Ok there) (λ fault. (fault ≡ OutOfMemory) × IsErr is) → OnOk result A
 if_there_tells A is (Ok there) told given = subst (λ i. OnOk i A) given told

@@ -75,9 +75,9 @@ show_answer network =
 abbrev pub unchanged : Network → Answer
 unchanged network = record { network = network; text = [] }
 
--- ---- lines that a script may have only at some times
+-- ---- lines that are valid only at some times
 
--- The outcome of a line: it is answered, a script may not have it here, or its catalogue has no plan.
+-- The outcome of a line: it is answered, it is not valid here, or its catalogue has no plan.
 pub data Outcome : Type 0 where
   Answers : (answer : Answer) → Outcome
   Refuses : Outcome

@@ -29,7 +29,7 @@ pub record IsObeyed (answer : Answer) (held : Held) (before now : List ℕ) : Ty
   pub waits : held.other ≡ answer.network.other
   pub text : now ≡ before ++ answer.text
 
--- The outcome of a command as its effect, and whether a script may have the command here.
+-- The outcome of a command as its effect, and whether the command is valid here.
 abbrev pub Comes : Outcome → Held → List ℕ → List ℕ → Bool → Type 0
 Comes (Answers answer) held before now is = (is ≡ true) × IsObeyed answer held before now
 Comes Refuses held before now is = is ≡ false

@@ -75,9 +75,8 @@ impl<'a> Session<'a> {
         }
     }
 
-    /// Runs a line of the script, and appends what it prints to `text`. Returns whether a script may have this line here.
-    /// `buffer` holds the bytes that the line spells. Fails if the catalogue of the line has no plan, or if there is no
-    /// memory.
+    /// Runs a line of the script, and appends what it prints to `text`. Returns whether the line is valid here. `buffer`
+    /// holds the bytes that the line spells. Fails if the catalogue of the line has no plan, or if there is no memory.
     pub fn take(
         &mut self,
         line: &[u8],
@@ -123,8 +122,8 @@ impl<'a> Session<'a> {
         }
     }
 
-    /// Carries out a command, and renders what it prints. Returns whether a script may have it here. It is inlined into
-    /// `take`: the commands keep more than a page on the stack, a plan among it, and each call would touch that.
+    /// Carries out a command, and renders what it prints. Returns whether it is valid here. It is inlined into `take`:
+    /// the commands keep more than a page on the stack, a plan among it, and each call would touch that.
     #[inline(always)]
     #[tactic(auto, using(crate::proofs::Obeying::always_obeys, crate::proofs::Obeying::if_there_obeys, crate::proofs::Obeying::always_tells, crate::proofs::Obeying::if_there_tells), unfolding(crate::specs::Said::said))]
     fn answer(&mut self, command: Command<'_>, text: &mut Vec<u8>) -> Result<bool, PlanFault>
@@ -397,7 +396,7 @@ fn answered(
     }
 }
 
-/// The result for a line that a script may have at any time.
+/// The result for a line that is valid at any time.
 fn always(done: Result<(), AllocError>) -> Result<bool, PlanFault>
     ensures { MatchResult result (λ is. (is ≡ true) × (done ≡ Ok tt)) (λ fault. (fault ≡ plan_fault.OutOfMemory) × IsErr done) }
 {
@@ -407,7 +406,7 @@ fn always(done: Result<(), AllocError>) -> Result<bool, PlanFault>
     }
 }
 
-/// The result for a line that a script may have only if something exists.
+/// The result for a line that is valid only if there is a plan or a controller.
 fn if_there(is: Result<bool, AllocError>) -> Result<bool, PlanFault>
     ensures { MatchResult result (λ there. is ≡ Ok there) (λ fault. (fault ≡ plan_fault.OutOfMemory) × IsErr is) }
 {

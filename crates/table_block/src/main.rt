@@ -10,9 +10,8 @@
 //! ```text
 //! fault NUMBER                          why the line is not a block
 //! fault NUMBER field NUMBER             the same, for a version or a field
-//! block TYPE rest OCTETS written HEX    the type, the number of octets after the block, and the block as it is written
-//! again
-//! NAME VALUE                            a field; octets are in hex, and a list has a line for each entry
+//! block TYPE rest OCTETS written HEX    the type, the number of octets after the block, and the block as it is written again
+//!   NAME VALUE                          a field; octets are in hex, and a list has a line for each entry
 //! ```
 #![tactic(auto)]
 

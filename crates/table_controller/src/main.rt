@@ -1,8 +1,7 @@
 //! A controller alone, line by line:
 //!
 //! ```text
-//! start AR ACTIVITY JSON    starts a controller with this ARUUID, this activity UUID of its calls and the plan of this
-//! catalogue, in
+//! start AR ACTIVITY JSON    starts a controller with this ARUUID, this activity UUID of its calls and the plan of this catalogue, in
 //!                           place of the last one
 //! frame HEX                 these octets come from the network
 //! tick N                    N units of 31.25 microseconds pass

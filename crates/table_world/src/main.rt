@@ -5,23 +5,18 @@
 //! start                  each frame comes to the other end as soon as it was sent: a start-up, as a ladder of messages
 //! twice                  a Connect that comes twice
 //! again                  after a start-up each frame comes again to both ends, the last one first
-//! left                   after a stop and its Release: cyclic frames to an end that has left, and frames that were never
-//! sent
-//! ladder SEED MOVES      a schedule from a seed, as a ladder: each frame that comes to its receiver and changes
-//! something there or is
+//! left                   after a stop and its Release: cyclic frames to an end that has left, and frames that were never sent
+//! ladder SEED MOVES      a schedule from a seed, as a ladder: each frame that comes to its receiver and changes something there or is
 //!                        answered, and the states of both ends after it
 //! moves SEED MOVES       the same schedule; prints only how it ends, and how much the laws were exercised
 //! seeds COUNT MOVES      the schedules of COUNT seeds
 //! faults COUNT MOVES     the same over a flash of which one call fails, a later one with each seed
 //! growths SEED MOVES     the same schedule in calls of four moves, beside a world that makes them one by one (below)
-//! starts MOVES           every schedule of MOVES moves from the Connect on: a frame from the Connect on comes to the end
-//! that did not
+//! starts MOVES           every schedule of MOVES moves from the Connect on: a frame from the Connect on comes to the end that did not
 //!                        send it, or the controller is stopped
-//! exchanges MOVES        every schedule of MOVES moves while data is exchanged: one of the last three frames comes to
-//! the end that did
+//! exchanges MOVES        every schedule of MOVES moves while data is exchanged: one of the last three frames comes to the end that did
 //!                        not send it, an interval passes at one end, an output is set, an alarm raised, or the controller stopped
-//! outputs MOVES          the same with fewer choices: an output is set, an interval passes at the controller, one of the
-//! last two comes
+//! outputs MOVES          the same with fewer choices: an output is set, an interval passes at the controller, one of the last two comes
 //! alarms MOVES           the same: an alarm is raised, or one of the last three comes
 //! ```
 //!
