@@ -35,7 +35,8 @@ impl<'a> BlockReader<'a> {
     pub fn next(&mut self) -> Option<Result<Block<'a>, BlockFault>>
         // The result is `None` exactly at the end of the octets and after a fault.
         ensures ends { IsNone result ↔ ((self.old.rest ≡ []) ⊎ (self.old.has_failed ≡ true)) }
-        // A block is the one at the start of the remaining octets. After a fault the octets stay as they were.
+        // A block that is returned is the one at the start of the remaining octets, and the octets after it remain. With
+        // a fault the octets stay as they were.
         ensures gave { Gave self.old result self.new }
         // Each field of a block that is returned has an accepted value.
         ensures accepted { GaveAccepted result }

@@ -42,7 +42,7 @@ impl CyclicTail {
     #[tactic(auto, unfolding(crate::specs::Tail::cyclic_frame, crate::specs::Tail::cyclic_tail))]
     pub fn octets(self) -> ArrayVec<u8, 4>
         ensures value { result.items ≡ cyclic_tail.write self [] }
-        // The data of a frame followed by these octets is all that follows its FrameID.
+        // Data followed by these octets is what is written after the FrameID.
         ensures behind { (octets : List ℕ) → octets ++ result.items ≡ cyclic_bytes octets self [] }
         ensures len { array_vec_len result ≡ 4 }
         ensures fits { cyclic_tail.Fits self }

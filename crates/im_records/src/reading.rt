@@ -14,9 +14,9 @@ use block_codec::{Block, Im0, Im1, Im2, Im3, Im4, write_block};
 use pn_values::{Identity, Padded, Real, RealModule, Settings};
 use record_blocks::im0_len;
 
-/// The record with this index at this slot and subslot of a device, or `None` if there is none to be read: I&M0 (0xAFF0)
-/// at each submodule that is plugged, I&M1 to I&M4 (0xAFF1 to 0xAFF4) at slot 0, subslot 1, and I&M0FilterData (0xF840)
-/// at any slot and subslot.
+/// The record with this index at this slot and subslot of a device, or `None` if there is no such record to read: I&M0
+/// (0xAFF0) at each submodule that is plugged, I&M1 to I&M4 (0xAFF1 to 0xAFF4) at slot 0, subslot 1, and I&M0FilterData
+/// (0xF840) at any slot and subslot.
 pub fn read_record(
     index: u16,
     slot: u16,

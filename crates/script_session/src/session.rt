@@ -83,13 +83,15 @@ impl<'a> Session<'a> {
         buffer: &mut Vec<u8>,
         text: &mut Vec<u8>,
     ) -> Result<bool, PlanFault>
-        // If the device runs over a reliable flash, the line is not an order to the flash and the table of plans is right
-        // for its catalogue, then both ends and the printed text are those that the definition gives, or memory was
-        // refused.
+        // If the device runs over a reliable flash of which no call has failed, the line is not an order to the flash and
+        // the table of plans is right for its catalogue: a line that `outcome_of` answers has the effect and the text of
+        // that answer, one that it refuses returns false, and a catalogue without a plan fails with its fault, unless
+        // memory is refused.
         ensures takes { (plans : List ℕ → Option Parts) (network : Network) → AreRightFor plans (meaning_of line.now) →
             Are network self.old → is_order (meaning_of line.now) ≡ false →
             Obeys (outcome_of plans network (meaning_of line.now)) self.new text.old.items text.new.items result }
-        // While the power is off, a restart switches it on again, and no other line changes anything at either end.
+        // While the power is off, a restart switches it on again unless memory is refused, and no other line changes
+        // anything at either end.
         ensures off { is_off self.old.power ≡ true → TakesOff (meaning_of line.now) self.old self.new text.old.items text.new.items result }
         // If power is lost while a line hands something to the device, and the call succeeds, only the loss is printed,
         // and the plan and the controller at the other end stay as they were.
