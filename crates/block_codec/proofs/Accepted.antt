@@ -31,11 +31,11 @@ unfolding body_of
 body_accepted (Some k) inside value s = fields_accepted k inside value s
 body_accepted None inside value s = absurd s
 
--- octets that spell a block spell one whose fields are accepted
+-- Octets of a block are those of one whose fields are accepted.
 pub block_accepted : (bytes : List ℕ) (value : Block) (rest : List ℕ) → IsBlock bytes value rest → IsAccepted value
 unfolding IsBlock block
 block_accepted bytes value rest s = subst (λ (x : Block). IsAccepted x) s.1 (body_accepted (type_of s.0.0) s.2.2.0 s.0.1 s.2.2.4)
 
--- and so do octets that are read as what BlockLength counts
+-- Octets that are read as what BlockLength counts give a block whose fields are accepted.
 pub body_read_accepted : (k : Option BlockType) (inside : List ℕ) (value : Block) → (body_of k).read inside ≡ Ok value → IsAccepted value
 body_read_accepted k inside value e = body_accepted k inside value ((body_of_sound k).takes inside value e)

@@ -7,7 +7,7 @@ use Rattle.block_codec.proofs.Sound.{block_again, block_sound, block_written, ty
 pub read : (value : Block) (rest : List ℕ) → (fields_of (kind_of value)).size value < 65536 → (fields_of (kind_of value)).Fits value → block_of (block_bytes value ++ rest) ≡ front value rest
 read value rest short fits = block_again (block_bytes value ++ rest) value rest (block_written value rest short fits)
 
--- how many octets the format says
+-- The number of octets that the format gives.
 format_size : (value : Block) → block.size value ≡ block_size value
 unfolding block block_size body_of
 format_size value = rw (type_of_number (kind_of value)) (omega arith)

@@ -199,7 +199,7 @@ unfolding block
 block_onward = seen_onward _ (λ value. (number_of (kind_of value), value)) _ (then_by_onward _ _ (number_onward Truncated 2)
     (λ k. framed_onward _ Truncated (body_of (type_of k)) (number_onward Truncated 2)))
 
--- the type of its number
+-- The type with the number of a type is that type.
 pub type_of_number : (k : BlockType) → type_of (number_of k) ≡ Some k
 unfolding type_of number_of
 type_of_number kind.ArBlockReq = refl
@@ -230,22 +230,22 @@ type_of_number kind.ImFilterDataDevice = refl
 type_of_number kind.AlarmNotification = refl
 type_of_number kind.AlarmAck = refl
 
--- octets that are read as a block spell it
+-- Octets that are read as a block are the octets of that block.
 pub block_takes : (bytes : List ℕ) (value : Block) (rest : List ℕ) → block_of bytes ≡ Ok (value, rest) → IsBlock bytes value rest
 unfolding block_of IsBlock
 block_takes bytes value rest e = block_sound.takes bytes value rest e
 
--- octets that spell a block are read as it
+-- Octets of a block are read as that block.
 pub block_again : (bytes : List ℕ) (value : Block) (rest : List ℕ) → IsBlock bytes value rest → block_of bytes ≡ Ok (value, rest)
 unfolding block_of IsBlock
 block_again bytes value rest s = block_sound.again bytes value rest s
 
--- with anything more behind it
+-- Octets of a block stay so with more octets after them.
 pub block_behind : (bytes : List ℕ) (value : Block) (rest more : List ℕ) → IsBlock bytes value rest → IsBlock (bytes ++ more) value (rest ++ more)
 unfolding IsBlock
 block_behind bytes value rest more s = block_onward.onward bytes value rest more s
 
--- a number of a type is one of two octets
+-- The number of a type fits two octets.
 number_short : (k : BlockType) → number_of k < 256 ^ 2
 unfolding number_of
 number_short kind.ArBlockReq = lit< tt
@@ -276,34 +276,34 @@ number_short kind.ImFilterDataDevice = lit< tt
 number_short kind.AlarmNotification = lit< tt
 number_short kind.AlarmAck = lit< tt
 
--- a block whose fields fit is one that can be written
+-- A block whose fields fit can be written.
 fits : (value : Block) → (fields_of (kind_of value)).size value < 65536 → (fields_of (kind_of value)).Fits value → block.Fits value
 unfolding block body_of
 fits value short inner =
     rw (type_of_number (kind_of value)) (number_short (kind_of value), (short, inner))
 
--- what is written, in front of anything
+-- The octets of a block, followed by any octets.
 written_local : (value : Block) (rest : List ℕ) → block.write value rest ≡ block_bytes value ++ rest
 unfolding block_bytes
 written_local value rest = block_sound.local value rest
 
--- what is written spells the block, whatever is behind it
+-- What is written is the octets of the block, with any octets after it.
 pub block_written : (value : Block) (rest : List ℕ) → (fields_of (kind_of value)).size value < 65536 → (fields_of (kind_of value)).Fits value → IsBlock (block_bytes value ++ rest) value rest
 unfolding IsBlock
 block_written value rest short inner =
     subst (λ (bytes : List ℕ). block.Spells bytes value rest) (written_local value rest) (block_sound.written value rest (fits value short inner))
 
--- the header and what it counts are the octets that are written
+-- The octets of a block are its header and what BlockLength counts.
 pub block_parts : (value : Block) → block_bytes value ≡ big_bytes 2 (number_of (kind_of value)) ++ (big_bytes 2 ((fields_of (kind_of value)).size value) ++ (fields_of (kind_of value)).write value)
 unfolding block_bytes block body_of
 block_parts value =
     rw (type_of_number (kind_of value)) (ap (λ (xs : List ℕ). big_bytes 2 (number_of (kind_of value)) ++ (big_bytes 2 ((fields_of (kind_of value)).size value) ++ xs)) (append-nil ((fields_of (kind_of value)).write value)))
 
--- the number that is read at the front is the number at the front
+-- The number that is read at the start is the number there.
 pub front_number : (bytes : List ℕ) (value : ℕ) (rest : List ℕ) → (number Truncated 2).read bytes ≡ Ok (value, rest) → value ≡ big_number 2 bytes
 front_number bytes value rest e = number_in_front Truncated 2 bytes value rest e
 
--- one behind the other
+-- Octets that are appended one after the other.
 pub joined : (old a b new header lengths inside : List ℕ) → a ≡ old ++ header → b ≡ a ++ lengths → new ≡ b ++ inside → new ≡ old ++ (header ++ (lengths ++ inside))
 joined old a b new header lengths inside x y z =
     z ∙ ap (λ (xs : List ℕ). xs ++ inside) (y ∙ ap (λ (xs : List ℕ). xs ++ lengths) x)

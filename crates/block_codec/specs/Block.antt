@@ -1,4 +1,4 @@
--- What octets are as a block: BlockType, BlockLength, and what it counts (IEC 61158-6-10, 5.2.1).
+-- The block that octets are: BlockType, BlockLength, and what BlockLength counts (IEC 61158-6-10, 5.2.1).
 use Rattle.std.specs.Prelude.{◌≡◌, ◌+◌, ℕ, List, [], Option, Some, None, Result, Ok}
 use Rattle.wire.specs.Codec.{Codec, Whole}
 use Rattle.wire.specs.Formats.{number, then_by, seen, framed}
@@ -50,7 +50,7 @@ use Rattle.block_codec.specs.declared.block.Block.{Block}
 use Rattle.block_codec.specs.declared.block.Block.TheVariants as is
 use Rattle.block_codec.specs.Kinds.{number_of, type_of}
 
--- the type of a block
+-- The type of a block.
 abbrev pub kind_of : Block → BlockType
 kind_of (is.ArBlockReq value) = kind.ArBlockReq
 kind_of (is.ArBlockRes value) = kind.ArBlockRes
@@ -190,7 +190,7 @@ abbrev pub in_alarm_ack : Block → Option AlarmAck
 in_alarm_ack (is.AlarmAck value) = Some value
 in_alarm_ack _ = None
 
--- what BlockLength counts
+-- What BlockLength counts, for a block of this type.
 unfoldable pub fields_of : BlockType → Whole BlockFault Block
 fields_of kind.ArBlockReq = variant is.ArBlockReq in_ar_block_req (body ar_block_req)
 fields_of kind.ArBlockRes = variant is.ArBlockRes in_ar_block_res (body ar_block_res)
@@ -220,31 +220,31 @@ fields_of kind.ImFilterDataDevice = variant is.ImFilterDataDevice in_im_filter_d
 fields_of kind.AlarmNotification = variant is.AlarmNotification in_alarm_notification (open_body alarm_notification)
 fields_of kind.AlarmAck = variant is.AlarmAck in_alarm_ack (body alarm_ack)
 
--- the same, if the type is one
+-- What BlockLength counts, if the type is known.
 unfoldable pub body_of : Option BlockType → Whole BlockFault Block
 body_of (Some kind) = fields_of kind
 body_of None = refused Kind
 
--- a block
+-- The format of a block.
 unfoldable pub block : Codec BlockFault Block
 block = seen (λ x. x.1) (λ value. (number_of (kind_of value), value))
     (then_by (number Truncated 2) (λ kind. framed (number Truncated 2) Truncated (body_of (type_of kind))))
 
--- these octets spell this block, and then come these
+-- These octets are the octets of this block, followed by the rest.
 unfoldable pub IsBlock : List ℕ → Block → List ℕ → Type 0
 IsBlock bytes value rest = block.Spells bytes value rest
 
--- the block at the front and what is behind it, or the first fault
+-- The block at the start of octets and the rest, or the first fault.
 unfoldable pub block_of : List ℕ → Result (Block × List ℕ) BlockFault
 block_of bytes = block.read bytes
 
--- this block at the front, and these octets behind it
+-- This block as the result of reading, and the rest.
 abbrev pub front : Block → List ℕ → Result (Block × List ℕ) BlockFault
 front value rest = Ok (value, rest)
 
 -- ---- what is written
 
--- the fields that are judged are accepted
+-- The checked fields of a block are accepted.
 abbrev pub IsAccepted : Block → Type 0
 IsAccepted (is.ArBlockReq value) = IsArBlockReq value
 IsAccepted (is.IocrBlockReq value) = IsIocrBlockReq value
@@ -259,10 +259,10 @@ IsAccepted (is.ImFilterDataSubmodule value) = IsFilterData value
 IsAccepted (is.ImFilterDataDevice value) = IsFilterData value
 IsAccepted _ = Unit {0}
 
--- how many octets are written
+-- The number of octets of a block.
 unfoldable pub block_size : Block → ℕ
 block_size value = 4 + (fields_of (kind_of value)).size value
 
--- the octets that are written
+-- The octets of a block.
 unfoldable pub block_bytes : Block → List ℕ
 block_bytes value = block.write value []

@@ -3,7 +3,7 @@ use Rattle.std.specs.Prelude.{◌==◌, ℕ, Option, Some, None, if◌then◌els
 use Rattle.block_codec.specs.declared.block_type.BlockType.{BlockType}
 use Rattle.block_codec.specs.declared.block_type.BlockType.TheVariants as kind
 
--- the number of a type
+-- The number of a type.
 unfoldable pub number_of : BlockType → ℕ
 number_of kind.ArBlockReq = 0x0101
 number_of kind.ArBlockRes = 0x8101
@@ -33,7 +33,7 @@ number_of kind.ImFilterDataDevice = 0x0032
 number_of kind.AlarmNotification = 0x0001
 number_of kind.AlarmAck = 0x8001
 
--- the type of a number, if there is one
+-- The type with a number, if there is one.
 unfoldable pub type_of : ℕ → Option BlockType
 type_of number =
     if number == 0x0101 then Some kind.ArBlockReq

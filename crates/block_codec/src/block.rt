@@ -1,4 +1,4 @@
-//! A block.
+//! A block of any kind.
 ghost use Rattle.std.specs.Prelude.{◌≡◌};
 ghost use Rattle.block_codec.specs.Block.{kind_of};
 
@@ -13,7 +13,7 @@ use record_blocks::{
     IodWriteReq, IodWriteRes,
 };
 
-/// A block, with the fields of its kind. Lists stay where they lie, so that none is large.
+/// A block with the fields of its kind. Its lists are borrowed, so that no block is large.
 #[derive(Drop)]
 pub enum Block<'a> {
     /// 0x0101
@@ -73,7 +73,7 @@ pub enum Block<'a> {
 }
 
 impl Block<'_> {
-    /// Its BlockType.
+    /// The BlockType of the block.
     pub fn block_type(&self) -> BlockType
         ensures { result ≡ kind_of self.now }
     {

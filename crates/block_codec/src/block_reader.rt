@@ -1,11 +1,11 @@
-//! Blocks, one behind the other.
+//! Reads blocks, one after the other.
 ghost use Rattle.std.specs.Prelude.{◌≡◌, ◌↔◌, ◌⊎◌, ℕ, List, true, false, [], IsNone};
 ghost use Rattle.block_codec.specs.Reader.{AreBlocks, Gave, GaveAccepted, GivesNext};
 
 use crate::{Block, BlockFault, read_block};
 use std::marker::Model;
 
-/// Reads blocks one behind the other, to the end or to the first fault.
+/// Reads blocks one after the other, to the end or to the first fault.
 #[derive(Drop)]
 pub struct BlockReader<'a> {
     rest: &'a [u8],
@@ -31,15 +31,16 @@ impl<'a> BlockReader<'a> {
         }
     }
 
-    /// The next block, or why there is none; None at the end and after a fault.
+    /// The next block, or the fault of the octets that are not a block. `None` at the end and after a fault.
     pub fn next(&mut self) -> Option<Result<Block<'a>, BlockFault>>
-        // At the end and after a fault there is none.
+        // The result is `None` exactly at the end of the octets and after a fault.
         ensures ends { IsNone result ↔ ((self.old.rest ≡ []) ⊎ (self.old.has_failed ≡ true)) }
-        // A block is what the octets at the front are; at a fault it stays.
+        // A block that is returned is the one at the start of the remaining octets, and the octets after it remain. With
+        // a fault the octets stay as they were.
         ensures gave { Gave self.old result self.new }
-        // Each field of a block that is given has an accepted value.
+        // Each field of a block that is returned has an accepted value.
         ensures accepted { GaveAccepted result }
-        // Octets that are blocks one behind the other are given so.
+        // If the remaining octets are blocks one after the other, the first of them is returned, and the others remain.
         ensures in_order { (blocks : List Block) → self.old.has_failed ≡ false → AreBlocks self.old.rest blocks →
             GivesNext blocks result self.new }
     {
@@ -58,7 +59,7 @@ impl<'a> BlockReader<'a> {
         }
     }
 
-    /// The octets behind the blocks given; after a fault they begin with the octets that are no block.
+    /// The octets after the blocks that were returned. After a fault they begin with the octets that are not a block.
     pub fn rest(&self) -> &'a [u8]
         ensures { result.now ≡ self.now.rest }
     {

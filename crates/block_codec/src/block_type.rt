@@ -2,7 +2,7 @@
 ghost use Rattle.std.specs.Prelude.{◌≡◌};
 ghost use Rattle.block_codec.specs.Kinds.{number_of, type_of};
 
-/// BlockType (IEC 61158-6-10, 5.2.1.2): what a block is.
+/// BlockType (IEC 61158-6-10, 5.2.1.2): the kind of a block.
 #[derive(Clone, Copy, Debug, PartialEq, Eq)]
 pub enum BlockType {
     ArBlockReq,
@@ -35,7 +35,7 @@ pub enum BlockType {
 }
 
 impl BlockType {
-    /// The type of this number, if there is one.
+    /// The type with this number, or `None` if there is no such type.
     #[tactic(auto, unfolding(crate::specs::Kinds::type_of))]
     pub fn of(number: u16) -> Option<BlockType>
         ensures { result ≡ type_of number }
@@ -72,7 +72,7 @@ impl BlockType {
         }
     }
 
-    /// Its number.
+    /// The number of the type.
     #[tactic(auto, unfolding(crate::specs::Kinds::number_of))]
     pub fn number(self) -> u16
         ensures { result ≡ number_of self }

@@ -1,5 +1,5 @@
 //! PROFINET blocks (IEC 61158-6-10, 5.2): octets to blocks and back. All that a controller and a device say to each other
-//! beyond DCP is blocks: a BlockType, a BlockLength, a version, and the fields of that kind.
+//! beyond DCP is blocks: a BlockType, a BlockLength, a version, and the fields of the kind.
 //!
 //! ```text
 //! let mut reader = BlockReader::new(octets);
@@ -12,7 +12,7 @@
 //! }
 //! ```
 //!
-//! Lists stay where they lie: in the octets that were read, or in lists that are lent by whoever writes them. No block is
+//! A block borrows its lists from the octets that were read, or from the lists of its writer. No block is
 //! large, and any number of them can be held at once.
 #![tactic(auto)]
 

@@ -23,37 +23,38 @@ use record_blocks::{
 };
 use wire::{split, u16_at};
 
-/// Reads the block at the front: it, and the octets behind it. Its lists stay where they lie. The first fault counts:
-/// Truncated, Kind, and then the fields of the kind in their order.
+/// Reads the block at the start of the octets. Returns it and the rest. The block borrows its lists from `bytes`. The
+/// first fault found is reported: Truncated, Kind, and then the fields of the kind in their order.
 pub fn read_block(bytes: &[u8]) -> Result<(Block<'_>, &[u8]), BlockFault>
-    // What is read is spelled so.
+    // If a block is returned, the octets are the octets of that block, followed by the rest.
     ensures found { IfOk result (λ x. IsBlock bytes.now x.0 x.1.now) }
-    // Each field of what is read has an accepted value.
+    // Each field of a block that is returned has an accepted value.
     ensures accepted { IfOk result (λ x. IsAccepted x.0) }
-    // What is spelled so is read, and as nothing else.
+    // If the octets are those of a block followed by a rest, that block and that rest are returned.
     ensures only { (value : Block) (rest : List ℕ) → IsBlock bytes.now value rest → Gives (λ x. (x.0, x.1.now)) result (front value rest) }
-    // No block begins another one: with anything behind it, it is read as itself.
+    // No block is a prefix of another one: the octets of a block, followed by any octets, are read as that block.
     ensures behind { (first more : List ℕ) (value : Block) → IsBlock first value [] → bytes.now ≡ first ++ more →
         Gives (λ x. (x.0, x.1.now)) result (front value more) }
-    // Which fault it is.
+    // The result is exactly the block and the rest, or the fault, that the definition `block_of` gives.
     ensures exact { Gives (λ x. (x.0, x.1.now)) result (block_of bytes.now) }
 {
     block_at(bytes)
 }
 
-/// Reads the ExpectedSubmoduleBlockReq at the front, as `read_block` does. Its modules and submodules are judged in these lists:
-/// who reads several of them lends the room, which is large, and is made once.
+/// Reads the ExpectedSubmoduleBlockReq at the start of the octets, as `read_block` does. Its modules and submodules are
+/// checked in the lists `modules` and `submodules`: this room is large, and a caller that reads several blocks makes it
+/// once.
 #[tactic(auto, using(crate::proofs::Sound::front_number), unfolding(crate::specs::Block::block_of, crate::specs::Block::block))]
 pub fn read_expected<'a>(
     bytes: &'a [u8],
     modules: &mut ArrayVec<ExpectedModule, 256>,
     submodules: &mut ArrayVec<ExpectedSubmodule, 256>,
 ) -> Result<(ExpectedSubmoduleBlockReq<'a>, &'a [u8]), BlockFault>
-    // It is of this type.
+    // The octets begin with the BlockType of an ExpectedSubmoduleBlockReq.
     requires { big_number 2 bytes.now ≡ number_of expected_req }
-    // It is what the octets at the front are, or their fault.
+    // The result is the block at the start of the octets and the rest, or the fault of the octets.
     ensures exact { Gives (λ x. (Block.ExpectedSubmoduleBlockReq x.0, x.1.now)) result (block_of bytes.now) }
-    // Each field of what is read has an accepted value.
+    // Each field of a block that is returned has an accepted value.
     ensures accepted { IfOk result (λ x. IsAccepted (Block.ExpectedSubmoduleBlockReq x.0)) }
 {
     let (number, rest) = u16_at(bytes, BlockFault::Truncated)?;
@@ -63,22 +64,23 @@ pub fn read_expected<'a>(
     Ok((block, others))
 }
 
-/// Reads the AlarmAck at the front, as `read_block` does: alone, since each alarm brings one.
+/// Reads the AlarmAck at the start of the octets, as `read_block` does. It is a function of its own because each alarm
+/// brings one.
 pub fn read_alarm_ack(bytes: &[u8]) -> Result<(AlarmAck, &[u8]), BlockFault>
-    // It is of this type.
+    // The octets begin with the BlockType of an AlarmAck.
     requires { big_number 2 bytes.now ≡ number_of alarm_ack }
-    // What is read is spelled so.
+    // If an AlarmAck is returned, the octets are the octets of that block, followed by the rest.
     ensures found { IfOk result (λ x. IsBlock bytes.now (Block.AlarmAck x.0) x.1.now) }
-    // What is spelled so is read, and as nothing else.
+    // If the octets are those of a block followed by a rest, that block and that rest are returned.
     ensures only { (value : Block) (rest : List ℕ) → IsBlock bytes.now value rest →
         Gives (λ x. (Block.AlarmAck x.0, x.1.now)) result (front value rest) }
-    // Which fault it is.
+    // The result is exactly the block and the rest, or the fault, that the definition `block_of` gives.
     ensures exact { Gives (λ x. (Block.AlarmAck x.0, x.1.now)) result (block_of bytes.now) }
 {
     alarm_ack_in_front(bytes)
 }
 
-/// The AlarmAck at the front, and what is behind it.
+/// Reads the AlarmAck at the start of the octets. Returns it and the rest.
 #[tactic(auto, using(crate::proofs::Sound::front_number), unfolding(crate::specs::Block::block_of, crate::specs::Block::block))]
 fn alarm_ack_in_front(bytes: &[u8]) -> Result<(AlarmAck, &[u8]), BlockFault>
     requires { big_number 2 bytes.now ≡ number_of alarm_ack }
@@ -91,7 +93,7 @@ fn alarm_ack_in_front(bytes: &[u8]) -> Result<(AlarmAck, &[u8]), BlockFault>
     Ok((block, others))
 }
 
-/// What BlockLength counts of an AlarmAck.
+/// Reads the part of an AlarmAck that BlockLength counts.
 #[tactic(auto, unfolding(crate::specs::Block::body_of, crate::specs::Block::fields_of, crate::specs::Kinds::type_of, crate::specs::Kinds::number_of))]
 fn alarm_ack_body(number: u16, body: &[u8]) -> Result<AlarmAck, BlockFault>
     requires { number ≡ number_of alarm_ack }
@@ -101,7 +103,8 @@ fn alarm_ack_body(number: u16, body: &[u8]) -> Result<AlarmAck, BlockFault>
     alarm_ack_at(body)
 }
 
-/// What BlockLength counts of an ExpectedSubmoduleBlockReq, judged in these lists.
+/// Reads the part of an ExpectedSubmoduleBlockReq that BlockLength counts. It is checked in the lists `modules` and
+/// `submodules`.
 #[tactic(auto, unfolding(crate::specs::Block::body_of, crate::specs::Block::fields_of, crate::specs::Kinds::type_of, crate::specs::Kinds::number_of))]
 fn expected_body<'a>(
     number: u16,
@@ -116,7 +119,7 @@ fn expected_body<'a>(
     expected_in(body, modules, submodules)
 }
 
-/// A block, and what is behind it.
+/// Reads a block. Returns it and the rest.
 #[tactic(auto, unfolding(crate::specs::Block::block_of, crate::specs::Block::block))]
 fn block_at(bytes: &[u8]) -> Result<(Block<'_>, &[u8]), BlockFault>
     ensures { Gives (λ x. (x.0, x.1.now)) result (block_of bytes.now) }
@@ -128,7 +131,7 @@ fn block_at(bytes: &[u8]) -> Result<(Block<'_>, &[u8]), BlockFault>
     Ok((block, behind))
 }
 
-/// What BlockLength counts, if the type is one.
+/// Reads the part of a block that BlockLength counts. `kind` is its type, or `None` if the type is not known.
 #[tactic(auto, unfolding(crate::specs::Block::body_of))]
 fn body_at(kind: Option<BlockType>, body: &[u8]) -> Result<Block<'_>, BlockFault>
     requires { length body.now ≤ 65535 }
@@ -140,7 +143,7 @@ fn body_at(kind: Option<BlockType>, body: &[u8]) -> Result<Block<'_>, BlockFault
     }
 }
 
-/// What BlockLength counts, of a known type.
+/// Reads the part of a block of a known type that BlockLength counts.
 #[tactic(auto, unfolding(crate::specs::Block::fields_of))]
 fn fields_at(kind: BlockType, body: &[u8]) -> Result<Block<'_>, BlockFault>
     requires { length body.now ≤ 65535 }

@@ -21,7 +21,7 @@ use record_blocks::{
 };
 use wire::{append_u16, join};
 
-/// What BlockLength counts: the version and the fields.
+/// The number of octets that BlockLength counts: the version and the fields.
 #[tactic(auto, unfolding(crate::specs::Block::fields_of, block_fields::specs::Fields::body, block_fields::specs::Fields::open_body, block_fields::specs::Fields::version))]
 fn body_len(block: &Block) -> usize
     ensures size { result ≡ (fields_of (kind_of block.now)).size block.now }
@@ -58,7 +58,7 @@ fn body_len(block: &Block) -> usize
     }
 }
 
-/// How many octets a block takes, its header of four octets counted.
+/// The number of octets that a block takes, including its header of four octets.
 #[tactic(auto, unfolding(crate::specs::Block::block_size))]
 pub fn block_len(block: &Block) -> usize
     ensures { result ≡ block_size block.now }
@@ -110,13 +110,13 @@ fn put_body<const N: usize>(out: &mut ArrayVec<u8, N>, block: &Block)
 #[tactic(auto, unfolding(crate::specs::Block::block_size))]
 pub fn write_block<const N: usize>(out: &mut ArrayVec<u8, N>, block: &Block)
     requires { array_vec_len out.old + block_size block.now ≤ N }
-    // The octets, each of them.
+    // The octets of the block, and no others, are appended.
     ensures exact { out.new.items ≡ out.old.items ++ block_bytes block.now }
-    // How many they are.
+    // The buffer grows by the size of the block.
     ensures len { array_vec_len out.new ≡ array_vec_len out.old + block_size block.now }
-    // They spell the block, whatever is behind them, if each of its fields is accepted.
+    // If each field of the block is accepted, the octets, followed by any octets, are the octets of that block.
     ensures spelled { IsAccepted block.now → (rest : List ℕ) → IsBlock (block_bytes block.now ++ rest) block.now rest }
-    // And so they are read as it.
+    // If each field of the block is accepted, the octets, followed by any octets, are read as that block.
     ensures behind { IsAccepted block.now → (rest : List ℕ) → block_of (block_bytes block.now ++ rest) ≡ front block.now rest }
 {
     append_u16(out, block.block_type().number());
@@ -124,13 +124,13 @@ pub fn write_block<const N: usize>(out: &mut ArrayVec<u8, N>, block: &Block)
     put_body(out, block);
 }
 
-/// The octets of a block AlarmNotification up to its data.
+/// The octets of an AlarmNotification block before its data.
 #[inline(always)]
 pub fn notification_front(alarm: &AlarmNotification) -> [u8; 28]
-    // With the data behind them they are the block.
+    // The octets followed by the alarm's data are the octets of the block.
     ensures exact { result ++ alarm.now.alarm_data ≡ block_bytes (Block.AlarmNotification alarm.now) }
     ensures len { length result ≡ 28 }
-    // They are read as it.
+    // The octets of the block, followed by any octets, are read as that block.
     ensures behind { (rest : List ℕ) → block_of (block_bytes (Block.AlarmNotification alarm.now) ++ rest)
         ≡ front (Block.AlarmNotification alarm.now) rest }
 {

@@ -1,4 +1,4 @@
--- The lists are sound, and reading goes on behind an entry or ends at a fault.
+-- The lists are sound. Reading goes on after an entry or ends at a fault.
 use Rattle.std.proofs.Common.{◌≡◌, ℕ, ◌+◌, ◌<◌, List, [], ◌∷◌, ◌++◌, length, take, drop, sum_by, Ok, Err, refl, sym, ap, subst, arith}
 use Rattle.std.proofs.lemmas.List.{length-append, take-append-drop, length-take-le}
 use Rattle.std.proofs.lemmas.List.Sums.{sum_by-cons}
@@ -81,7 +81,7 @@ module _ {M S : Type 0} (head : List M → Codec BlockFault M) (own : M → ℕ)
       rw (← length-append (take n submodules) (drop n submodules), take-append-drop n submodules) refl in
       omega (arith, others, sum, mine, both)
 
-  -- the modules count the submodules that there are
+  -- The counts of the modules add up to the number of submodules.
   pub listed_counted : (bytes : List ℕ) (value : Listed M S) (rest : List ℕ) → (listed_modules head own item).Spells bytes value rest
       → sum_by own value.modules ≡ length value.submodules
   unfolding listed_modules module_list

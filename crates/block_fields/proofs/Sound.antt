@@ -1,4 +1,4 @@
--- What each block has is sound.
+-- The formats of the fields of blocks are sound.
 use Rattle.std.proofs.Common.{◌≡◌, ◌==◌, ◌&&◌, ℕ, length, refl}
 use Rattle.std.specs.Prelude.{nat_le}
 use Rattle.std.proofs.lemmas.List.{length-replicate}
@@ -46,7 +46,7 @@ octets_sound size = let sound = raw_sound {F = BlockFault} Length size in record
   sized = sound.sized;
 }
 
--- so many zeros
+-- `zeros size` has `size` octets.
 zeros_long : (size : ℕ) → length (zeros size) ≡ size
 unfolding zeros
 zeros_long size = length-replicate size 0

@@ -3,7 +3,7 @@ use Rattle.std.specs.Prelude.{ℕ}
 use Rattle.block_fields.specs.declared.fault.BlockFault.{BlockFault}
 use Rattle.block_fields.specs.declared.fault.BlockFault.TheVariants.{Truncated, Kind, Length, Version, Count, Field}
 
--- the number of a fault
+-- The number of a fault.
 abbrev pub number_of : BlockFault → ℕ
 number_of Truncated = 1
 number_of Kind = 2

@@ -1,26 +1,26 @@
-//! Why bytes are no block.
+//! The reasons why octets are not a block.
 ghost use Rattle.std.specs.Prelude.{◌≡◌};
 ghost use Rattle.block_fields.specs.Faults.{number_of};
 
-/// Why bytes are no block. The first one counts: Truncated, then Kind, and then the fields in their order.
+/// Why octets are not a block. The first fault found is reported: Truncated, then Kind, then the fields in their order.
 #[derive(Clone, Copy, Debug, PartialEq, Eq)]
 pub enum BlockFault {
-    /// There are fewer than four octets, or fewer than BlockLength counts.
+    /// There are fewer than four octets, or fewer octets than BlockLength counts.
     Truncated,
     /// The BlockType is not known.
     Kind,
-    /// A field runs past BlockLength, or octets are left behind the last field.
+    /// A field runs past BlockLength, or octets follow the last field.
     Length,
     /// BlockVersionHigh, field 2, is not 1, or BlockVersionLow, field 3, is not 0.
     Version(u8),
-    /// There is a 257th entry of one kind.
+    /// There are more than 256 entries of one kind.
     Count,
-    /// The field of this number has a value that is not accepted. Fields are counted from 4.
+    /// The field with this number has a value that is not accepted. Fields are counted from 4.
     Field(u8),
 }
 
 impl BlockFault {
-    /// Its number, from 1.
+    /// The number of the fault, from 1.
     pub fn number(self) -> u8
         ensures { result ≡ number_of self }
     {

@@ -1,6 +1,6 @@
-//! Readers, writers and lengths from one list of fields.
+//! Macros that make readers, writers and lengths from one list of fields.
 
-/// Reads the fields of a list, one behind the other: the struct and what is behind its fields, or the first fault.
+/// Reads the fields of a list, one after the other. Returns the struct and the rest, or the first fault.
 #[macro_export]
 macro_rules! read_fields {
     ([$bytes:expr] $name:ident { $($fields:tt)* }) => {{
@@ -40,7 +40,7 @@ macro_rules! read_fields {
     }};
 }
 
-/// Reads what BlockLength counts: the version, the fields of a list, and nothing behind these.
+/// Reads all that BlockLength counts: the version and the fields of a list. No octet may follow them.
 #[macro_export]
 macro_rules! read_body {
     ([$bytes:expr] $name:ident { $($fields:tt)* }) => {{
@@ -49,7 +49,7 @@ macro_rules! read_body {
     }};
 }
 
-/// What is behind a field with no name.
+/// Reads a field with no name. Returns the rest.
 #[macro_export]
 macro_rules! pass_field {
     ($rest:ident blank $size:literal) => {
@@ -69,7 +69,7 @@ macro_rules! pass_field {
     };
 }
 
-/// A field, and what is behind it.
+/// Reads a field. Returns it and the rest.
 #[macro_export]
 macro_rules! read_field {
     ($rest:ident u8) => {
@@ -92,7 +92,7 @@ macro_rules! read_field {
     };
 }
 
-/// Appends the fields of a list, one behind the other. There must be room.
+/// Appends the fields of a list, one after the other. There must be room.
 #[macro_export]
 macro_rules! put_fields {
     ([$out:ident, $value:ident] $name:ident { $($fields:tt)* }) => {
@@ -165,7 +165,7 @@ macro_rules! put_field {
     };
 }
 
-/// How many octets the fields of a list take.
+/// The number of octets that the fields of a list take.
 #[macro_export]
 macro_rules! len_fields {
     ([$value:ident] $name:ident { $($fields:tt)* }) => {
@@ -188,7 +188,7 @@ macro_rules! len_fields {
     };
 }
 
-/// How many octets a field with no name takes.
+/// The number of octets that a field with no name takes.
 #[macro_export]
 macro_rules! len_blank {
     (blank $size:literal) => { $size };
@@ -198,7 +198,7 @@ macro_rules! len_blank {
     (fixed_four $value:literal) => { 4 };
 }
 
-/// How many octets a field takes.
+/// The number of octets that a field takes.
 #[macro_export]
 macro_rules! len_field {
     (u8 $value:expr) => { 1 };

@@ -1,10 +1,10 @@
-//! What all kinds of PROFINET blocks are made of (IEC 61158-6-10, 5.2): the faults of a block, its version, and the fields
-//! from whose list a kind's reader, writer and length come.
+//! The parts that all kinds of PROFINET blocks share (IEC 61158-6-10, 5.2): the faults of a block, its version, and the field
+//! lists from which the reader, writer and length of each kind are made.
 //!
 //! # A kind of blocks
 //!
-//! A kind is a struct, one list of fields by a macro, and one format in `specs/`. The list names the fields in the order
-//! in which they are sent; one with no name is in no struct.
+//! A kind is a struct, one list of fields as a macro, and one format in `specs/`. The list names the fields in the order
+//! in which they are sent. A field with no name is not in the struct.
 //!
 //! ```text
 //! macro_rules! control_fields {
@@ -18,21 +18,21 @@
 //! }
 //! ```
 //!
-//! `control_fields!(read_fields [bytes])` reads them, `control_fields!(read_body [bytes])` them and what is around them,
-//! `control_fields!(put_fields [out, value])` appends them, and `control_fields!(len_fields [value])` is how many octets they
-//! take. A long list is written in parts, each with a struct of its own that is read, and whose fields the kind has too.
+//! `control_fields!(read_fields [bytes])` reads the fields, `control_fields!(read_body [bytes])` reads the version and the fields,
+//! `control_fields!(put_fields [out, value])` appends them, and `control_fields!(len_fields [value])` is the number of octets
+//! that they take. A long list is written in parts. Each part is read into a struct of its own, whose fields the kind has too.
 //!
 //! | in the list | what it is |
 //! |---|---|
 //! | `name: u8`, `u16`, `u32` | a number |
 //! | `name: octets N` | N octets |
 //! | `name: uuid`, `mac` | 16 octets, 6 octets |
-//! | `name: ranged LEAST GREATEST FIELD` | a number of two octets, and the field's number where it is not accepted |
+//! | `name: ranged LEAST GREATEST FIELD` | a number of two octets, and the field's number for the fault if it is not accepted |
 //! | `_: fixed VALUE FIELD`, `fixed_one VALUE FIELD`, `fixed_four VALUE FIELD` | a number of two octets, one, or four, with one accepted value |
 //! | `_: unchecked VALUE` | a number of two octets that is read with any value |
-//! | `_: blank N` | N octets that are not looked at, and written 0 |
-//! | `name: KIND by READ(..)` | a field of that kind, which a function reads |
-//! | `name: (READ, PUT, LEN)` | what functions read, put and count |
+//! | `_: blank N` | N octets that are ignored when read and written as 0 |
+//! | `name: KIND by READ(..)` | a field of that kind that a function reads |
+//! | `name: (READ, PUT, LEN)` | a field that functions read, append and count |
 #![tactic(auto)]
 
 mod fault;

@@ -1,6 +1,6 @@
-//! Lists of modules with their submodules, which several kinds of PROFINET blocks have: a count of modules, and each module
-//! with its submodules behind it. The submodules of all modules stand in one list, those of the first module first. A kind
-//! says what one entry of each list is; here is how the lists are read, written and counted.
+//! Lists of modules with their submodules, as several kinds of PROFINET blocks have them: a count of modules, then each
+//! module followed by its submodules. The submodules of all modules are stored in one list, those of the first module
+//! first. A kind of block defines the entries of each list; this crate reads, writes and counts the lists.
 
 mod entry;
 mod list;

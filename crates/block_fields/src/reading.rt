@@ -7,7 +7,7 @@ ghost use Rattle.block_fields.specs.Fields.{version, nothing};
 use crate::BlockFault;
 use pn_values::Mac;
 
-/// A number of one octet, and what is behind it.
+/// Reads a number of one octet. Returns it and the rest.
 #[tactic(auto, unfolding(crate::specs::Fields::number_at))]
 pub fn u8_at(bytes: &[u8]) -> Result<(u8, &[u8]), BlockFault>
     ensures { Gives (λ x. (x.0, x.1.now)) result (one.read bytes.now) }
@@ -15,7 +15,7 @@ pub fn u8_at(bytes: &[u8]) -> Result<(u8, &[u8]), BlockFault>
     wire::u8_at(bytes, BlockFault::Length)
 }
 
-/// A number of two octets, and what is behind it.
+/// Reads a number of two octets. Returns it and the rest.
 #[tactic(auto, unfolding(crate::specs::Fields::number_at))]
 pub fn u16_at(bytes: &[u8]) -> Result<(u16, &[u8]), BlockFault>
     ensures { Gives (λ x. (x.0, x.1.now)) result (two.read bytes.now) }
@@ -23,7 +23,7 @@ pub fn u16_at(bytes: &[u8]) -> Result<(u16, &[u8]), BlockFault>
     wire::u16_at(bytes, BlockFault::Length)
 }
 
-/// A number of four octets, and what is behind it.
+/// Reads a number of four octets. Returns it and the rest.
 #[tactic(auto, unfolding(crate::specs::Fields::number_at))]
 pub fn u32_at(bytes: &[u8]) -> Result<(u32, &[u8]), BlockFault>
     ensures { Gives (λ x. (x.0, x.1.now)) result (four.read bytes.now) }
@@ -31,7 +31,8 @@ pub fn u32_at(bytes: &[u8]) -> Result<(u32, &[u8]), BlockFault>
     wire::u32_at(bytes, BlockFault::Length)
 }
 
-/// A number of two octets from the least to the greatest that is accepted, and what is behind it. `field` is its number.
+/// Reads a number of two octets from `least` to `greatest`. Returns it and the rest. `field` is the number of the field,
+/// for the fault.
 pub fn ranged_at(
     bytes: &[u8],
     least: u16,
@@ -48,7 +49,8 @@ pub fn ranged_at(
     }
 }
 
-/// What is behind a number of two octets that has one accepted value. `field` is its number.
+/// Reads a number of two octets that has one accepted value. Returns the rest. `field` is the number of the field, for
+/// the fault.
 pub fn fixed_at(bytes: &[u8], value: u16, field: u8) -> Result<&[u8], BlockFault>
     ensures { Gives (λ x. (tt, x.now)) result ((fixed field value).read bytes.now) }
 {
@@ -60,7 +62,8 @@ pub fn fixed_at(bytes: &[u8], value: u16, field: u8) -> Result<&[u8], BlockFault
     }
 }
 
-/// What is behind a number of one octet that has one accepted value. `field` is its number.
+/// Reads a number of one octet that has one accepted value. Returns the rest. `field` is the number of the field, for the
+/// fault.
 pub fn fixed_one_at(bytes: &[u8], value: u8, field: u8) -> Result<&[u8], BlockFault>
     ensures { Gives (λ x. (tt, x.now)) result ((fixed_one field value).read bytes.now) }
 {
@@ -72,7 +75,8 @@ pub fn fixed_one_at(bytes: &[u8], value: u8, field: u8) -> Result<&[u8], BlockFa
     }
 }
 
-/// What is behind a number of four octets that has one accepted value. `field` is its number.
+/// Reads a number of four octets that has one accepted value. Returns the rest. `field` is the number of the field, for
+/// the fault.
 pub fn fixed_four_at(bytes: &[u8], value: u32, field: u8) -> Result<&[u8], BlockFault>
     ensures { Gives (λ x. (tt, x.now)) result ((fixed_four field value).read bytes.now) }
 {
@@ -84,7 +88,7 @@ pub fn fixed_four_at(bytes: &[u8], value: u32, field: u8) -> Result<&[u8], Block
     }
 }
 
-/// `N` octets, and what is behind them.
+/// Reads `N` octets. Returns them and the rest.
 #[tactic(auto, unfolding(crate::specs::Fields::octets_read))]
 pub fn octets_at<const N: usize>(bytes: &[u8]) -> Result<([u8; N], &[u8]), BlockFault>
     ensures { Gives (λ x. (x.0, x.1.now)) result ((octets N).read bytes.now) }
@@ -92,7 +96,7 @@ pub fn octets_at<const N: usize>(bytes: &[u8]) -> Result<([u8; N], &[u8]), Block
     wire::octets_at::<N, BlockFault>(bytes, BlockFault::Length)
 }
 
-/// So many octets, and what is behind them.
+/// Reads `size` octets. Returns them and the rest.
 #[tactic(auto, unfolding(crate::specs::Fields::octets_read))]
 pub fn slice_at(bytes: &[u8], size: usize) -> Result<(&[u8], &[u8]), BlockFault>
     ensures read { Gives (λ x. (x.0.now, x.1.now)) result ((octets size).read bytes.now) }
@@ -101,7 +105,7 @@ pub fn slice_at(bytes: &[u8], size: usize) -> Result<(&[u8], &[u8]), BlockFault>
     wire::split(bytes, size, BlockFault::Length)
 }
 
-/// What is behind octets that are not looked at.
+/// Passes over `size` octets of any value. Returns the rest.
 pub fn blank_at(bytes: &[u8], size: usize) -> Result<&[u8], BlockFault>
     ensures { Gives (λ x. (tt, x.now)) result ((blank size).read bytes.now) }
 {
@@ -109,7 +113,7 @@ pub fn blank_at(bytes: &[u8], size: usize) -> Result<&[u8], BlockFault>
     Ok(rest)
 }
 
-/// What is behind a number of two octets that is read with any value.
+/// Passes over a number of two octets of any value. Returns the rest.
 pub fn unchecked_at(bytes: &[u8]) -> Result<&[u8], BlockFault>
     ensures { Gives (λ x. (tt, x.now)) result ((unchecked_two 0).read bytes.now) }
 {
@@ -117,7 +121,7 @@ pub fn unchecked_at(bytes: &[u8]) -> Result<&[u8], BlockFault>
     Ok(rest)
 }
 
-/// An Ethernet address, and what is behind it.
+/// Reads an Ethernet address. Returns it and the rest.
 pub fn mac_at(bytes: &[u8]) -> Result<(Mac, &[u8]), BlockFault>
     ensures { Gives (λ x. (x.0, x.1.now)) result (mac.read bytes.now) }
 {
@@ -125,7 +129,7 @@ pub fn mac_at(bytes: &[u8]) -> Result<(Mac, &[u8]), BlockFault>
     Ok((Mac { octets }, rest))
 }
 
-/// What is behind BlockVersionHigh 1 and BlockVersionLow 0.
+/// Reads BlockVersionHigh 1 and BlockVersionLow 0. Returns the rest.
 #[tactic(auto, unfolding(crate::specs::Fields::version))]
 pub fn version_at(bytes: &[u8]) -> Result<&[u8], BlockFault>
     ensures { Gives (λ x. (tt, x.now)) result (version.read bytes.now) }
@@ -141,7 +145,7 @@ pub fn version_at(bytes: &[u8]) -> Result<&[u8], BlockFault>
     Ok(rest)
 }
 
-/// Nothing may be behind the last field.
+/// Checks that no octet follows the last field.
 pub fn ended(rest: &[u8]) -> Result<(), BlockFault>
     ensures { Gives (λ x. x) result (nothing rest.now) }
 {

@@ -1,4 +1,4 @@
-//! Writers of fields. Each appends, and there must be room.
+//! Writers of fields. Each appends to a buffer, which must have room.
 ghost use Rattle.std.specs.Prelude.{◌≡◌, ◌+◌, ◌<◌, ◌≤◌, ◌^◌, ◌++◌, ℕ, List, length};
 ghost use Rattle.arrayvec.specs.ArrayVec.{array_vec_len};
 ghost use Rattle.block_fields.specs.Fields.{number_bytes, octet_bytes, zeros, version};
@@ -62,7 +62,7 @@ pub fn append_zeros<const N: usize, const SIZE: usize>(out: &mut ArrayVec<u8, N>
     wire::append(out, &[0; SIZE]);
 }
 
-/// Appends the version.
+/// Appends BlockVersionHigh 1 and BlockVersionLow 0.
 #[tactic(auto, unfolding(crate::specs::Fields::version))]
 pub fn put_version<const N: usize>(out: &mut ArrayVec<u8, N>)
     requires { array_vec_len out.old + 2 ≤ N }
@@ -73,7 +73,7 @@ pub fn put_version<const N: usize>(out: &mut ArrayVec<u8, N>)
     append_u8(out, 0);
 }
 
-/// How many octets there are.
+/// The number of octets in `bytes`.
 pub fn len_of(bytes: &[u8]) -> usize
     ensures { result ≡ length bytes.now }
 {

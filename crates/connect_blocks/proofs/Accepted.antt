@@ -1,4 +1,4 @@
--- The fields of what is read are accepted.
+-- The fields of a block that is read are accepted.
 use Rattle.std.proofs.Common.{◌≡◌, ◌&&◌, ◌≤◌, ℕ, true, List, nat_le, Some, subst}
 use Rattle.std.proofs.lemmas.Bool.{and_parts, leb-true, eqb-true}
 use Rattle.block_fields.specs.Fields.{body}
@@ -13,7 +13,7 @@ use Rattle.connect_blocks.specs.AlarmCr.{alarm_cr_block_req, IsAlarmCrBlockReq}
 use Rattle.connect_blocks.specs.Iocr.{frame_id, is_frame_id, iocr_head, iocr_times, iocr_block_req, IsIocrBlockReq}
 use Rattle.connect_blocks.specs.Control.{command, control}
 
--- a number that is one from the least to the greatest
+-- A number that passes the test is between the least and the greatest.
 within : (least greatest value : ℕ) → (nat_le least value && nat_le value greatest) ≡ true → (least ≤ value) × (value ≤ greatest)
 within least greatest value test =
     let two = and_parts (nat_le least value) (nat_le value greatest) test in
@@ -41,7 +41,7 @@ alarm_cr_block_req_accepted inside value s =
     (record { timeout = factor.0; retries_least = retries.0; retries_greatest = retries.1; data_least = octets.0; data_greatest = octets.1 }) in
     subst (λ (block : AlarmCrBlockReq). IsAlarmCrBlockReq block) s.1 all
 
--- what is judged of the first fields of an IOCRBlockReq
+-- The facts that are checked for the first fields of an IOCRBlockReq.
 abbrev IsHead : IocrHead → Type 0
 IsHead head = (40 ≤ head.data_length) × (head.data_length ≤ 1440) × (is_frame_id head.iocr_type head.frame_id ≡ true)
 
@@ -52,7 +52,7 @@ head_accepted bytes rest value s =
     let octets = within 40 1440 x.1.1.1.1.0 s.2.2.2.2.2.1.0 in
     subst (λ (head : IocrHead). IsHead head) s.1 (octets.0, octets.1, s.2.2.2.2.2.2.0)
 
--- and of those that say something of time
+-- The facts that are checked for the timing fields of an IOCRBlockReq.
 abbrev AreTimes : IocrTimes → Type 0
 AreTimes times =
     ((1 ≤ times.send_clock_factor) × (times.send_clock_factor ≤ 128)) × ((1 ≤ times.reduction_ratio) × (times.reduction_ratio ≤ 512))
@@ -85,7 +85,7 @@ iocr_block_req_accepted inside value s =
     }) in
     subst (λ (block : IocrBlockReq). IsIocrBlockReq block) s.1 all
 
--- of a control block the ControlCommand is judged, where one is wanted
+-- A control block that is read has the wanted ControlCommand.
 pub control_accepted : (wanted : ℕ) (inside : List ℕ) (value : ControlBlock) → (body (control (Some wanted))).Spells inside value → value.control_command ≡ wanted
 unfolding body control command
 control_accepted wanted inside value s =

@@ -15,7 +15,7 @@ use Rattle.connect_blocks.specs.declared.io_object.IoObject.{IoObject}
 use Rattle.connect_blocks.specs.Objects.{io_object, next_object, io_objects}
 use Rattle.connect_blocks.proofs.Sound.{io_object_sound}
 
--- each takes six octets
+-- Each place takes six octets.
 pub objects_size : (before objects : List IoObject) → size_each next_object before objects ≡ 6 * length objects
 unfolding next_object io_object
 objects_size before [] = omega arith
@@ -33,13 +33,13 @@ pub objects_err : (bytes first : List ℕ) (count : ℕ) (fault : BlockFault)
 unfolding io_objects
 objects_err bytes first count fault a b = rw (a, b) refl
 
--- ---- the places of a list that was read
+-- ---- one place of a list that was read
 
--- behind so many octets
+-- The octets after a prefix of `n` octets.
 pass : (bytes front rest : List ℕ) (n : ℕ) → length front ≡ n → bytes ≡ front ++ rest → rest ≡ drop n bytes
 pass bytes front rest n long e = rw e (sym (drop_at front rest n long))
 
--- behind a place
+-- The octets after a place.
 object_left : (bytes : List ℕ) (object : IoObject) (rest : List ℕ) → io_object.read bytes ≡ Ok (object, rest) → rest ≡ drop 6 bytes
 unfolding io_object
 object_left bytes object rest e =
@@ -50,7 +50,7 @@ object_left bytes object rest e =
     last ∙ ap (λ (xs : List ℕ). drop 2 xs) two_more ∙ ap (λ (xs : List ℕ). drop 2 (drop 2 xs)) one
     ∙ ap (λ (xs : List ℕ). drop 2 xs) (drop-drop 2 2 bytes) ∙ drop-drop 2 4 bytes
 
--- it takes six octets
+-- A place takes six octets.
 object_takes : (bytes : List ℕ) (object : IoObject) (rest : List ℕ) → io_object.read bytes ≡ Ok (object, rest) → length bytes ≡ 6 + length rest
 unfolding io_object
 object_takes bytes object rest e =
@@ -71,19 +71,19 @@ object_takes bytes object rest e =
       last.1,
     )
 
--- a choice that came out as a value
+-- A choice whose result is a value.
 chosen : (b : Bool) (x y : IoObject × List ℕ) → cond b (Ok x) (Err Count) ≡ Ok y → x ≡ y
 chosen true x y e = ok_is {F = BlockFault} x y e
 chosen false x y e = absurd cc
 
--- a place behind others is a place
+-- A place that is read after others is a place.
 next_is : (before : List IoObject) (bytes : List ℕ) (x : IoObject × List ℕ) → (next_object before).read bytes ≡ Ok x → io_object.read bytes ≡ Ok x
 unfolding next_object
 next_is before bytes x e =
     let a = bind_ok (io_object.read bytes) (λ y. if nat_lt (length before) 256 then Ok y else Err Count) x e in
     a.1 ∙ ap (λ (y : IoObject × List ℕ). Ok y) (chosen (nat_lt (length before) 256) a.0 x a.2)
 
--- the place of a number lies behind six octets for each before it
+-- The place with index `k` starts 6 * k octets into the list.
 place_of : (count : ℕ) (before : List IoObject) (bytes : List ℕ) (objects : List IoObject) (rest : List ℕ) (k : ℕ) (d : IoObject)
     → read_each next_object count before bytes ≡ Ok (objects, rest) → k < length objects
     → (behind : List ℕ) × (io_object.read (drop (6 * k) bytes) ≡ Ok (get_or objects k d, behind)) × (6 * k ≤ length bytes)
@@ -108,24 +108,24 @@ place_of (suc count) before bytes objects rest (suc k) d e below =
     subst (λ (all : List IoObject). (behind : List ℕ) × (io_object.read (drop (6 * suc k) bytes) ≡ Ok (get_or all (suc k) d, behind)) × (6 * suc k ≤ length bytes)) same
     (others.0, subst (λ (xs : List ℕ). io_object.read xs ≡ Ok (get_or b.0.0 k d, others.0)) there others.1, inside)
 
--- of a list that was read
+-- The facts about a list that was read.
 module _ (count : ℕ) (bytes : List ℕ) (objects : List IoObject) (rest : List ℕ) (k : ℕ) (all : read_each next_object count [] bytes ≡ Ok (objects, rest)) (below : k < length objects) where
-  -- the octets reach to its place
+  -- The octets reach to the place.
   pub place_inside : 6 * k ≤ length bytes
   place_inside = (place_of count [] bytes objects rest k (record { slot_number = 0; subslot_number = 0; frame_offset = 0 }) all below).2
 
-  -- the part from there on is what is left there
+  -- The slice from the place on is the rest of the octets there.
   part : take (length bytes - 6 * k) (drop (6 * k) bytes) ≡ drop (6 * k) bytes
   part = take_all _ (drop (6 * k) bytes) (omega (arith, length-drop (6 * k) bytes))
 
-  -- what is read there is the place
+  -- The octets at that offset are read as the place.
   pub place_found : (object : IoObject) (behind : List ℕ) → io_object.read (take (length bytes - 6 * k) (drop (6 * k) bytes)) ≡ Ok (object, behind) → slice_get objects k ≡ Some object
   place_found object behind e =
       let there = place_of count [] bytes objects rest k object all below in
       let same = ok_is {F = BlockFault} (object, behind) (get_or objects k object, there.0) (sym e ∙ ap (λ (xs : List ℕ). io_object.read xs) part ∙ there.1) in
       slice_get_read objects (length objects) k object refl below (ap (λ (x : IoObject × List ℕ). x.0) same)
 
-  -- and it can be read
+  -- Reading the place there does not fail.
   pub place_missed : (fault : BlockFault) → io_object.read (take (length bytes - 6 * k) (drop (6 * k) bytes)) ≡ Err fault → ⊥
   place_missed fault e =
       let there = place_of count [] bytes objects rest k (record { slot_number = 0; subslot_number = 0; frame_offset = 0 }) all below in
@@ -136,13 +136,13 @@ module _ (count : ℕ) (bytes : List ℕ) (objects : List IoObject) (rest : List
 
 -- ---- writing a list
 
--- what holds when so many of the places are written
+-- The state of writing after the first `i` places.
 pub record IsPut (initial out : List ℕ) (objects : List IoObject) (i : ℕ) : Type 0 where
-  -- they and those that are still to be written are the whole
+  -- The places written and those still to be written make up the whole list.
   pub items : (tail : List ℕ) → out ++ write_each next_object (take i objects) (drop i objects) tail ≡ initial ++ write_each next_object [] objects tail
-  -- each took six octets
+  -- Each place took six octets.
   pub room : length out ≡ length initial + 6 * i
-  -- they can be written
+  -- The places written so far fit.
   pub fits : FitsEach next_object [] (take i objects)
 
 pub put_starts : (initial : List ℕ) (objects : List IoObject) → IsPut initial initial objects 0
@@ -173,18 +173,18 @@ pub put_all : (initial out : List ℕ) (objects : List IoObject) (i : ℕ) → l
 put_all initial out objects i end so_far tail =
     ap (λ (xs : List ℕ). out ++ xs) (sym (write_done next_object objects i tail end)) ∙ so_far.items tail
 
--- a count and its places, in front of what follows
+-- The octets of a count and its places, followed by the rest.
 pub objects_put : (old mid out : List ℕ) (list : List IoObject) → ((tail : List ℕ) → mid ++ tail ≡ old ++ two.write (length list) tail)
     → ((tail : List ℕ) → out ++ tail ≡ mid ++ write_each next_object [] list tail) → (tail : List ℕ) → out ++ tail ≡ old ++ io_objects.write list tail
 unfolding io_objects
 objects_put old mid out list count all tail = all tail ∙ count (write_each next_object [] list tail)
 
--- how many octets a list takes
+-- The number of octets that a list takes.
 pub list_size : (list : List IoObject) → io_objects.size list ≡ 2 + 6 * length list
 unfolding io_objects
 list_size list = omega (arith, objects_size [] list)
 
--- a list can be written
+-- A list of at most 256 places whose places fit can be written.
 pub list_fits : (list : List IoObject) → length list ≤ 256 → FitsEach next_object [] list → io_objects.Fits list
 unfolding io_objects
 list_fits list few fits = (omega (arith, few), (refl, fits))

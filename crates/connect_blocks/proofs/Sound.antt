@@ -28,7 +28,7 @@ unfolding control
 control_sound wanted = seen_sound _ _ _ (λ _. refl) (then_by_sound _ _ (blank_sound 2) (λ _. then_by_sound _ _ (octets_sound 16)
     (λ _. then_by_sound _ _ (numeral_sound 2) (λ _. then_by_sound _ _ (blank_sound 2) (λ _. then_by_sound _ _ (command_sound wanted) (λ _. numeral_sound 2))))))
 
--- whichever command is wanted, it takes the same room
+-- A control block takes the same number of octets for every wanted command.
 pub control_sized : (wanted : Option ℕ) (value : ControlBlock) → (control wanted).size value ≡ (control None).size value
 unfolding control command
 control_sized wanted value = refl

@@ -7,8 +7,8 @@ use Rattle.block_fields.specs.Fields.{two, four, ranged, fixed, unchecked_two}
 use Rattle.connect_blocks.specs.declared.alarm_cr.AlarmCrBlockReq.{AlarmCrBlockReq}
 use Rattle.connect_blocks.specs.declared.alarm_cr.AlarmCrBlockRes.{AlarmCrBlockRes}
 
--- AlarmCRType 1, LT 0x8892, AlarmCRProperties, RTATimeoutFactor, RTARetries, LocalAlarmReference, MaxAlarmDataLength and the
--- two tag words
+-- AlarmCRType 1, LT 0x8892, AlarmCRProperties, RTATimeoutFactor, RTARetries, LocalAlarmReference, MaxAlarmDataLength and
+-- the two tag headers.
 unfoldable pub alarm_cr_block_req : Codec BlockFault AlarmCrBlockReq
 alarm_cr_block_req = seen
     (λ x. record {
@@ -42,7 +42,7 @@ alarm_cr_block_req = seen
     (fixed 4 1 ⨾ fixed 5 0x8892 ⨾ four ⨾ ranged 7 1 65535
     ⨾ ranged 8 1 15 ⨾ two ⨾ ranged 10 200 1432 ⨾ two ⨾ two)
 
--- its fields are accepted
+-- The fields of an AlarmCRBlockReq are accepted.
 pub record IsAlarmCrBlockReq (block : AlarmCrBlockReq) : Type 0 where
   pub timeout : 1 ≤ block.rta_timeout_factor
   pub retries_least : 1 ≤ block.rta_retries
@@ -50,7 +50,7 @@ pub record IsAlarmCrBlockReq (block : AlarmCrBlockReq) : Type 0 where
   pub data_least : 200 ≤ block.max_alarm_data_length
   pub data_greatest : block.max_alarm_data_length ≤ 1432
 
--- AlarmCRType, LocalAlarmReference 1 and MaxAlarmDataLength 200
+-- The fields of an AlarmCRBlockRes: AlarmCRType, LocalAlarmReference 1 and MaxAlarmDataLength 200.
 unfoldable pub alarm_cr_block_res : Codec BlockFault AlarmCrBlockRes
 alarm_cr_block_res = seen (λ _. record {}) (λ _. (tt, (tt, tt)))
     (unchecked_two 1 ⨾ fixed 5 1 ⨾ fixed 6 200)

@@ -12,29 +12,29 @@ use Rattle.block_fields.specs.Fields.{two, four, ranged, fixed, unchecked_two, o
 use Rattle.connect_blocks.specs.declared.ar_block.ArBlockReq.{ArBlockReq}
 use Rattle.connect_blocks.specs.declared.ar_block.ArBlockRes.{ArBlockRes}
 
--- whether a UUID is not zero
+-- Whether a UUID is not zero.
 abbrev pub is_some_uuid : List ℕ → Bool
 is_some_uuid octets = not (pointwise nat_eq octets (replicate 16 0))
 
--- an ARUUID, which is field 5
+-- An ARUUID, field 5.
 unfoldable pub ar_uuid : Codec BlockFault (List ℕ)
 ar_uuid = checked is_some_uuid (Field 5) (octets 16)
 
--- whether an address is that of one station: its first octet is even
+-- Whether an address is a unicast address: its first octet is even.
 abbrev pub is_unicast : Mac → Bool
 is_unicast address = not (slice_index address.octets 0 % 2 == 1)
 
--- a CMInitiatorMacAdd, which is field 7
+-- A CMInitiatorMacAdd, field 7.
 unfoldable pub initiator_mac : Codec BlockFault Mac
 initiator_mac = checked is_unicast (Field 7) mac
 
--- a StationNameLength, which is field 12, and the name
+-- A StationNameLength, field 12, and the name.
 unfoldable pub station_name : Codec BlockFault (ArrayVec ℕ)
 station_name = seen (λ x. record { items = x.1 }) (λ name. (length name.items, name.items))
     (then_by (ranged 12 0 240) octets)
 
--- ARType 1, ARUUID, SessionKey, CMInitiatorMacAdd, CMInitiatorObjectUUID, ARProperties, CMInitiatorActivityTimeoutFactor,
--- CMInitiatorUDPRTPort and CMInitiatorStationName
+-- The fields of an ARBlockReq: ARType 1, ARUUID, SessionKey, CMInitiatorMacAdd, CMInitiatorObjectUUID, ARProperties,
+-- CMInitiatorActivityTimeoutFactor, CMInitiatorUDPRTPort and CMInitiatorStationName.
 unfoldable pub ar_block_req : Codec BlockFault ArBlockReq
 ar_block_req = seen
     (λ x. record {
@@ -66,14 +66,14 @@ ar_block_req = seen
     (fixed 4 1 ⨾ ar_uuid ⨾ two ⨾ initiator_mac ⨾ octets 16
     ⨾ four ⨾ ranged 10 1 1000 ⨾ two ⨾ station_name)
 
--- its fields are accepted
+-- The fields of an ARBlockReq are accepted.
 pub record IsArBlockReq (block : ArBlockReq) : Type 0 where
   pub uuid : is_some_uuid block.ar_uuid ≡ true
   pub address : is_unicast block.cm_initiator_mac_add ≡ true
   pub least : 1 ≤ block.cm_initiator_activity_timeout_factor
   pub greatest : block.cm_initiator_activity_timeout_factor ≤ 1000
 
--- ARType, ARUUID, SessionKey, CMResponderMacAdd, ResponderUDPRTPort
+-- The fields of an ARBlockRes: ARType, ARUUID, SessionKey, CMResponderMacAdd, ResponderUDPRTPort.
 unfoldable pub ar_block_res : Codec BlockFault ArBlockRes
 ar_block_res = seen
     (λ x. record { ar_uuid = x.1.0; session_key = x.1.1.0; cm_responder_mac_add = x.1.1.1.0 })

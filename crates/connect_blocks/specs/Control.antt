@@ -1,4 +1,4 @@
--- PrmEnd, ApplicationReady and Release, and their answers (IEC 61158-6-10, 5.2.4.5).
+-- PrmEnd, ApplicationReady and Release: their requests and their responses (IEC 61158-6-10, 5.2.4.5).
 use Rattle.std.specs.Prelude.{◌==◌, ℕ, Bool, true, Option, Some, None}
 use Rattle.wire.specs.Codec.{Codec}
 use Rattle.wire.specs.Formats.{◌⨾◌, seen}
@@ -8,16 +8,16 @@ use Rattle.block_fields.specs.declared.fault.BlockFault.TheVariants.{Field}
 use Rattle.block_fields.specs.Fields.{two, blank, octets}
 use Rattle.connect_blocks.specs.declared.control.ControlBlock.{ControlBlock}
 
--- whether a ControlCommand is the wanted one, if not any is
+-- Whether a ControlCommand is the wanted one; any is if none is wanted.
 abbrev pub is_command : Option ℕ → ℕ → Bool
 is_command None value = true
 is_command (Some wanted) value = value == wanted
 
--- a ControlCommand, which is field 8
+-- A ControlCommand, field 8.
 unfoldable pub command : Option ℕ → Codec BlockFault ℕ
 command wanted = checked (is_command wanted) (Field 8) two
 
--- two reserved bytes, ARUUID, SessionKey, two reserved bytes, ControlCommand, ControlBlockProperties
+-- Two reserved octets, ARUUID, SessionKey, two reserved octets, ControlCommand, ControlBlockProperties.
 unfoldable pub control : Option ℕ → Codec BlockFault ControlBlock
 control wanted = seen
     (λ x. record { ar_uuid = x.1.0; session_key = x.1.1.0; control_command = x.1.1.1.1.0; control_block_properties = x.1.1.1.1.1 })

@@ -20,7 +20,7 @@ use Rattle.connect_blocks.specs.Objects.{io_objects}
 
 -- ---- fields
 
--- IOCRType, which is field 4
+-- IOCRType, field 4.
 abbrev pub iocr_type_of : ℕ → Option IocrType
 iocr_type_of number = if number == 1 then Some Input else (if number == 2 then Some Output else None)
 
@@ -31,7 +31,7 @@ number_of_iocr Output = 2
 unfoldable pub iocr_type : Codec BlockFault IocrType
 iocr_type = named iocr_type_of number_of_iocr (Field 4) two
 
--- the class in the low four bits of IOCRProperties, which is field 7
+-- The class in the low four bits of IOCRProperties, field 7.
 abbrev pub rt_class_of : ℕ → Option RtClass
 rt_class_of number = if number % 16 == 1 then Some Class1 else (if number % 16 == 2 then Some Class2 else None)
 
@@ -42,25 +42,25 @@ number_of_class Class2 = 2
 unfoldable pub rt_class : Codec BlockFault RtClass
 rt_class = named rt_class_of number_of_class (Field 7) four
 
--- whether a FrameID is one of cyclic frames, or of an output that leaves the choice to the device
+-- Whether a FrameID is one of cyclic frames, or 0xFFFF for an output, which leaves the choice to the device.
 abbrev pub is_frame_id : IocrType → ℕ → Bool
 is_frame_id Input id = is_cyclic id
 is_frame_id Output id = is_cyclic id || id == 0xFFFF
 
--- a FrameID, which is field 9
+-- A FrameID, field 9.
 unfoldable pub frame_id : IocrType → Codec BlockFault ℕ
 frame_id kind = checked (is_frame_id kind) (Field 9) two
 
 -- ---- the blocks
 
--- from IOCRType to FrameID
+-- The fields from IOCRType to FrameID.
 unfoldable pub iocr_head : Codec BlockFault IocrHead
 iocr_head = seen
     (λ x. record { iocr_type = x.0; iocr_reference = x.1.0; iocr_properties = x.1.1.1.0; data_length = x.1.1.1.1.0; frame_id = x.1.1.1.1.1 })
     (λ head. (head.iocr_type, (head.iocr_reference, (tt, (head.iocr_properties, (head.data_length, head.frame_id))))))
     (then_by iocr_type (λ kind. two ⨾ fixed 6 0x8892 ⨾ rt_class ⨾ ranged 8 40 1440 ⨾ frame_id kind))
 
--- from SendClockFactor to DataHoldFactor
+-- The fields from SendClockFactor to DataHoldFactor.
 unfoldable pub iocr_times : Codec BlockFault IocrTimes
 iocr_times = seen
     (λ x. record {
@@ -78,14 +78,14 @@ iocr_times = seen
     ))
     (ranged 10 1 128 ⨾ ranged 11 1 512 ⨾ two ⨾ two ⨾ four ⨾ two ⨾ ranged 16 1 7680)
 
--- from IOCRTagHeader to the IOCS, with one API, 0
+-- The fields from IOCRTagHeader to the IOCS, with one API, 0.
 unfoldable pub iocr_places : Codec BlockFault IocrPlaces
 iocr_places = seen
     (λ x. record { iocr_tag_header = x.0; iocr_multicast_mac_add = x.1.0; io_data_objects = x.1.1.1.1.0; iocs = x.1.1.1.1.1 })
     (λ places. (places.iocr_tag_header, (places.iocr_multicast_mac_add, (tt, (tt, (places.io_data_objects, places.iocs))))))
     (two ⨾ mac ⨾ fixed 19 1 ⨾ fixed_four 20 0 ⨾ io_objects ⨾ io_objects)
 
--- all its fields
+-- All fields of an IOCRBlockReq.
 unfoldable pub iocr_block_req : Codec BlockFault IocrBlockReq
 iocr_block_req = seen
     (λ x. record {
@@ -134,7 +134,7 @@ iocr_block_req = seen
     ))
     (iocr_head ⨾ iocr_times ⨾ iocr_places)
 
--- its fields are accepted
+-- The fields of an IOCRBlockReq are accepted.
 pub record IsIocrBlockReq (block : IocrBlockReq) : Type 0 where
   pub data_least : 40 ≤ block.data_length
   pub data_greatest : block.data_length ≤ 1440
@@ -146,7 +146,7 @@ pub record IsIocrBlockReq (block : IocrBlockReq) : Type 0 where
   pub hold_least : 1 ≤ block.data_hold_factor
   pub hold_greatest : block.data_hold_factor ≤ 7680
 
--- IOCRType, IOCRReference, FrameID
+-- The fields of an IOCRBlockRes: IOCRType, IOCRReference, FrameID.
 unfoldable pub iocr_block_res : Codec BlockFault IocrBlockRes
 iocr_block_res = seen (λ x. record { iocr_type = x.0; iocr_reference = x.1.0; frame_id = x.1.1 })
     (λ block. (block.iocr_type, (block.iocr_reference, block.frame_id))) (two ⨾ two ⨾ two)

@@ -8,28 +8,28 @@ use Rattle.block_fields.specs.declared.fault.BlockFault.TheVariants.{Count}
 use Rattle.block_fields.specs.Fields.{two}
 use Rattle.connect_blocks.specs.declared.io_object.IoObject.{IoObject}
 
--- SlotNumber, SubslotNumber, FrameOffset
+-- SlotNumber, SubslotNumber, FrameOffset.
 unfoldable pub io_object : Codec BlockFault IoObject
 io_object = seen (λ x. record { slot_number = x.0; subslot_number = x.1.0; frame_offset = x.1.1 })
     (λ object. (object.slot_number, (object.subslot_number, object.frame_offset))) (two ⨾ two ⨾ two)
 
--- one behind others, of at most 256
+-- A place that follows others; at most 256 places.
 unfoldable pub next_object : List IoObject → Codec BlockFault IoObject
 next_object before = bounded 256 Count (λ _. io_object) before
 
--- a number of them, and they
+-- A count of places, and the places.
 unfoldable pub io_objects : Codec BlockFault (List IoObject)
 io_objects = counted two next_object
 
--- what is read at the front, or nothing where it can't be read
+-- The list that was read, or an empty list if reading failed.
 abbrev pub read_or_none : Result (List IoObject × List ℕ) BlockFault → List IoObject
 read_or_none (Ok x) = x.0
 read_or_none (Err fault) = []
 
--- so many at the front of octets
+-- The first `count` places of octets.
 abbrev pub objects_in : ℕ → List ℕ → List IoObject
 objects_in count octets = read_or_none (read_each next_object count [] octets)
 
--- there are so many
+-- Octets begin with `count` places.
 abbrev pub AreObjects : ℕ → List ℕ → Type 0
 AreObjects count octets = (rest : List ℕ) × (read_each next_object count [] octets ≡ Ok (objects_in count octets, rest)) × (length (objects_in count octets) ≡ count)

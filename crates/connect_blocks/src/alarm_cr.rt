@@ -1,4 +1,4 @@
-//! The communication relation of alarms, and its answer.
+//! The alarm communication relation: its request and its response.
 ghost use Rattle.std.specs.Prelude.{◌≡◌, ◌+◌, ◌≤◌, ◌++◌, List, ℕ};
 ghost use Rattle.arrayvec.specs.ArrayVec.{array_vec_len};
 ghost use Rattle.wire.specs.Codec.{Gives};
@@ -8,7 +8,7 @@ ghost use Rattle.connect_blocks.specs.AlarmCr.{alarm_cr_block_req, alarm_cr_bloc
 use arrayvec::ArrayVec;
 use block_fields::{BlockFault, len_fields, put_fields, read_body};
 
-/// 0x0103: AlarmCRBlockReq (IEC 61158-6-10, 5.2.4.7), of AlarmCRType 1 and LT 0x8892.
+/// 0x0103: AlarmCRBlockReq (IEC 61158-6-10, 5.2.4.7), with AlarmCRType 1 and LT 0x8892.
 #[derive(Clone, Copy)]
 pub struct AlarmCrBlockReq {
     /// AlarmCRProperties.
@@ -43,7 +43,7 @@ macro_rules! alarm_cr_block_req_fields {
     };
 }
 
-/// What BlockLength counts of an AlarmCRBlockReq, to the last octet.
+/// Reads the part of an AlarmCRBlockReq that BlockLength counts: the version and the fields, to the last octet.
 #[tactic(auto, unfolding(block_fields::specs::Fields::body, crate::specs::AlarmCr::alarm_cr_block_req))]
 pub fn alarm_cr_block_req_at(bytes: &[u8]) -> Result<AlarmCrBlockReq, BlockFault>
     ensures { Gives (λ x. x) result ((body alarm_cr_block_req).read bytes.now) }
@@ -62,7 +62,7 @@ pub fn put_alarm_cr_block_req<const N: usize>(out: &mut ArrayVec<u8, N>, value: 
     alarm_cr_block_req_fields!(put_fields [out, value]);
 }
 
-/// How many octets the fields of an AlarmCRBlockReq take.
+/// The number of octets that the fields of an AlarmCRBlockReq take.
 #[tactic(auto, unfolding(crate::specs::AlarmCr::alarm_cr_block_req))]
 pub fn alarm_cr_block_req_len(value: &AlarmCrBlockReq) -> usize
     ensures size { result ≡ alarm_cr_block_req.size value.now }
@@ -71,8 +71,8 @@ pub fn alarm_cr_block_req_len(value: &AlarmCrBlockReq) -> usize
     alarm_cr_block_req_fields!(len_fields[value])
 }
 
-/// 0x8103: AlarmCRBlockRes (IEC 61158-6-10, 5.2.4.8), of LocalAlarmReference 1 and MaxAlarmDataLength 200. AlarmCRType 1 is
-/// written, and not looked at.
+/// 0x8103: AlarmCRBlockRes (IEC 61158-6-10, 5.2.4.8), with LocalAlarmReference 1 and MaxAlarmDataLength 200. AlarmCRType
+/// is written as 1 and ignored when read.
 #[derive(Clone, Copy)]
 pub struct AlarmCrBlockRes {}
 
@@ -86,7 +86,7 @@ macro_rules! alarm_cr_block_res_fields {
     };
 }
 
-/// What BlockLength counts of an AlarmCRBlockRes, to the last octet.
+/// Reads the part of an AlarmCRBlockRes that BlockLength counts: the version and the fields, to the last octet.
 #[tactic(auto, unfolding(block_fields::specs::Fields::body, crate::specs::AlarmCr::alarm_cr_block_res))]
 pub fn alarm_cr_block_res_at(bytes: &[u8]) -> Result<AlarmCrBlockRes, BlockFault>
     ensures { Gives (λ x. x) result ((body alarm_cr_block_res).read bytes.now) }
@@ -106,7 +106,7 @@ pub fn put_alarm_cr_block_res<const N: usize>(out: &mut ArrayVec<u8, N>, value: 
     alarm_cr_block_res_fields!(put_fields [out, value]);
 }
 
-/// How many octets the fields of an AlarmCRBlockRes take.
+/// The number of octets that the fields of an AlarmCRBlockRes take.
 #[tactic(auto, unfolding(crate::specs::AlarmCr::alarm_cr_block_res))]
 pub fn alarm_cr_block_res_len(value: &AlarmCrBlockRes) -> usize
     ensures size { result ≡ alarm_cr_block_res.size value.now }

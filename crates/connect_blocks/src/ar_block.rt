@@ -1,4 +1,4 @@
-//! The application relation itself, and its answer.
+//! The application relation: its request and its response.
 ghost use Rattle.std.specs.Prelude.{◌≡◌, ◌+◌, ◌≤◌, ◌++◌, List, ℕ, true};
 ghost use Rattle.arrayvec.specs.ArrayVec.{array_vec_len};
 ghost use Rattle.wire.specs.Codec.{Gives};
@@ -12,7 +12,7 @@ use block_fields::{
 };
 use pn_values::Mac;
 
-/// 0x0101: ARBlockReq (IEC 61158-6-10, 5.2.4.1), of ARType 1, IOCAR_Single.
+/// 0x0101: ARBlockReq (IEC 61158-6-10, 5.2.4.1), with ARType 1, IOCAR_Single.
 #[derive(Drop)]
 pub struct ArBlockReq {
     /// ARUUID, which is not zero.
@@ -49,7 +49,7 @@ macro_rules! ar_block_req_fields {
     };
 }
 
-/// An ARUUID, field 5, which is not zero.
+/// Reads an ARUUID (field 5), which must not be zero.
 #[tactic(auto, unfolding(crate::specs::ArBlock::ar_uuid))]
 fn ar_uuid_at(bytes: &[u8]) -> Result<([u8; 16], &[u8]), BlockFault>
     ensures { Gives (λ x. (x.0, x.1.now)) result (ar_uuid.read bytes.now) }
@@ -61,7 +61,7 @@ fn ar_uuid_at(bytes: &[u8]) -> Result<([u8; 16], &[u8]), BlockFault>
     Ok((octets, rest))
 }
 
-/// A CMInitiatorMacAdd, field 7, whose first octet is even.
+/// Reads a CMInitiatorMacAdd (field 7), whose first octet must be even.
 #[tactic(auto, unfolding(crate::specs::ArBlock::initiator_mac))]
 fn initiator_mac_at(bytes: &[u8]) -> Result<(Mac, &[u8]), BlockFault>
     ensures { Gives (λ x. (x.0, x.1.now)) result (initiator_mac.read bytes.now) }
@@ -73,7 +73,7 @@ fn initiator_mac_at(bytes: &[u8]) -> Result<(Mac, &[u8]), BlockFault>
     Ok((address, rest))
 }
 
-/// A station name behind its length, field 12.
+/// Reads a StationNameLength (field 12) and the station name after it.
 #[tactic(auto, unfolding(crate::specs::ArBlock::station_name))]
 fn station_name_at(bytes: &[u8]) -> Result<(ArrayVec<u8, 240>, &[u8]), BlockFault>
     ensures { Gives (λ x. (x.0, x.1.now)) result (station_name.read bytes.now) }
@@ -85,7 +85,7 @@ fn station_name_at(bytes: &[u8]) -> Result<(ArrayVec<u8, 240>, &[u8]), BlockFaul
     Ok((name, rest))
 }
 
-/// Appends a station name behind its length. There must be room.
+/// Appends a station name after its length. There must be room.
 #[tactic(auto, unfolding(crate::specs::ArBlock::station_name))]
 fn put_station_name<const N: usize>(out: &mut ArrayVec<u8, N>, name: &ArrayVec<u8, 240>)
     requires { array_vec_len out.old + station_name.size name.now ≤ N }
@@ -97,7 +97,7 @@ fn put_station_name<const N: usize>(out: &mut ArrayVec<u8, N>, name: &ArrayVec<u
     append(out, name.as_slice());
 }
 
-/// How many octets a station name and its length take.
+/// The number of octets that a station name and its length take.
 #[tactic(auto, unfolding(crate::specs::ArBlock::station_name))]
 fn station_name_len(name: &ArrayVec<u8, 240>) -> usize
     ensures size { result ≡ station_name.size name.now }
@@ -106,7 +106,7 @@ fn station_name_len(name: &ArrayVec<u8, 240>) -> usize
     2 + name.len()
 }
 
-/// What BlockLength counts of an ARBlockReq, to the last octet.
+/// Reads the part of an ARBlockReq that BlockLength counts: the version and the fields, to the last octet.
 #[tactic(auto, unfolding(block_fields::specs::Fields::body, crate::specs::ArBlock::ar_block_req))]
 pub fn ar_block_req_at(bytes: &[u8]) -> Result<ArBlockReq, BlockFault>
     ensures { Gives (λ x. x) result ((body ar_block_req).read bytes.now) }
@@ -125,7 +125,7 @@ pub fn put_ar_block_req<const N: usize>(out: &mut ArrayVec<u8, N>, value: &ArBlo
     ar_block_req_fields!(put_fields [out, value]);
 }
 
-/// How many octets the fields of an ARBlockReq take.
+/// The number of octets that the fields of an ARBlockReq take.
 #[tactic(auto, unfolding(crate::specs::ArBlock::ar_block_req, crate::specs::ArBlock::ar_uuid, crate::specs::ArBlock::initiator_mac))]
 pub fn ar_block_req_len(value: &ArBlockReq) -> usize
     ensures size { result ≡ ar_block_req.size value.now }
@@ -134,7 +134,8 @@ pub fn ar_block_req_len(value: &ArBlockReq) -> usize
     ar_block_req_fields!(len_fields[value])
 }
 
-/// 0x8101: ARBlockRes (IEC 61158-6-10, 5.2.4.2). ARType 1 and ResponderUDPRTPort 0x8892 are written, and not looked at.
+/// 0x8101: ARBlockRes (IEC 61158-6-10, 5.2.4.2). ARType is written as 1 and ResponderUDPRTPort as 0x8892; both are
+/// ignored when read.
 #[derive(Clone, Copy)]
 pub struct ArBlockRes {
     /// ARUUID.
@@ -157,7 +158,7 @@ macro_rules! ar_block_res_fields {
     };
 }
 
-/// What BlockLength counts of an ARBlockRes, to the last octet.
+/// Reads the part of an ARBlockRes that BlockLength counts: the version and the fields, to the last octet.
 #[tactic(auto, unfolding(block_fields::specs::Fields::body, crate::specs::ArBlock::ar_block_res))]
 pub fn ar_block_res_at(bytes: &[u8]) -> Result<ArBlockRes, BlockFault>
     ensures { Gives (λ x. x) result ((body ar_block_res).read bytes.now) }
@@ -176,7 +177,7 @@ pub fn put_ar_block_res<const N: usize>(out: &mut ArrayVec<u8, N>, value: &ArBlo
     ar_block_res_fields!(put_fields [out, value]);
 }
 
-/// How many octets the fields of an ARBlockRes take.
+/// The number of octets that the fields of an ARBlockRes take.
 #[tactic(auto, unfolding(crate::specs::ArBlock::ar_block_res))]
 pub fn ar_block_res_len(value: &ArBlockRes) -> usize
     ensures size { result ≡ ar_block_res.size value.now }

@@ -1,4 +1,4 @@
-//! PrmEnd, ApplicationReady and Release, and their answers.
+//! PrmEnd, ApplicationReady and Release: their requests and their responses.
 ghost use Rattle.std.specs.Prelude.{◌≡◌, ◌+◌, ◌≤◌, ◌++◌, List, ℕ, Option, None, true};
 ghost use Rattle.arrayvec.specs.ArrayVec.{array_vec_len};
 ghost use Rattle.wire.specs.Codec.{Gives};
@@ -8,7 +8,8 @@ ghost use Rattle.connect_blocks.specs.Control.{command, control, is_command};
 use arrayvec::ArrayVec;
 use block_fields::{BlockFault, Uuid, len_fields, put_fields, read_body, u16_at};
 
-/// 0x0110, 0x0112, 0x0114 and 0x8110, 0x8112, 0x8114: IODControl, IOXControl and IODRelease, each asked for and answered.
+/// IODControl, IOXControl and IODRelease: the requests 0x0110, 0x0112 and 0x0114 and the responses 0x8110, 0x8112 and
+/// 0x8114.
 #[derive(Clone, Copy)]
 pub struct ControlBlock {
     /// ARUUID.
@@ -34,7 +35,7 @@ macro_rules! control_fields {
     };
 }
 
-/// A ControlCommand, field 8: the wanted one, or any where none is wanted.
+/// Reads a ControlCommand (field 8): the wanted one, or any if `wanted` is `None`.
 #[tactic(auto, unfolding(crate::specs::Control::command))]
 fn command_at(bytes: &[u8], wanted: Option<u16>) -> Result<(u16, &[u8]), BlockFault>
     ensures { Gives (λ x. (x.0, x.1.now)) result ((command wanted).read bytes.now) }
@@ -46,8 +47,8 @@ fn command_at(bytes: &[u8], wanted: Option<u16>) -> Result<(u16, &[u8]), BlockFa
     }
 }
 
-/// What BlockLength counts of a control block, to the last octet. `wanted`: the one ControlCommand that is accepted, if
-/// not any.
+/// Reads the part of a control block that BlockLength counts: the version and the fields, to the last octet. `wanted` is
+/// the only ControlCommand that is accepted; `None` accepts any.
 #[tactic(auto, unfolding(block_fields::specs::Fields::body, crate::specs::Control::control))]
 pub fn control_at(bytes: &[u8], wanted: Option<u16>) -> Result<ControlBlock, BlockFault>
     ensures { Gives (λ x. x) result ((body (control wanted)).read bytes.now) }
@@ -66,7 +67,7 @@ pub fn put_control<const N: usize>(out: &mut ArrayVec<u8, N>, value: &ControlBlo
     control_fields!(put_fields [out, value] any);
 }
 
-/// How many octets the fields of a control block take.
+/// The number of octets that the fields of a control block take.
 #[tactic(auto, unfolding(crate::specs::Control::control, crate::specs::Control::command))]
 pub fn control_len(value: &ControlBlock) -> usize
     ensures size { (wanted : Option ℕ) → result ≡ (control wanted).size value.now }

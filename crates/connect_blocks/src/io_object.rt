@@ -1,4 +1,4 @@
-//! A place in a cyclic frame.
+//! The place of a submodule's data or status in a cyclic frame.
 ghost use Rattle.std.specs.Prelude.{◌≡◌, ◌+◌, ◌≤◌, ◌++◌, List, ℕ};
 ghost use Rattle.arrayvec.specs.ArrayVec.{array_vec_len};
 ghost use Rattle.wire.specs.Codec.{Gives};
@@ -7,14 +7,14 @@ ghost use Rattle.connect_blocks.specs.Objects.{io_object};
 use arrayvec::ArrayVec;
 use block_fields::{BlockFault, put_fields, read_fields};
 
-/// An IODataObject or an IOCS of an IOCRBlockReq: where in the frame a submodule has its data, or its consumer status.
+/// An IODataObject or an IOCS of an IOCRBlockReq: the place in the frame of a submodule's data or of its consumer status.
 #[derive(Clone, Copy, Default)]
 pub struct IoObject {
     /// SlotNumber.
     pub slot_number: u16,
     /// SubslotNumber.
     pub subslot_number: u16,
-    /// FrameOffset, in octets from the first one behind the FrameID.
+    /// FrameOffset, in octets from the first octet after the FrameID.
     pub frame_offset: u16,
 }
 
@@ -28,7 +28,7 @@ macro_rules! io_object_fields {
     };
 }
 
-/// A place, and what is behind it.
+/// Reads a place. Returns it and the rest.
 #[tactic(auto, unfolding(crate::specs::Objects::io_object))]
 pub(crate) fn io_object_at(bytes: &[u8]) -> Result<(IoObject, &[u8]), BlockFault>
     ensures { Gives (λ x. (x.0, x.1.now)) result (io_object.read bytes.now) }

@@ -1,4 +1,4 @@
-//! Lists of places in a cyclic frame, where they lie.
+//! Lists of places in a cyclic frame, read without copying them.
 ghost use Rattle.std.specs.Prelude.{◌≡◌, ◌+◌, ◌≤◌, ◌<◌, ◌++◌, List, ℕ, IfOk, length, slice_get, ◌==◌};
 ghost use Rattle.arrayvec.specs.ArrayVec.{array_vec_len};
 ghost use Rattle.wire.specs.Codec.{Gives};
@@ -10,21 +10,21 @@ use arrayvec::ArrayVec;
 use block_fields::{BlockFault, append_u16, u16_at};
 use std::marker::Model;
 
-/// How many octets a place takes.
+/// The number of octets that a place takes.
 const OBJECT_LEN: usize = 6;
 
-/// A list of places, of at most 256, where it lies: in the octets that were read, or in a list that is lent to be written.
+/// A list of at most 256 places. It borrows them: from the octets that were read, or from a list to write.
 #[derive(Drop)]
 pub struct IoObjects<'a> {
     place: Place<'a>,
 }
 
-/// Where it lies.
+/// The memory that a list of places borrows.
 #[derive(Drop)]
 enum Place<'a> {
-    /// In octets, from the first place on, and how many places they are.
+    /// The octets from the first place on, and the number of places.
     Octets(&'a [u8], usize),
-    /// In a list.
+    /// A list of places.
     Listed(&'a [IoObject]),
 }
 
@@ -42,7 +42,7 @@ impl<'a> Model for IoObjects<'a> {
 }
 
 impl<'a> IoObjects<'a> {
-    /// The places of a list.
+    /// The places of a list, borrowed.
     pub fn lent(list: &'a ArrayVec<IoObject, 256>) -> IoObjects<'a>
         ensures { result ≡ list.now.items }
     {
@@ -51,7 +51,7 @@ impl<'a> IoObjects<'a> {
         }
     }
 
-    /// How many there are.
+    /// The number of places.
     pub fn len(&self) -> usize
         ensures len { result ≡ length self.now }
         ensures few { result ≤ 256 }
@@ -62,14 +62,14 @@ impl<'a> IoObjects<'a> {
         }
     }
 
-    /// Whether there is none.
+    /// Whether the list is empty.
     pub fn is_empty(&self) -> bool
         ensures { result ≡ (length self.now == 0) }
     {
         self.len() == 0
     }
 
-    /// The place of this number, counted from 0, if there are more.
+    /// The place with this index, counted from 0, or `None` if there are not that many.
     pub fn get(&self, index: usize) -> Option<IoObject>
         ensures { result ≡ slice_get self.now index }
     {
@@ -80,7 +80,7 @@ impl<'a> IoObjects<'a> {
         }
     }
 
-    /// The place of this number, counted from 0, of which there are more.
+    /// The place with this index, counted from 0. The list must have more places than `index`.
     pub(crate) fn object(&self, index: usize) -> IoObject
         requires { index < length self.now }
         ensures { slice_get self.now index ≡ Some result }
@@ -92,7 +92,7 @@ impl<'a> IoObjects<'a> {
     }
 }
 
-/// The place of this number, counted from 0, in octets that begin with more places.
+/// The place with this index, counted from 0, in octets that begin with more than `index` places.
 fn object_in(octets: &[u8], count: usize, index: usize) -> IoObject
     requires read { AreObjects count octets.now }
     requires below { index < length (objects_in count octets.now) }
@@ -107,7 +107,7 @@ fn object_in(octets: &[u8], count: usize, index: usize) -> IoObject
     }
 }
 
-/// A place behind so many others, of at most 256.
+/// Reads a place that follows `before` others. At most 256 places are accepted.
 #[tactic(auto, unfolding(crate::specs::Objects::next_object))]
 fn next_object_at(bytes: &[u8], before: usize) -> Result<(IoObject, &[u8]), BlockFault>
     ensures read { (objects : List IoObject) → length objects ≡ before →
@@ -122,7 +122,7 @@ fn next_object_at(bytes: &[u8], before: usize) -> Result<(IoObject, &[u8]), Bloc
     }
 }
 
-/// A number of places and they, and what is behind them.
+/// Reads a count of places and the places. Returns them and the rest.
 #[tactic(auto, unfolding(crate::specs::Objects::io_objects))]
 pub(crate) fn io_objects_at(bytes: &[u8]) -> Result<(IoObjects<'_>, &[u8]), BlockFault>
     ensures { Gives (λ x. (x.0, x.1.now)) result (io_objects.read bytes.now) }
@@ -137,7 +137,7 @@ pub(crate) fn io_objects_at(bytes: &[u8]) -> Result<(IoObjects<'_>, &[u8]), Bloc
     Ok((IoObjects { place }, rest))
 }
 
-/// Appends a number of places and they. There must be room.
+/// Appends the count of the places and the places. There must be room.
 pub(crate) fn put_io_objects<const N: usize>(out: &mut ArrayVec<u8, N>, list: &IoObjects)
     requires { array_vec_len out.old + io_objects.size list.now ≤ N }
     ensures items { (tail : List ℕ) → out.new.items ++ tail ≡ out.old.items ++ io_objects.write list.now tail }
@@ -150,7 +150,7 @@ pub(crate) fn put_io_objects<const N: usize>(out: &mut ArrayVec<u8, N>, list: &I
     }
 }
 
-/// How many octets a number of places and they take.
+/// The number of octets that the count of the places and the places take.
 #[tactic(auto, using(crate::proofs::Objects::list_size))]
 pub(crate) fn io_objects_len(list: &IoObjects) -> usize
     ensures size { result ≡ io_objects.size list.now }

@@ -1,4 +1,4 @@
-//! A communication relation of cyclic frames, and its answer.
+//! The communication relation of cyclic frames: its request and its response.
 ghost use Rattle.std.specs.Prelude.{◌≡◌, ◌+◌, ◌≤◌, ◌++◌, List, ℕ};
 ghost use Rattle.arrayvec.specs.ArrayVec.{array_vec_len};
 ghost use Rattle.wire.specs.Codec.{Gives};
@@ -24,7 +24,7 @@ pub enum IocrType {
     Output = 2,
 }
 
-/// The class of real time frames in IOCRProperties.
+/// The real-time class in IOCRProperties.
 #[derive(Clone, Copy, Debug, PartialEq, Eq)]
 pub enum RtClass {
     /// RT_CLASS_1.
@@ -33,18 +33,18 @@ pub enum RtClass {
     Class2 = 2,
 }
 
-/// 0x0102: IOCRBlockReq (IEC 61158-6-10, 5.2.4.3), of LT 0x8892, with one API, 0.
+/// 0x0102: IOCRBlockReq (IEC 61158-6-10, 5.2.4.3), with LT 0x8892 and one API, 0.
 #[derive(Drop)]
 pub struct IocrBlockReq<'a> {
     /// IOCRType.
     pub iocr_type: IocrType,
     /// IOCRReference.
     pub iocr_reference: u16,
-    /// IOCRProperties: the class. Its other bits are not looked at, and written 0.
+    /// IOCRProperties: the real-time class. The other bits are ignored when read and written as 0.
     pub iocr_properties: RtClass,
     /// DataLength, 40 to 1,440 octets.
     pub data_length: u16,
-    /// FrameID: one of cyclic frames; of an output also 0xFFFF, by which the device chooses.
+    /// FrameID of cyclic frames. For an output also 0xFFFF: the device then chooses the FrameID.
     pub frame_id: u16,
     /// SendClockFactor, 1 to 128, in units of 31.25 microseconds.
     pub send_clock_factor: u16,
@@ -70,7 +70,7 @@ pub struct IocrBlockReq<'a> {
     pub iocs: IoObjects<'a>,
 }
 
-/// What comes first in an IOCRBlockReq.
+/// The first fields of an IOCRBlockReq, from IOCRType to FrameID.
 #[derive(Clone, Copy)]
 struct IocrHead {
     iocr_type: IocrType,
@@ -93,7 +93,7 @@ macro_rules! iocr_head_fields {
     };
 }
 
-/// What an IOCRBlockReq says of time.
+/// The timing of an IOCRBlockReq, from SendClockFactor to DataHoldFactor.
 #[derive(Clone, Copy)]
 struct IocrTimes {
     send_clock_factor: u16,
@@ -119,7 +119,7 @@ macro_rules! iocr_times_fields {
     };
 }
 
-/// What comes last in an IOCRBlockReq.
+/// The last fields of an IOCRBlockReq, from IOCRTagHeader to the IOCS.
 #[derive(Drop)]
 struct IocrPlaces<'a> {
     iocr_tag_header: u16,
@@ -141,7 +141,7 @@ macro_rules! iocr_places_fields {
     };
 }
 
-/// An IOCRType, field 4.
+/// Reads an IOCRType (field 4).
 #[tactic(auto, unfolding(crate::specs::Iocr::iocr_type))]
 fn iocr_type_at(bytes: &[u8]) -> Result<(IocrType, &[u8]), BlockFault>
     ensures { Gives (λ x. (x.0, x.1.now)) result (iocr_type.read bytes.now) }
@@ -169,7 +169,7 @@ fn put_iocr_type<const N: usize>(out: &mut ArrayVec<u8, N>, value: &IocrType)
     }
 }
 
-/// How many octets an IOCRType takes.
+/// The number of octets that an IOCRType takes.
 #[tactic(auto, unfolding(crate::specs::Iocr::iocr_type))]
 fn iocr_type_len(value: &IocrType) -> usize
     ensures size { result ≡ iocr_type.size value.now }
@@ -179,7 +179,7 @@ fn iocr_type_len(value: &IocrType) -> usize
     2
 }
 
-/// The class in IOCRProperties, field 7.
+/// Reads the class in IOCRProperties (field 7).
 #[tactic(auto, unfolding(crate::specs::Iocr::rt_class))]
 fn rt_class_at(bytes: &[u8]) -> Result<(RtClass, &[u8]), BlockFault>
     ensures { Gives (λ x. (x.0, x.1.now)) result (rt_class.read bytes.now) }
@@ -207,7 +207,7 @@ fn put_rt_class<const N: usize>(out: &mut ArrayVec<u8, N>, value: &RtClass)
     }
 }
 
-/// How many octets IOCRProperties takes.
+/// The number of octets that IOCRProperties takes.
 #[tactic(auto, unfolding(crate::specs::Iocr::rt_class))]
 fn rt_class_len(value: &RtClass) -> usize
     ensures size { result ≡ rt_class.size value.now }
@@ -217,7 +217,7 @@ fn rt_class_len(value: &RtClass) -> usize
     4
 }
 
-/// A FrameID, field 9: of cyclic frames; of an output also 0xFFFF.
+/// Reads a FrameID (field 9): one of cyclic frames, or for an output also 0xFFFF.
 #[tactic(auto, unfolding(crate::specs::Iocr::frame_id))]
 fn frame_id_at(bytes: &[u8], kind: IocrType) -> Result<(u16, &[u8]), BlockFault>
     ensures { Gives (λ x. (x.0, x.1.now)) result ((frame_id kind).read bytes.now) }
@@ -229,7 +229,7 @@ fn frame_id_at(bytes: &[u8], kind: IocrType) -> Result<(u16, &[u8]), BlockFault>
     Ok((number, rest))
 }
 
-/// Whether it is a FrameID of cyclic frames, or 0xFFFF of an output.
+/// Whether the number is a FrameID of cyclic frames, or 0xFFFF for an output.
 fn is_frame_id(kind: IocrType, number: u16) -> bool
     ensures { result ≡ is_frame_id kind number }
 {
@@ -239,7 +239,7 @@ fn is_frame_id(kind: IocrType, number: u16) -> bool
     }
 }
 
-/// From IOCRType to FrameID, and what is behind them.
+/// Reads the fields from IOCRType to FrameID. Returns them and the rest.
 #[tactic(auto, unfolding(crate::specs::Iocr::iocr_head))]
 fn iocr_head_at(bytes: &[u8]) -> Result<(IocrHead, &[u8]), BlockFault>
     ensures { Gives (λ x. (x.0, x.1.now)) result (iocr_head.read bytes.now) }
@@ -247,7 +247,7 @@ fn iocr_head_at(bytes: &[u8]) -> Result<(IocrHead, &[u8]), BlockFault>
     iocr_head_fields!(read_fields[bytes])
 }
 
-/// From SendClockFactor to DataHoldFactor, and what is behind them.
+/// Reads the fields from SendClockFactor to DataHoldFactor. Returns them and the rest.
 #[tactic(auto, unfolding(crate::specs::Iocr::iocr_times))]
 fn iocr_times_at(bytes: &[u8]) -> Result<(IocrTimes, &[u8]), BlockFault>
     ensures { Gives (λ x. (x.0, x.1.now)) result (iocr_times.read bytes.now) }
@@ -255,7 +255,7 @@ fn iocr_times_at(bytes: &[u8]) -> Result<(IocrTimes, &[u8]), BlockFault>
     iocr_times_fields!(read_fields[bytes])
 }
 
-/// From IOCRTagHeader to the IOCS, and what is behind them.
+/// Reads the fields from IOCRTagHeader to the IOCS. Returns them and the rest.
 #[tactic(auto, unfolding(crate::specs::Iocr::iocr_places))]
 fn iocr_places_at(bytes: &[u8]) -> Result<(IocrPlaces<'_>, &[u8]), BlockFault>
     ensures { Gives (λ x. (x.0, x.1.now)) result (iocr_places.read bytes.now) }
@@ -263,8 +263,8 @@ fn iocr_places_at(bytes: &[u8]) -> Result<(IocrPlaces<'_>, &[u8]), BlockFault>
     iocr_places_fields!(read_fields[bytes])
 }
 
-/// What BlockLength counts of an IOCRBlockReq, to the last octet. It stands outside of who reads every kind of block, which would clear its
-/// locals for each of them.
+/// Reads the part of an IOCRBlockReq that BlockLength counts: the version and the fields, to the last octet. A function
+/// of its own, so that the reader of all kinds of blocks does not clear its locals for each block.
 #[inline(never)]
 #[tactic(auto, unfolding(block_fields::specs::Fields::body, crate::specs::Iocr::iocr_block_req))]
 pub fn iocr_block_req_at(bytes: &[u8]) -> Result<IocrBlockReq<'_>, BlockFault>
@@ -308,7 +308,7 @@ pub fn put_iocr_block_req<const N: usize>(out: &mut ArrayVec<u8, N>, value: &Ioc
     iocr_places_fields!(put_fields [out, value]);
 }
 
-/// How many octets the fields of an IOCRBlockReq take.
+/// The number of octets that the fields of an IOCRBlockReq take.
 #[tactic(auto, unfolding(crate::specs::Iocr::iocr_block_req, crate::specs::Iocr::iocr_head, crate::specs::Iocr::iocr_times, crate::specs::Iocr::iocr_places, crate::specs::Iocr::frame_id))]
 pub fn iocr_block_req_len(value: &IocrBlockReq) -> usize
     ensures size { result ≡ iocr_block_req.size value.now }
@@ -322,9 +322,9 @@ pub fn iocr_block_req_len(value: &IocrBlockReq) -> usize
 /// 0x8102: IOCRBlockRes (IEC 61158-6-10, 5.2.4.4).
 #[derive(Clone, Copy)]
 pub struct IocrBlockRes {
-    /// IOCRType, as it was asked for.
+    /// IOCRType of the request.
     pub iocr_type: u16,
-    /// IOCRReference, as it was asked for.
+    /// IOCRReference of the request.
     pub iocr_reference: u16,
     /// FrameID.
     pub frame_id: u16,
@@ -340,7 +340,7 @@ macro_rules! iocr_block_res_fields {
     };
 }
 
-/// What BlockLength counts of an IOCRBlockRes, to the last octet.
+/// Reads the part of an IOCRBlockRes that BlockLength counts: the version and the fields, to the last octet.
 #[tactic(auto, unfolding(block_fields::specs::Fields::body, crate::specs::Iocr::iocr_block_res))]
 pub fn iocr_block_res_at(bytes: &[u8]) -> Result<IocrBlockRes, BlockFault>
     ensures { Gives (λ x. x) result ((body iocr_block_res).read bytes.now) }
@@ -359,7 +359,7 @@ pub fn put_iocr_block_res<const N: usize>(out: &mut ArrayVec<u8, N>, value: &Ioc
     iocr_block_res_fields!(put_fields [out, value]);
 }
 
-/// How many octets the fields of an IOCRBlockRes take.
+/// The number of octets that the fields of an IOCRBlockRes take.
 #[tactic(auto, unfolding(crate::specs::Iocr::iocr_block_res))]
 pub fn iocr_block_res_len(value: &IocrBlockRes) -> usize
     ensures size { result ≡ iocr_block_res.size value.now }

@@ -1,5 +1,5 @@
-//! The blocks by which an application relation is made, controlled and ended (IEC 61158-6-10, 5.2.4): what each one means,
-//! and how its fields are read and written. Crate `block_codec` puts the header in front of them.
+//! The blocks that establish, control and end an application relation (IEC 61158-6-10, 5.2.4): what each one means, and
+//! how its fields are read and written. Crate `block_codec` adds the block header.
 #![tactic(auto)]
 
 mod alarm_cr;

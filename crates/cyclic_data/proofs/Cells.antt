@@ -1,4 +1,4 @@
--- Cells of an image, and octets that are written.
+-- Cells of an image, and the effect of writing octets.
 use Rattle.std.proofs.Common.{◌≡◌, inl, inr, ℕ, ◌+◌, ◌-◌, ◌<◌, ◌≤◌, ◌++◌, Bool, cond, List, [], ◌∷◌, length, take, drop, map, get_or, replicate, Option, Some, None, option_map, refl, sym, ap, subst, ◌∙◌, arith}
 use Rattle.std.specs.List.{AllByRecursion}
 use Rattle.std.proofs.lemmas.Bool.{cases_Bool, cases_lt}
@@ -11,7 +11,7 @@ use Rattle.cyclic_data.specs.Image.{Cell, Shown, cell_of, zero_cell, place_at, c
 use Rattle.cyclic_data.specs.Held.{IsImage, IsWritten}
 use Rattle.cyclic_data.proofs.Known.{cond_cases}
 
--- a slice reads alike where each octet does
+-- A slice reads the same if each of its octets does.
 slice_same : (old new : List ℕ) (offset n : ℕ) → length new ≡ length old
     → ((k : ℕ) → offset ≤ k → k < offset + n → get_or new k 0 ≡ get_or old k 0) → take n (drop offset new) ≡ take n (drop offset old)
 slice_same old new offset n size same =
@@ -31,7 +31,7 @@ cell_is place value value' status status' v s =
     ap (λ (x : List ℕ). let c : Cell = record { place = place; value = x; status = status } in c) v
     ∙ ap (λ (x : ℕ). let c : Cell = record { place = place; value = value'; status = x } in c) s
 
--- a cell reads alike where each of its octets does
+-- A cell reads the same if each of its octets does.
 pub cell_same : (old new : List ℕ) (place : Place) → IsSolid place → length new ≡ length old
     → ((k : ℕ) → Covers place k → get_or new k 0 ≡ get_or old k 0) → cell_of new place ≡ cell_of old place
 cell_same old new place solid size same =
@@ -39,7 +39,7 @@ cell_same old new place solid size same =
     (slice_same old new place.offset (place.size - 1) size (λ k from to. same k (from, omega arith)))
     (same (place.offset + (place.size - 1)) (omega arith, omega arith))
 
--- what holds of all holds of the one that is found
+-- A fact about all places holds for the one that is found.
 pub at_in : (P : Place → Type 0) (kind : PlaceKind) (slot subslot : ℕ) (places : List Place) (place : Place) → AllByRecursion P places
     → place_at kind slot subslot places ≡ Some place → P place
 at_in P kind slot subslot [] place all h = let e : ◌≡◌ {A = Option Place} None (Some place) = h in cc
@@ -56,7 +56,7 @@ cell_found octets kind slot subslot (place ∷ places) =
     elim (cases_Bool (is_of kind slot subslot place)) [ inl t ↦ rw t refl | inr t ↦ rw t (cell_found octets kind slot subslot places) ]
 
 module _ (kind : PlaceKind) (slot subslot : ℕ) (change : Cell → Cell) (old new : List ℕ) (size : length new ≡ length old) where
-  -- places that are none of the submodule and apart from what was written
+  -- Places of other submodules that do not overlap what was written read the same.
   map_same : (place : Place) (places : List Place) → ((k : ℕ) → (Covers place k → ⊥) → get_or new k 0 ≡ get_or old k 0) → AllByRecursion (AreApart place) places
       → AllByRecursion IsSolid places → times_listed kind slot subslot places ≤ 0
       → map (cell_of new) places ≡ map (changed_in kind slot subslot change) (map (cell_of old) places)
@@ -70,7 +70,7 @@ module _ (kind : PlaceKind) (slot subslot : ℕ) (change : Cell → Cell) (old n
             rw t (ap (λ (x : Cell). x ∷ map (cell_of new) places) here ∙ ap (λ (xs : List Cell). cell_of old other ∷ xs) rest)
       ]
 
-  -- one place is written, and its cell alone is changed
+  -- If one place is written, only its cell changes.
   pub map_changed : (places : List Place) (place : Place) → ((k : ℕ) → (Covers place k → ⊥) → get_or new k 0 ≡ get_or old k 0)
       → cell_of new place ≡ change (cell_of old place) → AreAllApart places → AllByRecursion IsSolid places → times_listed kind slot subslot places ≤ 1
       → place_at kind slot subslot places ≡ Some place
@@ -93,7 +93,7 @@ module _ (kind : PlaceKind) (slot subslot : ℕ) (change : Cell → Cell) (old n
             rw w.0 (ap (λ (x : Cell). x ∷ map (cell_of new) places) head ∙ ap (λ (xs : List Cell). cell_of old other ∷ xs) rest)
       ]
 
--- ---- what is written
+-- ---- the octets that are written
 
 pub mid_written : (old value part : List ℕ) (start n : ℕ) → n ≡ length value → part ≡ value → start + length value ≤ length old
     → IsWritten old (put_mid start n old part) start value
@@ -116,7 +116,7 @@ mid_written old value part start n long is fits =
           ∙ (get_or-drop start old (n + (k - start - length value)) 0 ∙ ap (λ (i : ℕ). get_or old i 0) here)));
     }
 
--- elsewhere it reads as before
+-- Octets outside the written place read the same.
 written_elsewhere : (old new value : List ℕ) (start : ℕ) (place : Place) → IsWritten old new start value → place.offset ≤ start
     → start + length value ≤ place.offset + place.size → (k : ℕ) → (Covers place k → ⊥) → get_or new k 0 ≡ get_or old k 0
 written_elsewhere old new value start place written from to k off =
@@ -128,7 +128,7 @@ written_elsewhere old new value start place written from to k off =
       ]
     ]
 
--- data is written at its place
+-- Data is written to its place.
 pub value_there : (old new value : List ℕ) (place : Place) → IsWritten old new place.offset value → place.size ≡ length value + 1
     → place.offset + place.size ≤ length old → cell_of new place ≡ with_value value (cell_of old place)
 value_there old new value place written long inside =
@@ -141,7 +141,7 @@ value_there old new value place written long inside =
     get_or-take (place.size - 1) (drop place.offset new) i 0 few ∙ (get_or-drop place.offset new i 0 ∙ written.there i less)))
     (written.above (place.offset + (place.size - 1)) (omega arith))
 
--- a status is written behind the data
+-- A status is written after the data.
 pub status_there : (old new : List ℕ) (status start : ℕ) (place : Place) → IsWritten old new start (status ∷ []) → start + 1 ≡ place.offset + place.size
     → 0 < place.size → cell_of new place ≡ with_status status (cell_of old place)
 status_there old new status start place written here solid =

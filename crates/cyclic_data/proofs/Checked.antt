@@ -1,4 +1,4 @@
--- Places that were judged.
+-- Places that were checked.
 use Rattle.std.proofs.Common.{◌≡◌, inl, inr, ℕ, ◌+◌, ◌<◌, ◌≤◌, ◌++◌, Bool, true, false, List, [], ◌∷◌, length, map, drop, Option, Some, None, option_map, option_and_then, unwrap_or, slice_get, get_or, replicate, Result, Ok, Err, is_ok, sym, ap, subst, ◌∙◌, arith, append_assoc}
 use Rattle.std.specs.Prelude.{OnOk}
 use Rattle.std.specs.List.{AllByRecursion}
@@ -21,7 +21,7 @@ use Rattle.cyclic_data.specs.Marked.{IsFree, IsTaken, IsMarkedWith}
 use Rattle.cyclic_data.proofs.Overlap.{IsHit, IsClear, hit_before, clear_before, not_outside, not_meet}
 use Rattle.cyclic_data.proofs.Known.{all_known, all_listed, required_few, few_places, unknown_there, missing_there}
 
--- an element that is read stands first in what is left
+-- An element that is read is the first of the remaining ones.
 pub drop_read : {X : Type 0} (xs : List X) (i : ℕ) (x : X) → slice_get xs i ≡ Some x → drop i xs ≡ x ∷ drop (i + 1) xs
 drop_read xs i x h =
     drop_more xs i x (slice_get_within xs i x h) ∙ ap (λ y. y ∷ drop (i + 1) xs) (get_or_from_slice_get xs i x x h)
@@ -68,7 +68,7 @@ pub inside_more : (n m : ℕ) (xs : List Place) → n ≤ m → AllByRecursion (
 inside_more n m [] le all = tt
 inside_more n m (x ∷ xs) le all = (omega (arith, all.0), inside_more n m xs le all.1)
 
--- ---- each place takes an octet at least
+-- ---- each place takes at least one octet
 
 size_of : (direction : IocrType) (kind : PlaceKind) (o : Option (ℕ × SubmoduleData))
     → 0 < unwrap_or (option_and_then (λ (found : ℕ × SubmoduleData). taken direction kind found.1) o) 1
@@ -90,7 +90,7 @@ solid_all direction expected kind [] = tt
 solid_all direction expected kind (object ∷ objects) =
     (size_of direction kind (found_from object.slot_number object.subslot_number 0 expected), solid_all direction expected kind objects)
 
--- ---- a first fault is no layout
+-- ---- places with a first fault are not a layout
 
 pub refuted : (f : LayoutFault) (n : ℕ) (direction : IocrType) (expected : List ExpectedData) (places : List Place)
     → IsFirstFault f n direction expected places → IsLayout n direction expected places → ⊥
@@ -107,7 +107,7 @@ pub on_ok_given : {T E P : Type 0} (r : Result T E) → is_ok r ≡ true → OnO
 on_ok_given (Ok x) is h = h
 on_ok_given (Err e) is h = absurd (false≢true is)
 
--- a place to be named where any will do
+-- Any place, where a default is needed.
 abbrev pub no_place : Place
 no_place = record { kind = Data; slot = 0; subslot = 0; offset = 0; size = 0 }
 
@@ -115,7 +115,7 @@ pub first_outside : (f : LayoutFault) (n : ℕ) (direction : IocrType) (expected
     → AnyByRecursion (IsOutside n) places → IsFirstFault f n direction expected places
 first_outside f n direction expected places e any = subst (λ (x : LayoutFault). IsFirstFault x n direction expected places) (sym e) any
 
--- one more object
+-- The facts about one more object.
 module _ (F : IoObject → Place) (n : ℕ) (objects : List IoObject) (index : ℕ) (object : IoObject) (h : Some object ≡ slice_get objects index) where
   mapped : map F (drop index objects) ≡ F object ∷ map F (drop (index + 1) objects)
   mapped = ap (λ (os : List IoObject). map F os) (drop_read objects index object (sym h))

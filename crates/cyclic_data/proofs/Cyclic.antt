@@ -1,4 +1,4 @@
--- What a cyclic frame has behind its FrameID.
+-- The octets of a cyclic frame after its FrameID.
 use Rattle.std.proofs.Common.{◌≡◌, inl, inr, ℕ, ◌+◌, ◌^◌, ◌<◌, ◌≤◌, List, [], ◌++◌, length, take, drop, Result, Ok, Err, refl, sym, ap, subst, ◌∙◌, arith}
 use Rattle.std.specs.Prelude.{MatchResult}
 use Rattle.std.proofs.lemmas.Bool.{cases_lt}
@@ -26,7 +26,7 @@ cyclic_takes n bytes value e = (loose_sound (cyclic_frame n) (frame_sound n)).ta
 pub cyclic_again : (n : ℕ) (bytes : List ℕ) (value : List ℕ × CyclicTail) → IsCyclic n bytes value → cyclic_of n bytes ≡ Ok value
 cyclic_again n bytes value s = (loose_sound (cyclic_frame n) (frame_sound n)).again bytes value s
 
--- ---- how long it is
+-- ---- the length
 
 number_size : (size : ℕ) (bytes rest : List ℕ) (value : ℕ) → (number short size).Spells bytes value rest → length bytes ≡ size + length rest
 number_size size bytes rest value s =
@@ -54,7 +54,7 @@ pub cyclic_size : (n : ℕ) (bytes : List ℕ) (value : List ℕ × CyclicTail) 
 unfolding cyclic_frame
 cyclic_size n bytes value s = s.1.1.0
 
--- a number that is there
+-- A number that is there is read.
 number_there : (size : ℕ) (bytes : List ℕ) → size ≤ length bytes → (number short size).Spells bytes (big_number size (take size bytes)) (drop size bytes)
 number_there size bytes long = (take size bytes, length-take-le size bytes long, sym (take-append-drop size bytes), refl)
 
@@ -93,7 +93,7 @@ read_short view n bytes (Err fault) given = elim (cases_lt (length bytes) (n + 4
       let e : ◌≡◌ {A = Result (List ℕ × CyclicTail) ShortFrame} (Err fault) (Ok there.0) = sym given ∙ cyclic_again n bytes there.0 there.1 in absurd cc
 ]
 
--- ---- what is written
+-- ---- the octets that are written
 
 pub written_again : (octets : List ℕ) (tail : CyclicTail) → cyclic_tail.Fits tail → (rest : List ℕ)
     → cyclic_of (length octets) (cyclic_bytes octets tail [] ++ rest) ≡ Ok (octets, tail)

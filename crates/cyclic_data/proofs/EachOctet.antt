@@ -18,7 +18,7 @@ off_of : (place : Place) (k : ℕ) → is_covered place k ≡ false → Covers p
 off_of place k f covered =
     true≢false (sym (and_from (nat_le place.offset k) (nat_lt k (place.offset + place.size)) (le-leb place.offset k covered.0) (lt-ltb k (place.offset + place.size) covered.1)) ∙ f)
 
--- an octet of a cell, where it lies
+-- An octet of a cell, at its place.
 cell_octet : (octets : List ℕ) (place : Place) (k : ℕ) → Covers place k → place.offset + place.size ≤ length octets
     → get_or (value_in octets place ++ status_in octets place ∷ []) (k - place.offset) 0 ≡ get_or octets k 0
 cell_octet octets place k covered fits =

@@ -1,4 +1,4 @@
--- The octets of a frame, as an image holds them.
+-- The octets of a frame, as an image stores them.
 use Rattle.std.proofs.Common.{◌≡◌, ℕ, ◌+◌, ◌-◌, ◌≤◌, List, [], ◌∷◌, length, take, drop, map, get_or, replicate, ap, subst, ◌∙◌, arith}
 use Rattle.std.specs.List.{AllByRecursion}
 use Rattle.std.proofs.lemmas.List.{length-take-le, length-replicate, get_or-take, take-take, drop-take}
@@ -8,7 +8,7 @@ use Rattle.cyclic_data.specs.Image.{Cell, Shown, cell_of, zero_cell, AreHeld, Is
 use Rattle.cyclic_data.specs.Held.{IsImage}
 use Rattle.cyclic_data.proofs.Cells.{cell_is, zero_cells, zero_octets}
 
--- a slice of the first octets
+-- A slice of the first `n` octets is a slice of all octets.
 slice_front : (n offset size : ℕ) (octets : List ℕ) → offset + size ≤ n → take size (drop offset (take n octets)) ≡ take size (drop offset octets)
 slice_front n offset size octets inside =
     let whole : n ≡ offset + (n - offset) = omega arith in
@@ -45,7 +45,7 @@ new_image n places octets blank table = record {
   zeros = λ k off. ap (λ (xs : List ℕ). get_or xs k 0) blank ∙ zero_octets 1440 k;
 }
 
--- no place
+-- A table with no places.
 pub no_table : IsTable 0 []
 no_table = record { short = omega arith; inside = tt; apart = tt; solid = tt; once = λ kind slot subslot. omega arith }
 

@@ -78,7 +78,7 @@ found_same slot subslot slot' subslot' index (sub ∷ subs) one other h h' same 
 
 -- ---- marks
 
--- what a mark says of where it was found
+-- The mark of a place that was found.
 unpack_taken : (took : Option ℕ) (mark m : ℕ) → option_map (λ _. mark) took ≡ Some m → mark ≡ m
 unpack_taken None mark m h = let e : ◌≡◌ {A = Option ℕ} None (Some m) = h in cc
 unpack_taken (Some size) mark m h = let e : Some mark ≡ Some m = h in cc
@@ -99,7 +99,7 @@ is_some_found : (direction : IocrType) (kind : PlaceKind) (o : Option (ℕ × Su
 is_some_found direction kind None = refl
 is_some_found direction kind (Some found) = is_some_taken (taken direction kind found.1) (mark_in kind found.0)
 
--- how often a place is required, by its mark
+-- How often a place with this mark is required.
 abbrev times_of : Option ℕ → ℕ
 times_of None = 0
 times_of (Some mark) = 1
@@ -119,7 +119,7 @@ mark_below : (kind : PlaceKind) (i m : ℕ) → i < 64 → mark_in kind i ≡ m 
 mark_below Data i m below h = omega arith
 mark_below Iocs i m below h = omega arith
 
--- how often a place was seen, by its mark
+-- How often a place with this mark was seen.
 abbrev pub SeenAs : List Bool → Option ℕ → ℕ → Type 0
 SeenAs seen None times = times ≡ 0
 SeenAs seen (Some mark) times = (mark < length seen) × (times ≡ cond (get_or seen mark false) 1 0)
@@ -165,7 +165,7 @@ module _ (direction : IocrType) (expected : List ExpectedData) where
   required_is kind slot subslot =
       ap (λ (b : Bool). cond b 1 0) (is_some_found direction kind (found_from slot subslot 0 expected)) ∙ cond_some (mark kind slot subslot)
 
-  -- a list of places has these marks
+  -- The marks agree with how often each place was seen.
   abbrev pub IsSeen : List Bool → Counts → Type 0
   IsSeen seen times = (kind : PlaceKind) (slot subslot : ℕ) → SeenAs seen (mark kind slot subslot) (times kind slot subslot)
 
@@ -187,7 +187,7 @@ module _ (direction : IocrType) (expected : List ExpectedData) where
         let u = found_between slot subslot 0 expected a.0 a.1 in
         mark_below kind a.0.0 m (omega arith) a.2
 
-    -- one more place, which is new
+    -- The marks after one more place that is new.
     one_more : (seen : List Bool) (times : ℕ) (place : Place) (kind : PlaceKind) (slot subslot m : ℕ) (o : Option ℕ) → mark kind slot subslot ≡ o
         → mark place.kind place.slot place.subslot ≡ Some m → m < length seen → get_or seen m false ≡ false → SeenAs seen o times
         → SeenAs (set seen m true) o (cond (is_of kind slot subslot place) 1 0 + times)
@@ -216,7 +216,7 @@ module _ (direction : IocrType) (expected : List ExpectedData) where
               (omega (arith, length-set seen m true, was.0), rw (t, now) (omega (arith, was.1)))
         ]
 
-    -- what a new place is: one that is expected, with a mark that is not there
+    -- A new place is expected, and its mark is not set.
     new_parts : (seen : List Bool) (times : ℕ) (o : Option ℕ) → is_new seen o ≡ true → SeenAs seen o times
         → (m : ℕ) × (o ≡ Some m) × (m < length seen) × (get_or seen m false ≡ false)
     new_parts seen times None h was = absurd (false≢true h)
@@ -235,7 +235,7 @@ module _ (direction : IocrType) (expected : List ExpectedData) where
         (sym (with_mark seen o n.0 n.1))
         (one_more seen (times kind slot subslot) place kind slot subslot n.0 (mark kind slot subslot) refl n.1 n.2 n.3 (was kind slot subslot))
 
-    -- places that are all new: what they left is how often each is listed
+    -- If all places are new, the marks agree with how often each is listed.
     pub all_new : (places : List Place) (seen : List Bool) (times : Counts) → IsSeen seen times → has_unknown direction expected seen places ≡ false
         → IsSeen (seen_behind direction expected seen places) (λ kind slot subslot. times_listed kind slot subslot places + times kind slot subslot)
     all_new [] seen times was h = λ kind slot subslot. seen_as_along seen (mark kind slot subslot) _ _ (omega arith) (was kind slot subslot)
@@ -248,7 +248,7 @@ module _ (direction : IocrType) (expected : List ExpectedData) where
           | inr w ↦ absurd (true≢false w.1)
         ]
 
-    -- one that is not: it is listed more often than it may be
+    -- If one place is not new, it is listed more often than required.
     pub not_new : (places : List Place) (seen : List Bool) (times : Counts) → IsSeen seen times → has_unknown direction expected seen places ≡ true
         → (kind : PlaceKind) × (slot : ℕ) × (subslot : ℕ) × (times_required direction expected kind slot subslot < times_listed kind slot subslot places + times kind slot subslot)
     not_new [] seen times was h = absurd (false≢true h)
@@ -268,7 +268,7 @@ module _ (direction : IocrType) (expected : List ExpectedData) where
             let there : get_or seen m false ≡ true = not-false (get_or seen m false) h in
             let one : times ≡ 1 = was.1 ∙ ap (λ (b : Bool). cond b 1 0) there in omega (arith, r)
 
-    -- there are no more new places than marks
+    -- There are at most as many new places as marks.
     pub new_few : (places : List Place) (seen : List Bool) (times : Counts) → IsSeen seen times → has_unknown direction expected seen places ≡ false
         → length places + trues seen ≤ length seen
     new_few [] seen times was h = let r = trues_few seen in omega arith
@@ -283,9 +283,9 @@ module _ (direction : IocrType) (expected : List ExpectedData) where
           | inr w ↦ absurd (true≢false w.1)
         ]
 
-    -- ---- what is missing
+    -- ---- missing places
 
-    -- a mark that is lacking: the place is required, and is not listed
+    -- If a mark is missing, its place is required and not listed.
     lacking : (seen : List Bool) (times : Counts) (kind : PlaceKind) (slot subslot : ℕ) → IsSeen seen times → lacks seen (mark kind slot subslot) ≡ true
         → times kind slot subslot < times_required direction expected kind slot subslot
     lacking seen times kind slot subslot was h = lacking_at (mark kind slot subslot) _ _ h (was kind slot subslot) (required_is kind slot subslot)
@@ -307,7 +307,7 @@ module _ (direction : IocrType) (expected : List ExpectedData) where
           | inr w ↦ one_missing subs seen times was w
         ]
 
-    -- a submodule that is found lacks nothing
+    -- No place of a submodule that is found is missing.
     found_there : (kind : PlaceKind) (slot subslot index : ℕ) (subs : List ExpectedData) (seen : List Bool) (found : ℕ × SubmoduleData)
         → found_from slot subslot index subs ≡ Some found → has_missing direction expected seen subs ≡ false → lacks seen (mark kind slot subslot) ≡ false
     found_there kind slot subslot index [] seen found h none = let e : ◌≡◌ {A = Option (ℕ × SubmoduleData)} None (Some found) = h in cc
@@ -325,7 +325,7 @@ module _ (direction : IocrType) (expected : List ExpectedData) where
         either Data sub a b = a
         either Iocs sub a b = b
 
-    -- nothing is missing: each is listed as often as it is required
+    -- If no place is missing, each is listed as often as it is required.
     pub none_missing : (seen : List Bool) (times : Counts) → IsSeen seen times → has_missing direction expected seen expected ≡ false
         → (kind : PlaceKind) (slot subslot : ℕ) → times kind slot subslot ≡ times_required direction expected kind slot subslot
     none_missing seen times was h kind slot subslot =
@@ -339,7 +339,7 @@ module _ (direction : IocrType) (expected : List ExpectedData) where
             let there : get_or seen m false ≡ true = not-false (get_or seen m false) l in
             let one : times ≡ 1 = was.1 ∙ ap (λ (b : Bool). cond b 1 0) there in omega (arith, r)
 
-    -- ---- from nothing
+    -- ---- no marks
 
     abbrev pub blank : List Bool
     blank = replicate 128 false

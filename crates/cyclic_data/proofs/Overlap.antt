@@ -1,4 +1,4 @@
--- Marks on octets, and places that are judged by them.
+-- Marks on octets, and the places that are checked with them.
 use Rattle.std.proofs.Common.{◌≡◌, ◌⊎◌, inl, inr, ℕ, ◌+◌, Bool, false, List, [], ◌∷◌, replicate, get_or, sym, ◌∙◌, arith}
 use Rattle.std.specs.List.{AllByRecursion}
 use Rattle.std.proofs.lemmas.Bool.{cases_lt, true≢false}
@@ -8,15 +8,15 @@ use Rattle.cyclic_data.specs.declared.place.Place.{Place}
 use Rattle.cyclic_data.specs.Layout.{AreApart, Meet, IsInside, IsOutside, AreAllApart, AnyByRecursion, DoMeet}
 use Rattle.cyclic_data.specs.Marked.{IsTaken, IsFree, IsMarkedWith}
 
--- places that meet a mark or one another
+-- Places that overlap a mark or one another.
 abbrev pub IsHit : List Bool → List Place → Type 0
 IsHit marked places = AnyByRecursion (λ place. IsTaken marked place.offset place.size) places ⊎ DoMeet places
 
--- places that do neither
+-- Places that overlap neither a mark nor one another.
 abbrev pub IsClear : List Bool → List Place → Type 0
 IsClear marked places = AllByRecursion (λ place. IsFree marked place.offset place.size) places × AreAllApart places
 
--- a mark on a place that was marked with another: the places meet, or it was there before
+-- A mark on a place after another place was marked: the places overlap, or the mark was there before.
 split_taken : (old new : List Bool) (one other : Place) → IsMarkedWith old new one.offset one.size → IsTaken new other.offset other.size
     → Meet one other ⊎ IsTaken old other.offset other.size
 split_taken old new one other with' (k, from, to, is) =
@@ -43,7 +43,7 @@ any_taken old new one (place ∷ places) with' (inr any) =
       | inr was ↦ inr (inr was)
     ]
 
--- what is hit behind a place was hit before it
+-- An overlap after a place is also one before it.
 pub hit_before : (old new : List Bool) (one : Place) (places : List Place) → IsMarkedWith old new one.offset one.size → IsHit new places → IsHit old (one ∷ places)
 hit_before old new one places with' (inl any) =
     elim (any_taken old new one places with' any) as (λ _. IsHit old (one ∷ places)) [ inl meet ↦ inr (inl meet) | inr was ↦ inl (inr was) ]
@@ -72,14 +72,14 @@ free_all old new one (place ∷ places) with' free =
     let rest = free_all old new one places with' free.1 in
     ((first.0, rest.0), (first.1, rest.1))
 
--- what is clear behind a place was clear before it
+-- Places that are clear after a place are clear before it.
 pub clear_before : (old new : List Bool) (one : Place) (places : List Place) → IsMarkedWith old new one.offset one.size → IsFree old one.offset one.size
     → IsClear new places → IsClear old (one ∷ places)
 clear_before old new one places with' free clear =
     let rest = free_all old new one places with' clear.0 in
     ((free, rest.0), (rest.1, clear.1))
 
--- nothing is marked at first
+-- No octet is marked at first.
 blank_at : (n k : ℕ) → get_or (replicate n false) k false ≡ false
 blank_at n k =
     elim (cases_lt k n) as (λ _. get_or (replicate n false) k false ≡ false) [
@@ -96,9 +96,9 @@ pub hit_blank : (n : ℕ) (places : List Place) → IsHit (replicate n false) pl
 hit_blank n places (inl any) = absurd (none_taken n places any)
 hit_blank n places (inr meet) = meet
 
--- ---- faults are faults
+-- ---- the faults exclude their opposites
 
--- places inside are not outside
+-- Places inside the frame are not outside.
 pub not_outside : (n : ℕ) (places : List Place) → AllByRecursion (IsInside n) places → AnyByRecursion (IsOutside n) places → ⊥
 not_outside n [] inside any = any
 not_outside n (place ∷ places) inside (inl out) = omega (arith, inside.0, out)
@@ -109,7 +109,7 @@ not_met one [] apart any = any
 not_met one (place ∷ places) apart (inl meet) = apart.0 meet.0 meet.1 meet.2
 not_met one (place ∷ places) apart (inr any) = not_met one places apart.1 any
 
--- places apart do not meet
+-- Places without overlap do not meet.
 pub not_meet : (places : List Place) → AreAllApart places → DoMeet places → ⊥
 not_meet [] apart meet = meet
 not_meet (place ∷ places) apart (inl any) = not_met place places apart.0 any

@@ -1,4 +1,4 @@
--- Submodules that stand in order: one that is found behind a number is the first in its subslot.
+-- Submodules in order: one that is found after an index is the first in its subslot.
 use Rattle.std.proofs.Common.{◌≡◌, ◌⊎◌, inl, inr, ℕ, zero, suc, ◌+◌, ◌<◌, ◌==◌, ◌&&◌, true, false, List, [], ◌∷◌, drop, Option, Some, None, nat_lt, refl, sym, ap, ◌∙◌, arith}
 use Rattle.std.proofs.lemmas.Bool.{cases_Bool, and_parts, or_cases, ltb-true, eqb-true}
 use Rattle.module_blocks.specs.declared.submodule_data.SubmoduleData.{SubmoduleData}
@@ -7,7 +7,7 @@ use Rattle.cyclic_data.specs.Places.{is_at, found_from}
 use Rattle.cyclic_data.specs.Rising.{is_before, rises, rises_from}
 use Rattle.cyclic_data.proofs.Known.{at_parts, cond_cases}
 
--- a submodule in an earlier slot, or in an earlier subslot of this slot
+-- A submodule is in an earlier slot, or in an earlier subslot of this slot.
 Before : ExpectedData → ℕ → ℕ → Type 0
 Before sub slot subslot = (sub.slot < slot) ⊎ ((sub.slot ≡ slot) × (sub.subslot < subslot))
 
@@ -26,7 +26,7 @@ before_both one other slot subslot (inl a) (inr b) = inl (omega (arith, b.0))
 before_both one other slot subslot (inr a) (inl b) = inl (omega (arith, a.0))
 before_both one other slot subslot (inr a) (inr b) = inr (omega (arith, a.0, b.0), omega (arith, a.1, b.1))
 
--- it is not the one in this subslot
+-- Such a submodule is not the one in this subslot.
 not_at : (sub : ExpectedData) (slot subslot : ℕ) → Before sub slot subslot → is_at slot subslot sub ≡ false
 unfolding Before
 not_at sub slot subslot before =
@@ -39,7 +39,7 @@ not_at sub slot subslot before =
     apart sub slot subslot (inl a) e = omega (arith, a, e.0)
     apart sub slot subslot (inr a) e = omega (arith, a.1, e.1)
 
--- each is before what is found behind it
+-- Each submodule is before the one that is found after it.
 before_found : (slot subslot index : ℕ) (last : ExpectedData) (subs : List ExpectedData) (found : ℕ × SubmoduleData) → rises_from last subs ≡ true
     → found_from slot subslot index subs ≡ Some found → Before last slot subslot
 before_found slot subslot index last [] found rising h = let e : ◌≡◌ {A = Option (ℕ × SubmoduleData)} None (Some found) = h in cc
@@ -73,7 +73,7 @@ found_first slot subslot from subs found rising h =
     let n : 0 + from ≡ from = omega arith in
     found_over slot subslot 0 from subs found rising (ap (λ (k : ℕ). found_from slot subslot k (drop from subs)) n ∙ h)
 
--- so it is where submodules stand in order, or where the search begins with the first
+-- The submodule is found if the submodules are in order, or if the search begins with the first.
 pub found_so : (slot subslot from : ℕ) (subs : List ExpectedData) (found : ℕ × SubmoduleData) → (rises subs ≡ true) ⊎ (from ≡ 0)
     → Some found ≡ found_from slot subslot from (drop from subs) → Some found ≡ found_from slot subslot 0 subs
 found_so slot subslot from subs found (inl rising) h = sym (found_first slot subslot from subs found rising (sym h))

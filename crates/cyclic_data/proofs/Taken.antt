@@ -1,4 +1,4 @@
--- The octets of a frame that is taken, and what is read of them at a place.
+-- The octets of an accepted frame, and what is read of them at a place.
 use Rattle.std.proofs.Common.{◌≡◌, ℕ, ◌+◌, ◌-◌, ◌<◌, ◌≤◌, ◌++◌, true, List, [], ◌∷◌, length, take, drop, map, get_or, Option, Some, None, option_map, slice_range, Result, is_ok, refl, sym, ap, ◌∙◌, arith}
 use Rattle.std.specs.Prelude.{OnOk}
 use Rattle.std.specs.List.{AllByRecursion}
@@ -13,12 +13,12 @@ use Rattle.cyclic_data.proofs.Checked.{on_ok_given}
 
 -- ---- what is read
 
--- what holds of all holds of the one that is found
+-- A fact about all places holds for the one that is found.
 pub of_found : (P : Place → Type 0) (kind : PlaceKind) (slot subslot : ℕ) (places : List Place) (place : Place) → AllByRecursion P places
     → Some place ≡ place_at kind slot subslot places → P place
 of_found P kind slot subslot places place all found = at_in P kind slot subslot places place all (sym found)
 
--- a slice that begins at a place, as data
+-- The slice of the data at a place.
 pub slice_is : (octets : List ℕ) (place : Place) → slice_range octets place.offset (place.offset + (place.size - 1)) ≡ value_in octets place
 slice_is octets place =
     let long : place.offset + (place.size - 1) - place.offset ≡ place.size - 1 = omega arith in
@@ -73,22 +73,22 @@ pub status_seen : (octets : List ℕ) (kind : PlaceKind) (slot subslot : ℕ) (p
 status_seen octets kind slot subslot places slice same n old is =
     ap (λ (ps : List Place). option_map (status_in octets) (place_at kind slot subslot ps)) same ∙ status_found octets kind slot subslot places n old is
 
--- the places of a layout that are copied
+-- The places of a layout are copied.
 pub places_kept : {T E : Type 0} (places old new slice : List Place) (r : Result T E) → old ≡ [] → slice ≡ places → length slice ≤ 128
     → (length old + length slice ≤ 128 → is_ok r ≡ true) → OnOk r (new ≡ old ++ slice) → new ≡ places
 places_kept places old new slice r none same few fits ok =
     let room : length old + length slice ≤ 128 = omega (arith, few, ap (λ (ps : List Place). length ps) none) in
     on_ok_given r (fits room) ok ∙ (ap (λ (ps : List Place). ps ++ slice) none ∙ same)
 
--- places that end in a frame end in the octets of the longest one
+-- Places that end in a frame end in the octets of the longest frame.
 pub inside_longest : (n : ℕ) (octets : List ℕ) (places : List Place) → n ≤ 1440 → length octets ≡ 1440 → AllByRecursion (IsInside n) places
     → AllByRecursion (IsInside (length octets)) places
 inside_longest n octets [] short size inside = tt
 inside_longest n octets (place ∷ places) short size inside = (omega (arith, inside.0, size), inside_longest n octets places short size inside.1)
 
--- ---- what is taken
+-- ---- accepted frames
 
--- a cell reads alike in two frames where each of its octets does
+-- A cell reads the same in two frames if each of its octets does.
 cell_alike : (one other : List ℕ) (place : Place) → IsSolid place → place.offset + place.size ≤ length one → place.offset + place.size ≤ length other
     → ((k : ℕ) → Covers place k → get_or one k 0 ≡ get_or other k 0) → cell_of one place ≡ cell_of other place
 cell_alike one other place solid inside inside' same =

@@ -11,7 +11,7 @@ not_due interval elapsed units below run =
     sym (mod-eq_of_lt below) ∙ (ap (λ (x : ℕ). (x + 1) % interval) run ∙ mod-add-mod units interval 1) in
     (next, sym (ne_eqb ((units + 1) % interval) 0 (λ e. omega (arith, next, e))))
 
--- one who sends, by its fields
+-- The fields of a provider that has no frame due.
 pub not_due_from : (interval elapsed : ℕ) (old : Sending) → ◌≡◌ {A = Sending} (record { interval = interval; elapsed = elapsed }) old → elapsed + 1 < interval
     → (units : ℕ) → old.elapsed ≡ units % old.interval
     → (elapsed + 1 ≡ (units + 1) % interval) × (false ≡ ((units + 1) % old.interval == 0))

@@ -1,4 +1,4 @@
--- Layouts of cyclic frames, and what is wrong with places that are none.
+-- Layouts of cyclic frames, and the faults of places that are not a layout.
 use Rattle.std.specs.Prelude.{◌≡◌, ℕ, ◌+◌, ◌<◌, ◌≤◌, ◌==◌, ◌&&◌, ◌⊎◌, Bool, true, false, List, [], ◌∷◌, is_some, cond}
 use Rattle.std.specs.List.{AllByRecursion}
 use Rattle.connect_blocks.specs.declared.iocr.IocrType.{IocrType}
@@ -10,41 +10,41 @@ use Rattle.cyclic_data.specs.declared.fault.LayoutFault.{LayoutFault}
 use Rattle.cyclic_data.specs.declared.fault.LayoutFault.TheVariants as fault
 use Rattle.cyclic_data.specs.Places.{taken_at}
 
--- an octet of the frame lies in a place
+-- A place covers an octet of the frame.
 abbrev pub Covers : Place → ℕ → Type 0
 Covers place k = (place.offset ≤ k) × (k < place.offset + place.size)
 
--- two places have no octet in common
+-- Two places have no octet in common.
 abbrev pub AreApart : Place → Place → Type 0
 AreApart one other = (k : ℕ) → Covers one k → Covers other k → ⊥
 
--- they have one
+-- Two places have an octet in common.
 abbrev pub Meet : Place → Place → Type 0
 Meet one other = (k : ℕ) × Covers one k × Covers other k
 
--- a place ends within so many octets
+-- A place ends within `data_length` octets.
 abbrev pub IsInside : ℕ → Place → Type 0
 IsInside data_length place = place.offset + place.size ≤ data_length
 
 abbrev pub IsOutside : ℕ → Place → Type 0
 IsOutside data_length place = data_length < place.offset + place.size
 
--- each place is apart from each later one
+-- No place overlaps a later one.
 abbrev pub AreAllApart : List Place → Type 0
 AreAllApart [] = Unit {0}
 AreAllApart (place ∷ places) = AllByRecursion (AreApart place) places × AreAllApart places
 
--- it holds of one of them
+-- A fact holds for one of the places.
 abbrev pub AnyByRecursion : (Place → Type 0) → List Place → Type 0
 AnyByRecursion P [] = ⊥
 AnyByRecursion P (place ∷ places) = P place ⊎ AnyByRecursion P places
 
--- two of them meet
+-- Two of the places have an octet in common.
 abbrev pub DoMeet : List Place → Type 0
 DoMeet [] = ⊥
 DoMeet (place ∷ places) = AnyByRecursion (Meet place) places ⊎ DoMeet places
 
--- whether a place is of this kind and submodule
+-- Whether a place is of this kind and submodule.
 abbrev pub is_same_kind : PlaceKind → PlaceKind → Bool
 is_same_kind Data Data = true
 is_same_kind Data Iocs = false
@@ -54,38 +54,38 @@ is_same_kind Iocs Iocs = true
 abbrev pub is_of : PlaceKind → ℕ → ℕ → Place → Bool
 is_of kind slot subslot place = is_same_kind kind place.kind && ((place.slot == slot) && (place.subslot == subslot))
 
--- how often it is listed
+-- How often a place is listed.
 abbrev pub times_listed : PlaceKind → ℕ → ℕ → List Place → ℕ
 times_listed kind slot subslot [] = 0
 times_listed kind slot subslot (place ∷ places) = cond (is_of kind slot subslot place) 1 0 + times_listed kind slot subslot places
 
--- how often it has to be: once, where it is expected
+-- How often a place is required: once if it is expected, else never.
 abbrev pub times_required : IocrType → List ExpectedData → PlaceKind → ℕ → ℕ → ℕ
 times_required direction expected kind slot subslot = cond (is_some (taken_at direction expected kind slot subslot)) 1 0
 
--- none is listed that is not expected, and none twice
+-- No place is listed that is not expected, and none is listed twice.
 abbrev pub AreKnown : IocrType → List ExpectedData → List Place → Type 0
 AreKnown direction expected places = (kind : PlaceKind) (slot subslot : ℕ) →
     times_listed kind slot subslot places ≤ times_required direction expected kind slot subslot
 
--- one is
+-- A place is listed that is not expected, or one is listed twice.
 abbrev pub HasUnknown : IocrType → List ExpectedData → List Place → Type 0
 HasUnknown direction expected places = (kind : PlaceKind) × (slot : ℕ) × (subslot : ℕ) ×
     (times_required direction expected kind slot subslot < times_listed kind slot subslot places)
 
--- one is not listed that is expected
+-- An expected place is not listed.
 abbrev pub HasMissing : IocrType → List ExpectedData → List Place → Type 0
 HasMissing direction expected places = (kind : PlaceKind) × (slot : ℕ) × (subslot : ℕ) ×
     (times_listed kind slot subslot places < times_required direction expected kind slot subslot)
 
--- a layout: places inside the frame and apart from one another, and exactly those that the submodules need, each once
+-- A layout: places inside the frame and without overlap, and exactly those that the submodules need, each once.
 pub record IsLayout (data_length : ℕ) (direction : IocrType) (expected : List ExpectedData) (places : List Place) : Type 0 where
   pub inside : AllByRecursion (IsInside data_length) places
   pub apart : AreAllApart places
   pub exact : (kind : PlaceKind) (slot subslot : ℕ) →
       times_listed kind slot subslot places ≡ times_required direction expected kind slot subslot
 
--- the first fault of places that are no layout
+-- The first fault of places that are not a layout.
 abbrev pub IsFirstFault : LayoutFault → ℕ → IocrType → List ExpectedData → List Place → Type 0
 IsFirstFault fault.Outside data_length direction expected places = AnyByRecursion (IsOutside data_length) places
 IsFirstFault fault.Overlap data_length direction expected places =
@@ -96,23 +96,23 @@ IsFirstFault fault.Missing data_length direction expected places =
     AllByRecursion (IsInside data_length) places × AreAllApart places × AreKnown direction expected places
     × HasMissing direction expected places
 
--- the number of a fault
+-- The number of a fault.
 abbrev pub fault_number : LayoutFault → ℕ
 fault_number fault.Outside = 1
 fault_number fault.Overlap = 2
 fault_number fault.Unknown = 3
 fault_number fault.Missing = 4
 
--- the places of a frame, as a layout keeps them
+-- The places of a frame, as a layout stores them.
 pub record Table : Type 0 where
   pub data_length : ℕ
   pub places : List Place
 
--- a place takes an octet at least
+-- A place takes at least one octet.
 abbrev pub IsSolid : Place → Type 0
 IsSolid place = 0 < place.size
 
--- what a layout keeps: places inside a frame, apart, and at most one of a kind for a submodule
+-- The table of a layout: places inside a frame, without overlap, and at most one of a kind for a submodule.
 pub record IsTable (data_length : ℕ) (places : List Place) : Type 0 where
   pub short : data_length ≤ 1440
   pub inside : AllByRecursion (IsInside data_length) places

@@ -2,11 +2,11 @@
 use Rattle.std.specs.Prelude.{◌==◌, ◌&&◌, ◌||◌, Bool, true, List, [], ◌∷◌, nat_lt}
 use Rattle.cyclic_data.specs.declared.place.ExpectedData.{ExpectedData}
 
--- in an earlier slot, or in an earlier subslot of the same slot
+-- Whether a submodule is in an earlier slot, or in an earlier subslot of the same slot.
 abbrev pub is_before : ExpectedData → ExpectedData → Bool
 is_before one other = nat_lt one.slot other.slot || ((one.slot == other.slot) && nat_lt one.subslot other.subslot)
 
--- each of those behind a submodule is behind the one before it
+-- Whether each submodule is before the one that follows it.
 abbrev pub rises_from : ExpectedData → List ExpectedData → Bool
 rises_from last [] = true
 rises_from last (sub ∷ subs) = is_before last sub && rises_from sub subs

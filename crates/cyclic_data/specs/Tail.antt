@@ -1,4 +1,5 @@
--- What a cyclic frame has behind its FrameID (IEC 61158-6-10, 4.7): its octets, CycleCounter, DataStatus and TransferStatus.
+-- The octets of a cyclic frame after its FrameID (IEC 61158-6-10, 4.7): its data, CycleCounter, DataStatus and
+-- TransferStatus.
 use Rattle.std.specs.Prelude.{ℕ, List, length, Result}
 use Rattle.wire.specs.Codec.{Codec}
 use Rattle.wire.specs.Formats.{raw, number, ◌⨾◌, seen}
@@ -6,28 +7,28 @@ use Rattle.wire.specs.Whole.{loose}
 use Rattle.cyclic_data.specs.declared.tail.ShortFrame.{ShortFrame}
 use Rattle.cyclic_data.specs.declared.tail.CyclicTail.{CyclicTail}
 
--- the only fault: it is too short
+-- The only fault: the frame is too short.
 abbrev pub short : ShortFrame
 short = record {}
 
--- what stands behind the octets
+-- The format of the fields after the data.
 unfoldable pub cyclic_tail : Codec ShortFrame CyclicTail
 cyclic_tail = seen (λ x. record { counter = x.0; data_status = record { 0 = x.1.0 }; transfer_status = x.1.1 })
     (λ tail. (tail.counter, (tail.data_status.0, tail.transfer_status)))
     (number short 2 ⨾ number short 1 ⨾ number short 1)
 
--- so many octets, and what stands behind them
+-- The format of `data_length` octets of data and the fields after them.
 unfoldable pub cyclic_frame : ℕ → Codec ShortFrame (List ℕ × CyclicTail)
 cyclic_frame data_length = raw short data_length ⨾ cyclic_tail
 
--- all that is behind a FrameID is this, and padding
+-- The octets after a FrameID are this data and these fields, followed by any padding.
 abbrev pub IsCyclic : ℕ → List ℕ → List ℕ × CyclicTail → Type 0
 IsCyclic data_length bytes value = (loose (cyclic_frame data_length)).Spells bytes value
 
--- the octets and what stands behind them, of all that is behind a FrameID
+-- The data and the fields after it, read from the octets after a FrameID.
 abbrev pub cyclic_of : ℕ → List ℕ → Result (List ℕ × CyclicTail) ShortFrame
 cyclic_of data_length bytes = (loose (cyclic_frame data_length)).read bytes
 
--- what is written: these octets and what stands behind them, in front of what follows
+-- The octets of the data and the fields after it, followed by the rest.
 abbrev pub cyclic_bytes : List ℕ → CyclicTail → List ℕ → List ℕ
 cyclic_bytes octets tail rest = (cyclic_frame (length octets)).write (octets, tail) rest

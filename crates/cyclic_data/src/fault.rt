@@ -1,11 +1,12 @@
-//! What is wrong with places that are no layout.
+//! The faults of places that are not a layout.
 ghost use Rattle.std.specs.Prelude.{◌≡◌};
 ghost use Rattle.cyclic_data.specs.Layout.{fault_number};
 
-/// Why the places of a communication relation are no layout. The first in this order counts, over all places.
+/// Why the places of a communication relation are not a layout. The first fault in this order, over all places, is
+/// reported.
 #[derive(Clone, Copy, Debug, PartialEq, Eq)]
 pub enum LayoutFault {
-    /// A place ends behind the octets that DataLength counts.
+    /// A place ends after the octets that DataLength counts.
     Outside,
     /// Two places have an octet in common.
     Overlap,
@@ -16,7 +17,7 @@ pub enum LayoutFault {
 }
 
 impl LayoutFault {
-    /// The fault's number, from 1.
+    /// The number of the fault, from 1.
     pub fn number(self) -> u8
         ensures { result ≡ fault_number self }
     {

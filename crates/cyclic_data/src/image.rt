@@ -1,4 +1,4 @@
-//! Images of cyclic data that is sent.
+//! Images of the cyclic data to be sent.
 ghost use Rattle.std.specs.Prelude.{◌≡◌, ◌+◌, ◌≤◌, [], length, map, option_map, is_some, if◌then◌else◌};
 ghost use Rattle.cyclic_data.specs.declared.place.PlaceKind.TheVariants.{Data};
 ghost use Rattle.cyclic_data.specs.Image.{zero_cell, cell_at, changed, with_value, with_status, has_size, octets_of, IsFrame};
@@ -9,13 +9,13 @@ use crate::octets::{place_at, write_at};
 use crate::place::PlaceKind;
 use std::marker::Model;
 
-/// What the frames of a layout hold that are sent: the data and the status at each place, in octets as they are sent.
+/// The content of the frames of a layout that are sent: the data and the status at each place, as octets on the wire.
 #[derive(Drop)]
 pub struct Image {
     laid_out: LaidOut,
 }
 
-// Clauses see a cell for each place.
+// In clauses an image is a list with a cell for each place.
 impl Model for Image {
     ghost use Rattle.cyclic_data.specs.Image.{Shown};
 
@@ -34,7 +34,7 @@ impl Model for Image {
 }
 
 impl Image {
-    /// The image of no layout.
+    /// An image with no places.
     pub fn new() -> Image
         ensures { result ≡ record { data_length = 0; cells = [] } }
     {
@@ -43,14 +43,15 @@ impl Image {
         }
     }
 
-    /// Becomes the image of a layout in which nothing was given: zeros everywhere.
+    /// Starts the image of a layout: zeros everywhere.
     pub fn start(&mut self, layout: &Layout)
         ensures { self.new ≡ record { data_length = layout.now.data_length; cells = map zero_cell layout.now.places } }
     {
         self.laid_out.start(layout);
     }
 
-    /// Gives a submodule other data. Answers whether it has data of this length in these frames; if not, nothing changes.
+    /// Sets the data of a submodule. Returns whether the submodule has data of this length in these frames; if not,
+    /// nothing changes.
     pub fn put(&mut self, slot: u16, subslot: u16, value: &[u8]) -> bool
         ensures done { result ≡ has_size (length value.now) (cell_at Data slot subslot self.old.cells) }
         ensures state { self.new ≡ (if result then changed Data slot subslot (with_value value.now) self.old else self.old) }
@@ -63,7 +64,7 @@ impl Image {
         ) else {
             return false;
         };
-        // The IOPS stands behind the data, at the same place.
+        // The IOPS follows the data, in the same place.
         if place.size as usize != value.len() + 1 {
             return false;
         }
@@ -71,7 +72,8 @@ impl Image {
         true
     }
 
-    /// Gives a place another status: the IOPS of data, or an IOCS. Answers whether there is this place; if not, nothing changes.
+    /// Sets the status of a place: the IOPS of data, or an IOCS. Returns whether there is such a place; if not, nothing
+    /// changes.
     pub fn set_status(&mut self, kind: PlaceKind, slot: u16, subslot: u16, status: u8) -> bool
         ensures done { result ≡ is_some (cell_at kind slot subslot self.old.cells) }
         ensures state { self.new ≡ (if result then changed kind slot subslot (with_status status) self.old else self.old) }
@@ -84,21 +86,21 @@ impl Image {
         true
     }
 
-    /// The data of a submodule, if it has data in these frames.
+    /// The data of a submodule, or `None` if it has no data in these frames.
     pub fn get(&self, slot: u16, subslot: u16) -> Option<&[u8]>
         ensures { option_map (λ value. value.now) result ≡ option_map (λ cell. cell.value) (cell_at Data slot subslot self.now.cells) }
     {
         self.laid_out.value(slot, subslot)
     }
 
-    /// The status at a place, if there is this place.
+    /// The status of a place, or `None` if there is no such place.
     pub fn status(&self, kind: PlaceKind, slot: u16, subslot: u16) -> Option<u8>
         ensures { result ≡ option_map (λ cell. cell.status) (cell_at kind slot subslot self.now.cells) }
     {
         self.laid_out.status(kind, slot, subslot)
     }
 
-    /// The octets that a frame holds, as many as DataLength counts.
+    /// The octets of a frame, as many as DataLength counts.
     pub fn bytes(&self) -> &[u8]
         ensures value { result.now ≡ octets_of self.now }
         ensures frame { IsFrame self.now result.now }

@@ -1,4 +1,4 @@
-//! How places are judged.
+//! The checks of the places of a layout.
 ghost use Rattle.std.specs.Prelude.{◌≡◌, ◌+◌, ◌<◌, ◌≤◌, ◌++◌, length, map, OnOk, IfOk, IfErr, IfSome, unwrap_or};
 ghost use Rattle.std.specs.List.{AllByRecursion};
 ghost use Rattle.arrayvec.specs.ArrayVec.{array_vec_len};
@@ -14,19 +14,19 @@ use arrayvec::ArrayVec;
 use connect_blocks::{IoObject, IoObjects, IocrType};
 use module_blocks::SubmoduleData;
 
-/// What the places of a communication relation are judged by.
+/// What the places of a communication relation are checked against.
 #[derive(Clone, Copy)]
 pub(crate) struct Judge<'a> {
     pub(crate) direction: IocrType,
     /// DataLength, in octets.
     pub(crate) data_length: u16,
     pub(crate) expected: &'a [ExpectedData],
-    /// Whether they stand in the order of their slots and subslots.
+    /// Whether the submodules are in the order of their slots and subslots.
     pub(crate) rising: bool,
     ghost known: { rising ≡ rises expected.now },
 }
 
-/// The mark of the data or the IOCS of the submodule with this number.
+/// The mark for the data or the IOCS of the submodule with this index.
 fn mark_in(kind: PlaceKind, index: usize) -> usize
     requires { index < 64 }
     ensures { result ≡ mark_in kind index }
@@ -38,8 +38,8 @@ fn mark_in(kind: PlaceKind, index: usize) -> usize
 }
 
 impl<'a> Judge<'a> {
-    /// The submodule that is expected in a subslot: its number and its data. Where they stand in order, it is looked for behind
-    /// the one that was found last, since places mostly stand in the same order.
+    /// The submodule that is expected in a subslot: its index and its data. If the submodules are in order, the search
+    /// starts after the one found last, because places are mostly in the same order.
     fn find(&self, slot: u16, subslot: u16, last: &mut usize) -> Option<(usize, SubmoduleData)>
         ensures found { result ≡ found_from slot subslot 0 self.now.expected.now }
         ensures below { IfSome result (λ found. found.0 < length self.now.expected.now) }
@@ -53,19 +53,20 @@ impl<'a> Judge<'a> {
         Some((index, io_data))
     }
 
-    /// How many octets are at a place: one where none is expected.
+    /// The number of octets of a place; one if no such place is expected.
     fn size_of(&self, kind: PlaceKind, slot: u16, subslot: u16, last: &mut usize) -> u32
         ensures value { result ≡ unwrap_or (taken_at self.now.direction self.now.expected.now kind slot subslot) 1 }
         ensures few { result ≤ 65536 }
     {
         match self.find(slot, subslot, last) {
             Some((_, io_data)) => taken(self.direction, kind, io_data).unwrap_or(1),
-            // An object of no submodule: told as Unknown once all places are inside, so that it is judged here as small as any.
+            // An object of no submodule is reported as Unknown only if all places are inside the frame, so here it gets
+            // the smallest size.
             None => 1,
         }
     }
 
-    /// The place of an object, if it ends within the frame.
+    /// The place of an object. Fails if it does not end within the frame.
     fn place_of(
         &self,
         kind: PlaceKind,
@@ -90,7 +91,7 @@ impl<'a> Judge<'a> {
         })
     }
 
-    /// Appends the places of objects of a kind, at most 256, if all end within the frame.
+    /// Appends the places of all objects of a kind, at most 256. Fails if one does not end within the frame.
     pub(crate) fn place_all(
         &self,
         kind: PlaceKind,
@@ -115,7 +116,7 @@ impl<'a> Judge<'a> {
         Ok(())
     }
 
-    /// The mark of a place, if one is expected there.
+    /// The mark of a place, or `None` if no such place is expected.
     fn mark_of(&self, kind: PlaceKind, slot: u16, subslot: u16, last: &mut usize) -> Option<usize>
         requires { length self.now.expected.now ≤ 64 }
         ensures value { result ≡ mark_of self.now.direction self.now.expected.now kind slot subslot }
@@ -126,7 +127,7 @@ impl<'a> Judge<'a> {
         Some(mark_in(kind, index))
     }
 
-    /// Whether one of the places is not expected or was seen before. Marks those that it sees.
+    /// Whether one of the places is not expected or was seen before. Marks the places that it sees.
     pub(crate) fn has_unknown(&self, places: &[Place], seen: &mut [bool; 128]) -> bool
         requires { length self.now.expected.now ≤ 64 }
         ensures value { result ≡ has_unknown self.now.direction self.now.expected.now seen.old places.now }
@@ -142,7 +143,7 @@ impl<'a> Judge<'a> {
         false
     }
 
-    /// Whether a place of the submodule of this number is expected and was not seen.
+    /// Whether a place of the submodule with this index is expected and was not seen.
     fn lacks(&self, kind: PlaceKind, index: usize, sub: &ExpectedData, seen: &[bool; 128]) -> bool
         requires { length self.now.expected.now ≤ 64 }
         ensures { result ≡ lacks seen.now (mark_of self.now.direction self.now.expected.now kind sub.now.slot sub.now.subslot) }
@@ -154,7 +155,7 @@ impl<'a> Judge<'a> {
         }
     }
 
-    /// Whether a place that is expected was not seen.
+    /// Whether an expected place was not seen.
     pub(crate) fn has_missing(&self, seen: &[bool; 128]) -> bool
         requires { length self.now.expected.now ≤ 64 }
         ensures { result ≡ has_missing self.now.direction self.now.expected.now seen.now self.now.expected.now }

@@ -1,4 +1,4 @@
-// What images of cyclic data have in common: places, and octets that lie at them.
+// The parts that images of cyclic data share: the places, and the octets at them.
 ghost use Rattle.std.specs.Prelude.{◌≡◌, [], option_map, replicate};
 ghost use Rattle.cyclic_data.specs.Held.{IsReceived};
 ghost use Rattle.cyclic_data.specs.Layout.{Table, IsTable};
@@ -10,7 +10,7 @@ use crate::octets::{blank, status_at, value_at};
 use crate::place::{Place, PlaceKind};
 use arrayvec::ArrayVec;
 
-/// The places of a layout, and the octets of its longest frame.
+/// The places of a layout, and octets for the longest frame.
 #[derive(Drop)]
 pub(crate) struct LaidOut {
     pub(crate) data_length: u16,
@@ -19,7 +19,7 @@ pub(crate) struct LaidOut {
 }
 
 impl LaidOut {
-    /// Of no layout.
+    /// Octets with no places: all zeros.
     pub(crate) fn new() -> LaidOut
         ensures length { result.data_length ≡ 0 }
         ensures places { result.places.items ≡ [] }
@@ -32,7 +32,7 @@ impl LaidOut {
         }
     }
 
-    /// Becomes that of a layout, with zeros everywhere.
+    /// Starts with the places of a layout, and zeros everywhere.
     pub(crate) fn start(&mut self, layout: &Layout)
         ensures places { layout.now ≡ record { data_length = self.new.data_length; places = self.new.places.items } }
         ensures table { IsTable self.new.data_length self.new.places.items }
@@ -41,11 +41,11 @@ impl LaidOut {
         self.data_length = layout.data_length;
         self.places.clear();
         let _ = self.places.try_extend_from_slice(layout.places.as_slice());
-        // Octets at no place may be sent too: nothing of an earlier relation may be in them.
+        // Octets outside all places are sent too, so nothing of an earlier relation may be left in them.
         self.octets = blank();
     }
 
-    /// The data of a submodule, if it has data here.
+    /// The data of a submodule, or `None` if it has no data here.
     pub(crate) fn value(&self, slot: u16, subslot: u16) -> Option<&[u8]>
         requires { IsReceived self.now.data_length self.now.places.items self.now.octets }
         ensures { option_map (λ value. value.now) result
@@ -54,7 +54,7 @@ impl LaidOut {
         value_at(&self.octets, self.places.as_slice(), slot, subslot)
     }
 
-    /// The status at a place, if there is this place.
+    /// The status of a place, or `None` if there is no such place.
     pub(crate) fn status(&self, kind: PlaceKind, slot: u16, subslot: u16) -> Option<u8>
         requires { IsReceived self.now.data_length self.now.places.items self.now.octets }
         ensures { result ≡ option_map (status_in self.now.octets) (place_at kind slot subslot self.now.places.items) }

@@ -11,8 +11,8 @@ use arrayvec::ArrayVec;
 use connect_blocks::{IoObjects, IocrType};
 use std::marker::Model;
 
-/// The places in the frames of a communication relation: exactly those that the submodules need, inside the frame and apart from
-/// one another. The data objects stand first, then the IOCS, each in the order in which they were asked for.
+/// The places in the frames of a communication relation: exactly those that the submodules need, inside the frame and
+/// without overlap. The data objects come first, then the IOCS, each in the order of the request.
 #[derive(Drop)]
 pub struct Layout {
     pub(crate) data_length: u16,
@@ -30,7 +30,7 @@ impl Model for Layout {
 }
 
 impl Layout {
-    /// The layout of no frames: no place.
+    /// A layout with no places, for frames with no octets.
     pub fn new() -> Layout
         ensures { result ≡ record { data_length = 0; places = [] } }
     {
@@ -40,11 +40,11 @@ impl Layout {
         }
     }
 
-    /// Judges the places that a communication relation asks for: its direction, its DataLength, at most 1,440 octets, its
-    /// IODataObjects and its IOCS, by the submodules that are expected, at most 64 (IEC 61158-6-10, 5.2.4.3).
+    /// Checks the places that a communication relation requests: its direction, its DataLength (at most 1,440 octets),
+    /// its IODataObjects and its IOCS, against the submodules that are expected, at most 64 (IEC 61158-6-10, 5.2.4.3).
     ///
-    /// A submodule with input, or with no data, has a data object in the input frames and an IOCS in the output frames; one with
-    /// output has a data object in the output frames and an IOCS in the input frames.
+    /// A submodule with input, or with no data, has a data object in the input frames and an IOCS in the output frames. A
+    /// submodule with output has a data object in the output frames and an IOCS in the input frames.
     #[inline(never)]
     pub fn check(
         direction: IocrType,

@@ -1,5 +1,5 @@
-//! Cyclic data of PROFINET IO (IEC 61158-6-10, 5.2.4.3 and 4.7): where each submodule has its place in the frames of a
-//! communication relation, what the frames hold, and which are due, taken, or too late.
+//! Cyclic data of PROFINET IO (IEC 61158-6-10, 5.2.4.3 and 4.7): the place of each submodule in the frames of a
+//! communication relation, the content of the frames, and which frames are due, accepted, or too late.
 #![tactic(auto)]
 
 mod fault;

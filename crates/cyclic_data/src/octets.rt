@@ -1,4 +1,4 @@
-//! The octets of a frame: which are taken, and what they hold at a place.
+//! The octets of a frame: which are occupied, and what they hold at a place.
 ghost use Rattle.std.specs.Prelude.{◌≡◌, ◌+◌, ◌-◌, ◌<◌, ◌≤◌, ℕ, true, false, length, get_or, slice_range, replicate, option_map, IfSome};
 ghost use Rattle.std.specs.Prelude.{MatchBool};
 ghost use Rattle.std.specs.List.{list_any, AllByRecursion};
@@ -10,14 +10,14 @@ ghost use Rattle.cyclic_data.specs.Image.{place_at, value_in, status_in};
 
 use crate::place::{Place, PlaceKind};
 
-/// Whether one of these is marked.
+/// Whether one of these marks is set.
 fn is_any(marked: &[bool]) -> bool
     ensures { result ≡ list_any (λ mark. mark) marked.now }
 {
     marked.iter().any(|mark| *mark)
 }
 
-/// Marks all of these.
+/// Sets all of these marks.
 fn mark_all(marked: &mut [bool])
     ensures len { length marked.new ≡ length marked.old }
     ensures each { (k : ℕ) → k < length marked.old → get_or marked.new k false ≡ true }
@@ -27,7 +27,7 @@ fn mark_all(marked: &mut [bool])
     }
 }
 
-/// Marks so many octets, if none of them was marked. Answers whether one was.
+/// Marks `size` octets from `start` on if none of them was marked. Returns whether one was.
 fn mark(marked: &mut [bool], start: usize, size: usize) -> bool
     requires { start + size ≤ length marked.old }
     ensures free { MatchBool result (IsTaken marked.old start size) (IsFree marked.old start size) }
@@ -41,7 +41,7 @@ fn mark(marked: &mut [bool], start: usize, size: usize) -> bool
     false
 }
 
-/// Whether two of these places, which lie in the longest frame, have an octet in common.
+/// Whether two of these places overlap. All places must be inside the longest frame.
 pub(crate) fn has_overlap(places: &[Place]) -> bool
     requires { AllByRecursion (IsInside 1440) places.now }
     ensures { MatchBool result (DoMeet places.now) (AreAllApart places.now) }
@@ -55,7 +55,7 @@ pub(crate) fn has_overlap(places: &[Place]) -> bool
     false
 }
 
-/// Writes octets from a place on, and leaves the others.
+/// Writes octets from `start` on, and leaves the others as they are.
 pub(crate) fn write_at(octets: &mut [u8], start: usize, value: &[u8])
     requires { start + length value.now ≤ length octets.old }
     ensures { IsWritten octets.old octets.new start value.now }
@@ -63,7 +63,7 @@ pub(crate) fn write_at(octets: &mut [u8], start: usize, value: &[u8])
     octets[start..start + value.len()].copy_from_slice(value);
 }
 
-/// The octets of a frame in which nothing was given.
+/// The octets of an empty frame: zeros.
 pub(crate) fn blank() -> [u8; 1440]
     ensures { result ≡ replicate 1440 0 }
 {
@@ -71,7 +71,7 @@ pub(crate) fn blank() -> [u8; 1440]
     octets
 }
 
-/// The place of a kind and submodule.
+/// The place of a kind and submodule, or `None` if there is no such place.
 pub(crate) fn place_at(places: &[Place], kind: PlaceKind, slot: u16, subslot: u16) -> Option<Place>
     ensures { result ≡ place_at kind slot subslot places.now }
 {
@@ -83,7 +83,7 @@ pub(crate) fn place_at(places: &[Place], kind: PlaceKind, slot: u16, subslot: u1
     None
 }
 
-/// So many octets from a place on.
+/// The `size` octets from `start` on.
 fn part(octets: &[u8], start: usize, size: usize) -> &[u8]
     requires { start + size ≤ length octets.now }
     ensures { result.now ≡ slice_range octets.now start (start + size) }
@@ -91,7 +91,7 @@ fn part(octets: &[u8], start: usize, size: usize) -> &[u8]
     &octets[start..start + size]
 }
 
-/// What octets hold at the place of a submodule's data, if there is this place.
+/// The octets at the place of a submodule's data, or `None` if there is no such place.
 pub(crate) fn value_at<'a>(
     octets: &'a [u8],
     places: &[Place],
@@ -106,7 +106,7 @@ pub(crate) fn value_at<'a>(
     Some(part(octets, place.offset as usize, place.size as usize - 1))
 }
 
-/// The status that octets hold at a place, if there is this place.
+/// The status at a place, or `None` if there is no such place.
 pub(crate) fn status_at(
     octets: &[u8],
     places: &[Place],

@@ -7,18 +7,18 @@ ghost use Rattle.cyclic_data.specs.Layout.{is_same_kind, is_of};
 use connect_blocks::IocrType;
 use module_blocks::SubmoduleData;
 
-/// What lies at a place.
+/// The content of a place.
 #[derive(Clone, Copy, Debug, Default, PartialEq, Eq)]
 pub enum PlaceKind {
-    /// An IODataObject: the data of a submodule, and its IOPS behind it.
+    /// An IODataObject: the data of a submodule, followed by its IOPS.
     #[default]
     Data,
-    /// An IOCS: the status of the one who consumes what the submodule has in the frames of the other direction.
+    /// An IOCS: the status of the consumer of the submodule's data in the frames of the other direction.
     Iocs,
 }
 
 impl PlaceKind {
-    /// Whether it is the same.
+    /// Whether the two kinds are the same.
     fn is(self, other: PlaceKind) -> bool
         ensures { result ≡ is_same_kind self other }
     {
@@ -32,15 +32,15 @@ impl PlaceKind {
 /// A place in a cyclic frame.
 #[derive(Clone, Copy, Debug, Default, PartialEq, Eq)]
 pub struct Place {
-    /// What lies there.
+    /// The content of the place.
     pub kind: PlaceKind,
     /// SlotNumber.
     pub slot: u16,
     /// SubslotNumber.
     pub subslot: u16,
-    /// FrameOffset, in octets from the first one behind the FrameID.
+    /// FrameOffset, in octets from the first octet after the FrameID.
     pub offset: u16,
-    /// How many octets it takes: its data and one of IOPS, or one of IOCS.
+    /// The number of octets: the data and one octet of IOPS, or one octet of IOCS.
     pub size: u16,
 }
 
@@ -53,7 +53,7 @@ impl Place {
     }
 }
 
-/// A submodule that is expected, and what it has in cyclic frames.
+/// A submodule that is expected, and its data in cyclic frames.
 #[derive(Clone, Copy, Default)]
 pub struct ExpectedData {
     /// SlotNumber.
@@ -65,14 +65,15 @@ pub struct ExpectedData {
 }
 
 impl ExpectedData {
-    /// Whether it is in an earlier slot, or in an earlier subslot of the same slot.
+    /// Whether the submodule is in an earlier slot, or in an earlier subslot of the same slot.
     fn is_before(&self, other: &ExpectedData) -> bool
         ensures { result ≡ is_before self.now other.now }
     {
         self.slot < other.slot || (self.slot == other.slot && self.subslot < other.subslot)
     }
 
-    /// How many octets it takes in the frames of a direction, as data with its IOPS or as an IOCS, if it takes any there.
+    /// The number of octets that the submodule takes in the frames of a direction, as data with its IOPS or as an IOCS.
+    /// `None` if it takes none there.
     pub fn taken(&self, direction: IocrType, kind: PlaceKind) -> Option<u32>
         ensures value { result ≡ taken direction kind self.now.io_data }
         ensures few { IfSome result (λ size. size ≤ 65536) }
@@ -91,19 +92,20 @@ fn opposite_of(direction: IocrType) -> IocrType
     }
 }
 
-/// How many octets of data a submodule has in the frames of a direction, if it has any there.
+/// The number of octets of data that a submodule has in the frames of a direction. `None` if it has no data there.
 fn data_in(direction: IocrType, io_data: SubmoduleData) -> Option<u16>
     ensures { result ≡ data_in direction io_data }
 {
     match (direction, io_data.input, io_data.output) {
-        // A submodule without data tells the controller that it is there by its IOPS, which is an object of no octets among the inputs.
+        // A submodule without data shows the controller by its IOPS that it is there: an object of no octets among the
+        // inputs.
         (IocrType::Input, None, None) => Some(0),
         (IocrType::Input, input, _) => input,
         (IocrType::Output, _, output) => output,
     }
 }
 
-/// How many octets a submodule takes in the frames of a direction, if it takes any there.
+/// The number of octets that a submodule takes in the frames of a direction. `None` if it takes none there.
 pub(crate) fn taken(direction: IocrType, kind: PlaceKind, io_data: SubmoduleData) -> Option<u32>
     ensures value { result ≡ taken direction kind io_data }
     ensures some { IfSome result (λ size. 0 < size) }
@@ -115,7 +117,7 @@ pub(crate) fn taken(direction: IocrType, kind: PlaceKind, io_data: SubmoduleData
     }
 }
 
-/// The submodule that is expected in a subslot, of those from a number on: its number and its data.
+/// The first submodule that is expected in a subslot, from index `from` on: its index and its data.
 pub(crate) fn find(
     expected: &[ExpectedData],
     from: usize,
@@ -134,7 +136,7 @@ pub(crate) fn find(
     None
 }
 
-/// Whether submodules stand in the order of their slots and subslots.
+/// Whether the submodules are in the order of their slots and subslots.
 pub(crate) fn rises(expected: &[ExpectedData]) -> bool
     ensures { result ≡ rises expected.now }
 {
@@ -144,7 +146,7 @@ pub(crate) fn rises(expected: &[ExpectedData]) -> bool
     }
 }
 
-/// Whether submodules behind this one do.
+/// Whether the submodules after `first` are in that order.
 fn rises_from(first: ExpectedData, rest: &[ExpectedData]) -> bool
     ensures { result ≡ rises_from first rest.now }
 {

@@ -11,14 +11,14 @@ use crate::status::GOOD;
 use crate::zeros::zeros;
 use std::marker::Model;
 
-/// What the last frame of a layout held that was taken: the data and the status at each place. It is kept apart from what is sent, so
-/// that no octet that came in is ever sent.
+/// The content of the last accepted frame of a layout: the data and the status at each place. It is separate from the
+/// data to be sent, so that no received octet is ever sent.
 #[derive(Drop)]
 pub struct ReceivedImage {
     laid_out: LaidOut,
 }
 
-// Clauses see a cell for each place.
+// In clauses an image is a list with a cell for each place.
 impl Model for ReceivedImage {
     ghost use Rattle.cyclic_data.specs.Image.{Shown};
 
@@ -37,7 +37,7 @@ impl Model for ReceivedImage {
 }
 
 impl ReceivedImage {
-    /// The image of no layout.
+    /// An image with no places.
     pub fn new() -> ReceivedImage
         ensures { result ≡ record { data_length = 0; cells = [] } }
     {
@@ -46,7 +46,7 @@ impl ReceivedImage {
         }
     }
 
-    /// Becomes the image of a layout of which no frame was taken: zeros everywhere.
+    /// Starts the image of a layout of which no frame was accepted yet: zeros everywhere.
     pub fn start(&mut self, layout: &Layout)
         ensures { self.new ≡ record { data_length = layout.now.data_length; cells = map zero_cell layout.now.places } }
     {
@@ -61,7 +61,7 @@ impl ReceivedImage {
         self.laid_out.data_length
     }
 
-    /// Takes the octets of a frame, as many as DataLength counts; what is behind them is not looked at.
+    /// Stores the octets of a frame, as many as DataLength counts. The octets after them are ignored.
     pub fn accept(&mut self, octets: &[u8])
         requires { self.old.data_length ≤ length octets.now }
         ensures { self.new ≡ with_frame octets.now self.old }
@@ -70,7 +70,7 @@ impl ReceivedImage {
         write_at(&mut self.laid_out.octets, 0, &octets[..size]);
     }
 
-    /// The data of a submodule, if it has data in these frames, whatever its IOPS.
+    /// The data of a submodule with any IOPS, or `None` if it has no data in these frames.
     pub fn get(&self, slot: u16, subslot: u16) -> Option<&[u8]>
         ensures value { option_map (λ value. value.now) result
             ≡ option_map (λ cell. cell.value) (cell_at Data slot subslot self.now.cells) }
@@ -79,15 +79,15 @@ impl ReceivedImage {
         self.laid_out.value(slot, subslot)
     }
 
-    /// The status at a place, if there is this place.
+    /// The status of a place, or `None` if there is no such place.
     pub fn status(&self, kind: PlaceKind, slot: u16, subslot: u16) -> Option<u8>
         ensures { result ≡ option_map (λ cell. cell.status) (cell_at kind slot subslot self.now.cells) }
     {
         self.laid_out.status(kind, slot, subslot)
     }
 
-    /// The output of a submodule, if it has data in these frames: its data in the last frame that was taken, and zeros where
-    /// none was or its IOPS is not good.
+    /// The output of a submodule: its data in the last accepted frame, or zeros if no frame was accepted yet or its IOPS
+    /// is not GOOD. `None` if it has no data in these frames.
     pub fn output(&self, slot: u16, subslot: u16) -> Option<&[u8]>
         ensures value { option_map (λ value. value.now) result ≡ option_map output_of (cell_at Data slot subslot self.now.cells) }
         ensures short { IfSome result (λ value. length value.now ≤ 1440) }
@@ -95,7 +95,7 @@ impl ReceivedImage {
         let value = self.get(slot, subslot)?;
         match self.status(PlaceKind::Data, slot, subslot) {
             Some(GOOD) => Some(value),
-            // Under a bad IOPS the data means nothing, and zeros are what outputs fall back to.
+            // With a bad IOPS the data has no meaning, and outputs fall back to zeros.
             _ => Some(zeros(value.len())),
         }
     }

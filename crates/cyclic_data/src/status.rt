@@ -42,7 +42,7 @@ impl Flags for DataStatus {
 }
 
 impl DataStatus {
-    /// What a provider sends that runs and has no problem.
+    /// The status that a provider sends if it runs and has no problem.
     pub fn running() -> DataStatus
         ensures { result.0 ≡ 0x35 }
     {

@@ -42,7 +42,7 @@ pub im4_bytes : (text : List ℕ) → length text ≡ 54 → im4_record text ≡
 unfolding block_bytes block body_of fields_of number_of type_of body im4 number_bytes octet_bytes version
 im4_bytes text long = rw (long, append-nil text, append-nil text) refl
 
--- ---- whole records are taken
+-- ---- whole records are accepted
 
 whole_1 : (text : List ℕ) → length text ≡ 54 → text_of 54 (header_of 0x21 54) (header_of 0x21 54 ++ text) ≡ Ok text
 unfolding text_of
@@ -67,9 +67,9 @@ whole index bytes (im.Im2 text) w = rw (w.0, w.2, im2_bytes text w.1, whole_2 te
 whole index bytes (im.Im3 text) w = rw (w.0, w.2, im3_bytes text w.1, whole_3 text w.1) refl
 whole index bytes (im.Im4 text) w = rw (w.0, w.2, im4_bytes text w.1, whole_4 text w.1) refl
 
--- ---- what is taken is a whole record
+-- ---- what is accepted is a whole record
 
--- a test that was passed
+-- A test that was passed.
 passed : {F A : Type 0} (b : Bool) (fault : F) (x : Result A F) (value : A) → cond b x (Err fault) ≡ Ok value → (b ≡ true) × (x ≡ Ok value)
 passed true fault x value e = (refl, e)
 passed false fault x value e = absurd cc
@@ -112,7 +112,7 @@ pub only : (index : ℕ) (bytes : List ℕ) (command : Command) → command_of i
 unfolding command_of
 only index bytes command e = only_in index bytes command (record_with index) refl e
 
--- the same of a result that is known
+-- A command that is returned sets the value of a whole record.
 pub only_if : (index : ℕ) (bytes : List ℕ) (result : Result Command RecordFault) → result ≡ command_of index bytes
     → IfOk result (λ command. (value : ImValue) × (command ≡ SetIm value) × IsWritten index bytes value)
 only_if index bytes (Ok command) e = only index bytes command (sym e)

@@ -3,7 +3,7 @@ use Rattle.std.specs.Prelude.{ℕ}
 use Rattle.im_records.specs.declared.fault.RecordFault.{RecordFault}
 use Rattle.im_records.specs.declared.fault.RecordFault.TheVariants.{Index, Length, Block}
 
--- the number of a fault, in the order in which they are looked for
+-- The number of a fault, in the order in which the faults are checked.
 abbrev pub number_of : RecordFault → ℕ
 number_of Index = 1
 number_of Length = 2

@@ -1,9 +1,9 @@
--- Which record of a device an index names (IEC 61158-6-10, 5.2.3.22 and 5.2.4).
+-- The record of a device that an index names (IEC 61158-6-10, 5.2.3.22 and 5.2.4).
 use Rattle.std.specs.Prelude.{◌==◌, ℕ, Bool, true, false, Option, Some, None, if◌then◌else◌}
 use Rattle.im_records.specs.declared.record.Record.{Record}
 use Rattle.im_records.specs.declared.record.Record.TheVariants.{Im0, Im1, Im2, Im3, Im4, FilterData, ModuleDiff}
 
--- the record of an index, if it is one of a device
+-- The record with an index, if it is one of a device.
 unfoldable pub record_with : ℕ → Option Record
 record_with index =
     if index == 0xAFF0 then Some Im0
@@ -15,7 +15,7 @@ record_with index =
     else if index == 0xE002 then Some ModuleDiff
     else None
 
--- whether it is an I&M text, which is written too
+-- Whether it is an I&M text, which is writable too.
 abbrev pub is_text : Option Record → Bool
 is_text None = false
 is_text (Some Im0) = false
@@ -26,7 +26,7 @@ is_text (Some Im4) = true
 is_text (Some FilterData) = false
 is_text (Some ModuleDiff) = false
 
--- whether it stands at any place
+-- Whether it exists at any slot and subslot.
 abbrev pub is_anywhere : Option Record → Bool
 is_anywhere None = false
 is_anywhere (Some Im0) = false
@@ -37,7 +37,7 @@ is_anywhere (Some Im4) = false
 is_anywhere (Some FilterData) = true
 is_anywhere (Some ModuleDiff) = true
 
--- whether it is read alone
+-- Whether it is read-only.
 abbrev pub is_read_only : Option Record → Bool
 is_read_only None = false
 is_read_only (Some Im0) = true
@@ -48,7 +48,7 @@ is_read_only (Some Im4) = false
 is_read_only (Some FilterData) = true
 is_read_only (Some ModuleDiff) = true
 
--- whether it is the ModuleDiffBlock of a relation
+-- Whether it is the ModuleDiffBlock of a relation.
 abbrev pub is_module_diff : Option Record → Bool
 is_module_diff None = false
 is_module_diff (Some ModuleDiff) = true

@@ -14,7 +14,7 @@ use Rattle.im_records.specs.declared.record.Record.TheVariants as named
 use Rattle.im_records.specs.Indices.{record_with}
 use Rattle.im_records.specs.Plugged.{filter_record}
 
--- I&M0 of a device
+-- I&M0 of a device.
 abbrev pub im0_of : Identity → Im0
 im0_of identity = record {
   vendor_id = identity.vendor_id;
@@ -26,7 +26,7 @@ im0_of identity = record {
   im_profile_specific_type = identity.profile_specific_type;
 }
 
--- I&M1 of a text: its function is the first 32 octets of it
+-- I&M1 from a text: the first 32 octets are the function, the others the location.
 abbrev pub im1_of : List ℕ → Im1
 im1_of text = record { im_tag_function = take 32 text; im_tag_location = drop 32 text }
 
@@ -47,25 +47,25 @@ im3_record text = block_bytes (is.Im3 (record { im_descriptor = text }))
 abbrev pub im4_record : List ℕ → List ℕ
 im4_record text = block_bytes (is.Im4 (record { im_signature = text }))
 
--- whether this is the submodule that stands for the device: slot 0, subslot 1
+-- Whether this is the submodule that represents the device: slot 0, subslot 1.
 abbrev pub is_device : ℕ → ℕ → Bool
 is_device slot subslot = slot == 0 && subslot == 1
 
--- whether a submodule is plugged in this subslot of a module
+-- Whether a submodule is plugged in this subslot of a module.
 abbrev pub has_subslot : ℕ → RealModule → Bool
 has_subslot subslot entry = list_any (λ part. part.subslot == subslot) entry.submodules.items
 
--- whether a submodule is plugged in this slot and subslot
+-- Whether a submodule is plugged in this slot and subslot.
 abbrev pub is_real : Real → ℕ → ℕ → Bool
 is_real real slot subslot = list_any (λ entry. entry.slot == slot && has_subslot subslot entry) real.modules.items
 
--- these octets, where the test holds
+-- These octets if the test holds, else none.
 abbrev pub where_holds : Bool → List ℕ → Option (List ℕ)
 where_holds true octets = Some octets
 where_holds false octets = None
 
--- the record at this submodule, if there is one: I&M0 at each real submodule, I&M1 to I&M4 at that of the device, and I&M0FilterData
--- everywhere
+-- The record at this submodule, if there is one: I&M0 at each real submodule, I&M1 to I&M4 at that of the device, and
+-- I&M0FilterData everywhere.
 abbrev pub record_in : Option Record → ℕ → ℕ → Identity → Real → Settings → Option (List ℕ)
 record_in None slot subslot identity real settings = None
 record_in (Some named.Im0) slot subslot identity real settings = where_holds (is_real real slot subslot) (im0_record identity)
@@ -76,6 +76,6 @@ record_in (Some named.Im4) slot subslot identity real settings = where_holds (is
 record_in (Some named.FilterData) slot subslot identity real settings = Some (filter_record real)
 record_in (Some named.ModuleDiff) slot subslot identity real settings = None
 
--- the record of this index there
+-- The record with this index at this submodule.
 abbrev pub record_of : ℕ → ℕ → ℕ → Identity → Real → Settings → Option (List ℕ)
 record_of index slot subslot identity real settings = record_in (record_with index) slot subslot identity real settings

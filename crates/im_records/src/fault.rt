@@ -1,20 +1,20 @@
-//! Why a record is not taken.
+//! Why a record is not accepted.
 ghost use Rattle.std.specs.Prelude.{◌≡◌};
 ghost use Rattle.im_records.specs.Faults.{number_of};
 
-/// Why a record is not taken. The first one counts.
+/// Why a record is not accepted. The first fault found is reported.
 #[derive(Clone, Copy, Debug, PartialEq, Eq)]
 pub enum RecordFault {
-    /// No record that can be written has this index.
+    /// No writable record has this index.
     Index,
-    /// It is not as long as the record of this index.
+    /// The record is not as long as the record of this index.
     Length,
-    /// It is not the block of this index: BlockType, BlockLength and version are others.
+    /// The record is not the block of this index: BlockType, BlockLength or the version differs.
     Block,
 }
 
 impl RecordFault {
-    /// Its number, from 1.
+    /// The number of the fault, from 1.
     pub fn number(self) -> u8
         ensures { result ≡ number_of self }
     {

@@ -1,5 +1,5 @@
-//! The records of identification and maintenance (IEC 61158-6-10, 5.2.3.22): what a device answers when one is read, and what
-//! one that is written asks for.
+//! The records of identification and maintenance (IEC 61158-6-10, 5.2.3.22): what a device returns when one is read, and
+//! what a written one asks for.
 #![tactic(auto)]
 
 mod fault;

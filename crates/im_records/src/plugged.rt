@@ -10,8 +10,8 @@ use block_codec::{Block, FilterModule, FilterModules, FilterSubmodule, ImFilterD
 use pn_values::{Real, RealModule, RealSubmodule};
 use record_blocks::filter_data_len;
 
-/// Record 0xF840: all submodules that are plugged in, and then the one that stands for the device. Its lists take ten thousand
-/// octets of stack, which no other call has to carry.
+/// Record 0xF840: all submodules that are plugged, and then the one that represents the device. Its lists take ten
+/// thousand octets of stack, so it is a function of its own.
 #[inline(never)]
 #[tactic(auto, unfolding(block_codec::specs::Block::block_size, block_codec::specs::Block::fields_of, block_fields::specs::Fields::body, block_fields::specs::Fields::version))]
 pub(crate) fn filter_of(real: &Real) -> ArrayVec<u8, 1024>
@@ -31,7 +31,7 @@ pub(crate) fn filter_of(real: &Real) -> ArrayVec<u8, 1024>
         api: 0,
         modules: FilterModules::lent(&device_modules, &device_submodules),
     };
-    // what counts their octets says that there is room for them
+    // The length bounds the octets, so there is room for them.
     let _all_size = filter_data_len(&all);
     let _device_size = filter_data_len(&device);
     let mut out = ArrayVec::new();
@@ -54,7 +54,7 @@ fn push_all(
     ensures few_submodules { length submodules.new.items ≤ 64 }
 {
     for entry in real.modules.as_slice() {
-        // A module with no submodule has no entry, since I&M data is that of submodules.
+        // A module without submodules has no entry, because I&M data belongs to submodules.
         if !entry.submodules.is_empty() {
             modules.push(FilterModule {
                 slot_number: entry.slot,
@@ -80,7 +80,7 @@ fn push_parts(entries: &mut ArrayVec<FilterSubmodule, 256>, parts: &[RealSubmodu
     }
 }
 
-/// The ident numbers of the module in slot 0 and its submodule in subslot 1, which stands for the device.
+/// The ident numbers of the module in slot 0 and its submodule in subslot 1, which represents the device.
 fn device_of(real: &Real) -> Option<(u32, u32)>
     ensures { result ≡ device_in real.now.modules.items }
 {
@@ -94,7 +94,7 @@ fn device_of(real: &Real) -> Option<(u32, u32)>
     None
 }
 
-/// The ident number of the submodule in this subslot of a module.
+/// The ident number of the submodule in this subslot of a module, or `None` if it is empty.
 fn ident_of(entry: &RealModule, subslot: u16) -> Option<u32>
     ensures { result ≡ ident_in subslot entry.now.submodules.items }
 {

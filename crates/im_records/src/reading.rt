@@ -1,4 +1,4 @@
-//! Records that are read.
+//! The records that are read.
 ghost use Rattle.std.specs.Prelude.{◌≡◌, ◌≤◌};
 ghost use Rattle.std.specs.Option.{option_map};
 ghost use Rattle.block_codec.specs.Block.{block_bytes, block_size};
@@ -14,8 +14,9 @@ use block_codec::{Block, Im0, Im1, Im2, Im3, Im4, write_block};
 use pn_values::{Identity, Padded, Real, RealModule, Settings};
 use record_blocks::im0_len;
 
-/// The record of this index at this slot and subslot of a device, if there is one to be read: I&M0 (0xAFF0) at each
-/// submodule that is plugged in, I&M1 to I&M4 (0xAFF1 to 0xAFF4) at slot 0, subslot 1, and I&M0FilterData (0xF840) at any.
+/// The record with this index at this slot and subslot of a device, or `None` if there is no such record to read: I&M0
+/// (0xAFF0) at each submodule that is plugged, I&M1 to I&M4 (0xAFF1 to 0xAFF4) at slot 0, subslot 1, and I&M0FilterData
+/// (0xF840) at any slot and subslot.
 pub fn read_record(
     index: u16,
     slot: u16,
@@ -27,14 +28,14 @@ pub fn read_record(
     ensures { option_map (λ octets. octets.items) result ≡ record_of index slot subslot identity.now real.now settings.now }
 {
     match Record::of(index)? {
-        // I&M0 is one for all submodules: they are parts of one product.
+        // I&M0 is the same for all submodules, because they are parts of one product.
         Record::Im0 if is_real(real, slot, subslot) => Some(im0_of(identity)),
         Record::Im1 if is_device(slot, subslot) => Some(im1_of(&settings.im1)),
         Record::Im2 if is_device(slot, subslot) => Some(im2_of(&settings.im2)),
         Record::Im3 if is_device(slot, subslot) => Some(im3_of(&settings.im3)),
         Record::Im4 if is_device(slot, subslot) => Some(im4_of(&settings.im4)),
         Record::FilterData => Some(filter_of(real)),
-        // The ModuleDiffBlock is one of a relation, and who has none reads none.
+        // The ModuleDiffBlock belongs to a relation, so a reader without a relation gets none.
         _ => None,
     }
 }
@@ -60,14 +61,15 @@ fn has_subslot(entry: &RealModule, subslot: u16) -> bool
         .any(|part| part.subslot == subslot)
 }
 
-/// Whether the record of this index at this slot and subslot is written: I&M1 to I&M4 of the submodule that stands for the device.
+/// Whether the record with this index at this slot and subslot is writable: I&M1 to I&M4 of the submodule that represents
+/// the device.
 pub fn is_writable(index: u16, slot: u16, subslot: u16) -> bool
     ensures { result ≡ is_writable index slot subslot }
 {
     is_text(index) && is_device(slot, subslot)
 }
 
-/// Whether this is the submodule that stands for the device.
+/// Whether this is the submodule that represents the device.
 fn is_device(slot: u16, subslot: u16) -> bool
     ensures { result ≡ is_device slot subslot }
 {
@@ -88,7 +90,7 @@ fn im0_of(identity: &Identity) -> ArrayVec<u8, 1024>
         im_profile_id: identity.profile_id,
         im_profile_specific_type: identity.profile_specific_type,
     };
-    // what counts its octets says that there is room for them
+    // The length bounds the octets, so there is room for them.
     let _size = im0_len(&im0);
     block_record(&Block::Im0(im0))
 }
@@ -142,7 +144,7 @@ fn im4_of(text: &Padded<54>) -> ArrayVec<u8, 1024>
     block_record(&Block::Im4(im4))
 }
 
-/// A record that is this block.
+/// The octets of a record that is this block.
 fn block_record(block: &Block) -> ArrayVec<u8, 1024>
     requires { block_size block.now ≤ 1024 }
     ensures { result.items ≡ block_bytes block.now }

@@ -1,25 +1,25 @@
-//! Which record of a device an index names. A new record of its own is named here, and served where its kind is.
+//! The record of a device that an index names. A new record is named here, and served with its kind.
 ghost use Rattle.std.specs.Prelude.{◌≡◌};
 ghost use Rattle.im_records.specs.Indices.{is_anywhere, is_module_diff, is_read_only, is_text, record_with};
 
-/// A record that a device has of its own: all but the parameter records of submodules.
+/// A record of the device itself: all records but the parameter records of submodules.
 #[derive(Clone, Copy, Debug, PartialEq, Eq)]
 pub enum Record {
-    /// I&M0, of each submodule that is plugged in.
+    /// I&M0, of each submodule that is plugged.
     Im0,
-    /// I&M1, of the submodule that stands for the device, as the others up to I&M4. These four are written too.
+    /// I&M1, of the submodule that represents the device. This also holds for I&M2 to I&M4; these four are writable too.
     Im1,
     Im2,
     Im3,
     Im4,
-    /// I&M0FilterData, at any place.
+    /// I&M0FilterData, at any slot and subslot.
     FilterData,
-    /// The ModuleDiffBlock of a relation, at any place.
+    /// The ModuleDiffBlock of a relation, at any slot and subslot.
     ModuleDiff,
 }
 
 impl Record {
-    /// The record of this index, if it is one of a device (IEC 61158-6-10, 5.2.3.22 and 5.2.4).
+    /// The record with this index, or `None` if it is not a record of the device (IEC 61158-6-10, 5.2.3.22 and 5.2.4).
     #[tactic(auto, unfolding(crate::specs::Indices::record_with))]
     pub fn of(index: u16) -> Option<Record>
         ensures { result ≡ record_with index }
@@ -37,7 +37,7 @@ impl Record {
     }
 }
 
-/// Whether the record of this index is an I&M text.
+/// Whether the record with this index is an I&M text.
 pub(crate) fn is_text(index: u16) -> bool
     ensures { result ≡ is_text (record_with index) }
 {
@@ -47,7 +47,7 @@ pub(crate) fn is_text(index: u16) -> bool
     }
 }
 
-/// Whether the record of this index stands at any place.
+/// Whether the record with this index exists at any slot and subslot.
 pub fn is_anywhere(index: u16) -> bool
     ensures { result ≡ is_anywhere (record_with index) }
 {
@@ -57,7 +57,7 @@ pub fn is_anywhere(index: u16) -> bool
     }
 }
 
-/// Whether the record of this index is read alone.
+/// Whether the record with this index is read-only.
 pub fn is_read_only(index: u16) -> bool
     ensures { result ≡ is_read_only (record_with index) }
 {
@@ -67,7 +67,7 @@ pub fn is_read_only(index: u16) -> bool
     }
 }
 
-/// Whether the record of this index is the ModuleDiffBlock of a relation.
+/// Whether the record with this index is the ModuleDiffBlock of a relation.
 pub fn is_module_diff(index: u16) -> bool
     ensures { result ≡ is_module_diff (record_with index) }
 {

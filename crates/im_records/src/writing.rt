@@ -1,4 +1,4 @@
-//! Records that are written.
+//! The records that are written.
 ghost use Rattle.std.specs.Prelude.{◌≡◌, ◌<◌, Ok, IfOk};
 ghost use Rattle.pn_values.specs.declared.im_value.ImValue.{ImValue};
 ghost use Rattle.pn_values.specs.declared.command.Command.TheVariants.{SetIm};
@@ -7,21 +7,21 @@ ghost use Rattle.im_records.specs.Writes.{IsWritten, command_of, text_of};
 use crate::{Record, RecordFault};
 use pn_values::{Command, ImValue, Padded};
 
-/// What the record of this index asks for when these octets are written to it. The first fault counts: Index, Length,
-/// Block.
+/// The command that a write of these octets to the record with this index asks for. The first fault found is reported:
+/// Index, Length, Block.
 #[tactic(auto, using(crate::proofs::Texts::whole, crate::proofs::Texts::only_if))]
 pub fn read_write(index: u16, bytes: &[u8]) -> Result<Command, RecordFault>
-    // Whole records set their values,
+    // A whole record sets its value.
     ensures whole { (value : ImValue) → IsWritten index bytes.now value → result ≡ Ok (SetIm value) }
-    // and nothing else sets one.
+    // A command that is returned sets the value of a whole record, and nothing else.
     ensures only { IfOk result (λ command. (value : ImValue) × (command ≡ SetIm value) × IsWritten index bytes.now value) }
-    // Which fault it is.
+    // The result is exactly the command or the fault that the definition `command_of` gives.
     ensures exact { result ≡ command_of index bytes.now }
 {
     command_at(index, bytes)
 }
 
-/// What a written record asks for.
+/// The command that a written record asks for.
 #[tactic(auto, unfolding(crate::specs::Writes::command_of))]
 fn command_at(index: u16, bytes: &[u8]) -> Result<Command, RecordFault>
     ensures { result ≡ command_of index bytes.now }
@@ -36,7 +36,7 @@ fn command_at(index: u16, bytes: &[u8]) -> Result<Command, RecordFault>
     Ok(Command::SetIm(value))
 }
 
-/// The text behind the header of its kind, to the last octet. Its length is judged first.
+/// The text after the header of its kind, to the last octet. Its length is checked first.
 #[tactic(auto, unfolding(crate::specs::Writes::text_of))]
 fn text_at<const N: usize>(bytes: &[u8], header: [u8; 6]) -> Result<Padded<N>, RecordFault>
     requires { N < 1000 }

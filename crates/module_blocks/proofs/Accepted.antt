@@ -18,7 +18,7 @@ use Rattle.module_blocks.specs.Expected.{description_kind, description, no_data,
 -- ---- numbers that differ
 
 module _ {A : Type 0} (key : A → ℕ) where
-  -- none of these has the number of one of those before them
+  -- None of the values has the number of an entry before them.
   abbrev AreNew : List A → List A → Type 0
   AreNew before values = AllByRecursion (λ value. list_any (λ (entry : A). key entry == key value) before ≡ false) values
 
@@ -33,14 +33,14 @@ module _ {A : Type 0} (key : A → ℕ) where
 
 -- ---- entries
 
--- a description of so many octets fits
+-- A description of `octets` octets fits.
 description_fits : (kind most octets : ℕ) → (kind % 4 == kind) ≡ true → kind < 65536 → octets ≤ most → most ≤ 1440 → (description kind most).Fits octets
 unfolding description description_kind
 description_fits kind most octets low short few most_few =
     let test : (nat_le 0 octets && nat_le octets most) ≡ true = grind (arith, nat_tests) in
     ((low, short), ((test, omega (arith, few, most_few)), ((refl, lit< tt), (refl, lit< tt))))
 
--- data that is not too long fits
+-- Data that is not too long fits.
 pub data_fits : (value : SubmoduleData) → IsShort value → submodule_data.Fits value
 unfolding submodule_data no_data data_of
 data_fits value short = by value.input value.output short.0 short.1
@@ -52,13 +52,13 @@ data_fits value short = by value.input value.output short.0 short.1
     by (Some input) (Some output) short_input short_output =
         (lit< tt, (refl, (description_fits 1 1440 input refl (lit< tt) short_input (omega arith), description_fits 2 1440 output refl (lit< tt) short_output (omega arith))))
 
--- a module behind others that have other numbers
+-- A module fits after others that have other numbers.
 module_fits : (before : List ExpectedModule) (entry : ExpectedModule) → list_any (λ (one : ExpectedModule). one.slot_number == entry.slot_number) before ≡ false
     → (expected_module []).Fits entry → (expected_module before).Fits entry
 unfolding expected_module new_slot
 module_fits before entry new fits = (fits.0, ((rw new refl, fits.1.0.1), fits.1.1))
 
--- a submodule behind others of its slot that have other numbers
+-- A submodule fits after others of its slot that have other numbers.
 submodule_fits : (before : List ExpectedSubmodule) (entry : ExpectedSubmodule) → list_any (λ (one : ExpectedSubmodule). one.subslot_number == entry.subslot_number) before ≡ false
     → (expected_submodule []).Fits entry → (expected_submodule before).Fits entry
 unfolding expected_submodule new_subslot
@@ -66,13 +66,13 @@ submodule_fits before entry new fits = ((rw new refl, fits.0.1), fits.1)
 
 -- ---- lists
 
--- the first of these and those behind them
+-- A fact about all values holds for the first `n` and for the rest.
 all_cut : {A : Type 0} (P : A → Type 0) (n : ℕ) (values : List A) → AllByRecursion P values → AllByRecursion P (take n values) × AllByRecursion P (drop n values)
 all_cut P zero values all = (tt, all)
 all_cut P (suc n) [] all = (tt, tt)
 all_cut P (suc n) (value ∷ values) all = let cut = all_cut P n values all.1 in ((all.0, cut.0), cut.1)
 
--- the submodules of a slot, behind some of them
+-- The submodules of a slot fit after some of them.
 own_fit : (second own values : List ExpectedSubmodule) → length second + length own + length values ≤ 256 → AreNew (λ entry. entry.subslot_number) own values
     → IsDistinct (λ one other. one.subslot_number == other.subslot_number) values → AllByRecursion (λ entry. IsShort entry.io_data) values → AllByRecursion SubmoduleFits values
     → FitsEach (next_entry expected_submodule (length second)) (second ++ own) values
@@ -88,7 +88,7 @@ own_fit second own (entry ∷ values) room new distinct short fits =
       subst (λ (before : List ExpectedSubmodule). FitsEach (next_entry expected_submodule (length second)) before values) (sym (append_assoc second own (entry ∷ []))) more,
     )
 
--- modules behind some of them, and submodules behind theirs
+-- Modules fit after some of them, and submodules after theirs.
 all_fit : (first : List ExpectedModule) (second : List ExpectedSubmodule) (modules : List ExpectedModule) (submodules : List ExpectedSubmodule)
     → length first + length modules ≤ 256 → length second + length submodules ≤ 256 → sum_by own_of modules ≡ length submodules
     → AreNew (λ entry. entry.slot_number) first modules → IsDistinct (λ one other. one.slot_number == other.slot_number) modules
@@ -113,7 +113,7 @@ all_fit first second (entry ∷ modules) submodules room places counted new slot
           (new_on (λ entry. entry.slot_number) first entry modules new.1 slots.0) slots.1 subslots.1 cut.1 fits.2,
     )
 
--- what is accepted can be written
+-- Modules that are accepted can be written.
 pub modules_fit : (value : Listed ExpectedModule ExpectedSubmodule) → length value.modules ≤ 256 → length value.submodules ≤ 256 → IsExpected value
     → FitsNested (expected_module []).Fits own_of SubmoduleFits value.modules value.submodules → expected_modules.Fits value
 unfolding expected_modules listed_modules module_list
@@ -123,7 +123,7 @@ modules_fit value few places is fits = (
       (new_first (λ entry. entry.slot_number) value.modules) is.slots is.subslots is.short fits,
 )
 
--- ---- two modules, one with an input of two octets and one without data
+-- ---- an example: two modules, one with an input of two octets and one without data
 
 two_modules : (slot : ℕ) → Listed ExpectedModule ExpectedSubmodule
 two_modules slot = record {
@@ -133,7 +133,7 @@ two_modules slot = record {
       ∷ record { subslot_number = 1; submodule_ident_number = 0x30; io_data = record { input = None; output = None } } ∷ [];
 }
 
--- in slots 1 and 2 they are accepted
+-- In slots 1 and 2 the modules are accepted.
 in_two_slots : IsExpected (two_modules 2)
 unfolding two_modules IsDistinct
 in_two_slots = record {
@@ -143,7 +143,7 @@ in_two_slots = record {
   short = ((omega arith, tt), ((tt, tt), tt));
 }
 
--- in one slot they are not
+-- In one slot the modules are not accepted.
 in_one_slot : IsExpected (two_modules 1) → ⊥
 unfolding two_modules IsDistinct
 in_one_slot is = let same : true ≡ false = is.slots.0.0 in absurd cc

@@ -46,7 +46,7 @@ module_diff_accepted inside value s =
 
 -- ---- what is written
 
--- 10 octets a module and 8 a submodule, and the count
+-- 10 octets for each module, 8 for each submodule, and the count.
 pub modules_few : (value : Listed DiffModule DiffSubmodule) → diff_modules.size value ≤ 2 + (length value.modules * 10 + length value.submodules * 8)
 unfolding diff_modules diff_module diff_submodule
 modules_few value = few (λ _. diff_module) own_of (λ _. diff_submodule) 10 8 (λ _ _. omega arith) (λ _ _. omega arith) value
@@ -55,7 +55,7 @@ pub diff_short : (block : ModuleDiffBlock) → module_diff.size block ≤ 8 + le
 unfolding module_diff
 diff_short block = let most = modules_few block.modules in omega arith
 
--- modules that count the submodules that there are, and whose fields fit, can be written
+-- Modules whose counts add up to the number of submodules, and whose fields fit, can be written.
 pub modules_fit : (value : Listed DiffModule DiffSubmodule) → length value.modules ≤ 256 → length value.submodules ≤ 256 → IsCounted value
     → FitsNested diff_module.Fits own_of diff_submodule.Fits value.modules value.submodules → diff_modules.Fits value
 unfolding diff_modules

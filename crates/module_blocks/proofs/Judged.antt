@@ -23,12 +23,12 @@ not_so true h = absurd (true≢false (sym h))
 not_so false h = refl
 
 module _ {A : Type 0} (key : A → ℕ) where
-  -- each has another number than those before it
+  -- Each value has another number than those before it.
   abbrev DifferFrom : List A → List A → Type 0
   DifferFrom before [] = Unit {0}
   DifferFrom before (value ∷ values) = (list_any (λ (entry : A). key entry == key value) before ≡ false) × DifferFrom (before ++ value ∷ []) values
 
-  -- none of these has the number of one of those
+  -- None of the values has the number of an entry before them.
   abbrev AreOthers : List A → List A → Type 0
   AreOthers before values = AllByRecursion (λ (value : A). list_any (λ (entry : A). key entry == key value) before ≡ false) values
 
@@ -89,7 +89,7 @@ submodule_short before bytes rest entry s =
 
 -- ---- lists
 
--- the submodules of a slot, behind some of them
+-- The submodules of a slot that are read after some of them are accepted.
 own_judged : (second own : List ExpectedSubmodule) (bytes : List ℕ) (values : List ExpectedSubmodule) (rest : List ℕ)
     → SpellEach (next_entry expected_submodule (length second)) (second ++ own) bytes values rest
     → DifferFrom (λ (entry : ExpectedSubmodule). entry.subslot_number) own values × AllByRecursion (λ (entry : ExpectedSubmodule). IsShort entry.io_data) values
@@ -107,7 +107,7 @@ all_joined P zero values front behind = behind
 all_joined P (suc n) [] front behind = tt
 all_joined P (suc n) (value ∷ values) front behind = (front.0, all_joined P n values front.1 behind)
 
--- modules behind some of them, and submodules behind theirs
+-- Modules that are read after some of them are accepted, with their submodules.
 all_judged : (first : List ExpectedModule) (second : List ExpectedSubmodule) (bytes : List ℕ) (modules : List ExpectedModule) (submodules : List ExpectedSubmodule) (rest : List ℕ)
     → SpellOuter (next_entry expected_module 0) own_of (next_entry expected_submodule) first second bytes modules submodules rest
     → DifferFrom (λ (entry : ExpectedModule). entry.slot_number) first modules × SubslotsDiffer modules submodules × AllByRecursion (λ (entry : ExpectedSubmodule). IsShort entry.io_data) submodules

@@ -61,7 +61,7 @@ expected_sound = seen_sound _ _ _ (λ _. refl) expected_modules_sound
 
 -- ---- what is written
 
--- how many octets SubmoduleProperties and the descriptions take
+-- The number of octets that SubmoduleProperties and the descriptions take.
 pub data_sized : (value : SubmoduleData) → submodule_data.size value ≡ data_size value.input value.output
 unfolding submodule_data no_data data_of description description_kind
 data_sized value = by value.input value.output
@@ -72,7 +72,7 @@ data_sized value = by value.input value.output
     by None (Some o) = refl
     by (Some i) (Some o) = refl
 
--- at most 14 octets
+-- SubmoduleProperties and the descriptions take at most 14 octets.
 data_few : (value : SubmoduleData) → data_size value.input value.output ≤ 14
 data_few value = by value.input value.output
   where
@@ -82,7 +82,7 @@ data_few value = by value.input value.output
     by None (Some o) = omega arith
     by (Some i) (Some o) = omega arith
 
--- 14 octets a module and at most 20 a submodule, and the count
+-- 14 octets for each module, at most 20 for each submodule, and the count.
 pub modules_few : (value : Listed ExpectedModule ExpectedSubmodule) → expected_modules.size value ≤ 2 + (length value.modules * 14 + length value.submodules * 20)
 unfolding expected_modules expected_module expected_submodule new_slot new_subslot
 modules_few value =

@@ -1,5 +1,5 @@
--- ModuleDiffBlock (IEC 61158-6-10, 5.2.4.11): which modules are not as they were asked for. The submodules of all modules
--- stand in one list, those of the first module first.
+-- ModuleDiffBlock (IEC 61158-6-10, 5.2.4.11): the modules that are not as requested. The submodules of all modules are in
+-- one list, those of the first module first.
 use Rattle.std.specs.Prelude.{◌≡◌, ℕ, length, sum_by}
 use Rattle.wire.specs.Codec.{Codec}
 use Rattle.wire.specs.Formats.{◌⨾◌, seen}
@@ -12,39 +12,39 @@ use Rattle.module_blocks.specs.declared.module_diff.ModuleDiffBlock.{ModuleDiffB
 
 -- ---- one entry
 
--- SlotNumber, ModuleIdentNumber, ModuleState and NumberOfSubmodules
+-- SlotNumber, ModuleIdentNumber, ModuleState and NumberOfSubmodules.
 unfoldable pub diff_module : Codec BlockFault DiffModule
 diff_module = seen
     (λ x. record { slot_number = x.0; module_ident_number = x.1.0; module_state = x.1.1.0; number_of_submodules = x.1.1.1 })
     (λ entry. (entry.slot_number, (entry.module_ident_number, (entry.module_state, entry.number_of_submodules))))
     (two ⨾ four ⨾ two ⨾ two)
 
--- SubslotNumber, SubmoduleIdentNumber and SubmoduleState
+-- SubslotNumber, SubmoduleIdentNumber and SubmoduleState.
 unfoldable pub diff_submodule : Codec BlockFault DiffSubmodule
 diff_submodule = seen
     (λ x. record { subslot_number = x.0; submodule_ident_number = x.1.0; submodule_state = x.1.1 })
     (λ entry. (entry.subslot_number, (entry.submodule_ident_number, entry.submodule_state)))
     (two ⨾ four ⨾ two)
 
--- how many submodules stand behind a module
+-- The number of submodules that follow a module.
 abbrev pub own_of : DiffModule → ℕ
 own_of entry = entry.number_of_submodules
 
 -- ---- the block
 
--- NumberOfModules, and each module with its submodules
+-- NumberOfModules, and each module with its submodules.
 unfoldable pub diff_modules : Codec BlockFault (Listed DiffModule DiffSubmodule)
 diff_modules = listed_modules (λ _. diff_module) own_of (λ _. diff_submodule)
 
--- NumberOfAPIs 1, API and the modules
+-- NumberOfAPIs 1, API and the modules.
 unfoldable pub module_diff : Codec BlockFault ModuleDiffBlock
 module_diff = seen (λ x. record { api = x.1.0; modules = x.1.1 }) (λ block. (tt, (block.api, block.modules)))
     (fixed 4 1 ⨾ four ⨾ diff_modules)
 
--- the modules count the submodules that there are
+-- The counts of the modules add up to the number of submodules.
 abbrev pub IsCounted : Listed DiffModule DiffSubmodule → Type 0
 IsCounted value = sum_by own_of value.modules ≡ length value.submodules
 
--- its fields are accepted
+-- The fields of a ModuleDiffBlock are accepted.
 abbrev pub IsModuleDiff : ModuleDiffBlock → Type 0
 IsModuleDiff block = IsCounted block.modules

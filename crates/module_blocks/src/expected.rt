@@ -17,16 +17,16 @@ use block_fields::{
     put_modules, read_fields, u16_at, version_at,
 };
 
-/// A module that is expected in a slot, with its API, 0.
+/// A module that is expected in a slot of API 0.
 #[derive(Clone, Copy, Default)]
 pub struct ExpectedModule {
-    /// SlotNumber, which no other module of the block has.
+    /// SlotNumber. No other module of the block has the same.
     pub slot_number: u16,
     /// ModuleIdentNumber.
     pub module_ident_number: u32,
     /// ModuleProperties.
     pub module_properties: u16,
-    /// NumberOfSubmodules: how many of the submodules are its.
+    /// NumberOfSubmodules: the number of submodules that belong to the module.
     pub number_of_submodules: u16,
 }
 
@@ -45,7 +45,7 @@ macro_rules! expected_module_fields {
 /// A submodule that is expected in a subslot.
 #[derive(Clone, Copy, Default)]
 pub struct ExpectedSubmodule {
-    /// SubslotNumber, which no other submodule of its slot has.
+    /// SubslotNumber. No other submodule of the slot has the same.
     pub subslot_number: u16,
     /// SubmoduleIdentNumber.
     pub submodule_ident_number: u32,
@@ -73,7 +73,7 @@ pub struct ExpectedSubmoduleBlockReq<'a> {
     pub modules: ExpectedModules<'a>,
 }
 
-/// A SlotNumber, field 6, that none of these has, and what is behind it.
+/// Reads a SlotNumber (field 6) that none of the modules `before` has. Returns it and the rest.
 #[tactic(auto, unfolding(crate::specs::Expected::new_slot))]
 fn new_slot_at<'a>(
     bytes: &'a [u8],
@@ -88,14 +88,14 @@ fn new_slot_at<'a>(
     Ok((number, rest))
 }
 
-/// Whether one of these has this SlotNumber.
+/// Whether one of the modules `before` has this SlotNumber.
 fn has_slot(before: &[ExpectedModule], number: u16) -> bool
     ensures { result ≡ list_any (λ entry. entry.slot_number == number) before.now }
 {
     before.iter().any(|entry| entry.slot_number == number)
 }
 
-/// A SubslotNumber, field 10, that none of these has, and what is behind it.
+/// Reads a SubslotNumber (field 10) that none of the submodules `before` has. Returns it and the rest.
 #[tactic(auto, unfolding(crate::specs::Expected::new_subslot))]
 fn new_subslot_at<'a>(
     bytes: &'a [u8],
@@ -110,7 +110,7 @@ fn new_subslot_at<'a>(
     Ok((number, rest))
 }
 
-/// Whether one of these has this SubslotNumber.
+/// Whether one of the submodules `before` has this SubslotNumber.
 fn has_subslot(before: &[ExpectedSubmodule], number: u16) -> bool
     ensures { result ≡ list_any (λ entry. entry.subslot_number == number) before.now }
 {
@@ -173,7 +173,8 @@ impl<const N: usize> Put<N> for ExpectedSubmodule {
     }
 }
 
-/// What BlockLength counts of an ExpectedSubmoduleBlockReq, to the last octet. It is judged in these lists.
+/// Reads the part of an ExpectedSubmoduleBlockReq that BlockLength counts: the version and the fields, to the last octet.
+/// It is checked in the lists `modules` and `submodules`.
 #[tactic(auto, unfolding(block_fields::specs::Fields::body, crate::specs::Expected::expected, crate::specs::Expected::expected_modules))]
 pub fn expected_in<'a>(
     bytes: &'a [u8],
@@ -188,7 +189,7 @@ pub fn expected_in<'a>(
     Ok(ExpectedSubmoduleBlockReq { modules })
 }
 
-/// What BlockLength counts of an ExpectedSubmoduleBlockReq, to the last octet.
+/// Reads the part of an ExpectedSubmoduleBlockReq that BlockLength counts: the version and the fields, to the last octet.
 pub fn expected_at(bytes: &[u8]) -> Result<ExpectedSubmoduleBlockReq<'_>, BlockFault>
     ensures { Gives (λ x. x) result ((body expected).read bytes.now) }
 {
@@ -210,7 +211,7 @@ fn put_expected_modules<const N: usize>(out: &mut ArrayVec<u8, N>, value: &Expec
     put_modules(out, value, &mut modules, &mut submodules);
 }
 
-/// How many octets NumberOfAPIs and the entries of modules and submodules take.
+/// The number of octets that NumberOfAPIs and the entries of modules and submodules take.
 #[tactic(auto, using(crate::proofs::Wanted::modules_few), unfolding(crate::specs::Expected::expected_modules))]
 fn expected_modules_len(value: &ExpectedModules) -> usize
     ensures size { result ≡ expected_modules.size value.now }
@@ -219,7 +220,7 @@ fn expected_modules_len(value: &ExpectedModules) -> usize
     modules_len(value)
 }
 
-/// Appends the fields of a ExpectedSubmoduleBlockReq. There must be room.
+/// Appends the fields of an ExpectedSubmoduleBlockReq. There must be room.
 #[tactic(auto, unfolding(crate::specs::Expected::expected))]
 pub fn put_expected<const N: usize>(out: &mut ArrayVec<u8, N>, value: &ExpectedSubmoduleBlockReq)
     requires { array_vec_len out.old + expected.size value.now ≤ N }
@@ -230,7 +231,7 @@ pub fn put_expected<const N: usize>(out: &mut ArrayVec<u8, N>, value: &ExpectedS
     put_expected_modules(out, &value.modules);
 }
 
-/// How many octets the fields of a ExpectedSubmoduleBlockReq take.
+/// The number of octets that the fields of an ExpectedSubmoduleBlockReq take.
 #[tactic(auto, unfolding(crate::specs::Expected::expected))]
 pub fn expected_len(value: &ExpectedSubmoduleBlockReq) -> usize
     ensures size { result ≡ expected.size value.now }

@@ -1,6 +1,6 @@
-//! The blocks that list modules with their submodules: those that a controller expects, and in what the real ones differ
-//! (IEC 61158-6-10, 5.2.4). What each one means, and how its fields are read and written. Crate `block_codec` puts the
-//! header in front of them.
+//! The blocks that list modules with their submodules: those that a controller expects, and those that differ from the
+//! real ones (IEC 61158-6-10, 5.2.4). What each block means, and how its fields are read and written. Crate `block_codec`
+//! adds the block header.
 #![tactic(auto)]
 
 mod expected;

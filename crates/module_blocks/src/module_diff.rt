@@ -1,4 +1,4 @@
-//! ModuleDiffBlock: which modules are not as they were asked for.
+//! ModuleDiffBlock: the modules that are not as requested.
 ghost use Rattle.std.specs.Prelude.{◌≡◌, ◌+◌, ◌*◌, ◌<◌, ◌≤◌, ◌++◌, List, ℕ, length, OnOk};
 ghost use Rattle.arrayvec.specs.ArrayVec.{array_vec_len};
 ghost use Rattle.wire.specs.Codec.{Gives};
@@ -17,11 +17,11 @@ use block_fields::{
 pub struct DiffModule {
     /// SlotNumber.
     pub slot_number: u16,
-    /// ModuleIdentNumber of the module that is plugged; 0 where none is.
+    /// ModuleIdentNumber of the module that is plugged; 0 if the slot is empty.
     pub module_ident_number: u32,
     /// ModuleState: 0 no module, 1 wrong module, 2 proper module.
     pub module_state: u16,
-    /// NumberOfSubmodules: how many of the submodules are its.
+    /// NumberOfSubmodules: the number of submodules that belong to the module.
     pub number_of_submodules: u16,
 }
 
@@ -41,7 +41,7 @@ macro_rules! diff_module_fields {
 pub struct DiffSubmodule {
     /// SubslotNumber.
     pub subslot_number: u16,
-    /// SubmoduleIdentNumber of the submodule that is plugged; 0 where none is.
+    /// SubmoduleIdentNumber of the submodule that is plugged; 0 if the subslot is empty.
     pub submodule_ident_number: u32,
     /// SubmoduleState.
     pub submodule_state: u16,
@@ -60,7 +60,7 @@ macro_rules! diff_submodule_fields {
 /// The modules that differ, each with its submodules: at most 256 modules and 256 submodules.
 pub type DiffModules<'a> = Modules<'a, DiffModule, DiffSubmodule>;
 
-/// 0x8104: ModuleDiffBlock (IEC 61158-6-10, 5.2.4.11), of NumberOfAPIs 1.
+/// 0x8104: ModuleDiffBlock (IEC 61158-6-10, 5.2.4.11), with NumberOfAPIs 1.
 #[derive(Drop)]
 pub struct ModuleDiffBlock<'a> {
     /// API.
@@ -135,7 +135,7 @@ impl<const N: usize> Put<N> for DiffSubmodule {
     }
 }
 
-/// NumberOfModules and the entries of modules and submodules, and what is behind them.
+/// Reads NumberOfModules and the entries of modules and submodules. Returns them and the rest.
 #[tactic(auto, unfolding(crate::specs::ModuleDiff::diff_modules))]
 fn diff_modules_at(bytes: &[u8]) -> Result<(DiffModules<'_>, &[u8]), BlockFault>
     ensures { Gives (λ x. (x.0, x.1.now)) result (diff_modules.read bytes.now) }
@@ -145,7 +145,7 @@ fn diff_modules_at(bytes: &[u8]) -> Result<(DiffModules<'_>, &[u8]), BlockFault>
     Modules::at(bytes, &mut modules, &mut submodules)
 }
 
-/// What BlockLength counts of a ModuleDiffBlock, to the last octet.
+/// Reads the part of a ModuleDiffBlock that BlockLength counts: the version and the fields, to the last octet.
 #[tactic(auto, unfolding(block_fields::specs::Fields::body, crate::specs::ModuleDiff::module_diff))]
 pub fn module_diff_at(bytes: &[u8]) -> Result<ModuleDiffBlock<'_>, BlockFault>
     ensures { Gives (λ x. x) result ((body module_diff).read bytes.now) }
@@ -166,7 +166,7 @@ fn put_diff_modules<const N: usize>(out: &mut ArrayVec<u8, N>, value: &DiffModul
     put_modules(out, value, &mut modules, &mut submodules);
 }
 
-/// How many octets NumberOfModules and the entries of modules and submodules take.
+/// The number of octets that NumberOfModules and the entries of modules and submodules take.
 #[tactic(auto, using(crate::proofs::Diff::modules_few), unfolding(crate::specs::ModuleDiff::diff_modules))]
 fn diff_modules_len(value: &DiffModules) -> usize
     ensures size { result ≡ diff_modules.size value.now }
@@ -186,7 +186,7 @@ pub fn put_module_diff<const N: usize>(out: &mut ArrayVec<u8, N>, value: &Module
     module_diff_fields!(put_fields [out, value]);
 }
 
-/// How many octets the fields of a ModuleDiffBlock take.
+/// The number of octets that the fields of a ModuleDiffBlock take.
 #[tactic(auto, unfolding(crate::specs::ModuleDiff::module_diff))]
 pub fn module_diff_len(value: &ModuleDiffBlock) -> usize
     ensures size { result ≡ module_diff.size value.now }

@@ -1,4 +1,4 @@
-//! What a submodule has in cyclic frames.
+//! The data of a submodule in cyclic frames.
 ghost use Rattle.std.specs.Prelude.{◌≡◌, ◌==◌, ◌||◌, ◌+◌, ◌≤◌, ◌++◌, List, ℕ};
 ghost use Rattle.arrayvec.specs.ArrayVec.{array_vec_len};
 ghost use Rattle.wire.specs.Codec.{Gives};
@@ -7,7 +7,7 @@ ghost use Rattle.module_blocks.specs.Expected.{description, description_kind, da
 use arrayvec::ArrayVec;
 use block_fields::{BlockFault, append_u8, append_u16, fixed_one_at, ranged_at, u16_at};
 
-/// What a submodule has in cyclic frames, by its SubmoduleProperties and DataDescriptions.
+/// The data of a submodule in cyclic frames, from its SubmoduleProperties and DataDescriptions.
 #[derive(Clone, Copy, Default)]
 pub struct SubmoduleData {
     /// SubmoduleDataLength of its input, at most 1,440 octets, if it has one.
@@ -16,7 +16,7 @@ pub struct SubmoduleData {
     pub output: Option<u16>,
 }
 
-/// What is behind a DataDescription, field 13, of this kind.
+/// Reads a DataDescription (field 13) of this kind. Returns the rest.
 #[tactic(auto, unfolding(crate::specs::Expected::description_kind))]
 fn description_kind_at(bytes: &[u8], kind: u16) -> Result<&[u8], BlockFault>
     ensures { Gives (λ x. (tt, x.now)) result ((description_kind kind).read bytes.now) }
@@ -29,7 +29,7 @@ fn description_kind_at(bytes: &[u8], kind: u16) -> Result<&[u8], BlockFault>
     }
 }
 
-/// The length in a description of this kind, at most so much, and what is behind it.
+/// Reads a description of this kind. Returns its length, which is at most `most`, and the rest.
 #[tactic(auto, unfolding(crate::specs::Expected::description))]
 fn description_at(bytes: &[u8], kind: u16, most: u16) -> Result<(u16, &[u8]), BlockFault>
     ensures { Gives (λ x. (x.0, x.1.now)) result ((description kind most).read bytes.now) }
@@ -41,7 +41,7 @@ fn description_at(bytes: &[u8], kind: u16, most: u16) -> Result<(u16, &[u8]), Bl
     Ok((length, rest))
 }
 
-/// What is behind the description of no data, where there is one.
+/// Reads the description of no data if `there` is set. Returns the rest.
 #[tactic(auto, unfolding(crate::specs::Expected::no_data))]
 fn no_data_at(bytes: &[u8], there: bool) -> Result<&[u8], BlockFault>
     ensures { Gives (λ x. (tt, x.now)) result ((no_data there).read bytes.now) }
@@ -55,7 +55,7 @@ fn no_data_at(bytes: &[u8], there: bool) -> Result<&[u8], BlockFault>
     }
 }
 
-/// The length of an input, kind 1, or an output, kind 2, where there is one, and what is behind it.
+/// Reads the description of an input (kind 1) or an output (kind 2) if `there` is set. Returns its length and the rest.
 #[tactic(auto, unfolding(crate::specs::Expected::data_of))]
 fn data_at(bytes: &[u8], there: bool, kind: u16) -> Result<(Option<u16>, &[u8]), BlockFault>
     ensures { Gives (λ x. (x.0, x.1.now)) result ((data_of there kind).read bytes.now) }
@@ -69,14 +69,14 @@ fn data_at(bytes: &[u8], there: bool, kind: u16) -> Result<(Option<u16>, &[u8]),
     }
 }
 
-/// Whether it is one of the two.
+/// Whether `kind` is one of the two.
 fn is_either(kind: u16, one: u16, other: u16) -> bool
     ensures { result ≡ (kind == one || kind == other) }
 {
     kind == one || kind == other
 }
 
-/// SubmoduleProperties and the descriptions, and what is behind them.
+/// Reads SubmoduleProperties and the descriptions. Returns the data and the rest.
 #[tactic(auto, unfolding(crate::specs::Expected::submodule_data))]
 pub(crate) fn submodule_data_at(bytes: &[u8]) -> Result<(SubmoduleData, &[u8]), BlockFault>
     ensures { Gives (λ x. (x.0, x.1.now)) result (submodule_data.read bytes.now) }
@@ -131,7 +131,7 @@ pub(crate) fn put_submodule_data<const N: usize>(out: &mut ArrayVec<u8, N>, valu
     }
 }
 
-/// How many octets SubmoduleProperties and the descriptions take.
+/// The number of octets that SubmoduleProperties and the descriptions take.
 pub(crate) fn submodule_data_len(value: &SubmoduleData) -> usize
     ensures size { result ≡ data_size value.now.input value.now.output }
     ensures few { result ≤ 14 }

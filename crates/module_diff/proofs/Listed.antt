@@ -1,4 +1,4 @@
--- Of which modules rows are listed, and that they count their submodules.
+-- The modules whose rows are listed. Their counts add up to the number of listed submodules.
 use Rattle.std.proofs.Common.{◌≡◌, ◌+◌, ◌≤◌, ◌&&◌, ◌||◌, ℕ, suc, Bool, true, false, cond, not, List, [], ◌∷◌, length, map, nat_lt, Option, refl, sym, ap, ◌∙◌, true≢false, arith}
 use Rattle.std.specs.Prelude.{sum_by}
 use Rattle.std.specs.List.{filter, list_any}
@@ -16,7 +16,7 @@ use Rattle.module_diff.specs.Rows.{AreRows}
 some_of : (n : ℕ) → nat_lt 0 (suc n) ≡ true
 some_of n = lt-ltb 0 (suc n) (omega arith)
 
--- some are left that fail a test where one fails it
+-- Some elements fail a test exactly if the list of those that fail it is not empty.
 some_fail : {A : Type 0} (test : A → Bool) (xs : List A) → nat_lt 0 (length (filter (λ x. not (test x)) xs)) ≡ list_any (λ x. not (test x)) xs
 some_fail test [] = refl
 some_fail test (x ∷ xs) =
@@ -25,7 +25,7 @@ some_fail test (x ∷ xs) =
       | false ↦ some_of (length (filter (λ y. not (test y)) xs))
     ]
 
--- a module differs where it is not the proper one, or some of its submodules are listed
+-- A module differs exactly if it is not the expected one, or some of its submodules are listed.
 counted_so : {A : Type 0} (test : A → Bool) (proper : Bool) (xs : List A)
     → (not proper || nat_lt 0 (length (filter (λ x. not (proper && test x)) xs))) ≡ (not proper || list_any (λ x. not (test x)) xs)
 counted_so test true xs = some_fail test xs
@@ -53,7 +53,7 @@ one_module real w ident proper n e p k =
     ∙ (ap (λ (b : Bool). cond b (module_row real w ∷ []) []) d
     ∙ sym (map_one (module_row real) w (differs real w))))
 
--- of a module that does not differ there is nothing to be listed
+-- No submodule is listed for a module that does not differ.
 none_left : {A B : Type 0} (f : A → B) (proper : Bool) (xs : List A) → (not proper || nat_lt 0 (length xs)) ≡ false → [] ≡ map f xs
 none_left f proper [] e = refl
 none_left f true (x ∷ xs) e = absurd (true≢false (sym (some_of (length xs)) ∙ e))

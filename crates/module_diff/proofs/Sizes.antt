@@ -1,9 +1,9 @@
--- How many octets the rows take.
+-- The number of octets that the rows take.
 use Rattle.std.proofs.Common.{◌≤◌, ◌+◌, ◌*◌, length, arith}
 use Rattle.module_blocks.specs.declared.module_diff.ModuleDiffBlock.{ModuleDiffBlock}
 use Rattle.module_blocks.specs.ModuleDiff.{module_diff}
 
--- a clause of the format
+-- The clause of the format that bounds the size of a ModuleDiffBlock.
 abbrev pub DiffsAreShort : Type 0
 DiffsAreShort = (block : ModuleDiffBlock) → module_diff.size block ≤ 8 + length block.modules.modules * 10 + length block.modules.submodules * 8
 

@@ -1,4 +1,4 @@
--- Which modules are not as a Connect expects them (IEC 61158-6-10, 5.2.4.11).
+-- The modules that are not as a Connect expects them (IEC 61158-6-10, 5.2.4.11).
 use Rattle.std.specs.Prelude.{◌==◌, ◌&&◌, ◌||◌, ◌++◌, ℕ, Bool, false, not, List, [], ◌∷◌, map, length, take, drop, Option, Some, None, if◌then◌else◌}
 use Rattle.std.specs.List.{filter, list_any}
 use Rattle.pn_values.specs.declared.real.RealModule.{RealModule}
@@ -12,12 +12,12 @@ use Rattle.module_blocks.specs.ModuleDiff.{own_of as rows_of}
 use Rattle.module_diff.specs.declared.expected.Expected.{Expected}
 use Rattle.module_diff.specs.Plugged.{is_ident, module_ident, submodule_ident}
 
--- a module that is expected, with its submodules
+-- An expected module with its submodules.
 pub record Wanted : Type 0 where
   pub entry : ExpectedModule
   pub submodules : List ExpectedSubmodule
 
--- modules, each with as many of these submodules as it counts
+-- The expected modules, each with as many of these submodules as it counts.
 abbrev pub wanted_in : List ExpectedModule → List ExpectedSubmodule → List Wanted
 wanted_in [] submodules = []
 wanted_in (entry ∷ modules) submodules =
@@ -25,35 +25,35 @@ wanted_in (entry ∷ modules) submodules =
 
 -- ---- what differs
 
--- the module of the expected ident number is plugged in its slot
+-- The module with the expected ident number is plugged in its slot.
 abbrev pub is_proper : List RealModule → ExpectedModule → Bool
 is_proper real entry = is_ident (module_ident real entry.slot_number) entry.module_ident_number
 
--- the submodule of the expected ident number is plugged in its subslot of this slot
+-- The submodule with the expected ident number is plugged in its subslot of this slot.
 abbrev pub is_as_expected : List RealModule → ℕ → ExpectedSubmodule → Bool
 is_as_expected real slot part = is_ident (submodule_ident real slot part.subslot_number) part.submodule_ident_number
 
--- a module differs where its slot is empty, another module is plugged there, or one of its submodules is not as expected
+-- A module differs if its slot is empty, another module is plugged there, or one of its submodules is not as expected.
 abbrev pub differs : List RealModule → Wanted → Bool
 differs real wanted = not (is_proper real wanted.entry) || list_any (λ part. not (is_as_expected real wanted.entry.slot_number part)) wanted.submodules
 
--- the submodules that are listed of it: all, but of a proper module only those that are not as expected
+-- The listed submodules of a module: all if the module is not the expected one, else only those that are not as expected.
 abbrev pub listed : List RealModule → Wanted → List ExpectedSubmodule
 listed real wanted = filter (λ part. not (is_proper real wanted.entry && is_as_expected real wanted.entry.slot_number part)) wanted.submodules
 
 -- ---- the rows
 
--- an ident number, 0 where nothing is plugged
+-- An ident number, or 0 if nothing is plugged.
 abbrev pub ident_or_zero : Option ℕ → ℕ
 ident_or_zero (Some ident) = ident
 ident_or_zero None = 0
 
--- ModuleState: 0 no module, 1 wrong module, 2 proper module
+-- ModuleState: 0 no module, 1 wrong module, 2 proper module.
 abbrev pub module_state : Option ℕ → ℕ → ℕ
 module_state None expected = 0
 module_state (Some ident) expected = if ident == expected then 2 else 1
 
--- the row of a module in whose slot this is plugged, and of which so many submodules are listed
+-- The row of a module, from the ident number that is plugged in its slot and the number of its listed submodules.
 abbrev pub row_with : ExpectedModule → Option ℕ → ℕ → DiffModule
 row_with entry ident listed = record {
   slot_number = entry.slot_number;
@@ -62,16 +62,16 @@ row_with entry ident listed = record {
   number_of_submodules = listed;
 }
 
--- the row of a module
+-- The row of a module.
 abbrev pub module_row : List RealModule → Wanted → DiffModule
 module_row real wanted = row_with wanted.entry (module_ident real wanted.entry.slot_number) (length (listed real wanted))
 
--- SubmoduleState, whose FormatIndicator is 1: IdentInfo is 2, wrong, where a submodule is plugged, else 3, no submodule
+-- SubmoduleState with FormatIndicator 1: IdentInfo is 2 (wrong) if a submodule is plugged, else 3 (no submodule).
 abbrev pub submodule_state : Option ℕ → ℕ
 submodule_state (Some ident) = 0x9000
 submodule_state None = 0x9800
 
--- the row of a submodule in whose subslot this is plugged
+-- The row of a submodule, from the ident number that is plugged in its subslot.
 abbrev pub submodule_row_with : ℕ → Option ℕ → DiffSubmodule
 submodule_row_with subslot ident = record {
   subslot_number = subslot;
@@ -79,35 +79,36 @@ submodule_row_with subslot ident = record {
   submodule_state = submodule_state ident;
 }
 
--- the row of a submodule
+-- The row of a submodule.
 abbrev pub submodule_row : List RealModule → ℕ → ExpectedSubmodule → DiffSubmodule
 submodule_row real slot part = submodule_row_with part.subslot_number (submodule_ident real slot part.subslot_number)
 
--- the rows of the modules that differ
+-- The rows of the modules that differ.
 abbrev pub module_rows : List RealModule → List Wanted → List DiffModule
 module_rows real wanteds = map (module_row real) (filter (differs real) wanteds)
 
--- the rows of the submodules that are listed of one module
+-- The rows of the listed submodules of one module.
 abbrev pub submodules_of : List RealModule → Wanted → List DiffSubmodule
 submodules_of real wanted = map (submodule_row real wanted.entry.slot_number) (listed real wanted)
 
--- the same of several, one behind the other
+-- The rows of the listed submodules of several modules, one module after the other.
 abbrev pub submodules_of_all : List RealModule → List Wanted → List DiffSubmodule
 submodules_of_all real [] = []
 submodules_of_all real (wanted ∷ wanteds) = submodules_of real wanted ++ submodules_of_all real wanteds
 
--- the rows of the submodules of the modules that differ
+-- The rows of the submodules of the modules that differ.
 abbrev pub submodule_rows : List RealModule → List Wanted → List DiffSubmodule
 submodule_rows real wanteds = submodules_of_all real (filter (differs real) wanteds)
 
--- what differs: the expected modules that do, in the order asked for, each with its submodules that are listed
+-- The modules that differ, in the order of the request, each with its listed submodules.
 abbrev pub diff_of : Expected → List RealModule → Listed DiffModule DiffSubmodule
 diff_of expected real = record {
   modules = module_rows real (wanted_in expected.modules.items expected.submodules.items);
   submodules = submodule_rows real (wanted_in expected.modules.items expected.submodules.items);
 }
 
--- whether a submodule is listed in rows, each of which has as many of these submodules as it counts
+-- Whether a row of this subslot is listed; `lists` is for the rows of modules, each with as many of these submodules as
+-- it counts.
 abbrev pub has_subslot : ℕ → List DiffSubmodule → Bool
 has_subslot subslot rows = list_any (λ row. row.subslot_number == subslot) rows
 

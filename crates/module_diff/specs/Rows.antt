@@ -4,7 +4,7 @@ use Rattle.module_blocks.specs.declared.module_diff.DiffModule.{DiffModule}
 use Rattle.module_blocks.specs.declared.module_diff.DiffSubmodule.{DiffSubmodule}
 use Rattle.module_blocks.specs.ModuleDiff.{own_of}
 
--- the modules count the submodules that there are, and there are few of both
+-- The counts of the modules add up to the number of submodules, and each list has at most 64 entries.
 pub record AreRows (modules : List DiffModule) (submodules : List DiffSubmodule) : Type 0 where
   pub counted : sum_by own_of modules ≡ length submodules
   pub few_modules : length modules ≤ 64

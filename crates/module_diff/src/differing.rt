@@ -1,4 +1,4 @@
-//! What differs.
+//! Finds the modules that are not as a Connect expects them.
 ghost use Rattle.std.specs.Prelude.{◌≡◌, ◌+◌, ◌≤◌, ◌++◌, ◌&&◌, ◌||◌, [], ◌∷◌, cond, not, drop, length, map, nat_lt, take};
 ghost use Rattle.std.specs.List.{filter};
 ghost use Rattle.arrayvec.specs.ArrayVec.{array_vec_len};
@@ -12,20 +12,21 @@ use arrayvec::ArrayVec;
 use module_blocks::{DiffModule, DiffSubmodule, ExpectedModule, ExpectedSubmodule};
 use pn_values::Real;
 
-/// ModuleState of a slot that is empty.
+/// ModuleState for an empty slot.
 const NO_MODULE: u16 = 0;
-/// ModuleState of a slot with another module than is expected.
+/// ModuleState for a slot with another module than expected.
 const WRONG_MODULE: u16 = 1;
-/// ModuleState of a slot with the module that is expected.
+/// ModuleState for a slot with the expected module.
 const PROPER_MODULE: u16 = 2;
 
-/// SubmoduleState of a subslot with a submodule that is not the expected one: FormatIndicator 1, IdentInfo 2.
+/// SubmoduleState for a subslot with another submodule than expected: FormatIndicator 1, IdentInfo 2.
 const WRONG_SUBMODULE: u16 = 0x9000;
-/// SubmoduleState of a subslot that is empty: FormatIndicator 1, IdentInfo 3.
+/// SubmoduleState for an empty subslot: FormatIndicator 1, IdentInfo 3.
 const NO_SUBMODULE: u16 = 0x9800;
 
-/// The modules that are not as they are expected, in the order asked for. Of a slot that is empty or has another module all
-/// submodules that are expected are listed, of a proper module those that are not plugged.
+/// The modules that are not as expected, in the order of the request. If the slot is empty or has another module, all
+/// expected submodules of the module are listed. If the slot has the expected module, only the submodules that are not as
+/// expected are listed.
 pub fn diff(expected: &Expected, real: &Real) -> DiffRows
     ensures { result ≡ diff_of expected.now real.now.modules.items }
 {
@@ -59,7 +60,7 @@ fn fill_rows(
     }
 }
 
-/// So many submodules, or all where there are fewer, and those behind them.
+/// Splits off the first `count` submodules, or all if there are fewer. Returns them and the rest.
 pub(crate) fn split_own<T>(submodules: &[T], count: u16) -> (&[T], &[T])
     ensures own { result.0.now ≡ take count submodules.now }
     ensures behind { result.1.now ≡ drop count submodules.now }
@@ -68,7 +69,7 @@ pub(crate) fn split_own<T>(submodules: &[T], count: u16) -> (&[T], &[T])
     submodules.split_at(submodules.len().min(count as usize))
 }
 
-/// Appends the row of a module, if it differs, and those of its submodules that are listed. There must be room.
+/// Appends the row of a module if it differs, and the rows of its submodules that are listed. There must be room.
 fn push_module(
     modules: &mut ArrayVec<DiffModule, 64>,
     submodules: &mut ArrayVec<DiffSubmodule, 64>,
@@ -95,7 +96,7 @@ fn push_module(
     );
 }
 
-/// Appends a row where it is to be listed. There must be room.
+/// Appends a row if `listed` is set. There must be room.
 fn push_where(modules: &mut ArrayVec<DiffModule, 64>, listed: bool, row: DiffModule)
     requires { array_vec_len modules.old + 1 ≤ 64 }
     ensures items { modules.new.items ≡ modules.old.items ++ cond listed (row ∷ []) [] }
@@ -106,14 +107,15 @@ fn push_where(modules: &mut ArrayVec<DiffModule, 64>, listed: bool, row: DiffMod
     }
 }
 
-/// Whether a module is listed of which so many submodules are.
+/// Whether a module is listed, if `submodules` of its submodules are listed.
 fn is_listed(proper: bool, submodules: u16) -> bool
     ensures { result ≡ (not proper || nat_lt 0 submodules) }
 {
     !proper || submodules > 0
 }
 
-/// The row of a module in whose slot a module of this ident number is plugged, and of which so many submodules are listed.
+/// The row of a module: `ident` is the ident number of the module that is plugged in its slot, and `number_of_submodules`
+/// of its submodules are listed.
 fn row_with(entry: &ExpectedModule, ident: Option<u32>, number_of_submodules: u16) -> DiffModule
     ensures { result ≡ row_with entry.now ident number_of_submodules }
 {
@@ -130,8 +132,8 @@ fn row_with(entry: &ExpectedModule, ident: Option<u32>, number_of_submodules: u1
     }
 }
 
-/// Appends the rows of submodules, of a proper module only of those that are not as expected, and says how many they are.
-/// There must be room.
+/// Appends the rows of submodules, for the expected module only of those that are not as expected. Returns the number of
+/// rows. There must be room.
 fn push_submodules(
     submodules: &mut ArrayVec<DiffSubmodule, 64>,
     real: &Real,
@@ -157,7 +159,7 @@ fn push_submodules(
     count
 }
 
-/// The row of a submodule in whose subslot a submodule of this ident number is plugged.
+/// The row of a submodule. `ident` is the ident number of the submodule that is plugged in its subslot.
 fn submodule_row_with(subslot: u16, ident: Option<u32>) -> DiffSubmodule
     ensures { result ≡ submodule_row_with subslot ident }
 {
@@ -172,7 +174,7 @@ fn submodule_row_with(subslot: u16, ident: Option<u32>) -> DiffSubmodule
     }
 }
 
-/// Whether it is this ident number.
+/// Whether `ident` is the expected ident number.
 fn is_ident(ident: Option<u32>, expected: u32) -> bool
     ensures { result ≡ is_ident ident expected }
 {

@@ -1,5 +1,5 @@
-//! Whether what is plugged in a device is what a Connect expects (IEC 61158-6-10, 5.2.4.11): the modules that differ, for its
-//! ModuleDiffBlock.
+//! Compares the plugged modules of a device with those that a Connect expects (IEC 61158-6-10, 5.2.4.11), and lists the
+//! modules that differ for its ModuleDiffBlock.
 #![tactic(auto)]
 
 mod differing;

@@ -9,8 +9,8 @@ use arrayvec::ArrayVec;
 use module_blocks::{DiffModule, DiffModules, DiffSubmodule, ModuleDiffBlock, diffs_are_short};
 use std::marker::Model;
 
-/// The modules that differ, in the order asked for, each with the submodules that are listed of it: at most 64 modules, and at
-/// most 64 submodules.
+/// The modules that differ, in the order of the request, each with its listed submodules: at most 64 modules and at most
+/// 64 submodules.
 #[derive(Drop)]
 pub struct DiffRows {
     modules: ArrayVec<DiffModule, 64>,
@@ -33,7 +33,7 @@ impl Model for DiffRows {
 }
 
 impl DiffRows {
-    /// These rows.
+    /// The rows of these modules and submodules.
     pub(crate) fn new(
         modules: ArrayVec<DiffModule, 64>,
         submodules: ArrayVec<DiffSubmodule, 64>,
@@ -66,13 +66,13 @@ impl DiffRows {
         )
     }
 
-    /// The block that says so.
+    /// The ModuleDiffBlock with these rows.
     #[tactic(auto, using(crate::proofs::Sizes::rows_small))]
     pub fn to_block(&self) -> ModuleDiffBlock<'_>
         ensures value { result ≡ record { api = 0; modules = self.now } }
-        // What is written of it is read as it,
+        // The fields of the block are accepted.
         ensures accepted { IsModuleDiff result }
-        // and there is room for it: so many octets at most behind its header.
+        // The block has at most 64 modules.
         ensures few_modules { length result.modules.modules ≤ 64 }
         ensures few_submodules { length result.modules.submodules ≤ 64 }
         ensures small { module_diff.size result ≤ 1160 }
@@ -85,7 +85,7 @@ impl DiffRows {
     }
 }
 
-/// Whether a submodule is listed in the rows of modules, each of which has as many of these submodules as it counts.
+/// Whether a submodule is listed in the rows of modules. Each module has as many of these submodules as it counts.
 fn lists(modules: &[DiffModule], submodules: &[DiffSubmodule], slot: u16, subslot: u16) -> bool
     ensures { result ≡ lists slot subslot modules.now submodules.now }
 {
@@ -100,7 +100,7 @@ fn lists(modules: &[DiffModule], submodules: &[DiffSubmodule], slot: u16, subslo
     false
 }
 
-/// Whether one of these rows is of a subslot.
+/// Whether one of these rows is for this subslot.
 fn has_subslot(rows: &[DiffSubmodule], subslot: u16) -> bool
     ensures { result ≡ has_subslot subslot rows.now }
 {

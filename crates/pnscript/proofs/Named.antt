@@ -1,4 +1,4 @@
--- Which command one word behind the program's name is.
+-- The subcommand that is the only word after the program's name.
 use Rattle.std.proofs.Common.{◌≡◌, Bool, true, false, List, [], ◌∷◌, Option, Some, None, option_map, option_and_then, is_some, subst, ◌||◌, if◌then◌else◌, ap, ap₂, ◌∙◌, refl, codes, Bor}
 use Rattle.std.specs.Str.{bytes_eq}
 use Rattle.std.proofs.lemmas.Slice.Eq.{bytes_eq-Decides}
@@ -11,7 +11,7 @@ use Rattle.pnscript.specs.declared.words.Task.{Task}
 use Rattle.pnscript.specs.declared.words.Task.TheVariants.{Run, Plan}
 use Rattle.pnscript.specs.Words.{is_word, task_named}
 
--- the program, with its two commands
+-- The program with its two subcommands.
 abbrev run_alone : App
 run_alone = with_subcommand (new_app (codes "pnscript")) (new_app (codes "run")).top
 
@@ -35,7 +35,7 @@ takes_plan : (name : Text) → takes program (name ∷ codes "plan" ∷ []) ≡ 
 unfolding clap_on_literals
 takes_plan name = refl
 
--- the first of two commands that a word is
+-- The first of the two subcommands that a word equals.
 abbrev first_of : Bool → Bool → Option Task
 first_of run plan = if run then Some Run else if plan then Some Plan else None
 
@@ -46,15 +46,15 @@ takes_one name word false true is_run is_plan some =
     subst (λ (text : Text). takes program (name ∷ text ∷ []) ≡ true) ((bytes_eq-Decides (codes "plan") word).0 is_plan) (takes_plan name)
 takes_one name word false false is_run is_plan some = cc
 
--- a word that names a task is taken
+-- A word that names a task is accepted.
 pub takes_word : (name word : Text) → is_word word ≡ true → takes program (name ∷ word ∷ []) ≡ true
 takes_word name word some = takes_one name word (bytes_eq (codes "run") word) (bytes_eq (codes "plan") word) refl refl some
 
--- a command, with no word behind it
+-- A subcommand with no word after it.
 abbrev alone : Text → Text × List Text
 alone name = (name, [])
 
--- where a walk stands after a word that is no command
+-- The state of the parser after a word that is not a subcommand.
 abbrev after : List Rule → Text → Held × Step → Walk
 after rules word met = after_step rules word (walk_from nothing_held) met.0 met.1
 
@@ -82,7 +82,7 @@ other : (rules : List Rule) (word : Text) (dashes : Bool)
 other rules word true = refl
 other rules word false = long rules word (long_of word)
 
--- it stops at a command that the word names, and at nothing else
+-- The parser stops at a subcommand that the word names, and at nothing else.
 stops : (rules : List Rule) (word : Text) (met : Option Text)
     → (after rules word (subcommand_or_other rules met idle 1 word nothing_held)).stopped ≡ option_map alone met
 stops rules word (Some name) = refl
@@ -93,7 +93,7 @@ stops_after : (rules : List Rule) (names : Names) (word : Text)
 unfolding walked
 stops_after rules names word = stops rules word (subcommand_met names idle word)
 
--- the task that the command that was met names
+-- The task of the subcommand that was found.
 abbrev pub task_met : Option (Text × List Row) → Option Task
 task_met met = option_and_then (λ p. task_named p.0) met
 
@@ -106,13 +106,13 @@ pick false true help = refl
 pick false false true = refl
 pick false false false = refl
 
--- one word behind the program's name is the command that it names
+-- The only word after the program's name is the subcommand that it names.
 pub task_is_met : (name word : Text) → task_met (subcommand_of program (name ∷ word ∷ [])) ≡ task_named word
 unfolding clap_on_literals
 task_is_met name word =
     ap (λ stop. task_met (entered (built program) stop)) (stops_after (built program).top.rules (names_of (built program)) word) ∙ pick (bytes_eq (codes "run") word) (bytes_eq (codes "plan") word) (bytes_eq (codes "help") word)
 
--- the task of the name of the command that was met is that of the command
+-- The task of the name of the subcommand that was found is that of the subcommand.
 pub is_same_task : {A : Type 0} (command : A → Text × List Row) (met : Option A) (name : Option (Bor Text))
     → option_map (λ (n : Bor Text). n.now) name ≡ option_map (λ (m : A). (command m).0) met
     → option_and_then (λ (n : Bor Text). task_named n.now) name ≡ task_met (option_map command met)

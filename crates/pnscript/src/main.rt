@@ -1,5 +1,6 @@
-//! The program. `pnscript run` runs the script on standard input on a demo device, and writes to standard output what
-//! it prints. `pnscript plan` makes the plan of the catalogue on standard input, and writes the layouts of its cyclic frames.
+//! The program `pnscript`. `pnscript run` runs the script on standard input on a demo device, and writes to standard
+//! output what it prints. `pnscript plan` makes the plan of the catalogue on standard input, and writes the layouts of
+//! its cyclic frames.
 #![tactic(auto)]
 
 mod words;
@@ -10,10 +11,10 @@ use std::io::{self, BufWriter, ErrorKind, Input, Write};
 use std::process::ExitCode;
 use words::{Task, task_of};
 
-/// The status of words that ask for nothing.
+/// The exit status for an invalid command line.
 const USAGE: u8 = 64;
 
-/// How many bytes are written at a time.
+/// The most bytes of one write.
 const BUFFER: usize = 65_536;
 
 fn main(rt: HostRuntime) -> ExitCode {
@@ -30,7 +31,7 @@ fn main(rt: HostRuntime) -> ExitCode {
     }
 }
 
-/// Does what the words ask for. Says whether they ask for anything.
+/// Does what the command line asks for. Returns whether it is valid.
 fn obey(rt: &HostRuntime) -> Result<bool, RunFault> {
     let words = match env::args(rt) {
         Ok(words) => words,
@@ -47,7 +48,7 @@ fn obey(rt: &HostRuntime) -> Result<bool, RunFault> {
     Ok(true)
 }
 
-/// Does a task. What the lines of a script printed is written whether a later one is refused or not.
+/// Does a task. What the lines of a script printed is written even if a later line is refused.
 fn work(rt: &HostRuntime, task: Task) -> Result<(), RunFault> {
     let mut reader = rt.reader();
     let Ok(mut writer) = BufWriter::with_capacity(rt.alloc(), BUFFER, io::writer(rt)) else {

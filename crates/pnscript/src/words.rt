@@ -1,4 +1,4 @@
-// The words of the command line.
+// The subcommands of the command line.
 ghost use Rattle.std.specs.Prelude.{◌≡◌, ℕ, true, List, [], ◌∷◌, IfOk, IfErr, codes, map, option_and_then, string_bytes};
 ghost use Rattle.clap.specs.Words.{kind_of};
 ghost use Rattle.pnscript.specs.Words.{is_word, task_asked, task_named};
@@ -8,7 +8,7 @@ use clap::{Command, Error};
 use script_runner::RunFault;
 use std::alloc::Global;
 
-/// What the program does.
+/// A task of the program.
 #[derive(Clone, Copy)]
 pub(crate) enum Task {
     /// Runs the script on standard input.
@@ -17,7 +17,7 @@ pub(crate) enum Task {
     Plan,
 }
 
-/// What the words, the program's name the first of them, ask for: `run` or `plan`, and nothing else.
+/// The task of a command line, which begins with the program's name: `run` or `plan` with nothing after it, else `None`.
 pub(crate) fn task_of(alloc: Global, words: &[String]) -> Result<Option<Task>, RunFault>
     ensures answer { IfOk result (λ task. task ≡ task_asked (map string_bytes words.now)) }
     ensures fault { IfErr result (λ fault. fault ≡ RunFault.OutOfMemory) }
@@ -32,7 +32,8 @@ pub(crate) fn task_of(alloc: Global, words: &[String]) -> Result<Option<Task>, R
     }
 }
 
-// Which command the one word behind the program's name is. Where it is one, only memory can be wanting.
+// The task of the subcommand that is the only word after the program's name. If it is a subcommand, the call fails only
+// if there is no memory.
 fn command_in(alloc: Global, words: &[String]) -> Result<Option<Task>, Error>
     ensures met { IfOk result (λ task. (program word : List ℕ) → map string_bytes words.now ≡ program ∷ word ∷ [] →
         task ≡ task_named word) }
@@ -45,7 +46,7 @@ fn command_in(alloc: Global, words: &[String]) -> Result<Option<Task>, Error>
     Ok(task_in(matches.subcommand_name()))
 }
 
-// The task of a command, where one was met.
+// The task of a subcommand, or `None` if there was none.
 fn task_in(name: Option<&str>) -> Option<Task>
     ensures { result ≡ option_and_then (λ word. task_named word.now) name.entry }
 {

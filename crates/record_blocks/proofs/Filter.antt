@@ -46,12 +46,12 @@ filter_data_accepted inside value s =
 
 -- ---- what is written
 
--- 8 octets a module and 6 a submodule, and the count
+-- 8 octets for each module, 6 for each submodule, and the count.
 pub modules_few : (value : Listed FilterModule FilterSubmodule) → filter_modules.size value ≤ 2 + (length value.modules * 8 + length value.submodules * 6)
 unfolding filter_modules filter_module filter_submodule
 modules_few value = few (λ _. filter_module) own_of (λ _. filter_submodule) 8 6 (λ _ _. omega arith) (λ _ _. omega arith) value
 
--- modules that count the submodules that there are, and whose fields fit, can be written
+-- Modules whose counts add up to the number of submodules, and whose fields fit, can be written.
 pub modules_fit : (value : Listed FilterModule FilterSubmodule) → length value.modules ≤ 256 → length value.submodules ≤ 256 → IsCounted value
     → FitsNested filter_module.Fits own_of filter_submodule.Fits value.modules value.submodules → filter_modules.Fits value
 unfolding filter_modules

@@ -5,7 +5,7 @@ use Rattle.block_fields.specs.declared.fault.BlockFault.{BlockFault}
 use Rattle.block_fields.specs.Fields.{two, four}
 use Rattle.record_blocks.specs.declared.alarm_ack.AlarmAck.{AlarmAck}
 
--- AlarmAck's fields
+-- The fields of an AlarmAck.
 unfoldable pub alarm_ack : Codec BlockFault AlarmAck
 alarm_ack = seen
     (λ x. record {

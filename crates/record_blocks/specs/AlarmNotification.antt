@@ -8,21 +8,21 @@ use Rattle.record_blocks.specs.declared.alarm_notification.AlarmNotification.{Al
 use Rattle.record_blocks.specs.declared.alarm_notification.AlarmPlace.{AlarmPlace}
 use Rattle.record_blocks.specs.declared.alarm_notification.AlarmSubject.{AlarmSubject}
 
--- from AlarmType to SubslotNumber
+-- The fields from AlarmType to SubslotNumber.
 unfoldable pub alarm_place : Codec BlockFault AlarmPlace
 alarm_place = seen
     (λ x. record { alarm_type = x.0; api = x.1.0; slot_number = x.1.1.0; subslot_number = x.1.1.1 })
     (λ place. (place.alarm_type, (place.api, (place.slot_number, place.subslot_number))))
     (two ⨾ four ⨾ two ⨾ two)
 
--- from ModuleIdentNumber to UserStructureIdentifier, which is 1
+-- The fields from ModuleIdentNumber to UserStructureIdentifier, which is 1.
 unfoldable pub alarm_subject : Codec BlockFault AlarmSubject
 alarm_subject = seen
     (λ x. record { module_ident_number = x.0; submodule_ident_number = x.1.0; alarm_specifier = x.1.1.0 })
     (λ subject. (subject.module_ident_number, (subject.submodule_ident_number, (subject.alarm_specifier, tt))))
     (four ⨾ four ⨾ two ⨾ fixed 11 1)
 
--- AlarmNotification's fields, and data to the end
+-- The fields of an AlarmNotification, and its data to the end.
 unfoldable pub alarm_notification : Whole BlockFault AlarmNotification
 alarm_notification = seen_whole
     (λ x. record {

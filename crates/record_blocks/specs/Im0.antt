@@ -7,13 +7,13 @@ use Rattle.record_blocks.specs.declared.im0.Im0.{Im0}
 use Rattle.record_blocks.specs.declared.im0.Im0Order.{Im0Order}
 use Rattle.record_blocks.specs.declared.im0.Im0Revision.{Im0Revision}
 
--- from VendorIDHigh to IM_Serial_Number
+-- The fields from VendorIDHigh to IM_Serial_Number.
 unfoldable pub im0_order : Codec BlockFault Im0Order
 im0_order = seen (λ x. record { vendor_id = x.0; order_id = x.1.0; im_serial_number = x.1.1 })
     (λ order. (order.vendor_id, (order.order_id, order.im_serial_number)))
     (two ⨾ octets 20 ⨾ octets 16)
 
--- from IM_Hardware_Revision to IM_Supported, with IM_RevisionCounter 0 and IM_Version 1.1
+-- The fields from IM_Hardware_Revision to IM_Supported, with IM_RevisionCounter 0 and IM_Version 1.1.
 unfoldable pub im0_revision : Codec BlockFault Im0Revision
 im0_revision = seen
     (λ x. record { im_hardware_revision = x.0; im_software_revision = x.1.0; im_profile_id = x.1.1.1.0; im_profile_specific_type = x.1.1.1.1.0 })
@@ -23,7 +23,7 @@ im0_revision = seen
     ))
     (two ⨾ octets 4 ⨾ fixed 9 0 ⨾ two ⨾ two ⨾ fixed 12 0x0101 ⨾ fixed 13 0x001E)
 
--- I&M0's fields
+-- The fields of an I&M0.
 unfoldable pub im0 : Codec BlockFault Im0
 im0 = seen
     (λ x. record {

@@ -5,7 +5,7 @@ use Rattle.block_fields.specs.declared.fault.BlockFault.{BlockFault}
 use Rattle.block_fields.specs.Fields.{octets}
 use Rattle.record_blocks.specs.declared.im1.Im1.{Im1}
 
--- function and location
+-- The fields of an I&M1: function and location.
 unfoldable pub im1 : Codec BlockFault Im1
 im1 = seen (λ x. record { im_tag_function = x.0; im_tag_location = x.1 }) (λ block. (block.im_tag_function, block.im_tag_location))
     (octets 32 ⨾ octets 22)

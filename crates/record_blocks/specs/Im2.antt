@@ -5,7 +5,7 @@ use Rattle.block_fields.specs.declared.fault.BlockFault.{BlockFault}
 use Rattle.block_fields.specs.Fields.{octets}
 use Rattle.record_blocks.specs.declared.im2.Im2.{Im2}
 
--- I&M2's fields
+-- The fields of an I&M2.
 unfoldable pub im2 : Codec BlockFault Im2
 im2 = seen
     (λ x. record { im_date = x })

@@ -5,7 +5,7 @@ use Rattle.block_fields.specs.declared.fault.BlockFault.{BlockFault}
 use Rattle.block_fields.specs.Fields.{octets}
 use Rattle.record_blocks.specs.declared.im3.Im3.{Im3}
 
--- I&M3's fields
+-- The fields of an I&M3.
 unfoldable pub im3 : Codec BlockFault Im3
 im3 = seen
     (λ x. record { im_descriptor = x })

@@ -5,7 +5,7 @@ use Rattle.block_fields.specs.declared.fault.BlockFault.{BlockFault}
 use Rattle.block_fields.specs.Fields.{octets}
 use Rattle.record_blocks.specs.declared.im4.Im4.{Im4}
 
--- I&M4's fields
+-- The fields of an I&M4.
 unfoldable pub im4 : Codec BlockFault Im4
 im4 = seen
     (λ x. record { im_signature = x })

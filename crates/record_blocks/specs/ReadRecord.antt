@@ -7,7 +7,7 @@ use Rattle.record_blocks.specs.RecordHeader.{record_header}
 use Rattle.record_blocks.specs.declared.read_record.IodReadReq.{IodReadReq}
 use Rattle.record_blocks.specs.declared.read_record.IodReadRes.{IodReadRes}
 
--- IODReadReqHeader's fields
+-- The fields of an IODReadReqHeader.
 unfoldable pub iod_read_req : Codec BlockFault IodReadReq
 iod_read_req = seen
     (λ x. record {
@@ -17,7 +17,7 @@ iod_read_req = seen
     (λ block. (block.header, (block.target_ar_uuid, tt)))
     (record_header ⨾ octets 16 ⨾ blank 8)
 
--- IODReadResHeader's fields
+-- The fields of an IODReadResHeader.
 unfoldable pub iod_read_res : Codec BlockFault IodReadRes
 iod_read_res = seen
     (λ x. record {

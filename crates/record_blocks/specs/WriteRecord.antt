@@ -7,11 +7,11 @@ use Rattle.record_blocks.specs.RecordHeader.{record_header}
 use Rattle.record_blocks.specs.declared.write_record.IodWriteReq.{IodWriteReq}
 use Rattle.record_blocks.specs.declared.write_record.IodWriteRes.{IodWriteRes}
 
--- IODWriteReqHeader's fields
+-- The fields of an IODWriteReqHeader.
 unfoldable pub iod_write_req : Codec BlockFault IodWriteReq
 iod_write_req = seen (λ x. record { header = x.0 }) (λ block. (block.header, tt)) (record_header ⨾ blank 24)
 
--- IODWriteResHeader's fields
+-- The fields of an IODWriteResHeader.
 unfoldable pub iod_write_res : Codec BlockFault IodWriteRes
 iod_write_res = seen
     (λ x. record {

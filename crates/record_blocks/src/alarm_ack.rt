@@ -1,4 +1,4 @@
-//! The answer to an alarm.
+//! The acknowledgment of an alarm.
 ghost use Rattle.std.specs.Prelude.{◌≡◌, ◌+◌, ◌≤◌, ◌++◌, List, ℕ};
 ghost use Rattle.arrayvec.specs.ArrayVec.{array_vec_len};
 ghost use Rattle.wire.specs.Codec.{Gives};
@@ -8,7 +8,7 @@ ghost use Rattle.record_blocks.specs.AlarmAck.{alarm_ack};
 use arrayvec::ArrayVec;
 use block_fields::{BlockFault, len_fields, put_fields, read_body};
 
-/// 0x8001: AlarmAck (IEC 61158-6-10, 5.2.6): an alarm was taken.
+/// 0x8001: AlarmAck (IEC 61158-6-10, 5.2.6): acknowledges an alarm.
 #[derive(Clone, Copy)]
 pub struct AlarmAck {
     /// AlarmType.
@@ -38,7 +38,7 @@ macro_rules! alarm_ack_fields {
     };
 }
 
-/// What BlockLength counts of an AlarmAck, to the last octet.
+/// Reads the part of an AlarmAck that BlockLength counts: the version and the fields, to the last octet.
 #[tactic(auto, unfolding(block_fields::specs::Fields::body, crate::specs::AlarmAck::alarm_ack))]
 pub fn alarm_ack_at(bytes: &[u8]) -> Result<AlarmAck, BlockFault>
     ensures { Gives (λ x. x) result ((body alarm_ack).read bytes.now) }
@@ -57,7 +57,7 @@ pub fn put_alarm_ack<const N: usize>(out: &mut ArrayVec<u8, N>, value: &AlarmAck
     alarm_ack_fields!(put_fields [out, value]);
 }
 
-/// How many octets the fields of an AlarmAck take.
+/// The number of octets that the fields of an AlarmAck take.
 #[tactic(auto, unfolding(crate::specs::AlarmAck::alarm_ack))]
 pub fn alarm_ack_len(value: &AlarmAck) -> usize
     ensures size { result ≡ alarm_ack.size value.now }

@@ -5,7 +5,7 @@ ghost use Rattle.arrayvec.specs.ArrayVec.{array_vec_len};
 use arrayvec::ArrayVec;
 use std::marker::Model;
 
-/// The data of an alarm, in place: any octets, at most as many as a BlockLength can count behind the other fields.
+/// The data of an alarm, borrowed: any octets, at most as many as BlockLength can count after the other fields.
 #[derive(Drop)]
 pub struct AlarmData<'a> {
     octets: &'a [u8],
@@ -22,7 +22,7 @@ impl<'a> Model for AlarmData<'a> {
 }
 
 impl<'a> AlarmData<'a> {
-    /// These octets, which are at most 65,511.
+    /// Alarm data of these octets, of which there are at most 65,511.
     pub fn new(octets: &'a [u8]) -> AlarmData<'a>
         requires { length octets.now ≤ 65511 }
         ensures { result ≡ octets.now }
@@ -48,7 +48,7 @@ pub(crate) fn put_alarm_data<const N: usize>(out: &mut ArrayVec<u8, N>, value: &
     wire::append(out, value.octets());
 }
 
-/// How many octets there are.
+/// The number of octets of the data.
 pub(crate) fn alarm_data_len(value: &AlarmData) -> usize
     ensures size { result ≡ length value.now }
     ensures few { result ≤ 65511 }

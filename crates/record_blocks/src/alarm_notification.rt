@@ -11,7 +11,7 @@ use arrayvec::ArrayVec;
 use block_fields::{BlockFault, len_fields, read_fields, version_at};
 use wire::{append, join};
 
-/// 0x0001: AlarmNotification (IEC 61158-6-10, 5.2.5): what happened in a submodule. UserStructureIdentifier is 1.
+/// 0x0001: AlarmNotification (IEC 61158-6-10, 5.2.5): reports an event of a submodule. UserStructureIdentifier is 1.
 #[derive(Drop)]
 pub struct AlarmNotification<'a> {
     /// AlarmType.
@@ -28,11 +28,11 @@ pub struct AlarmNotification<'a> {
     pub submodule_ident_number: u32,
     /// AlarmSpecifier.
     pub alarm_specifier: u16,
-    /// What follows UserStructureIdentifier, to the end of the block.
+    /// The octets after UserStructureIdentifier, to the end of the block.
     pub alarm_data: AlarmData<'a>,
 }
 
-/// What happened, and in which subslot.
+/// The type of the alarm, and its submodule.
 #[derive(Clone, Copy)]
 struct AlarmPlace {
     alarm_type: u16,
@@ -52,7 +52,7 @@ macro_rules! alarm_place_fields {
     };
 }
 
-/// What is plugged in there, and how the data is meant.
+/// The module and submodule that are plugged there, and the AlarmSpecifier.
 #[derive(Clone, Copy)]
 struct AlarmSubject {
     module_ident_number: u32,
@@ -71,7 +71,7 @@ macro_rules! alarm_subject_fields {
     };
 }
 
-/// From AlarmType to SubslotNumber, and what is behind them.
+/// Reads the fields from AlarmType to SubslotNumber. Returns them and the rest.
 #[tactic(auto, using(block_fields::proofs::Left::number_left), unfolding(crate::specs::AlarmNotification::alarm_place))]
 fn alarm_place_at(bytes: &[u8]) -> Result<(AlarmPlace, &[u8]), BlockFault>
     ensures read { Gives (λ x. (x.0, x.1.now)) result (alarm_place.read bytes.now) }
@@ -80,7 +80,7 @@ fn alarm_place_at(bytes: &[u8]) -> Result<(AlarmPlace, &[u8]), BlockFault>
     alarm_place_fields!(read_fields[bytes])
 }
 
-/// From ModuleIdentNumber to UserStructureIdentifier, and what is behind them.
+/// Reads the fields from ModuleIdentNumber to UserStructureIdentifier. Returns them and the rest.
 #[tactic(auto, using(block_fields::proofs::Left::number_left, block_fields::proofs::Left::fixed_left), unfolding(crate::specs::AlarmNotification::alarm_subject))]
 fn alarm_subject_at(bytes: &[u8]) -> Result<(AlarmSubject, &[u8]), BlockFault>
     ensures read { Gives (λ x. (x.0, x.1.now)) result (alarm_subject.read bytes.now) }
@@ -89,7 +89,7 @@ fn alarm_subject_at(bytes: &[u8]) -> Result<(AlarmSubject, &[u8]), BlockFault>
     alarm_subject_fields!(read_fields[bytes])
 }
 
-/// What BlockLength counts of an AlarmNotification, to the last octet. It counts at most 65,535.
+/// Reads the part of an AlarmNotification that BlockLength counts, to the last octet. There are at most 65,535 octets.
 #[tactic(auto, using(block_fields::proofs::Left::version_left), unfolding(block_fields::specs::Fields::open_body, crate::specs::AlarmNotification::alarm_notification))]
 pub fn alarm_notification_at(bytes: &[u8]) -> Result<AlarmNotification<'_>, BlockFault>
     requires { length bytes.now ≤ 65535 }
@@ -152,10 +152,10 @@ fn subject_octets(subject: &AlarmSubject) -> [u8; 12]
     ]
 }
 
-/// The octets of the fields of an AlarmNotification that are in front of its data.
+/// The octets of the fields of an AlarmNotification before its data.
 #[inline(always)]
 pub fn alarm_front(value: &AlarmNotification) -> [u8; 22]
-    // With the data behind them they are all fields.
+    // The octets followed by the data are all fields of the block.
     ensures items { result ++ value.now.alarm_data ≡ alarm_notification.write value.now }
     ensures fits { alarm_notification.Fits value.now }
 {
@@ -185,7 +185,7 @@ pub fn put_alarm_notification<const N: usize>(out: &mut ArrayVec<u8, N>, value: 
     put_alarm_data(out, &value.alarm_data);
 }
 
-/// How many octets the fields of an AlarmNotification take.
+/// The number of octets that the fields of an AlarmNotification take.
 #[tactic(auto, unfolding(crate::specs::AlarmNotification::alarm_notification, crate::specs::AlarmNotification::alarm_place, crate::specs::AlarmNotification::alarm_subject))]
 pub fn alarm_notification_len(value: &AlarmNotification) -> usize
     ensures size { result ≡ alarm_notification.size value.now }

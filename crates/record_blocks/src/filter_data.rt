@@ -1,4 +1,4 @@
-//! I&M0FilterData: which modules and submodules there are.
+//! I&M0FilterData: the modules and submodules of a device.
 ghost use Rattle.std.specs.Prelude.{◌≡◌, ◌+◌, ◌*◌, ◌<◌, ◌≤◌, ◌++◌, List, ℕ, length, OnOk};
 ghost use Rattle.arrayvec.specs.ArrayVec.{array_vec_len};
 ghost use Rattle.wire.specs.Codec.{Gives};
@@ -20,7 +20,7 @@ pub struct FilterModule {
     pub slot_number: u16,
     /// ModuleIdentNumber.
     pub module_ident_number: u32,
-    /// NumberOfSubmodules: how many of the submodules are its.
+    /// NumberOfSubmodules: the number of submodules that belong to the module.
     pub number_of_submodules: u16,
 }
 
@@ -55,7 +55,7 @@ macro_rules! filter_submodule_fields {
 /// The modules that an I&M0FilterData lists, each with its submodules: at most 256 modules and 256 submodules.
 pub type FilterModules<'a> = Modules<'a, FilterModule, FilterSubmodule>;
 
-/// 0x0030 and 0x0032: I&M0FilterData (IEC 61158-6-10, 5.2.3.22), of NumberOfAPIs 1.
+/// 0x0030 and 0x0032: I&M0FilterData (IEC 61158-6-10, 5.2.3.22), with NumberOfAPIs 1.
 #[derive(Drop)]
 pub struct ImFilterData<'a> {
     /// API.
@@ -130,7 +130,7 @@ impl<const N: usize> Put<N> for FilterSubmodule {
     }
 }
 
-/// NumberOfModules and the entries of modules and submodules, and what is behind them.
+/// Reads NumberOfModules and the entries of modules and submodules. Returns them and the rest.
 #[tactic(auto, unfolding(crate::specs::FilterData::filter_modules))]
 fn filter_modules_at(bytes: &[u8]) -> Result<(FilterModules<'_>, &[u8]), BlockFault>
     ensures { Gives (λ x. (x.0, x.1.now)) result (filter_modules.read bytes.now) }
@@ -140,7 +140,7 @@ fn filter_modules_at(bytes: &[u8]) -> Result<(FilterModules<'_>, &[u8]), BlockFa
     Modules::at(bytes, &mut modules, &mut submodules)
 }
 
-/// What BlockLength counts of an I&M0FilterData, to the last octet.
+/// Reads the part of an I&M0FilterData that BlockLength counts: the version and the fields, to the last octet.
 #[tactic(auto, unfolding(block_fields::specs::Fields::body, crate::specs::FilterData::filter_data))]
 pub fn filter_data_at(bytes: &[u8]) -> Result<ImFilterData<'_>, BlockFault>
     ensures { Gives (λ x. x) result ((body filter_data).read bytes.now) }
@@ -161,7 +161,7 @@ fn put_filter_modules<const N: usize>(out: &mut ArrayVec<u8, N>, value: &FilterM
     put_modules(out, value, &mut modules, &mut submodules);
 }
 
-/// How many octets NumberOfModules and the entries of modules and submodules take.
+/// The number of octets that NumberOfModules and the entries of modules and submodules take.
 #[tactic(auto, using(crate::proofs::Filter::modules_few), unfolding(crate::specs::FilterData::filter_modules))]
 fn filter_modules_len(value: &FilterModules) -> usize
     ensures size { result ≡ filter_modules.size value.now }
@@ -182,7 +182,7 @@ pub fn put_filter_data<const N: usize>(out: &mut ArrayVec<u8, N>, value: &ImFilt
     filter_data_fields!(put_fields [out, value]);
 }
 
-/// How many octets the fields of an I&M0FilterData take.
+/// The number of octets that the fields of an I&M0FilterData take.
 #[tactic(auto, unfolding(crate::specs::FilterData::filter_data))]
 pub fn filter_data_len(value: &ImFilterData) -> usize
     ensures size { result ≡ filter_data.size value.now }

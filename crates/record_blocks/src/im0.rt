@@ -1,4 +1,4 @@
-//! I&M0: what a device is, from the factory on.
+//! I&M0: the identification of a device, set at the factory.
 ghost use Rattle.std.specs.Prelude.{◌≡◌, ◌+◌, ◌≤◌, ◌++◌, List, ℕ};
 ghost use Rattle.arrayvec.specs.ArrayVec.{array_vec_len};
 ghost use Rattle.wire.specs.Codec.{Gives};
@@ -8,14 +8,15 @@ ghost use Rattle.record_blocks.specs.Im0.{im0, im0_order, im0_revision};
 use arrayvec::ArrayVec;
 use block_fields::{BlockFault, ended, len_fields, put_fields, read_fields, version_at};
 
-/// 0x0020: I&M0 (IEC 61158-6-10, 5.2.3.22), of IM_RevisionCounter 0, IM_Version 1.1 and an IM_Supported of I&M1 to I&M4.
+/// 0x0020: I&M0 (IEC 61158-6-10, 5.2.3.22), with IM_RevisionCounter 0, IM_Version 1.1 and an IM_Supported of I&M1 to
+/// I&M4.
 #[derive(Clone, Copy)]
 pub struct Im0 {
     /// VendorIDHigh and VendorIDLow.
     pub vendor_id: u16,
-    /// OrderID, filled up with spaces.
+    /// OrderID, padded with spaces.
     pub order_id: [u8; 20],
-    /// IM_Serial_Number, filled up with spaces.
+    /// IM_Serial_Number, padded with spaces.
     pub im_serial_number: [u8; 16],
     /// IM_Hardware_Revision.
     pub im_hardware_revision: u16,
@@ -27,7 +28,7 @@ pub struct Im0 {
     pub im_profile_specific_type: u16,
 }
 
-/// Which device it is.
+/// The vendor, order and serial number of a device.
 #[derive(Clone, Copy)]
 struct Im0Order {
     vendor_id: u16,
@@ -45,7 +46,7 @@ macro_rules! im0_order_fields {
     };
 }
 
-/// Of which revision and profile it is.
+/// The revisions and the profile of a device.
 #[derive(Clone, Copy)]
 struct Im0Revision {
     im_hardware_revision: u16,
@@ -68,7 +69,7 @@ macro_rules! im0_revision_fields {
     };
 }
 
-/// From VendorIDHigh to IM_Serial_Number, and what is behind them.
+/// Reads the fields from VendorIDHigh to IM_Serial_Number. Returns them and the rest.
 #[tactic(auto, unfolding(crate::specs::Im0::im0_order))]
 fn im0_order_at(bytes: &[u8]) -> Result<(Im0Order, &[u8]), BlockFault>
     ensures { Gives (λ x. (x.0, x.1.now)) result (im0_order.read bytes.now) }
@@ -76,7 +77,7 @@ fn im0_order_at(bytes: &[u8]) -> Result<(Im0Order, &[u8]), BlockFault>
     im0_order_fields!(read_fields[bytes])
 }
 
-/// From IM_Hardware_Revision to IM_Supported, and what is behind them.
+/// Reads the fields from IM_Hardware_Revision to IM_Supported. Returns them and the rest.
 #[tactic(auto, unfolding(crate::specs::Im0::im0_revision))]
 fn im0_revision_at(bytes: &[u8]) -> Result<(Im0Revision, &[u8]), BlockFault>
     ensures { Gives (λ x. (x.0, x.1.now)) result (im0_revision.read bytes.now) }
@@ -84,7 +85,7 @@ fn im0_revision_at(bytes: &[u8]) -> Result<(Im0Revision, &[u8]), BlockFault>
     im0_revision_fields!(read_fields[bytes])
 }
 
-/// What BlockLength counts of an I&M0, to the last octet.
+/// Reads the part of an I&M0 that BlockLength counts: the version and the fields, to the last octet.
 #[tactic(auto, unfolding(block_fields::specs::Fields::body, crate::specs::Im0::im0))]
 pub fn im0_at(bytes: &[u8]) -> Result<Im0, BlockFault>
     ensures { Gives (λ x. x) result ((body im0).read bytes.now) }
@@ -119,7 +120,7 @@ pub fn put_im0<const N: usize>(out: &mut ArrayVec<u8, N>, value: &Im0)
     im0_revision_fields!(put_fields [out, value]);
 }
 
-/// How many octets the fields of an I&M0 take.
+/// The number of octets that the fields of an I&M0 take.
 #[tactic(auto, unfolding(crate::specs::Im0::im0, crate::specs::Im0::im0_order, crate::specs::Im0::im0_revision))]
 pub fn im0_len(value: &Im0) -> usize
     ensures size { result ≡ im0.size value.now }

@@ -1,4 +1,4 @@
-//! I&M1: where a station is, and what for.
+//! I&M1: the function and the location of a device.
 ghost use Rattle.std.specs.Prelude.{◌≡◌, ◌+◌, ◌≤◌, ◌++◌, List, ℕ};
 ghost use Rattle.arrayvec.specs.ArrayVec.{array_vec_len};
 ghost use Rattle.wire.specs.Codec.{Gives};
@@ -11,9 +11,9 @@ use block_fields::{BlockFault, len_fields, put_fields, read_body};
 /// 0x0021: I&M1 (IEC 61158-6-10, 5.2.3.22).
 #[derive(Clone, Copy)]
 pub struct Im1 {
-    /// IM_Tag_Function, filled up with spaces.
+    /// IM_Tag_Function, padded with spaces.
     pub im_tag_function: [u8; 32],
-    /// IM_Tag_Location, filled up with spaces.
+    /// IM_Tag_Location, padded with spaces.
     pub im_tag_location: [u8; 22],
 }
 
@@ -26,7 +26,7 @@ macro_rules! im1_fields {
     };
 }
 
-/// What BlockLength counts of an I&M1, to the last octet.
+/// Reads the part of an I&M1 that BlockLength counts: the version and the fields, to the last octet.
 #[tactic(auto, unfolding(block_fields::specs::Fields::body, crate::specs::Im1::im1))]
 pub fn im1_at(bytes: &[u8]) -> Result<Im1, BlockFault>
     ensures { Gives (λ x. x) result ((body im1).read bytes.now) }
@@ -45,7 +45,7 @@ pub fn put_im1<const N: usize>(out: &mut ArrayVec<u8, N>, value: &Im1)
     im1_fields!(put_fields [out, value]);
 }
 
-/// How many octets the fields of an I&M1 take.
+/// The number of octets that the fields of an I&M1 take.
 #[tactic(auto, unfolding(crate::specs::Im1::im1))]
 pub fn im1_len(value: &Im1) -> usize
     ensures size { result ≡ im1.size value.now }

@@ -1,4 +1,4 @@
-//! I&M2: when a device was installed.
+//! I&M2: the installation date of a device.
 ghost use Rattle.std.specs.Prelude.{◌≡◌, ◌+◌, ◌≤◌, ◌++◌, List, ℕ};
 ghost use Rattle.arrayvec.specs.ArrayVec.{array_vec_len};
 ghost use Rattle.wire.specs.Codec.{Gives};
@@ -11,7 +11,7 @@ use block_fields::{BlockFault, len_fields, put_fields, read_body};
 /// 0x0022: I&M2 (IEC 61158-6-10, 5.2.3.22).
 #[derive(Clone, Copy)]
 pub struct Im2 {
-    /// IM_Date, filled up with spaces.
+    /// IM_Date, padded with spaces.
     pub im_date: [u8; 16],
 }
 
@@ -23,7 +23,7 @@ macro_rules! im2_fields {
     };
 }
 
-/// What BlockLength counts of an I&M2, to the last octet.
+/// Reads the part of an I&M2 that BlockLength counts: the version and the fields, to the last octet.
 #[tactic(auto, unfolding(block_fields::specs::Fields::body, crate::specs::Im2::im2))]
 pub fn im2_at(bytes: &[u8]) -> Result<Im2, BlockFault>
     ensures { Gives (λ x. x) result ((body im2).read bytes.now) }
@@ -42,7 +42,7 @@ pub fn put_im2<const N: usize>(out: &mut ArrayVec<u8, N>, value: &Im2)
     im2_fields!(put_fields [out, value]);
 }
 
-/// How many octets the fields of an I&M2 take.
+/// The number of octets that the fields of an I&M2 take.
 #[tactic(auto, unfolding(crate::specs::Im2::im2))]
 pub fn im2_len(value: &Im2) -> usize
     ensures size { result ≡ im2.size value.now }

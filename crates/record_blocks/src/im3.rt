@@ -1,4 +1,4 @@
-//! I&M3: what its user says of a device.
+//! I&M3: a description of the device by its user.
 ghost use Rattle.std.specs.Prelude.{◌≡◌, ◌+◌, ◌≤◌, ◌++◌, List, ℕ};
 ghost use Rattle.arrayvec.specs.ArrayVec.{array_vec_len};
 ghost use Rattle.wire.specs.Codec.{Gives};
@@ -11,7 +11,7 @@ use block_fields::{BlockFault, len_fields, put_fields, read_body};
 /// 0x0023: I&M3 (IEC 61158-6-10, 5.2.3.22).
 #[derive(Clone, Copy)]
 pub struct Im3 {
-    /// IM_Descriptor, filled up with spaces.
+    /// IM_Descriptor, padded with spaces.
     pub im_descriptor: [u8; 54],
 }
 
@@ -23,7 +23,7 @@ macro_rules! im3_fields {
     };
 }
 
-/// What BlockLength counts of an I&M3, to the last octet.
+/// Reads the part of an I&M3 that BlockLength counts: the version and the fields, to the last octet.
 #[tactic(auto, unfolding(block_fields::specs::Fields::body, crate::specs::Im3::im3))]
 pub fn im3_at(bytes: &[u8]) -> Result<Im3, BlockFault>
     ensures { Gives (λ x. x) result ((body im3).read bytes.now) }
@@ -42,7 +42,7 @@ pub fn put_im3<const N: usize>(out: &mut ArrayVec<u8, N>, value: &Im3)
     im3_fields!(put_fields [out, value]);
 }
 
-/// How many octets the fields of an I&M3 take.
+/// The number of octets that the fields of an I&M3 take.
 #[tactic(auto, unfolding(crate::specs::Im3::im3))]
 pub fn im3_len(value: &Im3) -> usize
     ensures size { result ≡ im3.size value.now }

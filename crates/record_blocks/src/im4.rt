@@ -23,7 +23,7 @@ macro_rules! im4_fields {
     };
 }
 
-/// What BlockLength counts of an I&M4, to the last octet.
+/// Reads the part of an I&M4 that BlockLength counts: the version and the fields, to the last octet.
 #[tactic(auto, unfolding(block_fields::specs::Fields::body, crate::specs::Im4::im4))]
 pub fn im4_at(bytes: &[u8]) -> Result<Im4, BlockFault>
     ensures { Gives (λ x. x) result ((body im4).read bytes.now) }
@@ -42,7 +42,7 @@ pub fn put_im4<const N: usize>(out: &mut ArrayVec<u8, N>, value: &Im4)
     im4_fields!(put_fields [out, value]);
 }
 
-/// How many octets the fields of an I&M4 take.
+/// The number of octets that the fields of an I&M4 take.
 #[tactic(auto, unfolding(crate::specs::Im4::im4))]
 pub fn im4_len(value: &Im4) -> usize
     ensures size { result ≡ im4.size value.now }

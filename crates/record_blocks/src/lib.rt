@@ -1,5 +1,5 @@
 //! The blocks of records and alarms (IEC 61158-6-10, 5.2.3, 5.2.5 and 5.2.6): what each one means, and how its fields are
-//! read and written. Crate `block_codec` puts the header in front of them.
+//! read and written. Crate `block_codec` adds the block header.
 #![tactic(auto)]
 
 mod alarm_ack;

@@ -1,4 +1,4 @@
-//! The reading of a record, and its answer.
+//! The headers of reading a record: request and response.
 ghost use Rattle.std.specs.Prelude.{◌≡◌, ◌+◌, ◌≤◌, ◌++◌, List, ℕ};
 ghost use Rattle.arrayvec.specs.ArrayVec.{array_vec_len};
 ghost use Rattle.wire.specs.Codec.{Gives};
@@ -10,10 +10,10 @@ use crate::record_header::{put_record_header, read_headed, record_header_at, rec
 use arrayvec::ArrayVec;
 use block_fields::{BlockFault, Uuid, len_fields, put_fields, read_fields, version_at};
 
-/// 0x0009: IODReadReqHeader (IEC 61158-6-10, 5.2.3): a record is asked for.
+/// 0x0009: IODReadReqHeader (IEC 61158-6-10, 5.2.3): requests a record.
 #[derive(Clone, Copy)]
 pub struct IodReadReq {
-    /// Which record, in which call.
+    /// The record and the call.
     pub header: RecordHeader,
     /// TargetARUUID.
     pub target_ar_uuid: Uuid,
@@ -29,7 +29,7 @@ macro_rules! iod_read_req_fields {
     };
 }
 
-/// What BlockLength counts of an IODReadReqHeader, to the last octet.
+/// Reads the part of an IODReadReqHeader that BlockLength counts: the version and the fields, to the last octet.
 #[tactic(auto, unfolding(block_fields::specs::Fields::body, crate::specs::ReadRecord::iod_read_req))]
 pub fn iod_read_req_at(bytes: &[u8]) -> Result<IodReadReq, BlockFault>
     ensures { Gives (λ x. x) result ((body iod_read_req).read bytes.now) }
@@ -48,7 +48,7 @@ pub fn put_iod_read_req<const N: usize>(out: &mut ArrayVec<u8, N>, value: &IodRe
     iod_read_req_fields!(put_fields [out, value]);
 }
 
-/// How many octets the fields of an IODReadReqHeader take.
+/// The number of octets that the fields of an IODReadReqHeader take.
 #[tactic(auto, unfolding(crate::specs::ReadRecord::iod_read_req))]
 pub fn iod_read_req_len(value: &IodReadReq) -> usize
     ensures size { result ≡ iod_read_req.size value.now }
@@ -57,10 +57,10 @@ pub fn iod_read_req_len(value: &IodReadReq) -> usize
     iod_read_req_fields!(len_fields[value])
 }
 
-/// 0x8009: IODReadResHeader (IEC 61158-6-10, 5.2.3): behind it comes the record.
+/// 0x8009: IODReadResHeader (IEC 61158-6-10, 5.2.3). The record follows it.
 #[derive(Clone, Copy)]
 pub struct IodReadRes {
-    /// Which record, in which call.
+    /// The record and the call.
     pub header: RecordHeader,
     /// AdditionalValue1.
     pub additional_value_1: u16,
@@ -79,7 +79,7 @@ macro_rules! iod_read_res_fields {
     };
 }
 
-/// What BlockLength counts of an IODReadResHeader, to the last octet.
+/// Reads the part of an IODReadResHeader that BlockLength counts: the version and the fields, to the last octet.
 #[tactic(auto, unfolding(block_fields::specs::Fields::body, crate::specs::ReadRecord::iod_read_res))]
 pub fn iod_read_res_at(bytes: &[u8]) -> Result<IodReadRes, BlockFault>
     ensures { Gives (λ x. x) result ((body iod_read_res).read bytes.now) }
@@ -98,7 +98,7 @@ pub fn put_iod_read_res<const N: usize>(out: &mut ArrayVec<u8, N>, value: &IodRe
     iod_read_res_fields!(put_fields [out, value]);
 }
 
-/// How many octets the fields of an IODReadResHeader take.
+/// The number of octets that the fields of an IODReadResHeader take.
 #[tactic(auto, unfolding(crate::specs::ReadRecord::iod_read_res))]
 pub fn iod_read_res_len(value: &IodReadRes) -> usize
     ensures size { result ≡ iod_read_res.size value.now }

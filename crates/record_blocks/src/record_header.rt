@@ -1,4 +1,4 @@
-//! What the headers of the reading and the writing of a record begin with.
+//! The fields at the start of the headers for reading and writing a record.
 ghost use Rattle.std.specs.Prelude.{◌≡◌, ◌+◌, ◌≤◌, ◌++◌, List, ℕ};
 ghost use Rattle.arrayvec.specs.ArrayVec.{array_vec_len};
 ghost use Rattle.wire.specs.Codec.{Gives};
@@ -7,7 +7,8 @@ ghost use Rattle.record_blocks.specs.RecordHeader.{record_header};
 use arrayvec::ArrayVec;
 use block_fields::{BlockFault, Uuid, len_fields, put_fields, read_fields};
 
-/// Which record of which submodule, in which relation and call (IEC 61158-6-10, 5.2.3): what each of the four headers begins with.
+/// The fields at the start of each of the four headers (IEC 61158-6-10, 5.2.3): the record, its submodule, the relation
+/// and the call.
 #[derive(Clone, Copy)]
 pub struct RecordHeader {
     /// SeqNumber, which counts the calls.
@@ -41,8 +42,8 @@ macro_rules! record_header_fields {
     };
 }
 
-/// Reads what BlockLength counts of one of the four: the version, what each begins with, the fields of a list behind it, and nothing
-/// behind these. A match in place of `?`, which the borrow checker does not cover beside a Uuid.
+/// Reads the part of one of the four headers that BlockLength counts: the version, the common fields, and the fields of a
+/// list, to the last octet. It uses a match instead of `?`, which the borrow checker does not cover beside a Uuid.
 macro_rules! read_headed {
     ([$bytes:expr] $name:ident { header: $how:tt, $($fields:tt)* }) => {
         match record_header_at(version_at($bytes)?) {
@@ -54,7 +55,7 @@ macro_rules! read_headed {
 
 pub(crate) use read_headed;
 
-/// From SeqNumber to RecordDataLength, and what is behind them.
+/// Reads the fields from SeqNumber to RecordDataLength. Returns them and the rest.
 #[tactic(auto, unfolding(crate::specs::RecordHeader::record_header))]
 pub(crate) fn record_header_at(bytes: &[u8]) -> Result<(RecordHeader, &[u8]), BlockFault>
     ensures { Gives (λ x. (x.0, x.1.now)) result (record_header.read bytes.now) }
@@ -74,7 +75,7 @@ pub(crate) fn put_record_header<const N: usize>(out: &mut ArrayVec<u8, N>, value
     record_header_fields!(put_fields [out, value]);
 }
 
-/// How many octets the fields from SeqNumber to RecordDataLength take.
+/// The number of octets that the fields from SeqNumber to RecordDataLength take.
 #[tactic(auto, unfolding(crate::specs::RecordHeader::record_header))]
 pub(crate) fn record_header_len(value: &RecordHeader) -> usize
     ensures size { result ≡ record_header.size value.now }

@@ -1,4 +1,4 @@
-//! The writing of a record, and its answer.
+//! The headers of writing a record: request and response.
 ghost use Rattle.std.specs.Prelude.{◌≡◌, ◌+◌, ◌≤◌, ◌++◌, List, ℕ};
 ghost use Rattle.arrayvec.specs.ArrayVec.{array_vec_len};
 ghost use Rattle.wire.specs.Codec.{Gives};
@@ -10,10 +10,10 @@ use crate::record_header::{put_record_header, read_headed, record_header_at, rec
 use arrayvec::ArrayVec;
 use block_fields::{BlockFault, len_fields, put_fields, read_fields, version_at};
 
-/// 0x0008: IODWriteReqHeader (IEC 61158-6-10, 5.2.3): behind it comes the record.
+/// 0x0008: IODWriteReqHeader (IEC 61158-6-10, 5.2.3). The record follows it.
 #[derive(Clone, Copy)]
 pub struct IodWriteReq {
-    /// Which record, in which call.
+    /// The record and the call.
     pub header: RecordHeader,
 }
 
@@ -26,7 +26,7 @@ macro_rules! iod_write_req_fields {
     };
 }
 
-/// What BlockLength counts of an IODWriteReqHeader, to the last octet.
+/// Reads the part of an IODWriteReqHeader that BlockLength counts: the version and the fields, to the last octet.
 #[tactic(auto, unfolding(block_fields::specs::Fields::body, crate::specs::WriteRecord::iod_write_req))]
 pub fn iod_write_req_at(bytes: &[u8]) -> Result<IodWriteReq, BlockFault>
     ensures { Gives (λ x. x) result ((body iod_write_req).read bytes.now) }
@@ -45,7 +45,7 @@ pub fn put_iod_write_req<const N: usize>(out: &mut ArrayVec<u8, N>, value: &IodW
     iod_write_req_fields!(put_fields [out, value]);
 }
 
-/// How many octets the fields of an IODWriteReqHeader take.
+/// The number of octets that the fields of an IODWriteReqHeader take.
 #[tactic(auto, unfolding(crate::specs::WriteRecord::iod_write_req))]
 pub fn iod_write_req_len(value: &IodWriteReq) -> usize
     ensures size { result ≡ iod_write_req.size value.now }
@@ -57,7 +57,7 @@ pub fn iod_write_req_len(value: &IodWriteReq) -> usize
 /// 0x8008: IODWriteResHeader (IEC 61158-6-10, 5.2.3).
 #[derive(Clone, Copy)]
 pub struct IodWriteRes {
-    /// Which record, in which call.
+    /// The record and the call.
     pub header: RecordHeader,
     /// AdditionalValue1.
     pub additional_value_1: u16,
@@ -79,7 +79,7 @@ macro_rules! iod_write_res_fields {
     };
 }
 
-/// What BlockLength counts of an IODWriteResHeader, to the last octet.
+/// Reads the part of an IODWriteResHeader that BlockLength counts: the version and the fields, to the last octet.
 #[tactic(auto, unfolding(block_fields::specs::Fields::body, crate::specs::WriteRecord::iod_write_res))]
 pub fn iod_write_res_at(bytes: &[u8]) -> Result<IodWriteRes, BlockFault>
     ensures { Gives (λ x. x) result ((body iod_write_res).read bytes.now) }
@@ -98,7 +98,7 @@ pub fn put_iod_write_res<const N: usize>(out: &mut ArrayVec<u8, N>, value: &IodW
     iod_write_res_fields!(put_fields [out, value]);
 }
 
-/// How many octets the fields of an IODWriteResHeader take.
+/// The number of octets that the fields of an IODWriteResHeader take.
 #[tactic(auto, unfolding(crate::specs::WriteRecord::iod_write_res))]
 pub fn iod_write_res_len(value: &IodWriteRes) -> usize
     ensures size { result ≡ iod_write_res.size value.now }

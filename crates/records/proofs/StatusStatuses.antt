@@ -1,4 +1,4 @@
--- No status of a fault is that of a call that is done: its ErrorCode is not 0.
+-- No status of a fault is that of a call that succeeded, because its ErrorCode is not 0.
 use Rattle.std.proofs.Common.{◌≡◌, ℕ, false, refl}
 use Rattle.rpc_core.specs.declared.response.Status.{Status}
 use Rattle.rpc_core.specs.Response.{is_done}
@@ -9,7 +9,7 @@ use Rattle.records.specs.declared.status.operation.Operation.TheVariants.{Connec
 use Rattle.records.specs.status.Operation.{code_of}
 use Rattle.records.specs.status.Status.{status_of}
 
--- the ErrorCode is that of the operation
+-- The ErrorCode is that of the operation.
 coded : (operation : Operation) (why : CallFault) → (status_of operation why).code ≡ code_of operation
 unfolding status_of
 coded operation fault.Arguments = refl
@@ -45,7 +45,7 @@ coded operation fault.FlashFault = refl
 coded operation fault.TooManyRecords = refl
 coded operation fault.Access = refl
 
--- which is not 0
+-- A status whose ErrorCode is that of an operation is not the status of success.
 failed : (status : Status) (operation : Operation) → status.code ≡ code_of operation → is_done status ≡ false
 failed status Connect e = rw e refl
 failed status Release e = rw e refl

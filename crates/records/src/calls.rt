@@ -1,5 +1,5 @@
-//! What calls of PROFINET IO have in common (IEC 61158-6-10, 5.2): judgements that are made in their order, the one block that every
-//! call but Connect consists of, and whether a call names the relation that stands.
+//! The parts that calls of PROFINET IO share (IEC 61158-6-10, 5.2): checks in a fixed order, the single block of every
+//! call but Connect, and whether a call names the active relation.
 
 mod naming;
 mod single;

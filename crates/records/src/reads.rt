@@ -1,4 +1,4 @@
-//! Records that are read (IEC 61158-6-10, 5.2.3): in which order a call is judged, and what answers it.
+//! Records that are read (IEC 61158-6-10, 5.2.3): the order in which a call is checked, and its response.
 
 mod answering;
 mod implicit;

@@ -1,5 +1,5 @@
-//! How calls of PROFINET IO come out (PNIOStatus, IEC 61158-6-10, 5.2.6): the operations of a device, why each is refused, and
-//! the four octets by which the answer says so.
+//! The results of PROFINET IO calls (PNIOStatus, IEC 61158-6-10, 5.2.6): the operations of a device, the reasons to
+//! refuse a call, and the four octets of the response that report it.
 
 mod call_fault;
 mod law;

@@ -1,5 +1,5 @@
-//! Records that are written within a relation (IEC 61158-6-10, 5.2.3): in which order a Write is judged, what it asks for, what
-//! answers it, and the parameter records that a relation has taken.
+//! Records that are written within a relation (IEC 61158-6-10, 5.2.3): the order in which a Write is checked, what it
+//! asks for, its response, and the parameter records that a relation has accepted.
 
 mod answering;
 mod judging;

@@ -1,4 +1,4 @@
--- Cutting bytes at a separator, and a text into lines.
+-- Bytes are cut at a separator, and a text is cut into lines.
 use Rattle.std.proofs.Common.{◌≡◌, ◌≢◌, ℕ, ◌+◌, ◌-◌, ◌==◌, ◌<◌, ◌≤◌, Bool, true, false, List, [], ◌∷◌, Some, None, length, take, drop, arith, cond, refl, ap, sym, ◌∙◌, not}
 use Rattle.std.specs.List.{slice_split, onto_first, position, position_or_len, join_with_byte}
 use Rattle.std.specs.Str.Lines.{lines, lines_of_parts, strip_carriage_return}
@@ -7,7 +7,7 @@ use Rattle.std.proofs.lemmas.List.{take_rest}
 use Rattle.std.proofs.lemmas.Bool.Decides.{nat_tests}
 use Rattle.std.proofs.lemmas.Option.{cond_some}
 
--- where the separator stands nowhere, there is one part
+-- Bytes without the separator are one part.
 whole_part : (p : ℕ → Bool) (xs : List ℕ) → length xs ≤ position_or_len p xs → slice_split p xs ≡ xs ∷ []
 whole_part p [] h = refl
 whole_part p (x ∷ xs) h =
@@ -32,7 +32,7 @@ split_parts : (parts : List (List ℕ)) → 0 < length parts → (first : List �
 split_parts [] h = absurd (omega arith)
 split_parts (first ∷ more) h = (first, more, refl)
 
--- there is a first part
+-- There is a first part.
 pub some_part : (p : ℕ → Bool) (xs : List ℕ) → (first : List ℕ) × (more : List (List ℕ)) × (slice_split p xs ≡ first ∷ more)
 some_part p xs = split_parts (slice_split p xs) (omega (arith, length-slice_split p xs))
 
@@ -40,7 +40,7 @@ lines_of_more : (line : List ℕ) (parts : List (List ℕ)) → 0 < length parts
 lines_of_more line [] h = absurd (omega arith)
 lines_of_more line (next ∷ more) h = refl
 
--- a line that a line feed ends
+-- A line that ends with a line feed.
 pub line_of_more : (bytes line rest : List ℕ) → slice_split (λ b. b == 10) bytes ≡ line ∷ slice_split (λ b. b == 10) rest → lines bytes ≡ strip_carriage_return line ∷ lines rest
 line_of_more bytes line rest e =
     ap lines_of_parts e ∙ lines_of_more line (slice_split (λ b. b == 10) rest) (omega (arith, length-slice_split (λ b. b == 10) rest))
@@ -52,7 +52,7 @@ some_bytes : (bytes : List ℕ) → bytes ≢ [] → 0 < length bytes
 some_bytes [] some = absurd (some refl)
 some_bytes (byte ∷ bytes) some = omega arith
 
--- a line with no line feed behind it
+-- A last line without a line feed.
 pub line_of_last : (bytes line : List ℕ) → bytes ≢ [] → slice_split (λ b. b == 10) bytes ≡ line ∷ [] → lines bytes ≡ line ∷ []
 line_of_last bytes line some e =
     let same : line ≡ bytes = sym (ap (join_with_byte 10) e) ∙ join_with_byte-slice_split 10 bytes in

@@ -14,33 +14,33 @@ use Rattle.hex.proofs.HexLemmas.{decode_of-ok}
 use Rattle.hex.proofs.Pairs.{drop-pair}
 use Rattle.script_lines.specs.Line.{bytes_of, if_decoded}
 
--- digits that were decoded
+-- Digits that were decoded.
 pub bytes_decoded : (digits bytes : List ℕ) → 0 < length digits → decode_of digits ≡ Ok bytes → Some bytes ≡ bytes_of digits
 bytes_decoded digits bytes some e =
     let same : Some bytes ≡ if_decoded (decode_of digits) = sym (ap if_decoded e) in
     grind (arith, nat_tests)
 
--- two digits that read
+-- A pair of valid digits is read.
 pub pair_read : (first second i high low : ℕ) → hex_digit_value first ≡ Some high → hex_digit_value second ≡ Some low → pair_value first second i ≡ Ok (high * 16 + low)
 pair_read first second i high low is_high is_low =
     let a : value_at first i ≡ Ok high = ap (digit_or_error first i) is_high in
     let b : value_at second (i + 1) ≡ Ok low = ap (digit_or_error second (i + 1)) is_low in
     rw (a, b) refl
 
--- Up to a place: whether the digits before it are hex digits.
+-- The test of the digits before a place: whether they are hex digits.
 pub record AreTested (digits : List ℕ) (are : Bool) (place : ℕ) : Type 0 where
   pub good : are ≡ true → AllPass is_hex_digit (take place digits)
   pub bad : AllPass is_hex_digit digits → are ≡ true
 
--- the fact of `AllPass is_hex_digit`
+-- The fact that a byte is a hex digit.
 abbrev digit_holds : ℕ → Type 0
 digit_holds c = is_hex_digit c ≡ true
 
--- both tests of a digit are one
+-- The two tests of a digit agree.
 same_test : (digit : ℕ) → is_ascii_hexdigit digit ≡ is_hex_digit digit
 same_test digit = grind (arith, nat_tests)
 
--- a digit more
+-- The test after one more digit.
 pub tested_on : (digits : List ℕ) (are is : Bool) (place : ℕ) → place < length digits → is ≡ is_ascii_hexdigit (slice_index digits place) → AreTested digits are place
     → AreTested digits (are && is) (place + 1)
 tested_on digits are is place fits tested was =
@@ -55,7 +55,7 @@ tested_on digits are is place fits tested was =
           rw (before, here) refl;
     }
 
--- what is refused has a byte that is none
+-- If decoding fails, a byte is not a hex digit.
 refused_of : (digits : List ℕ) (result : Result (List ℕ) FromHexError) → decode_of digits ≡ result → (AllPass is_hex_digit digits → false ≡ true) → IsErr (decode_of digits)
 refused_of digits (Ok bytes) is not = let no = not (decode_of-ok digits bytes is).1 in cc no
 refused_of digits (Err fault) is not = rw is refl
@@ -63,9 +63,9 @@ refused_of digits (Err fault) is not = rw is refl
 pub refused : (digits : List ℕ) → (AllPass is_hex_digit digits → false ≡ true) → IsErr (decode_of digits)
 refused digits not = refused_of digits (decode_of digits) refl not
 
--- ---- two digits by one load
+-- ---- two digits loaded at once
 
--- a pair of digits among the pairs
+-- The pair of digits with an index.
 chunk_at : (k place : ℕ) (digits : List ℕ) (d : List ℕ) → place < k → slice_index_or (first_chunks 2 k digits) place d ≡ take 2 (drop (2 * place) digits)
 chunk_at zero place digits d below = absurd (omega arith)
 chunk_at (suc k) zero digits d below = refl
@@ -73,14 +73,14 @@ chunk_at (suc k) (suc place) digits d below =
     let further : 2 * suc place ≡ 2 + 2 * place = omega arith in
     chunk_at k place (drop 2 digits) d (omega arith) ∙ ap (take 2) (rw further (drop-drop (2 * place) 2 digits))
 
--- the number that is loaded for it
+-- The number that is loaded for a pair.
 pub loaded : (k place : ℕ) (digits : List ℕ) (d : List ℕ) → place < k → 2 * place + 1 < length digits
     → from_le_bytes w16 (slice_index_or (first_chunks 2 k digits) place d) ≡ slice_index digits (2 * place) + 256 * slice_index digits (2 * place + 1)
 loaded k place digits d below fits =
     let e = chunk_at k place digits d below ∙ ap (take 2) (drop-pair digits place fits) in
     rw e (omega arith)
 
--- the same of the pairs that the digits are
+-- The number that is loaded for a pair of the digits.
 pub pair_of : (digits : List ℕ) (pairs : List (List ℕ)) (k place pair : ℕ) (d : List ℕ) → pairs ≡ first_chunks 2 k digits → place < k → 2 * place + 1 < length digits
     → pair ≡ from_le_bytes w16 (slice_index_or pairs place d) → pair ≡ slice_index digits (2 * place) + 256 * slice_index digits (2 * place + 1)
 pair_of digits pairs k place pair d same below fits is = is ∙ ap (λ p. from_le_bytes w16 (slice_index_or p place d)) same ∙ loaded k place digits d below fits
@@ -95,22 +95,22 @@ small_value digit value is = grind (arith, nat_tests)
 small_digit : (digit value : ℕ) → hex_digit_value digit ≡ Some value → digit < 256
 small_digit digit value is = grind (arith, nat_tests)
 
--- what stands for a pair that was loaded
+-- The byte that a loaded pair gives.
 pub record IsJoined (digits : List ℕ) (place byte : ℕ) : Type 0 where
   pub value : pair_value (slice_index digits (2 * place)) (slice_index digits (2 * place + 1)) (2 * place) ≡ Ok byte
   pub small : byte < 256
 
--- the value of a digit
+-- The value of a digit.
 value_is : (digit value : ℕ) → hex_digit_value digit ≡ Some value → digit % 16 + 9 * (digit / 64) ≡ value
 value_is digit value is = grind (arith, nat_tests)
 
--- the values of two digits, each in an octet of its own
+-- The values of two digits, each in an octet of its own.
 pub values_are : (pair first second : ℕ) → pair < 65536 → hex_digit_value (pair % 256) ≡ Some first → hex_digit_value (pair / 256) ≡ Some second
     → pair % 16 + pair / 256 % 16 * 256 + 9 * (pair / 64 % 4 + pair / 16384 * 256) ≡ first + 256 * second
 values_are pair first second few is_first is_second =
     omega (arith, few, value_is (pair % 256) first is_first, value_is (pair / 256) second is_second)
 
--- sixteen times the first of two values, and the second
+-- Sixteen times the first of two values, plus the second.
 upper : (both product first second : ℕ) → first < 16 → second < 16 → both ≡ first + 256 * second → product ≡ (both * 4097) % 65536 → product / 256 ≡ first * 16 + second
 upper both product first second below_first below_second is by = omega (arith, below_first, below_second, is, by)
 
@@ -135,9 +135,9 @@ joined digits place pair both product fits all is are by =
       small = omega (arith, byte, small_value first a.0 a.1, small_value second b.0 b.1);
     }
 
--- ---- written
+-- ---- digits that are written
 
--- the code of a digit
+-- The code of a digit.
 abbrev pub code_of : ℕ → ℕ
 code_of value = if nat_lt value 10 then value + 48 else value - 10 + 97
 

@@ -1,4 +1,4 @@
--- A word that spells no UUID.
+-- A word that does not spell a UUID.
 use Rattle.std.proofs.Common.{◌≡◌, true, false, List, ℕ, Option, Some, None, refl}
 
 none : (found : Option (List ℕ)) → false ≡ true → None ≡ found

@@ -1,4 +1,4 @@
--- The lines of a script, and what they ask for.
+-- The lines of a script, and the commands in them.
 use Rattle.std.specs.Prelude.{◌≡◌, ◌==◌, ◌||◌, ◌&&◌, take, drop, ℕ, zero, suc, Bool, nat_lt, nat_eq, List, [], ◌∷◌, length, slice_index, if◌then◌else◌, codes, Option, Some, None, Result, Ok, Err}
 use Rattle.std.specs.List.{slice_split, list_any}
 use Rattle.std.specs.Option.{option_map}
@@ -12,9 +12,10 @@ use Rattle.hex.specs.declared.error.FromHexError.{FromHexError}
 use Rattle.script_lines.specs.declared.command.Words.{Words}
 use Rattle.script_lines.specs.declared.command.Words.TheVariants.{One, Two, Three, Four, More}
 
--- what a script asks for: hand in these bytes, take the power away and give it back, let time go by, show the settings, tell the flash
--- what to do, give the submodule in a slot and subslot this input, or raise an alarm of it with these octets; make a plan, put a
--- controller with this ARUUID and activity at the other end, give an output of its own, end the relation, hand over what waits
+-- The commands of a script: hand in these bytes, switch the power off and on again, let time pass, show the settings,
+-- order the flash to fail, set the input of the submodule in a slot and subslot, or raise an alarm of it with these
+-- octets; make a plan, start a controller with this ARUUID and activity UUID at the other end, set an output of the
+-- controller, end the relation, hand over the frames that wait.
 pub data Command : Type 0 where
   Frame : (bytes : List ℕ) → Command
   Restart : Command
@@ -29,23 +30,23 @@ pub data Command : Type 0 where
   Stop : Command
   Deliver : Command
 
--- what a line is: too long or not ASCII, empty or a comment, one that asks for something, or none of these
+-- The meaning of a line: too long or not ASCII, empty or a comment, a command, or none of these.
 pub data Line : Type 0 where
   Unfit : Line
   Skipped : Line
   Asks : (command : Command) → Line
   Unknown : Line
 
--- the parts behind a separator, if there is one
+-- The parts after a separator, if there is one.
 abbrev pub behind : ℕ → Option (List ℕ) → List (List ℕ)
 behind separator None = []
 behind separator (Some rest) = slice_split (λ b. b == separator) rest
 
--- the words of a line: single spaces part them
+-- The words of a line, separated by single spaces.
 abbrev pub words_of : List ℕ → List (List ℕ)
 words_of line = slice_split (λ b. b == 32) line
 
--- these are the words of a line
+-- These are the words of a line.
 abbrev pub AreWords : List ℕ → Words → Type 0
 AreWords line (One first) = words_of line ≡ first.now ∷ []
 AreWords line (Two first second) = words_of line ≡ first.now ∷ second.now ∷ []
@@ -53,16 +54,16 @@ AreWords line (Three first second third) = words_of line ≡ first.now ∷ secon
 AreWords line (Four first second third fourth) = words_of line ≡ first.now ∷ second.now ∷ third.now ∷ fourth.now ∷ []
 AreWords line More = (first second third fourth fifth : List ℕ) × (more : List (List ℕ)) × (words_of line ≡ first ∷ second ∷ third ∷ fourth ∷ fifth ∷ more)
 
--- a word is this text
+-- A word is this text.
 abbrev pub is_text : List ℕ → List ℕ → Bool
 is_text word text = pointwise nat_eq word text
 
--- bytes that were decoded
+-- Bytes that were decoded, if decoding succeeded.
 abbrev pub if_decoded : Result (List ℕ) FromHexError → Option (List ℕ)
 if_decoded (Ok bytes) = Some bytes
 if_decoded (Err fault) = None
 
--- the bytes that some hex digits spell, at least one
+-- The bytes that hex digits spell, at least one.
 abbrev pub bytes_of : List ℕ → Option (List ℕ)
 bytes_of digits = if length digits == 0 then None else if_decoded (decode_of digits)
 
@@ -72,7 +73,7 @@ bare_of_both word = if is_text word (codes "deliver") then Some Deliver else (if
 abbrev pub bare : List ℕ → Option Command
 bare word = if is_text word (codes "restart") then Some Restart else (if is_text word (codes "show") then Some Show else bare_of_both word)
 
--- units of time, at least one
+-- Units of time, at least one.
 abbrev pub ticks_of : Option ℕ → Option Command
 ticks_of None = None
 ticks_of (Some zero) = None
@@ -83,28 +84,28 @@ with_one word first =
     if is_text word (codes "frame") then option_map Frame (bytes_of first)
     else (if is_text word (codes "tick") then ticks_of (number_of 1000000 first) else None)
 
--- the mask that decoded bytes are
+-- The mask of decoded bytes.
 abbrev pub mask_of : Result (List ℕ) FromHexError → Option (List ℕ)
 mask_of (Ok bytes) = repeated bytes
 mask_of (Err fault) = None
 
--- after how many calls an order to the flash strikes, and its mask
+-- The number of calls until an order to the flash takes effect, and its mask.
 abbrev pub strike_of : Option ℕ → Option (List ℕ) → Option (ℕ × List ℕ)
 strike_of None mask = None
 strike_of (Some after) mask = option_map (λ mask. (after, mask)) mask
 
--- an order to lose power, or to fail with power there
+-- An order to lose power, or to fail while power stays on.
 abbrev pub order_of : List ℕ → ℕ × List ℕ → Option Command
 order_of word strike =
     if is_text word (codes "cut") then Some (Arm (Cut strike.0 strike.1))
     else (if is_text word (codes "fault") then Some (Arm (Fault strike.0 strike.1)) else None)
 
--- what a word asks for, if there is a number and a mask behind it
+-- The command of a word that is followed by a number and a mask.
 abbrev pub ordered : List ℕ → Option (ℕ × List ℕ) → Option Command
 ordered word None = None
 ordered word (Some strike) = order_of word strike
 
--- a controller, if there are both of its identifiers
+-- The command that starts a controller, if both UUIDs are valid.
 abbrev pub start_of : Option (List ℕ) → Option (List ℕ) → Option Command
 start_of None activity = None
 start_of (Some ar) activity = option_map (Start ar) activity
@@ -114,7 +115,7 @@ with_two word first second =
     if is_text word (codes "start") then start_of (parsed first) (parsed second)
     else ordered word (strike_of (number_of 4294967295 first) (mask_of (decode_of second)))
 
--- what a word asks for with a slot, a subslot and bytes
+-- The command of a word with a slot, a subslot and bytes.
 abbrev pub targeted : List ℕ → Option ℕ → Option ℕ → Option (List ℕ) → Option Command
 targeted word (Some slot) (Some subslot) (Some bytes) =
     if is_text word (codes "input") then Some (Input slot subslot bytes)
@@ -126,7 +127,7 @@ targeted word None subslot bytes = None
 abbrev pub with_three : List ℕ → List ℕ → List ℕ → List ℕ → Option Command
 with_three word first second third = targeted word (number_of 65535 first) (number_of 65535 second) (bytes_of third)
 
--- what some words ask for
+-- The command that some words spell.
 abbrev pub command_of : List (List ℕ) → Option Command
 command_of [] = None
 command_of (word ∷ []) = bare word
@@ -135,11 +136,11 @@ command_of (word ∷ first ∷ second ∷ []) = with_two word first second
 command_of (word ∷ first ∷ second ∷ third ∷ []) = with_three word first second third
 command_of (word ∷ first ∷ second ∷ third ∷ fourth ∷ more) = None
 
--- longer than 65,536 bytes, or not ASCII
+-- Longer than 65,536 bytes, or not ASCII.
 abbrev pub is_unfit : List ℕ → Bool
 is_unfit line = nat_lt 65536 (length line) || list_any (λ b. nat_lt 127 b) line
 
--- empty, or a comment, which begins with '#'
+-- Empty, or a comment, which begins with '#'.
 abbrev pub is_skipped : List ℕ → Bool
 is_skipped line = length line == 0 || slice_index line 0 == 35
 
@@ -147,15 +148,15 @@ abbrev pub asked : Option Command → Line
 asked (Some command) = Asks command
 asked None = Unknown
 
--- the catalogue of a line 'config': the rest of the line, which may have spaces and is not empty
+-- The catalogue of a line 'config': the rest of the line, which may have spaces and is not empty.
 abbrev pub catalogue_in : List ℕ → Option (List ℕ)
 catalogue_in line = if is_text (take 7 line) (codes "config ") && nat_lt 7 (length line) then Some (drop 7 line) else None
 
--- what a line asks for: a plan, or what its words say
+-- The command of a line: 'config' with a catalogue, or what its words say.
 abbrev pub command_in : Option (List ℕ) → List (List ℕ) → Option Command
 command_in (Some catalogue) words = Some (Config catalogue)
 command_in None words = command_of words
 
--- what a line is
+-- The meaning of a line.
 unfoldable pub meaning_of : List ℕ → Line
 meaning_of line = if is_unfit line then Unfit else (if is_skipped line then Skipped else asked (command_in (catalogue_in line) (words_of line)))

@@ -1,4 +1,4 @@
--- What the code reads of a line, without where its bytes lie in memory.
+-- The meaning of a line as the code returns it, without the place of its bytes in memory.
 use Rattle.script_lines.specs.declared.command.Command.{Command as Code}
 use Rattle.script_lines.specs.declared.command.Command.TheVariants as code
 use Rattle.script_lines.specs.declared.command.Line.{Line as CodeLine}

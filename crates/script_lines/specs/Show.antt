@@ -18,24 +18,24 @@ use Rattle.controller_core.specs.State.{Controlling}
 use Rattle.controller_core.specs.Cause.{number_of}
 use Rattle.script_lines.specs.Text.{printed}
 
--- a name, or '-' where there is none
+-- A name, or '-' if there is no name.
 unfoldable pub name_line : List ℕ → List ℕ → List ℕ
 name_line label name = printed (label ++ (if length name == 0 then codes "-" else name))
 
--- four octets as decimal numbers that dots part
+-- Four octets as decimal numbers separated by dots.
 unfoldable pub dotted : List ℕ → List ℕ
 dotted octets =
     decimal (slice_index octets 0) ++ codes "." ++ decimal (slice_index octets 1) ++ codes "." ++ decimal (slice_index octets 2) ++ codes "." ++ decimal (slice_index octets 3)
 
--- address, subnet mask and gateway
+-- Address, subnet mask and gateway of a suite.
 unfoldable pub suite_line : List ℕ → Suite → List ℕ
 suite_line label suite = printed (label ++ dotted suite.address ++ codes " " ++ dotted suite.mask ++ codes " " ++ dotted suite.gateway)
 
--- an I&M text, in hex
+-- An I&M text, in hex.
 unfoldable pub text_line : List ℕ → List ℕ → List ℕ
 text_line label bytes = printed (label ++ encode_lower bytes)
 
--- what the application relation waits for, if there is one
+-- The phase of the application relation, if there is one.
 abbrev pub phase_word : Option Phase → List ℕ
 phase_word None = codes "none"
 phase_word (Some Started) = codes "started"
@@ -45,11 +45,11 @@ phase_word (Some Exchanging) = codes "exchanging"
 unfoldable pub phase_line : Option Phase → List ℕ
 phase_line phase = printed (codes "phase " ++ phase_word phase)
 
--- for how many units of time the lamp still flashes
+-- For how many units of time the lamp still flashes.
 unfoldable pub lamp_line : ℕ → List ℕ
 lamp_line units = printed (codes "lamp " ++ decimal units)
 
--- the output of a submodule, in hex
+-- The output of a submodule, in hex.
 abbrev pub shown_or : Option (List ℕ) → List ℕ
 shown_or (Some value) = value
 shown_or None = []
@@ -57,7 +57,7 @@ shown_or None = []
 unfoldable pub output_line : ℕ → ℕ → List ℕ → List ℕ
 output_line slot subslot value = printed (codes "output " ++ decimal slot ++ codes " " ++ decimal subslot ++ codes " " ++ encode_lower value)
 
--- of a submodule that has one
+-- The output of a submodule that has one, in hex.
 abbrev pub part_shown : Real → Option Link → ℕ → RealSubmodule → List ℕ
 part_shown real link slot part =
     if part.output == 0 then [] else output_line slot part.subslot (shown_or (output_of real slot part.subslot (output_in slot part.subslot link)))
@@ -65,11 +65,11 @@ part_shown real link slot part =
 abbrev pub module_shown : Real → Option Link → RealModule → List ℕ
 module_shown real link entry = flat_map (part_shown real link entry.slot) entry.submodules.items
 
--- of all that are plugged, in their order
+-- The outputs of all plugged submodules, in their order.
 abbrev pub outputs_shown : Real → Option Link → List ℕ
 outputs_shown real link = flat_map (module_shown real link) real.modules.items
 
--- what runs, beside the name and the suite that are stored, the relation and the lamp
+-- The running settings, the stored name and suite, the relation and the lamp.
 abbrev pub shown : Settings → Settings → Option Phase → ℕ → List ℕ
 shown running stored phase lamp =
     name_line (codes "name ") running.name
@@ -83,7 +83,7 @@ shown running stored phase lamp =
     ++ phase_line phase
     ++ lamp_line lamp
 
--- what the controller is at
+-- The state of the controller.
 abbrev pub state_word : State → List ℕ
 state_word Looking = codes "looking"
 state_word Addressing = codes "addressing"
@@ -97,7 +97,7 @@ state_word (Ended cause) = codes "ended " ++ decimal (number_of cause)
 unfoldable pub state_line : State → List ℕ
 state_line state = printed (codes "state " ++ state_word state)
 
--- if there is one
+-- The state of the controller, if there is one.
 abbrev pub controller_shown : Option Controlling → List ℕ
 controller_shown None = []
 controller_shown (Some controller) = state_line controller.live.phase

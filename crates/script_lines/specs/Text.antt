@@ -7,29 +7,29 @@ use Rattle.settings_journal.specs.declared.journal.BootFault.TheVariants.{FlashF
 use Rattle.device_frames.specs.declared.note.Note.{Note}
 use Rattle.device_frames.specs.declared.note.Note.TheVariants.{Done, NotMine, Fault, Filter, OldCall, NoRelation, StaleCycle, Refused}
 
--- a line of the output, with the line feed at its end
+-- A line of the output, with the line feed at its end.
 abbrev pub printed : List ℕ → List ℕ
 printed line = line ++ 10 ∷ []
 
--- a start: refused for this, or not
+-- The result of a start: refused for this reason, or not refused.
 abbrev pub boot_line : Option BootFault → List ℕ
 boot_line None = printed (codes "boot ok")
 boot_line (Some FlashFault) = printed (codes "boot flash-fault")
 boot_line (Some Foreign) = printed (codes "boot foreign")
 
--- a line that is not heard, since there is no power
+-- The answer to a line while the power is off.
 abbrev pub off_line : List ℕ
 off_line = printed (codes "off")
 
--- power was lost in an event
+-- The line for power that was lost in an event.
 abbrev pub lost_line : List ℕ
 lost_line = printed (codes "power lost")
 
--- a frame that is sent, in hex
+-- A frame that is sent, in hex.
 unfoldable pub out_line : List ℕ → List ℕ
 out_line frame = printed (codes "out " ++ encode_lower frame)
 
--- frames that are sent, the first of them first
+-- Frames that are sent, the first of them first.
 abbrev pub out_lines : List (List ℕ) → List ℕ
 out_lines frames = flat_map out_line frames
 
@@ -43,10 +43,10 @@ note_word NoRelation = codes "no-relation"
 note_word StaleCycle = codes "stale-cycle"
 note_word Refused = codes "refused"
 
--- what became of an event
+-- The result of an event.
 unfoldable pub note_line : Note → List ℕ
 note_line note = printed (codes "note " ++ note_word note)
 
--- how many frames were handed over: to the device, and to the controller
+-- The number of frames handed to the device, and the number handed to the controller.
 unfoldable pub moved_line : ℕ → ℕ → List ℕ
 moved_line to_device to_controller = printed (codes "moved " ++ decimal to_device ++ codes " " ++ decimal to_controller)

@@ -1,4 +1,4 @@
-// The lines of a script, and what they ask for.
+// The lines of a script, and the commands in them.
 ghost use Rattle.std.specs.Prelude.{◌≡◌, ◌≢◌, ◌∷◌, ◌==◌, ◌<◌, ◌/◌, [], ℕ, List, nat_lt, true, false, length, IsErr, IfOk, IfSome};
 ghost use Rattle.std.specs.List.{slice_split, list_any, position};
 ghost use Rattle.std.specs.Option.{option_map, option_copied};
@@ -16,51 +16,51 @@ use memchr::memchr;
 use std::alloc::AllocError;
 use uuid::Uuid;
 
-/// How many bytes a line may have, what ends it not counted.
+/// The most bytes of a line, without its line end.
 const LONGEST_LINE: usize = 65_536;
 
-/// For how many units a line may let time go by.
+/// The most units of time of a line `tick`.
 const MOST_TICKS: u32 = 1_000_000;
 
-/// What a script asks for.
+/// A command of a script.
 #[derive(Clone, Copy)]
 pub enum Command<'a> {
-    /// Hand these bytes to the device, as from the network.
+    /// Hands these bytes to the device, as if from the network.
     Frame(&'a [u8]),
-    /// Take the device's power away, and give it back.
+    /// Switches the device's power off and on again.
     Restart,
-    /// Let so many units of time go by.
+    /// Lets this number of units of time pass.
     Tick(u32),
-    /// Show the settings, the relation and the lamp.
+    /// Shows the settings, the relation and the lamp.
     Show,
-    /// Tell the flash what to do to a later call.
+    /// Orders the flash to fail at a later call.
     Arm(Order),
-    /// Give the submodule in this slot and subslot its input.
+    /// Sets the input of the submodule in this slot and subslot.
     Input(u16, u16, &'a [u8]),
-    /// Raise an alarm of the submodule in this slot and subslot, with these octets.
+    /// Raises an alarm of the submodule in this slot and subslot, with these octets.
     Alarm(u16, u16, &'a [u8]),
-    /// Make the plan of this catalogue, for the next controller.
+    /// Makes the plan of this catalogue, for the next controller.
     Config(&'a [u8]),
-    /// Put a controller with this ARUUID and this activity at the other end.
+    /// Starts a controller with this ARUUID and this activity UUID at the other end.
     Start(Uuid, Uuid),
-    /// Give the controller's output to the submodule in this slot and subslot.
+    /// Sets the controller's output for the submodule in this slot and subslot.
     Give(u16, u16, &'a [u8]),
-    /// Have the controller end the relation.
+    /// Makes the controller end the relation.
     Stop,
-    /// Hand over the frames that wait: those for the device, then those for the controller.
+    /// Hands over the frames that wait: those for the device, then those for the controller.
     Deliver,
 }
 
-/// What a line is.
+/// The meaning of a line.
 #[derive(Clone, Copy)]
 pub enum Line<'a> {
     /// Too long, or not ASCII.
     Unfit,
     /// Empty, or a comment.
     Skipped,
-    /// It asks for this.
+    /// A line with this command.
     Asks(Command<'a>),
-    /// None of these.
+    /// A line with no valid command.
     Unknown,
 }
 
@@ -73,7 +73,7 @@ enum Words<'a> {
     More,
 }
 
-/// What some bytes are up to a separator, and what they are behind it.
+/// The bytes up to the first separator, and the bytes after it if there is one.
 fn cut_at(bytes: &[u8], separator: u8) -> (&[u8], Option<&[u8]>)
     ensures shorter { IfSome result.1 (λ rest. length rest.now < length bytes.now) }
     ensures parts { slice_split (λ b. b == separator) bytes.now ≡ result.0.now ∷ behind separator (option_copied result.1) }
@@ -84,7 +84,7 @@ fn cut_at(bytes: &[u8], separator: u8) -> (&[u8], Option<&[u8]>)
     }
 }
 
-/// Where a byte stands first.
+/// The index of the first occurrence of a byte, or `None` if it does not occur.
 fn place_of(bytes: &[u8], wanted: u8) -> Option<usize>
     ensures place { result ≡ position (λ b. b == wanted) bytes.now }
     ensures within { IfSome result (λ place. place < length bytes.now) }
@@ -92,7 +92,7 @@ fn place_of(bytes: &[u8], wanted: u8) -> Option<usize>
     memchr(wanted, bytes)
 }
 
-/// The first line of some bytes, without what ends it, and what follows it.
+/// The first line of some bytes, without its line end, and the bytes after it.
 pub fn first_line(bytes: &[u8]) -> (&[u8], &[u8])
     requires { bytes.now ≢ [] }
     ensures lines { lines bytes.now ≡ result.0.now ∷ lines result.1.now }
@@ -118,7 +118,7 @@ fn without_return(line: &[u8]) -> &[u8]
     }
 }
 
-/// The words of a line, which single spaces part.
+/// The words of a line, separated by single spaces.
 fn words_in(line: &[u8]) -> Words<'_>
     ensures { AreWords line.now result }
 {
@@ -141,7 +141,7 @@ fn words_in(line: &[u8]) -> Words<'_>
     }
 }
 
-/// What a line means. `buffer` is for the bytes that it spells.
+/// The meaning of a line. `buffer` holds the bytes that the line spells. Fails if there is no memory.
 #[tactic(auto, unfolding(crate::specs::Line::meaning_of))]
 pub fn meaning<'a>(line: &[u8], buffer: &'a mut Vec<u8>) -> Result<Line<'a>, AllocError>
     ensures { IfOk result (λ meaning. line_read meaning ≡ meaning_of line.now) }
@@ -162,7 +162,7 @@ pub fn meaning<'a>(line: &[u8], buffer: &'a mut Vec<u8>) -> Result<Line<'a>, All
     }
 }
 
-/// What a line asks for: a plan, or what its words say.
+/// The command of a line: `config` with a catalogue, or what its words say.
 fn asked<'a>(line: &[u8], buffer: &'a mut Vec<u8>) -> Result<Option<Command<'a>>, AllocError>
     ensures { IfOk result (λ command. option_map command_read command ≡ command_in (catalogue_in line.now) (words_of line.now)) }
 {
@@ -172,7 +172,7 @@ fn asked<'a>(line: &[u8], buffer: &'a mut Vec<u8>) -> Result<Option<Command<'a>>
     }
 }
 
-/// Keeps bytes of a line.
+/// Copies bytes of a line into `buffer`.
 fn kept<'a>(bytes: &[u8], buffer: &'a mut Vec<u8>) -> Result<&'a [u8], AllocError>
     ensures { IfOk result (λ kept. kept.now ≡ bytes.now) }
 {
@@ -181,7 +181,7 @@ fn kept<'a>(bytes: &[u8], buffer: &'a mut Vec<u8>) -> Result<&'a [u8], AllocErro
     Ok(buffer.as_slice())
 }
 
-/// The catalogue of a line `config`, which is the rest of the line and not empty.
+/// The catalogue of a line `config`, which is the rest of the line and not empty, or `None` if the line is not one.
 fn catalogue_in(line: &[u8]) -> Option<&[u8]>
     ensures { option_copied result ≡ catalogue_in line.now }
 {
@@ -191,14 +191,14 @@ fn catalogue_in(line: &[u8]) -> Option<&[u8]>
     }
 }
 
-/// Whether some byte is not ASCII.
+/// Whether a byte is not ASCII.
 fn has_more_than_ascii(line: &[u8]) -> bool
     ensures { result ≡ list_any (λ b. nat_lt 127 b) line.now }
 {
     !line.is_ascii()
 }
 
-/// What some words ask for.
+/// The command that some words spell.
 fn asked_by<'a>(
     words: Words<'_>,
     buffer: &'a mut Vec<u8>,
@@ -227,7 +227,7 @@ fn bare(word: &[u8]) -> Option<Command<'static>>
     }
 }
 
-/// The same of the words that a controller is needed for.
+/// The command of a single word that needs a controller.
 fn bare_of_both(word: &[u8]) -> Option<Command<'static>>
     ensures { option_map command_read result ≡ bare_of_both word.now }
 {
@@ -279,7 +279,7 @@ fn with_two(
     ordered(word, first, second, buffer)
 }
 
-/// A controller with this ARUUID and this activity.
+/// The command that starts a controller with this ARUUID and this activity UUID.
 fn start(ar: &[u8], activity: &[u8]) -> Option<Command<'static>>
     ensures { option_map command_read result ≡ start_of (parsed ar.now) (parsed activity.now) }
 {
@@ -298,7 +298,7 @@ fn identifier(word: &[u8]) -> Option<Uuid>
     }
 }
 
-/// An order to the flash.
+/// The command with an order to the flash.
 fn ordered(
     word: &[u8],
     first: &[u8],
@@ -360,7 +360,7 @@ fn place_number(digits: &[u8]) -> Option<u16>
     }
 }
 
-/// After how many calls an order to the flash strikes, and its mask.
+/// The number of calls until an order to the flash takes effect, and its mask.
 fn strike(
     first: &[u8],
     second: &[u8],
@@ -377,7 +377,7 @@ fn strike(
     }
 }
 
-/// The mask that some hex digits spell.
+/// The mask that hex digits spell.
 fn mask(digits: &[u8], buffer: &mut Vec<u8>) -> Result<Option<[u8; 8]>, AllocError>
     ensures { IfOk result (λ mask. mask ≡ mask_of (decode_of digits.now)) }
 {
@@ -389,7 +389,7 @@ fn mask(digits: &[u8], buffer: &mut Vec<u8>) -> Result<Option<[u8; 8]>, AllocErr
     Ok(numbers::mask_of(bytes))
 }
 
-/// The bytes that some hex digits spell, at least one.
+/// The bytes that hex digits spell, at least one.
 fn decoded<'a>(digits: &[u8], buffer: &'a mut Vec<u8>) -> Result<Option<&'a [u8]>, AllocError>
     ensures { IfOk result (λ bytes. option_copied bytes ≡ bytes_of digits.now) }
 {

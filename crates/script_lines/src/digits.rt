@@ -1,10 +1,10 @@
-// Hex digits, read and written. A script is hex for the most part, so the loops have no branch: the compiler then does many
-// bytes in one step.
+// Reads and writes hex digits. Most of a script is hex, so the loops have no branch: the compiler then handles many bytes
+// in one step.
 ghost use Rattle.std.specs.Prelude.{◌≡◌, ◌<◌, ◌+◌, ◌*◌, ◌/◌, ◌%◌, ℕ, IsErr, Ok, Some, true, false, length, slice_index};
 ghost use Rattle.std.specs.List.{AllPass};
 ghost use Rattle.hex.specs.Hex.{decode_of, encode_lower, hex_digit_value, is_hex_digit, lower_digits};
 
-/// Whether each is a hex digit, of either case.
+/// Whether each byte is a hex digit, of either case.
 fn are_digits(digits: &[u8]) -> bool
     ensures yes { result ≡ true → AllPass is_hex_digit digits.now }
     ensures no { AllPass is_hex_digit digits.now → result ≡ true }
@@ -16,8 +16,8 @@ fn are_digits(digits: &[u8]) -> bool
     are
 }
 
-/// The values of a pair of hex digits, of either case, each in an octet of its own as the digits are: a letter's low four bits count from
-/// 1, and it has bit 6.
+/// The values of a pair of hex digits, of either case, each in an octet of its own like the digits: the low four bits of
+/// a letter count from 1, and a letter has bit 6 set.
 fn values(pair: u16) -> u16
     ensures { (first second : ℕ) → hex_digit_value (pair % 256) ≡ Some first → hex_digit_value (pair / 256) ≡ Some second →
         result ≡ first + 256 * second }
@@ -27,7 +27,7 @@ fn values(pair: u16) -> u16
     nibbles + 9 * letters
 }
 
-/// Makes a byte of each two hex digits.
+/// Makes a byte of each pair of hex digits.
 fn join(digits: &[u8], bytes: &mut [u8])
     requires even { length digits.now ≡ 2 * length bytes.old }
     requires digits { AllPass is_hex_digit digits.now }
@@ -35,14 +35,14 @@ fn join(digits: &[u8], bytes: &mut [u8])
 {
     let (pairs, _) = digits.as_chunks::<2>();
     for place in 0..bytes.len() {
-        // Both digits by one load: two loads of which each takes every other byte would be made one by one. The product has sixteen times
-        // the first value and the second in its upper octet.
+        // Both digits are loaded at once: two loads of every other byte would not be vectorised. The upper octet of the
+        // product is sixteen times the first value plus the second.
         let both = values(u16::from_le_bytes(pairs[place]));
         bytes[place] = (both.wrapping_mul(4097) / 256) as u8;
     }
 }
 
-/// Reads hex digits, two for each of the bytes. Says whether they are hex digits, and as many.
+/// Reads hex digits, two for each of the bytes. Returns whether all are hex digits, two for each byte.
 #[tactic(auto, using(crate::proofs::Hex::refused))]
 pub(crate) fn read(digits: &[u8], bytes: &mut [u8]) -> bool
     requires { length bytes.old ≡ length digits.now / 2 }

@@ -1,4 +1,4 @@
-//! The lines of a script, read and printed: what a line asks for, and the lines that say what came of it.
+//! The lines of a script: the commands in them, and the lines that are printed.
 #![tactic(auto)]
 
 mod command;

@@ -2,7 +2,8 @@
 ghost use Rattle.std.specs.Prelude.{◌≡◌, ◌<◌, ◌≤◌, IfSome, ◌%◌, ◌^◌, length, slice_index};
 ghost use Rattle.script_lines.specs.Numbers.{number_of, repeated};
 
-/// The number that decimal digits spell, at least one of them, where it is not greater than `most`.
+/// The number that decimal digits spell. `None` if there is no digit, a byte is not a digit, or the number is greater
+/// than `most`.
 #[tactic(auto, unfolding(crate::specs::Numbers::number_of))]
 pub(crate) fn decimal(digits: &[u8], most: u32) -> Option<u32>
     ensures value { result ≡ number_of most digits.now }
@@ -44,7 +45,7 @@ pub(crate) fn mask_of(bytes: &[u8]) -> Option<[u8; 8]>
     }
 }
 
-/// The byte at a place of some bytes that repeat.
+/// The byte with this index in the endless repetition of some bytes.
 fn turned(bytes: &[u8], place: usize) -> u8
     requires { 0 < length bytes.now }
     ensures { result ≡ slice_index bytes.now (place % length bytes.now) }

@@ -10,7 +10,7 @@ use itoa::Buffer;
 use settings_journal::BootFault;
 use std::alloc::AllocError;
 
-/// How a start ended.
+/// The result of a start.
 pub fn boot(refused: Option<BootFault>, text: &mut Vec<u8>) -> Result<(), AllocError>
     ensures { OnOk result (text.new.items ≡ text.old.items ++ boot_line refused) }
 {
@@ -31,7 +31,7 @@ fn out(frame: &Frame, text: &mut Vec<u8>) -> Result<(), AllocError>
     text.extend_from_slice(b"\n")
 }
 
-/// Bytes, two digits for each. This is no line of its own.
+/// Bytes, two digits for each. This is not a line of its own.
 pub(crate) fn hex_digits(bytes: &[u8], text: &mut Vec<u8>) -> Result<(), AllocError>
     requires { length bytes.now ≤ 1518 }
     ensures { OnOk result (text.new.items ≡ text.old.items ++ encode_lower bytes.now) }
@@ -52,14 +52,14 @@ pub fn outs(frames: &[Frame], text: &mut Vec<u8>) -> Result<(), AllocError>
     Ok(())
 }
 
-/// What became of an event.
+/// The result of an event.
 pub fn note(note: Note, text: &mut Vec<u8>) -> Result<(), AllocError>
     ensures { OnOk result (text.new.items ≡ text.old.items ++ note_line note) }
 {
     text.extend_from_slice(line_of(note))
 }
 
-/// The whole line of a note: nearly every line of a script prints one.
+/// The whole line of a note. It is a constant because nearly every line of a script prints one.
 #[tactic(auto, unfolding(crate::specs::Text::note_line))]
 fn line_of(note: Note) -> &'static [u8]
     ensures { result.now ≡ note_line note }
@@ -76,7 +76,7 @@ fn line_of(note: Note) -> &'static [u8]
     }
 }
 
-/// How many frames were handed over: to the device, and to the controller.
+/// The number of frames that were handed to the device, and the number handed to the controller.
 #[tactic(auto, unfolding(crate::specs::Text::moved_line))]
 pub fn moved(to_device: usize, to_controller: usize, text: &mut Vec<u8>) -> Result<(), AllocError>
     ensures { OnOk result (text.new.items ≡ text.old.items ++ moved_line to_device to_controller) }
@@ -88,7 +88,7 @@ pub fn moved(to_device: usize, to_controller: usize, text: &mut Vec<u8>) -> Resu
     text.extend_from_slice(b"\n")
 }
 
-/// A number of frames. This is no line of its own.
+/// A number of frames. This is not a line of its own.
 fn count(frames: usize, text: &mut Vec<u8>) -> Result<(), AllocError>
     ensures { OnOk result (text.new.items ≡ text.old.items ++ decimal frames) }
 {

@@ -1,4 +1,5 @@
-//! The lines that show the settings, the relation, the lamp and what the controller is at. Each function appends one of them to a text.
+//! The lines that show the settings, the relation, the lamp and the state of the controller. Each function appends one of
+//! them to a text.
 ghost use Rattle.std.specs.Prelude.{◌≡◌, ◌++◌, ◌≤◌, length, OnOk, decimal};
 ghost use Rattle.script_lines.specs.Show.{name_line, suite_line, dotted, text_line, phase_line, phase_word, lamp_line, output_line, shown};
 ghost use Rattle.script_lines.specs.Show.{state_line, state_word};
@@ -10,8 +11,8 @@ use pn_values::{IpSuite, Settings, StationName};
 use relations::Phase;
 use std::alloc::AllocError;
 
-/// All of the lines: what runs, beside the name and the suite that are stored, what the application relation waits for, and
-/// for how long the lamp still flashes.
+/// All of the lines: the running settings, the stored name and suite, the phase of the application relation, and for how
+/// many units the lamp still flashes.
 pub fn all(
     running: &Settings,
     stored: &Settings,
@@ -33,7 +34,7 @@ pub fn all(
     lamp_units(lamp, text)
 }
 
-/// A station name, or `-` where there is none.
+/// A station name, or `-` if there is no name.
 #[tactic(auto, unfolding(crate::specs::Show::name_line))]
 fn name(label: &[u8], name: &StationName, text: &mut Vec<u8>) -> Result<(), AllocError>
     ensures { OnOk result (text.new.items ≡ text.old.items ++ name_line label.now name.now) }
@@ -58,7 +59,7 @@ fn suite(label: &[u8], suite: &IpSuite, text: &mut Vec<u8>) -> Result<(), AllocE
     text.extend_from_slice(b"\n")
 }
 
-/// Four octets as decimal numbers that dots part.
+/// Four octets as decimal numbers separated by dots.
 #[tactic(auto, unfolding(crate::specs::Show::dotted))]
 fn octets(octets: [u8; 4], text: &mut Vec<u8>) -> Result<(), AllocError>
     ensures { OnOk result (text.new.items ≡ text.old.items ++ dotted octets) }
@@ -72,7 +73,7 @@ fn octets(octets: [u8; 4], text: &mut Vec<u8>) -> Result<(), AllocError>
     number(u32::from(octets[3]), text)
 }
 
-/// A decimal number. This is no line of its own.
+/// A decimal number. This is not a line of its own.
 pub fn number(number: u32, text: &mut Vec<u8>) -> Result<(), AllocError>
     ensures { OnOk result (text.new.items ≡ text.old.items ++ decimal number) }
 {
@@ -91,7 +92,7 @@ fn im_text(label: &[u8], bytes: &[u8], text: &mut Vec<u8>) -> Result<(), AllocEr
     text.extend_from_slice(b"\n")
 }
 
-/// What the application relation waits for, if there is one.
+/// The phase of the application relation, if there is one.
 #[tactic(auto, unfolding(crate::specs::Show::phase_line))]
 fn waiting(phase: Option<Phase>, text: &mut Vec<u8>) -> Result<(), AllocError>
     ensures { OnOk result (text.new.items ≡ text.old.items ++ phase_line phase) }
@@ -137,7 +138,7 @@ pub fn output(slot: u16, subslot: u16, value: &[u8], text: &mut Vec<u8>) -> Resu
     text.extend_from_slice(b"\n")
 }
 
-/// What the controller is at.
+/// The state of the controller.
 #[tactic(auto, unfolding(crate::specs::Show::state_line))]
 pub fn state(state: State, text: &mut Vec<u8>) -> Result<(), AllocError>
     ensures { OnOk result (text.new.items ≡ text.old.items ++ state_line state) }
@@ -147,7 +148,7 @@ pub fn state(state: State, text: &mut Vec<u8>) -> Result<(), AllocError>
     text.extend_from_slice(b"\n")
 }
 
-/// A word, and behind it the number of the cause where there is one. This is no line of its own.
+/// A word for the state, followed by the number of its cause if it has one. This is not a line of its own.
 fn state_word(state: State, text: &mut Vec<u8>) -> Result<(), AllocError>
     ensures { OnOk result (text.new.items ≡ text.old.items ++ state_word state) }
 {

@@ -1,9 +1,9 @@
--- What a writer has got, and what a reader has given, where those are known.
+-- The bytes that a writer got and a reader gave, if they are known.
 use Rattle.std.proofs.Common.{◌≡◌, ◌≢◌, ℕ, ◌+◌, ◌<◌, List, [], ◌∷◌, ◌++◌, take, subst, Option, Some, None, IfSome, length, append_assoc, append-nil, arith, refl, ap, sym, ◌∙◌, length-append}
 use Rattle.std.specs.Io.KnownBytes.{Appends, Keeps, Consumes, IsAtEnd}
 use Rattle.script_runner.specs.Output.{AppendsFront, AppendsLess}
 
--- the writer got a front of the whole text, and this is the rest of it
+-- The writer got a prefix of the whole text, and this is the rest.
 pub record IsSoFar (old new : Option (List ℕ)) (rest whole : List ℕ) : Type 0 where
   pub front : List ℕ
   pub parts : whole ≡ front ++ rest
@@ -28,11 +28,11 @@ keeps_appends None new k = tt
 keeps_appends (Some xs) None k = absurd k
 keeps_appends (Some xs) (Some ys) k = k ∙ sym (append-nil xs)
 
--- nothing was written yet
+-- Nothing was written yet.
 pub so_far_none : (old : Option (List ℕ)) (whole : List ℕ) → IsSoFar old old whole whole
 so_far_none old whole = record { front = []; parts = refl; appended = appends_none old }
 
--- more was written
+-- More was written.
 pub so_far_on : (old mid new : Option (List ℕ)) (rest later whole text : List ℕ) → IsSoFar old mid rest whole → rest ≡ text ++ later → Appends mid new text → IsSoFar old new later whole
 so_far_on old mid new rest later whole text so e f = record {
   front = so.front ++ text;
@@ -40,13 +40,13 @@ so_far_on old mid new rest later whole text so e f = record {
   appended = appends_on old mid new so.front text so.appended f;
 }
 
--- all was written
+-- All was written.
 pub so_far_all : (old new : Option (List ℕ)) (rest whole : List ℕ) → IsSoFar old new rest whole → rest ≡ [] → Appends old new whole
 so_far_all old new rest whole so e =
     let same : whole ≡ so.front = so.parts ∙ ap (λ t. so.front ++ t) e ∙ append-nil so.front in
     rw same so.appended
 
--- and then a front of the rest
+-- A prefix of the rest was written after it.
 pub so_far_front : (old mid new : Option (List ℕ)) (rest whole : List ℕ) → IsSoFar old mid rest whole → AppendsFront mid new rest → AppendsFront old new whole
 so_far_front old mid new rest whole so more = record {
   front = so.front ++ more.front;
@@ -55,19 +55,19 @@ so_far_front old mid new rest whole so more = record {
   appended = appends_on old mid new so.front more.front so.appended more.appended;
 }
 
--- and then nothing
+-- A writer that got nothing got a prefix of any text.
 pub keeps_front : (old new : Option (List ℕ)) (text : List ℕ) → Keeps old new → AppendsFront old new text
 keeps_front old new text k = record { front = []; behind = text; parts = refl; appended = keeps_appends old new k }
 
--- nothing is a front of any text
+-- The empty text is a prefix of any text.
 pub none_front : (old : Option (List ℕ)) (text : List ℕ) → AppendsFront old old text
 none_front old text = record { front = []; behind = text; parts = refl; appended = appends_none old }
 
--- all of a text is a front of it
+-- A text is a prefix of itself.
 pub all_front : (old new : Option (List ℕ)) (text : List ℕ) → Appends old new text → AppendsFront old new text
 all_front old new text all = record { front = text; behind = []; parts = sym (append-nil text); appended = all }
 
--- a front of a text is a front of a longer one
+-- A prefix of a text is a prefix of a longer one.
 pub front_longer : (old new : Option (List ℕ)) (text more : List ℕ) → AppendsFront old new text → AppendsFront old new (text ++ more)
 front_longer old new text more f = record {
   front = f.front;
@@ -86,23 +86,23 @@ pub some_left : (octets : List ℕ) → 0 < length octets → octets ≢ []
 some_left [] less e = absurd (omega (arith, less))
 some_left (octet ∷ octets) less e = cc
 
--- so far less than the whole was written, and a write failed
+-- Less than the whole was written so far, and a write failed.
 pub so_far_less : (old mid new : Option (List ℕ)) (rest whole : List ℕ) → IsSoFar old mid rest whole → Keeps mid new → 0 < length rest → AppendsLess old new whole
 unfolding keeps_front so_far_front
 so_far_less old mid new rest whole so k some = (so_far_front old mid new rest whole so (keeps_front mid new rest k), some_left rest some)
 
--- or it took nothing
+-- Less than the whole was written so far, and a write wrote nothing.
 pub so_far_still : (old mid new : Option (List ℕ)) (rest whole : List ℕ) (taken : ℕ) → IsSoFar old mid rest whole → Appends mid new (take taken rest) → taken ≡ 0 → 0 < length rest → AppendsLess old new whole
 unfolding so_far_front
 so_far_still old mid new rest whole taken so f none some =
     (so_far_front old mid new rest whole so (record { front = []; behind = rest; parts = refl; appended = subst (λ n. Appends mid new (take n rest)) none f }), some_left rest some)
 
--- less than the rest is less than the whole
+-- Less than the rest is less than the whole.
 pub so_far_lacking : (old mid new : Option (List ℕ)) (rest whole : List ℕ) → IsSoFar old mid rest whole → AppendsLess mid new rest → AppendsLess old new whole
 unfolding so_far_front
 so_far_lacking old mid new rest whole so less = (so_far_front old mid new rest whole so less.0, less.1)
 
--- less than a text is less than a longer one
+-- Less than a text is less than a longer one.
 pub lacking_longer : (old new : Option (List ℕ)) (text more : List ℕ) → AppendsLess old new text → AppendsLess old new (text ++ more)
 unfolding front_longer
 lacking_longer old new text more less = (front_longer old new text more less.0, not_nil less.0.behind more less.1)
@@ -119,14 +119,14 @@ consumes_on (Some xs) None new a b f g = absurd f
 consumes_on (Some xs) (Some ys) None a b f g = absurd g
 consumes_on (Some xs) (Some ys) (Some zs) a b f g = f ∙ ap (λ t. a ++ t) g ∙ sym (append_assoc a b zs)
 
--- at the end all was read
+-- At its end a reader gave all its bytes.
 pub consumed_all : (old mid new : Option (List ℕ)) (input : List ℕ) → Consumes old mid input → Consumes mid new [] → IsAtEnd new → IfSome old (λ bytes. input ≡ bytes)
 consumed_all None mid new input f g e = tt
 consumed_all (Some xs) None new input f g e = absurd f
 consumed_all (Some xs) (Some ys) None input f g e = absurd g
 consumed_all (Some xs) (Some ys) (Some zs) input f g e = sym (f ∙ ap (λ t. input ++ t) (g ∙ e) ∙ append-nil input)
 
--- more was given than this
+-- A reader gave more than the limit.
 pub consumed_more : (old mid new : Option (List ℕ)) (input more : List ℕ) (limit : ℕ) → Consumes old mid input → Consumes mid new more → limit < length input + length more → IfSome old (λ bytes. limit < length bytes)
 consumed_more None mid new input more limit f g h = tt
 consumed_more (Some xs) None new input more limit f g h = absurd f

@@ -1,4 +1,4 @@
--- Lines, one after another.
+-- Lines, one after the other.
 use Rattle.std.proofs.Common.{◌≡◌, ◌||◌, ◌⊎◌, inl, inr, ℕ, ◌+◌, List, [], ◌∷◌, ◌++◌, Option, length, refl, sym, ap, subst, arith, ◌∙◌, Ok, Err, Bool, true, false, if◌then◌else◌, append-nil, append_assoc}
 use Rattle.std.proofs.lemmas.Bool.{false≢true}
 use Rattle.std.specs.Io.KnownBytes.{Appends}
@@ -20,8 +20,9 @@ use Rattle.script_runner.specs.Script.{AllRight, Refused, Unplanned, then_told, 
 use Rattle.script_runner.specs.Told.{PlaysOn, IsPlayed, IsPlayFault}
 use Rattle.script_runner.proofs.Known.{IsSoFar, so_far_on, so_far_all, so_far_front, so_far_lacking, lacking_longer, none_front, appends_on}
 
--- Between two lines, none of which was an order to the flash: both ends are as this says, a front of the output was written, and the
--- rest of it, how it ends, whether an order comes and what is known of catalogues are those of the lines that are left.
+-- Between two lines, none of which was an order to the flash: both ends are as the network says, and a prefix of the
+-- output is written. The rest of the output, its end, whether an order follows, and what is known of catalogues are those
+-- of the remaining lines.
 pub record IsPlaying (plans : List ℕ → Option Parts) (network : Network) (old new : Option (List ℕ)) (held : Held) (number : ℕ) (rest input : List ℕ) : Type 0 where
   pub right : AllRight plans (before_order (lines rest))
   pub ends : Are network held
@@ -29,7 +30,7 @@ pub record IsPlaying (plans : List ℕ → Option Parts) (network : Network) (ol
   pub ended : end_of plans input ≡ ended plans (number + 1) network (before_order (lines rest))
   pub ordered : has_order (lines input) ≡ has_order (lines rest)
 
--- between two lines
+-- Between two lines, or after an order to the flash.
 abbrev pub IsBetween : (List ℕ → Option Parts) → Option (List ℕ) → Option (List ℕ) → Held → ℕ → List ℕ → List ℕ → Type 0
 IsBetween plans old new held number rest input = ((network : Network) × IsPlaying plans network old new held number rest input) ⊎ PlaysOn plans old new input
 
@@ -45,11 +46,11 @@ before_at_order line later ordered = ap (λ ordered. if ordered then [] else lin
 has_at_order : (line : List ℕ) (later : List (List ℕ)) → is_order (meaning_of line) ≡ true → has_order (line ∷ later) ≡ true
 has_at_order line later ordered = ap (λ ordered. ordered || has_order later) ordered
 
--- the lines that are left, where the first of them is no order
+-- The remaining lines, if the first of them is not an order to the flash.
 left_plain : (rest line later : List ℕ) → lines rest ≡ line ∷ lines later → is_order (meaning_of line) ≡ false → before_order (lines rest) ≡ line ∷ before_order (lines later)
 left_plain rest line later e plain = ap before_order e ∙ before_plain line (lines later) plain
 
--- what is left of the output and of the end, at a line that comes out so
+-- The rest of the output and the end, at a line with this outcome.
 told_at : (plans : List ℕ → Option Parts) (network : Network) (rest line later : List ℕ) (outcome : Outcome) → lines rest ≡ line ∷ lines later → is_order (meaning_of line) ≡ false → outcome_of plans network (meaning_of line) ≡ outcome → told plans network (before_order (lines rest)) ≡ then_told outcome (λ next. told plans next (before_order (lines later)))
 told_at plans network rest line later outcome e plain is =
     ap (told plans network) (left_plain rest line later e plain) ∙ ap (λ came. then_told came (λ next. told plans next (before_order (lines later)))) is
@@ -58,31 +59,31 @@ ended_at : (plans : List ℕ → Option Parts) (network : Network) (n : ℕ) (re
 ended_at plans network n rest line later outcome e plain is =
     ap (ended plans n network) (left_plain rest line later e plain) ∙ ap (λ came. then_ended came n (λ next. ended plans (n + 1) next (before_order (lines later)))) is
 
--- what is known of the catalogue of a line, and of those behind it
+-- What is known of the catalogue of a line, and of those after it.
 pub right_at : (plans : List ℕ → Option Parts) (rest line later : List ℕ) → AllRight plans (before_order (lines rest)) → lines rest ≡ line ∷ lines later → is_order (meaning_of line) ≡ false → AreRightFor plans (meaning_of line) × AllRight plans (before_order (lines later))
 right_at plans rest line later right e plain = subst (AllRight plans) (left_plain rest line later e plain) right
 
 -- ---- one line
 
--- what comes of a line that a script may have here, whose text was rendered where none was
+-- The outcome of a line that is valid here, whose text was rendered into an empty text.
 came_answered : (outcome : Outcome) (held : Held) (cleared text : List ℕ) (is : Bool) → cleared ≡ [] → is ≡ true → Comes outcome held cleared text is → (answer : Answer) × (outcome ≡ Answers answer) × IsObeyed answer held [] text
 came_answered (Answers answer) held cleared text is none may comes = (answer, refl, subst (λ before. IsObeyed answer held before text) none comes.1)
 came_answered Refuses held cleared text is none may comes = absurd (false≢true (sym comes ∙ may))
 came_answered (HasNoPlan catalogue) held cleared text is none may comes = absurd comes
 
--- and of one that it may not
+-- The outcome of a line that is not valid here.
 came_refused : (outcome : Outcome) (held : Held) (cleared text : List ℕ) (is : Bool) → is ≡ false → Comes outcome held cleared text is → outcome ≡ Refuses
 came_refused (Answers answer) held cleared text is may_not comes = absurd (false≢true (sym may_not ∙ comes.0))
 came_refused Refuses held cleared text is may_not comes = refl
 came_refused (HasNoPlan catalogue) held cleared text is may_not comes = absurd comes
 
--- of one whose catalogue has no plan
+-- The outcome of a line whose catalogue has no plan.
 without_plan : (outcome : Outcome) (fault : PlanFault) → IsWithoutPlan outcome fault → (catalogue : List ℕ) × (outcome ≡ HasNoPlan catalogue) × IsRefused catalogue fault
 without_plan (HasNoPlan catalogue) fault without = (catalogue, refl, without)
 without_plan (Answers answer) fault without = absurd without
 without_plan Refuses fault without = absurd without
 
--- after a line that was answered, whose text was written
+-- After a line that was answered, whose text was written.
 pub playing_on : (plans : List ℕ → Option Parts) (network : Network) (old mid new : Option (List ℕ)) (before after : Held) (number : ℕ) (rest line later input cleared text shown : List ℕ) (is : Bool) → IsPlaying plans network old mid before number rest input → lines rest ≡ line ∷ lines later → is_order (meaning_of line) ≡ false → cleared ≡ [] → is ≡ true → Comes (outcome_of plans network (meaning_of line)) after cleared text is → shown ≡ text → Appends mid new shown → IsBetween plans old new after (number + 1) later input
 playing_on plans network old mid new before after number rest line later input cleared text shown is playing e plain none may comes same written =
     let came = came_answered (outcome_of plans network (meaning_of line)) after cleared text is none may comes in
@@ -98,7 +99,7 @@ playing_on plans network old mid new before after number rest line later input c
       },
     )
 
--- at a line whose text was written in part: less than the output was
+-- At a line whose text was written in part, less than the output is written.
 pub playing_broken : (plans : List ℕ → Option Parts) (network : Network) (old mid new : Option (List ℕ)) (before after : Held) (number : ℕ) (rest line later input cleared text shown : List ℕ) (is : Bool) → IsPlaying plans network old mid before number rest input → lines rest ≡ line ∷ lines later → is_order (meaning_of line) ≡ false → cleared ≡ [] → is ≡ true → Comes (outcome_of plans network (meaning_of line)) after cleared text is → shown ≡ text → AppendsLess mid new shown → AppendsLess old new (output_of plans input)
 playing_broken plans network old mid new before after number rest line later input cleared text shown is playing e plain none may comes same written =
     let came = came_answered (outcome_of plans network (meaning_of line)) after cleared text is none may comes in
@@ -106,7 +107,7 @@ playing_broken plans network old mid new before after number rest line later inp
     (subst (AppendsLess mid new) (sym (told_at plans network rest line later (Answers came.0) e plain came.1))
     (lacking_longer mid new came.0.text (told plans came.0.network (before_order (lines later))) (subst (AppendsLess mid new) (same ∙ came.2.text) written)))
 
--- at a line that is refused: all that the lines before it print was written
+-- At a line that is refused, all that the lines before it print is written.
 pub played_refused : (plans : List ℕ → Option Parts) (network : Network) (old new : Option (List ℕ)) (before after : Held) (number : ℕ) (rest line later input cleared text : List ℕ) (is : Bool) → IsPlaying plans network old new before number rest input → lines rest ≡ line ∷ lines later → is_order (meaning_of line) ≡ false → is ≡ false → Comes (outcome_of plans network (meaning_of line)) after cleared text is → Appends old new (output_of plans input) × (end_of plans input ≡ Refused (number + 1))
 played_refused plans network old new before after number rest line later input cleared text is playing e plain may_not comes =
     let none = came_refused (outcome_of plans network (meaning_of line)) after cleared text is may_not comes in (
@@ -114,7 +115,7 @@ played_refused plans network old new before after number rest line later input c
       playing.ended ∙ ended_at plans network (number + 1) rest line later Refuses e plain none,
     )
 
--- at a line that orders a failure of the flash
+-- At a line that orders a failure of the flash.
 playing_order : (plans : List ℕ → Option Parts) (network : Network) (old new : Option (List ℕ)) (held : Held) (number : ℕ) (rest line later input : List ℕ) → IsPlaying plans network old new held number rest input → lines rest ≡ line ∷ lines later → is_order (meaning_of line) ≡ true → PlaysOn plans old new input
 playing_order plans network old new held number rest line later input playing e ordered =
     let left : before_order (lines rest) ≡ [] = ap before_order e ∙ before_at_order line (lines later) ordered in
@@ -125,7 +126,7 @@ playing_order plans network old new held number rest line later input playing e 
       appended = subst (Appends old new) (sym (append-nil (output_of plans input))) (so_far_all old new _ _ playing.so_far (ap (told plans network) left));
     }
 
--- At a line: both ends are as said and the line is no order, or an order was met.
+-- At a line: both ends are as the network says and the line is not an order to the flash, or there was an order before.
 pub at_line : (plans : List ℕ → Option Parts) (old new : Option (List ℕ)) (held : Held) (number : ℕ) (rest line later input : List ℕ) → IsBetween plans old new held number rest input → lines rest ≡ line ∷ lines later → ((network : Network) × IsPlaying plans network old new held number rest input × (is_order (meaning_of line) ≡ false)) ⊎ PlaysOn plans old new input
 at_line plans old new held number rest line later input (inl playing) e =
     (elim (is_order (meaning_of line)) as (λ b. is_order (meaning_of line) ≡ b → ((network : Network) × IsPlaying plans network old new held number rest input × (is_order (meaning_of line) ≡ false)) ⊎ PlaysOn plans old new input) [
@@ -134,7 +135,7 @@ at_line plans old new held number rest line later input (inl playing) e =
     ]) refl
 at_line plans old new held number rest line later input (inr more) e = inr more
 
--- whatever was written behind an order
+-- Any text may be written after an order.
 pub plays_on : (plans : List ℕ → Option Parts) (old mid new : Option (List ℕ)) (input : List ℕ) → PlaysOn plans old mid input → Grows mid new → PlaysOn plans old new input
 plays_on plans old mid new input plays grows = record {
   ordered = plays.ordered;
@@ -143,11 +144,11 @@ plays_on plans old mid new input plays grows = record {
   appended = subst (Appends old new) (append_assoc (output_of plans input) plays.more grows.0) (appends_on old mid new _ _ plays.appended grows.1);
 }
 
--- a front of a text makes a writer's bytes more
+-- A writer that gets a prefix of a text has grown.
 pub front_grows : (old new : Option (List ℕ)) (text : List ℕ) → AppendsFront old new text → Grows old new
 front_grows old new text front = (front.front, front.appended)
 
--- after the last line
+-- After the last line.
 pub played_all : (plans : List ℕ → Option Parts) (old new : Option (List ℕ)) (held : Held) (number : ℕ) (rest input : List ℕ) → IsBetween plans old new held number rest input → rest ≡ [] → IsPlayed plans old new input (Ok tt)
 played_all plans old new held number rest input (inl playing) e =
     let none : lines rest ≡ [] = ap lines e in
@@ -158,7 +159,7 @@ played_all plans old new held number rest input (inl playing) e =
     )
 played_all plans old new held number rest input (inr more) e = inr more
 
--- a write that failed
+-- A write that failed.
 pub write_plays : (fault : RunFault) → fault ≡ Write → IsPlayFault fault
 write_plays fault write = rw write tt
 
@@ -171,7 +172,7 @@ no_bytes (byte ∷ bytes) e = absurd (omega arith)
 
 -- ---- a line that fails
 
--- how a fault of a catalogue ends a run: memory was refused, or a number says why
+-- The fault of a run that ends at a catalogue: memory was refused, or a number gives the reason.
 fault_cases : (fault : PlanFault) → (fault_of fault ≡ OutOfMemory) ⊎ ((n : ℕ) × (fault_of fault ≡ Config n))
 fault_cases plan.OutOfMemory = inl refl
 fault_cases plan.Json = inr (1, refl)
@@ -191,19 +192,19 @@ fault_plays fault = elim (fault_cases fault) [
   | inr config ↦ subst IsPlayFault (sym config.1) tt
 ]
 
--- where memory was refused, a front of the output was written
+-- If memory was refused, a prefix of the output is written.
 pub played_without : (plans : List ℕ → Option Parts) (network : Network) (old new : Option (List ℕ)) (held : Held) (number : ℕ) (rest input : List ℕ) (fault : RunFault) → IsPlaying plans network old new held number rest input → fault ≡ OutOfMemory → IsPlayed plans old new input (Err fault)
 played_without plans network old new held number rest input fault playing memory =
     subst (λ fault. IsPlayed plans old new input (Err fault)) (sym memory)
     (inl (so_far_front old new new (told plans network (before_order (lines rest))) (output_of plans input) playing.so_far (none_front new (told plans network (before_order (lines rest))))))
 
--- where a catalogue has no plan, all that the lines before it print was
+-- If a catalogue has no plan, all that the lines before it print is written.
 played_config : (plans : List ℕ → Option Parts) (old new : Option (List ℕ)) (input catalogue : List ℕ) (n : ℕ) (fault : PlanFault) → Appends old new (output_of plans input) → end_of plans input ≡ Unplanned catalogue → IsRefused catalogue fault → fault_of fault ≡ Config n → IsPlayed plans old new input (Err (fault_of fault))
 played_config plans old new input catalogue n fault written end refused config =
     subst (λ fault. IsPlayed plans old new input (Err fault)) (sym config)
     (inl (written, record { catalogue = catalogue; ended = end; unplanned = (fault, refused, sym config) }))
 
--- at a line that fails
+-- At a line that fails.
 pub played_failed : (plans : List ℕ → Option Parts) (network : Network) (old new : Option (List ℕ)) (before : Held) (number : ℕ) (rest line later input : List ℕ) (fault : PlanFault) → IsPlaying plans network old new before number rest input → lines rest ≡ line ∷ lines later → is_order (meaning_of line) ≡ false → (fault ≡ plan.OutOfMemory) ⊎ IsWithoutPlan (outcome_of plans network (meaning_of line)) fault → IsPlayed plans old new input (Err (fault_of fault))
 played_failed plans network old new before number rest line later input fault playing e plain (inl memory) =
     played_without plans network old new before number rest input (fault_of fault) playing (ap fault_of memory)

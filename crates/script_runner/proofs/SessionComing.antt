@@ -1,4 +1,4 @@
--- What comes of a line that a script may have at some times alone, and of units of time and frames that wait.
+-- The outcome of lines that are valid only at some times, of units of time, and of frames that wait.
 use Rattle.std.proofs.Common.{◌≡◌, ◌⊎◌, inl, inr, ℕ, List, ◌++◌, codes, Bool, true, false, Option, Some, None, Result, Ok, OnOk, IsErr, MatchResult, length, is_some, replicate, append_assoc, refl, sym, ap, subst, ◌∙◌}
 use Rattle.std.proofs.lemmas.Bool.{false≢true}
 use Rattle.std.proofs.lemmas.Result.{on_ok_weaker}
@@ -24,14 +24,14 @@ use Rattle.script_runner.proofs.SessionObeying.{always_obeys}
 
 -- ---- a catalogue
 
--- that is refused
+-- The outcome for a catalogue that is refused.
 pub config_refused : (plans : List ℕ → Option Parts) (network : Network) (catalogue : List ℕ) (fault : PlanFault) → IsRightFor plans catalogue → IsRefused catalogue fault → (fault ≡ OutOfMemory) ⊎ IsWithoutPlan (config_outcome network catalogue (plans catalogue)) fault
 config_refused plans network catalogue fault right refused = elim (right.refused fault refused) [
   | inl memory ↦ inl memory
   | inr none ↦ rw none (inr refused)
 ]
 
--- that has a plan
+-- The outcome for a catalogue that has a plan.
 pub config_planned : {E : Type 0} (plans : List ℕ → Option Parts) (network : Network) (catalogue : List ℕ) (plan : Parts) (power : Power) (far other : Other) (before now : List ℕ) (done : Result (Unit {0}) E) (result : Result Bool PlanFault) → IsRightFor plans catalogue → IsPlanOf catalogue plan → IsRunning network.station power → far ≡ network.other → other ≡ with_plan far plan
     → OnOk done (now ≡ before ++ printed (codes "plan ok")) → MatchResult result (λ is. (is ≡ true) × (done ≡ Ok tt)) (λ fault. (fault ≡ OutOfMemory) × IsErr done)
     → Obeys (config_outcome network catalogue (plans catalogue)) (record { power = power; other = other }) before now result
@@ -41,7 +41,7 @@ config_planned plans network catalogue plan power far other before now done resu
 
 -- ---- a controller
 
--- that is there no plan for
+-- The start of a controller depends only on the other end.
 start_is : (network : Network) (far other : Other) (ar activity : List ℕ) (started : Bool) → far ≡ network.other → Starts far.plan far ar activity other started → Starts network.other.plan network.other ar activity other started
 start_is network far other ar activity started same = subst (λ o. Starts o.plan o ar activity other started) same
 
@@ -84,7 +84,7 @@ pub hear_answered : (network : Network) (far other : Other) (event : ControllerE
     → Comes (heard_outcome network event network.other.controller) (record { power = power; other = other }) before now true
 hear_answered network far other event power before now same hears = hear_some network.other.controller network other event power before now (hear_is network far other event true same hears)
 
--- ---- what waits is handed over
+-- ---- frames that wait are handed over
 
 deliver_none : (controller : Option Controlling) (network : Network) (held : Held) (before now : List ℕ) → is_some controller ≡ false → Comes (deliver_outcome network controller) held before now false
 deliver_none None network held before now none = refl
@@ -100,7 +100,7 @@ deliver_refused network far held before now same none = deliver_none network.oth
 pub deliver_answered : (network : Network) (far : Other) (held : Held) (before now : List ℕ) → far ≡ network.other → is_some far.controller ≡ true → IsObeyed (deliver_answer network) held before now → Comes (deliver_outcome network network.other.controller) held before now true
 deliver_answered network far held before now same some obeyed = deliver_some network.other.controller network held before now (subst (λ o. is_some o.controller ≡ true) same some) obeyed
 
--- all that waited was handed over: to the device, and then to the controller
+-- All frames that waited were handed over: to the device, and then to the controller.
 pub delivered : (network : Network) (device : State (MemoryFlash 4096)) (far between after : Other) (to_device to_controller : ℕ) (before middle now : List ℕ) → far ≡ network.other
     → IsHandedOver (device_run network.station (frames_for_device far.to_device)) device far between to_device
     → to_controller ≡ length between.to_controller → after ≡ arrived_at between.controller between

@@ -8,7 +8,8 @@ use Rattle.script_runner.specs.declared.session.power.Power.{Power}
 use Rattle.script_runner.specs.declared.session.power.Power.TheVariants.{On, Off, Away}
 use Rattle.script_runner.specs.session.Power.{IsOver}
 
--- a flash with the same bytes, the same count of failures and the same order is the same to what was started over it
+-- If two flashes have the same bytes, the same count of failures and the same order, a start over one is a start over the
+-- other.
 pub over_same : (old new : MemoryFlash 4096) (power : Power) → image_of new ≡ image_of old → failures_of new ≡ failures_of old → armed_in new ≡ armed_in old
     → IsOver new power → IsOver old power
 over_same old new (On device) image failures armed over = (over.0, over.1, over.2, (over.3.0 ∙ image, over.3.1 ∙ ap against_writes armed))

@@ -1,4 +1,4 @@
--- What a line does to both ends.
+-- The effect of a line at both ends.
 use Rattle.std.proofs.Common.{◌≡◌, inl, ℕ, List, [], ◌∷◌, ◌++◌, length, arith, Bool, true, false, Option, None, Result, Ok, Err, OnOk, IfOk, IsErr, MatchResult, is_ok, if◌then◌else◌, refl, sym, subst, append-nil}
 use Rattle.flash_model.specs.declared.flash.Order.{Order}
 use Rattle.flash_model.specs.declared.memory.MemoryFlash.{MemoryFlash}
@@ -15,60 +15,60 @@ use Rattle.script_runner.specs.session.Said.{Answer, Answers, Outcome, outcome_o
 use Rattle.script_runner.specs.session.Off.{Orders, TakesOrder}
 use Rattle.script_runner.specs.session.Session.{Are, Comes, IsDone, IsObeyed, Obeys}
 
--- a device that runs was not refused its start
+-- A device that runs was not refused its start.
 pub unrefused : (station : Station) (power : Power) → IsRunning station power → refusal_of power ≡ None
 unrefused station (On device) runs = refl
 unrefused station (Off fault flash) runs = absurd runs
 unrefused station Away runs = absurd runs
 
--- and it has power
+-- A device that runs has power.
 pub unlost : (station : Station) (power : Power) → IsRunning station power → is_off power ≡ false
 unlost station (On device) runs = runs.reliable.0
 unlost station (Off fault flash) runs = absurd runs
 unlost station Away runs = absurd runs
 
--- what the device did is what was asked for
+-- What the device carried out is what was asked for.
 pub done_obeyed : (answer : Answer) (device : State (MemoryFlash 4096)) (other : Other) (before now : List ℕ) → IsDone answer device other before now → IsObeyed answer (record { power = On device; other = other }) before now
 done_obeyed answer device other before now done = record { runs = done.runs; waits = done.waits; text = done.text }
 
--- a line that is read so is this one
+-- A line with this meaning obeys as that meaning does.
 pub line_obeys : (plans : List ℕ → Option Parts) (network : Network) (line read : Line) (held : Held) (before now : List ℕ) (result : Result Bool PlanFault) → read ≡ line → Obeys (outcome_of plans network read) held before now result → Obeys (outcome_of plans network line) held before now result
 line_obeys plans network line read held before now result same = subst (λ l. Obeys (outcome_of plans network l) held before now result) same
 
--- an empty line is skipped
+-- An empty line is skipped.
 pub empty_is_skipped : (line : List ℕ) → length line ≡ 0 → meaning_of line ≡ Skipped
 unfolding meaning_of
 empty_is_skipped [] none = refl
 empty_is_skipped (octet ∷ octets) none = absurd (omega (arith, none))
 
--- one that is skipped changes nothing
+-- A line that is skipped changes nothing.
 pub skipped_obeys : (network : Network) (held : Held) (before : List ℕ) → Are network held → Obeys (Answers (unchanged network)) held before before (Ok true)
 skipped_obeys network held before are = (refl, record { runs = are.0; waits = are.1; text = sym (append-nil before) })
 
--- a text that was appended, if there was memory
+-- A text was appended, if there was memory.
 pub appended : {E : Type 0} (done : Result (Unit {0}) E) (now before more : List ℕ) → now ≡ (if is_ok done then before ++ more else before) → OnOk done (now ≡ before ++ more)
 appended (Ok done) now before more e = e
 appended (Err fault) now before more e = tt
 
--- what a script may have at any time
+-- The effect of a line that is valid at any time.
 pub always_obeys : {E : Type 0} (answer : Answer) (held : Held) (before now : List ℕ) (done : Result (Unit {0}) E) (result : Result Bool PlanFault) → OnOk done (IsObeyed answer held before now)
     → MatchResult result (λ is. (is ≡ true) × (done ≡ Ok tt)) (λ fault. (fault ≡ OutOfMemory) × IsErr done) → Obeys (Answers answer) held before now result
 always_obeys answer held before now done (Ok is) obeyed given = (given.0, subst (λ d. OnOk d (IsObeyed answer held before now)) given.1 obeyed)
 always_obeys answer held before now done (Err fault) obeyed given = inl given.0
 
--- what a script may have where something is there
+-- The effect of a line that is valid only if there is a plan or a controller.
 pub if_there_obeys : {E : Type 0} (outcome : Outcome) (held : Held) (before now : List ℕ) (is : Result Bool E) (result : Result Bool PlanFault) → IfOk is (Comes outcome held before now)
     → MatchResult result (λ there. is ≡ Ok there) (λ fault. (fault ≡ OutOfMemory) × IsErr is) → Obeys outcome held before now result
 if_there_obeys outcome held before now is (Ok there) comes given = subst (λ i. IfOk i (Comes outcome held before now)) given comes
 if_there_obeys outcome held before now is (Err fault) comes given = inl given.0
 
--- what a script may have at any time tells a loss of power as what it did
+-- A line that is valid at any time reports a loss of power.
 pub always_tells : {E : Type 0} (A : Type 0) (done : Result (Unit {0}) E) (result : Result Bool PlanFault) → OnOk done A
     → MatchResult result (λ is. (is ≡ true) × (done ≡ Ok tt)) (λ fault. (fault ≡ OutOfMemory) × IsErr done) → OnOk result A
 always_tells A done (Ok is) told given = subst (λ d. OnOk d A) given.1 told
 always_tells A done (Err fault) told given = tt
 
--- and so what it may have where something is there
+-- A line that is valid only if there is a plan or a controller reports a loss of power.
 pub if_there_tells : {E : Type 0} (A : Type 0) (is : Result Bool E) (result : Result Bool PlanFault) → OnOk is A
     → MatchResult result (λ there. is ≡ Ok there) (λ fault. (fault ≡ OutOfMemory) × IsErr is) → OnOk result A
 if_there_tells A is (Ok there) told given = subst (λ i. OnOk i A) given told
@@ -76,7 +76,7 @@ if_there_tells A is (Err fault) told given = tt
 
 -- ---- orders to the flash
 
--- a line for which memory was refused did nothing
+-- A line for which memory was refused did nothing.
 pub untaken : (line : Line) (held : Held) (before : List ℕ) → TakesOrder line held held before before (Err OutOfMemory)
 untaken Unfit held before = tt
 untaken Skipped held before = tt
@@ -94,7 +94,7 @@ untaken (Asks (Give slot subslot bytes)) held before = tt
 untaken (Asks Stop) held before = tt
 untaken (Asks Deliver) held before = tt
 
--- what is true of an order is what taking it does
+-- The effect of an order is the effect of a line with that order.
 pub order_taken : (command : Command) (old new : Held) (before now : List ℕ) (result : Result Bool PlanFault)
     → ((order : Order) → command ≡ Arm order → Orders order old new before now result) → TakesOrder (Asks command) old new before now result
 order_taken (Arm order) old new before now result orders = orders order refl

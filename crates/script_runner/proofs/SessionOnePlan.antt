@@ -1,4 +1,4 @@
--- A catalogue has one plan at most, and one that has a plan is refused for want of memory alone.
+-- A catalogue has at most one plan, and one that has a plan is refused only if there is no memory.
 use Rattle.std.proofs.Common.{◌≡◌, inl, inr, ℕ, Bool, true, false, List, Option, Some, Result, Ok, Err, ap, refl, sym, subst, ◌∙◌}
 use Rattle.std.specs.declared.net.ipv4_addr.Ipv4Addr.{Ipv4Addr}
 use Rattle.std.specs.Net.Addr.{ipv4_octets}
@@ -34,13 +34,13 @@ ok_not a fault found one other = cc
 true_not : (b : Bool) → b ≡ true → b ≡ false → ⊥
 true_not b one other = cc
 
--- a text is JSON of one tree, which is one catalogue
+-- A text is JSON of at most one tree, which is at most one catalogue.
 found_same : (text : List ℕ) (a b : Catalogue) → Found text a → Found text b → a ≡ b
 found_same text a b one other =
     let tree = some_same one.0 other.0 (read text) one.1.1 other.1.1 in
     ok_same a b (catalogue one.0) one.2 (subst (λ t. catalogue t ≡ Ok b) (sym tree) other.2)
 
--- and addresses are written in one way
+-- An address is written in one way.
 address_of : List ℕ → Ipv4Addr
 address_of octets = record { octets = octets }
 
@@ -68,9 +68,9 @@ one_plan text a b one other =
     let found = found_same text one.0 other.0 one.1 other.1 in
     parts_same other.0 a b (subst (λ f. ArePartsOf f a) found one.2.0) other.2.0
 
--- ---- and no refusal
+-- ---- a catalogue with a plan is not refused
 
--- a text that is a catalogue is refused as it is read for want of memory alone
+-- Reading a text that is a catalogue fails only if there is no memory.
 read_refused : (text : List ℕ) (found : Catalogue) (fault : PlacedFault) → Found text found → Refuses text fault → fault.fault ≡ reading.OutOfMemory
 read_refused text found fault is (inl memory) = memory
 read_refused text found fault is (inr (inl json)) = absurd (json.1 is.0 is.1)
@@ -83,7 +83,7 @@ too_long found parts other fault are plan have long =
     let same = parts_same found other parts have are in
     ok_not parts fault (plan_of parts) plan (subst (λ p. plan_of p ≡ Err fault) same long)
 
--- one whose parts are a plan is refused over the whole for want of memory alone
+-- A catalogue whose parts are a plan is refused as a whole only if there is no memory.
 judged_for_memory : (found : Catalogue) (parts : Parts) (fault : PlanFault) → ArePartsOf found parts → plan_of parts ≡ Ok parts → Judged found (Err fault) → fault ≡ OutOfMemory
 judged_for_memory found parts Name are plan judged = absurd (judged are.addressed.named)
 judged_for_memory found parts Address are plan judged = absurd (judged.1 are.addressed.addresses are.addressed.addressed)

@@ -1,4 +1,4 @@
--- Events, one after another, at either end.
+-- Events at either end, one after the other.
 use Rattle.std.proofs.Common.{◌≡◌, ℕ, ◌-◌, ◌<◌, ◌≤◌, List, [], ◌∷◌, ◌++◌, suc, replicate, length, drop, append_assoc, append-nil, arith, refl, ap, subst, sym, ◌∙◌, Option, Some, None}
 use Rattle.std.proofs.lemmas.Grind.{flat_map-append}
 use Rattle.std.proofs.lemmas.List.{drop_all}
@@ -18,7 +18,8 @@ use Rattle.script_runner.specs.session.Session.{IsHandedTo, IsRunOf, IsTurned}
 
 -- ---- units of time at the device
 
--- Between two events: the device runs, and what it sent before these is kept or printed; with what these send it is the whole.
+-- Between two events the device runs. The frames sent before are kept or printed; with the frames of the remaining events
+-- they are the whole.
 pub record IsUnderway (whole : DeviceRun) (left : List Event) (now : Station) (device : State (MemoryFlash 4096)) (far other : Other) (before text : List ℕ) : Type 0 where
   pub runs : Runs now device
   pub station : whole.station ≡ (device_run now left).station
@@ -27,7 +28,7 @@ pub record IsUnderway (whole : DeviceRun) (left : List Event) (now : Station) (d
   pub waits : other ≡ with_sent far sent
   pub printed : text ≡ before ++ printed_for far.controller sent
 
--- frames kept one after another
+-- Frames are kept one after the other.
 kept_on : (controller : Option Controlling) (waiting a b : List (List ℕ)) → kept controller (kept controller waiting a) b ≡ kept controller waiting (a ++ b)
 kept_on None waiting a b = refl
 kept_on (Some controller) waiting a b = append_assoc waiting a b
@@ -50,7 +51,7 @@ sent_on far a b = ap (λ waiting. record far { to_controller = waiting }) (kept_
 sent_none : (far : Other) → with_sent far [] ≡ far
 sent_none far = ap (λ waiting. record far { to_controller = waiting }) (kept_none far.controller far.to_controller)
 
--- before the first
+-- The state before the first event.
 pub underway_first : (events : List Event) (now : Station) (device : State (MemoryFlash 4096)) (far : Other) (before : List ℕ) → Runs now device → IsUnderway (device_run now events) events now device far far before before
 underway_first events now device far before runs = record {
   runs = runs;
@@ -61,7 +62,7 @@ underway_first events now device far before runs = record {
   printed = sym (ap (λ t. before ++ t) (printed_none far.controller) ∙ append-nil before);
 }
 
--- after one more
+-- The state after one more event.
 pub underway_on : (whole : DeviceRun) (event : Event) (left : List Event) (now : Station) (device after : State (MemoryFlash 4096)) (far other later : Other) (before text more : List ℕ) → IsUnderway whole (event ∷ left) now device far other before text → IsTurned now (step_of [] now.device now.live event) after other later text more → IsUnderway whole left (turned_to now (step_of [] now.device now.live event).live) after far later before more
 underway_on whole event left now device after far other later before text more underway turned =
     let step = step_of [] now.device now.live event in
@@ -76,7 +77,7 @@ underway_on whole event left now device after far other later before text more u
           ∙ ap (λ t. t ++ printed_for far.controller step.frames) underway.printed ∙ append_assoc before _ _ ∙ ap (λ t. before ++ t) (printed_on far.controller underway.sent step.frames);
     }
 
--- after all of them
+-- The state after all events.
 pub underway_all : (whole : DeviceRun) (left : List Event) (now : Station) (device : State (MemoryFlash 4096)) (far other : Other) (before text : List ℕ) → left ≡ [] → IsUnderway whole left now device far other before text → IsRunOf whole device far other before text
 underway_all whole left now device far other before text none underway =
     let frames : whole.frames ≡ underway.sent = underway.frames ∙ ap (λ events. underway.sent ++ (device_run now events).frames) none ∙ append-nil underway.sent in
@@ -87,15 +88,16 @@ underway_all whole left now device far other before text none underway =
       text = underway.printed ∙ ap (λ sent. before ++ printed_for far.controller sent) (sym frames);
     }
 
--- units of time that are left
+-- The remaining units of time.
 pub some_left : (A : Type 0) (tick : A) (left : ℕ) → 0 < left → replicate left tick ≡ tick ∷ replicate (left - 1) tick
 some_left A tick left some =
     let e : left ≡ suc (left - 1) = omega arith in
     ap (λ units. replicate units tick) e
 
--- ---- frames that are handed over to the device
+-- ---- frames that are handed to the device
 
--- Between two frames: the device runs, and with what those that are left make it send, what waits is the whole.
+-- Between two frames the device runs. The frames that wait, with those that it sends for the remaining frames, are the
+-- whole.
 pub record IsHanding (whole : DeviceRun) (left : List Event) (now : Station) (device : State (MemoryFlash 4096)) (before waiting : List (ArrayVec ℕ)) : Type 0 where
   pub runs : Runs now device
   pub station : whole.station ≡ (device_run now left).station
@@ -119,13 +121,13 @@ handed_all whole left now device before waiting none handing =
       waits = sym (handing.frames ∙ ap (λ events. octets_of waiting ++ (device_run now events).frames) none ∙ append-nil (octets_of waiting));
     }
 
--- none is left behind the last
+-- No frame remains after the last one.
 pub no_frames : (frames : List (ArrayVec ℕ)) (i : ℕ) → length frames ≤ i → frames_for_device (octets_of (drop i frames)) ≡ []
 no_frames frames i all = ap (λ left. frames_for_device (octets_of left)) (drop_all i frames all)
 
 -- ---- events at the controller
 
--- Between two events: with what those that are left make it send, what waits is the whole.
+-- Between two events: the frames that wait, with those that the controller sends for the remaining events, are the whole.
 pub record IsHearing (whole : ControllerRun) (left : List ControllerEvent) (now : Controlling) (before waiting : List (ArrayVec ℕ)) : Type 0 where
   pub controller : whole.controller ≡ (controller_run now left).controller
   pub frames : octets_of before ++ whole.frames ≡ octets_of waiting ++ (controller_run now left).frames

@@ -1,4 +1,4 @@
--- What is said of a writer whatever the reader gave.
+-- What is known of a writer for any reader.
 use Rattle.std.proofs.Common.{ℕ, List, Option, Result, Ok, Err, IfErr, subst, sym}
 use Rattle.script_runner.specs.declared.fault.RunFault.{RunFault}
 use Rattle.script_runner.specs.declared.fault.RunFault.TheVariants.{Read, Write, Line, OutOfMemory, Config, EndlessInput}
@@ -6,7 +6,7 @@ use Rattle.script_runner.specs.Output.{Puts}
 use Rattle.script_runner.specs.Told.{IsPlayFault, IsSilent}
 use Rattle.script_runner.proofs.Known.{same_keeps}
 
--- nothing was written
+-- Nothing was written.
 pub silent_same : (old : Option (List ℕ)) (fault : RunFault) → IsSilent old old (Err fault)
 silent_same old Read = same_keeps old
 silent_same old Write = tt
@@ -15,12 +15,12 @@ silent_same old OutOfMemory = tt
 silent_same old (Config n) = tt
 silent_same old EndlessInput = same_keeps old
 
--- a text was, or a front of it
+-- A text was written, or a prefix of it.
 pub silent_put : (old new : Option (List ℕ)) (text : List ℕ) (result : Result (Unit {0}) RunFault) → Puts old new text result → IsSilent old new result
 silent_put old new text (Ok done) puts = tt
 silent_put old new text (Err fault) puts = subst (λ fault. IsSilent old new (Err fault)) (sym puts.0) tt
 
--- a script was played
+-- A script was run.
 pub silent_played : (old new : Option (List ℕ)) (result : Result (Unit {0}) RunFault) → IfErr result IsPlayFault → IsSilent old new result
 silent_played old new (Ok done) faults = tt
 silent_played old new (Err Read) faults = absurd faults

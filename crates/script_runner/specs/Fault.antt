@@ -14,7 +14,7 @@ number_of OutOfMemory = 4
 number_of (Config n) = 5
 number_of EndlessInput = 6
 
--- how a catalogue that has no plan ends a run
+-- The fault of a run that ends at a catalogue without a plan.
 abbrev pub fault_of : PlanFault → RunFault
 fault_of plan.OutOfMemory = OutOfMemory
 fault_of fault = Config (plan_number fault)

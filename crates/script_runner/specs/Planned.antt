@@ -1,4 +1,4 @@
--- The plan of a catalogue as text, and what making it leaves in a writer.
+-- The plan of a catalogue as text, and what its writer gets.
 use Rattle.std.specs.Prelude.{◌≡◌, ◌⊎◌, ℕ, List, [], ◌++◌, codes, decimal, flat_map, Option, Result, Ok, Err}
 use Rattle.std.specs.Io.KnownBytes.{Appends, Keeps}
 use Rattle.connect_blocks.specs.declared.iocr.IocrType.TheVariants.{Input, Output}
@@ -23,39 +23,39 @@ abbrev pub kind_word : PlaceKind → List ℕ
 kind_word Data = codes "data "
 kind_word Iocs = codes "iocs "
 
--- how many octets data takes, its IOPS with it; an IOCS is one octet, which is not said
+-- The number of octets of data with its IOPS; omitted for an IOCS, which is always one octet.
 abbrev pub size_shown : PlaceKind → ℕ → List ℕ
 size_shown Data size = codes " " ++ decimal size
 size_shown Iocs size = []
 
--- a place: what lies there, of which slot and subslot, and from which octet on
+-- A place: its kind, its slot and subslot, and its first octet.
 unfoldable pub place_line : Place → List ℕ
 place_line place =
     printed (kind_word place.kind ++ decimal place.slot ++ codes " " ++ decimal place.subslot ++ codes " " ++ decimal place.offset ++ size_shown place.kind place.size)
 
--- a layout: DataLength, and its places
+-- A layout: its DataLength and its places.
 abbrev pub layout_lines : List ℕ → Table → List ℕ
 layout_lines label layout = printed (label ++ decimal layout.data_length) ++ flat_map place_line layout.places
 
--- the layouts of a plan: of the frames from the device, and of those from the controller
+-- The layouts of a plan: of the frames from the device, and of the frames from the controller.
 abbrev pub plan_lines : Parts → List ℕ
 plan_lines parts =
     layout_lines (codes "input ") (layout_in Input (data_of parts.real.modules.items))
     ++ layout_lines (codes "output ") (layout_in Output (data_of parts.real.modules.items))
 
--- ---- what becomes of a catalogue
+-- ---- the outcome for a catalogue
 
--- a text is a catalogue that has a plan, of which these are the lines
+-- A text is a catalogue that has a plan, and these are the lines of the plan.
 pub record HasText (input text : List ℕ) : Type 0 where
   pub parts : Parts
   pub plan : IsPlanOf input parts
   pub lines : text ≡ plan_lines parts
 
--- it has none for this fault, or memory was refused
+-- A text has no plan for this fault, or memory was refused.
 abbrev pub HasNoText : List ℕ → RunFault → Type 0
 HasNoText input fault = (fault ≡ OutOfMemory) ⊎ ((plan : PlanFault) × IsRefused input plan × (fault ≡ fault_of plan))
 
--- What is written of a catalogue: the lines of its plan, less than they where a write failed, and nothing where memory was
+-- What is written for a catalogue: the lines of its plan, less than these if a write failed, and nothing if memory was
 -- refused or there is no plan.
 abbrev pub IsPlanned : Option (List ℕ) → Option (List ℕ) → List ℕ → Result (Unit {0}) RunFault → Type 0
 IsPlanned old new input (Ok done) = (text : List ℕ) × HasText input text × Appends old new text

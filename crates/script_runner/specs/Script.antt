@@ -9,57 +9,57 @@ use Rattle.script_runner.specs.session.Ends.{Network}
 use Rattle.script_runner.specs.session.Said.{Outcome, Answers, Refuses, HasNoPlan, alone, is_order, outcome_of}
 use Rattle.script_runner.specs.session.Session.{AreRightFor}
 
--- what a line prints, and then what comes after it
+-- The text of a line, and then of the lines after it.
 abbrev pub then_told : Outcome → (Network → List ℕ) → List ℕ
 then_told (Answers answer) later = answer.text ++ later answer.network
 then_told Refuses later = []
 then_told (HasNoPlan catalogue) later = []
 
--- what lines print, up to the first that is refused
+-- The text of lines, up to the first line that is refused.
 abbrev pub told : (List ℕ → Option Parts) → Network → List (List ℕ) → List ℕ
 told plans network [] = []
 told plans network (line ∷ lines) = then_told (outcome_of plans network (meaning_of line)) (λ next. told plans next lines)
 
--- how lines end: all of them were answered, this one is none that a script may have there, or this catalogue has no plan
+-- How lines end: all of them were answered, this line is not valid there, or this catalogue has no plan.
 pub data End : Type 0 where
   AllDone : End
   Refused : (number : ℕ) → End
   Unplanned : (catalogue : List ℕ) → End
 
--- how a line ends them, else how what is behind it does
+-- How lines end, by the outcome of the first of them and the end of those after it.
 abbrev pub then_ended : Outcome → ℕ → (Network → End) → End
 then_ended (Answers answer) n later = later answer.network
 then_ended Refuses n later = Refused n
 then_ended (HasNoPlan catalogue) n later = Unplanned catalogue
 
--- how lines end of which the first has the number n
+-- How lines end if the first of them has the number `n`.
 abbrev pub ended : (List ℕ → Option Parts) → ℕ → Network → List (List ℕ) → End
 ended plans n network [] = AllDone
 ended plans n network (line ∷ lines) = then_ended (outcome_of plans network (meaning_of line)) n (λ next. ended plans (n + 1) next lines)
 
--- whether one of some lines orders a failure of the flash
+-- Whether one of some lines orders a failure of the flash.
 abbrev pub has_order : List (List ℕ) → Bool
 has_order lines = list_any (λ line. is_order (meaning_of line)) lines
 
--- the lines before the first that does
+-- The lines before the first one that orders a failure of the flash.
 abbrev pub before_order : List (List ℕ) → List (List ℕ)
 before_order [] = []
 before_order (line ∷ lines) = if is_order (meaning_of line) then [] else line ∷ before_order lines
 
--- what a script prints, up to the first line that orders a failure of the flash: what its calls of the flash do to later lines is
--- not told
+-- The text of a script, up to the first line that orders a failure of the flash; the effect of that failure on later
+-- lines is not covered.
 unfoldable pub output_of : (List ℕ → Option Parts) → List ℕ → List ℕ
 output_of plans input = boot_line None ++ told plans alone (before_order (lines input))
 
--- how it ends, if before that
+-- How a script ends, if it ends before the first line that orders a failure of the flash.
 unfoldable pub end_of : (List ℕ → Option Parts) → List ℕ → End
 end_of plans input = ended plans 1 alone (before_order (lines input))
 
--- what plans the catalogues of some lines have is known here
+-- The table of plans is right for the catalogues of some lines.
 abbrev pub AllRight : (List ℕ → Option Parts) → List (List ℕ) → Type 0
 AllRight plans [] = Unit {0}
 AllRight plans (line ∷ lines) = AreRightFor plans (meaning_of line) × AllRight plans lines
 
--- those of a script, up to its first line that orders a failure of the flash
+-- The table of plans is right for a script, up to its first line that orders a failure of the flash.
 abbrev pub ArePlansOf : (List ℕ → Option Parts) → List ℕ → Type 0
 ArePlansOf plans input = AllRight plans (before_order (lines input))

@@ -1,4 +1,4 @@
--- What a run leaves in its writer, by its result.
+-- What a run writes, by its result.
 use Rattle.std.specs.Prelude.{◌≡◌, ◌<◌, ◌≤◌, ◌⊎◌, ℕ, true, false, List, ◌++◌, length, Option, Result, Ok, Err}
 use Rattle.std.specs.Io.KnownBytes.{Appends, Keeps}
 use Rattle.std.specs.Str.Lines.{lines}
@@ -11,19 +11,19 @@ use Rattle.configurator.specs.Planned.{IsRefused}
 use Rattle.script_runner.specs.Fault.{fault_of}
 use Rattle.script_runner.specs.Script.{AllDone, ArePlansOf, Refused, Unplanned, output_of, end_of, has_order}
 
--- a catalogue has no plan for the fault that this is the number of
+-- A catalogue has no plan, for the fault with this number.
 abbrev pub IsUnplanned : List ℕ → RunFault → Type 0
 IsUnplanned catalogue fault = (plan : PlanFault) × IsRefused catalogue plan × (fault ≡ fault_of plan)
 
--- a run ends at a catalogue that has no plan, for the fault with this number
+-- A run ends at a catalogue that has no plan, for the fault with this number.
 pub record EndsWithoutPlan (plans : List ℕ → Option Parts) (input : List ℕ) (n : ℕ) : Type 0 where
   pub catalogue : List ℕ
   pub ended : end_of plans input ≡ Unplanned catalogue
   pub unplanned : IsUnplanned catalogue (Config n)
 
--- What comes of a script up to its first line that orders a failure of the flash: at the end, where there is no such line, all of
--- its output was written, at a line that is refused or a catalogue that has no plan the output of the lines before it, where a write
--- failed less than the output, and where memory was refused a front of it.
+-- The outcome of a script up to its first line that orders a failure of the flash. At the end, if there is no such line,
+-- all of its output is written. At a line that is refused, or a catalogue without a plan, the output of the lines before
+-- it is written. If a write failed, less than the output is written. If memory was refused, a prefix of it is written.
 abbrev pub Plays : (List ℕ → Option Parts) → Option (List ℕ) → Option (List ℕ) → List ℕ → Result (Unit {0}) RunFault → Type 0
 Plays plans old new input (Ok done) = Appends old new (output_of plans input) × (end_of plans input ≡ AllDone) × (has_order (lines input) ≡ false)
 Plays plans old new input (Err (Line n)) = Appends old new (output_of plans input) × (end_of plans input ≡ Refused n)
@@ -33,23 +33,24 @@ Plays plans old new input (Err OutOfMemory) = AppendsFront old new (output_of pl
 Plays plans old new input (Err Read) = ⊥
 Plays plans old new input (Err EndlessInput) = ⊥
 
--- A line orders a failure of the flash and none before it is refused: all that these print was written, and then more.
+-- A line orders a failure of the flash and no line before it is refused: all that the lines before it print is written,
+-- and possibly more.
 pub record PlaysOn (plans : List ℕ → Option Parts) (old new : Option (List ℕ)) (input : List ℕ) : Type 0 where
   pub ordered : has_order (lines input) ≡ true
   pub unended : end_of plans input ≡ AllDone
   pub more : List ℕ
   pub appended : Appends old new (output_of plans input ++ more)
 
--- of a script that was read whole
+-- The outcome of a script that was read whole.
 abbrev pub IsPlayed : (List ℕ → Option Parts) → Option (List ℕ) → Option (List ℕ) → List ℕ → Result (Unit {0}) RunFault → Type 0
 IsPlayed plans old new input result = Plays plans old new input result ⊎ PlaysOn plans old new input
 
--- the longest script
+-- The longest script.
 abbrev pub limit : ℕ
 limit = 16777216
 
--- Of a script that is the reader's bytes: one that is too long is answered EndlessInput, if a read or memory did not fail
--- before its end, and only such a one is. After Read and EndlessInput nothing was written.
+-- For a script that is the reader's bytes: one that is too long gives EndlessInput unless a read fails or memory is
+-- refused, and no other script gives it. After Read and EndlessInput nothing is written.
 abbrev pub IsWhole : Option (List ℕ) → Option (List ℕ) → List ℕ → Result (Unit {0}) RunFault → Type 0
 IsWhole old new input (Err Read) = Keeps old new
 IsWhole old new input (Err EndlessInput) = Keeps old new × (limit < length input)
@@ -59,7 +60,7 @@ IsWhole old new input (Err (Line n)) = length input ≤ limit
 IsWhole old new input (Err (Config n)) = length input ≤ limit
 IsWhole old new input (Err Write) = length input ≤ limit
 
--- Of the same: what was written of its output.
+-- For a script that is the reader's bytes: what is written of its output.
 abbrev pub IsTold : (List ℕ → Option Parts) → Option (List ℕ) → Option (List ℕ) → List ℕ → Result (Unit {0}) RunFault → Type 0
 IsTold plans old new input (Err Read) = Keeps old new
 IsTold plans old new input (Err EndlessInput) = Keeps old new
@@ -69,7 +70,7 @@ IsTold plans old new input (Err (Line n)) = IsPlayed plans old new input (Err (L
 IsTold plans old new input (Err (Config n)) = IsPlayed plans old new input (Err (Config n))
 IsTold plans old new input (Err Write) = IsPlayed plans old new input (Err Write)
 
--- Whatever a reader gives: after Read and EndlessInput nothing was written.
+-- For any reader: after Read and EndlessInput nothing is written.
 abbrev pub IsSilent : Option (List ℕ) → Option (List ℕ) → Result (Unit {0}) RunFault → Type 0
 IsSilent old new (Err Read) = Keeps old new
 IsSilent old new (Err EndlessInput) = Keeps old new
@@ -79,11 +80,12 @@ IsSilent old new (Err (Line n)) = Unit {0}
 IsSilent old new (Err (Config n)) = Unit {0}
 IsSilent old new (Err Write) = Unit {0}
 
--- What was written of its output, whatever plans its catalogues have: each has the one that the configurator says, and none where it is refused.
+-- What is written of the output of a script, with the plans of its catalogues: each has the plan that the configurator
+-- gives, and none if it is refused.
 abbrev pub IsToldByPlans : Option (List ℕ) → Option (List ℕ) → List ℕ → Result (Unit {0}) RunFault → Type 0
 IsToldByPlans old new input result = (plans : List ℕ → Option Parts) → ArePlansOf plans input → IsTold plans old new input result
 
--- a fault of a script that was read
+-- A fault of a script that was read.
 abbrev pub IsPlayFault : RunFault → Type 0
 IsPlayFault Read = ⊥
 IsPlayFault Write = Unit {0}

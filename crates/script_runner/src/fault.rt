@@ -11,17 +11,17 @@ pub enum RunFault {
     /// A read failed; nothing was written.
     #[error("read")]
     Read,
-    /// A write failed, or took nothing.
+    /// A write failed, or wrote nothing.
     #[error("write")]
     Write,
-    /// This line, counted from 1 with the skipped ones, is none that a script has. What the lines before it print was
-    /// written.
+    /// The line with this number, counted from 1 with the skipped lines, is not a valid script line. What the lines
+    /// before it print was written.
     #[error("line {0}")]
     Line(u32),
-    /// There was no memory.
+    /// Memory was refused.
     #[error("out of memory")]
     OutOfMemory,
-    /// A catalogue has no plan: the number of its fault.
+    /// A catalogue has no plan. This is the number of its fault.
     #[error("config {0}")]
     Config(u8),
     /// The input is longer than 16,777,216 bytes; nothing was written.
@@ -30,7 +30,7 @@ pub enum RunFault {
 }
 
 impl RunFault {
-    /// Its number, which a program ends with.
+    /// The number of the fault, which is the exit status of a program.
     pub fn number(&self) -> u8
         ensures { result ≡ number_of self.now }
     {

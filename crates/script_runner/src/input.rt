@@ -1,14 +1,14 @@
-// The whole of the input, read before anything is done.
+// The whole input, which is read before anything else is done.
 ghost use Rattle.std.specs.Prelude.{◌≡◌, ◌<◌, ◌≤◌, ◌⊎◌, ◌+◌, ◌++◌, length, IfOk, IfErr, IfSome};
 
 use crate::RunFault;
 use std::alloc::Global;
 use std::io::Read;
 
-/// How many bytes a script may have.
+/// The most bytes of a script.
 pub(crate) const LONGEST_SCRIPT: usize = 16_777_216;
 
-/// Reads to the end, with at most 16,777,217 calls of the reader.
+/// Reads to the end of the input, with at most 16,777,217 calls of the reader.
 pub(crate) fn read_all<R: Read>(alloc: Global, reader: &mut R) -> Result<Vec<u8>, RunFault>
     ensures all { IfOk result (λ input. IfSome (R.remaining reader.old) (λ bytes. input.items ≡ bytes)) }
     ensures short { IfOk result (λ input. length input.items ≤ 16777216) }
@@ -32,7 +32,7 @@ pub(crate) fn read_all<R: Read>(alloc: Global, reader: &mut R) -> Result<Vec<u8>
     Err(RunFault::EndlessInput)
 }
 
-/// Appends to the input, whose memory doubles up to what the longest script needs.
+/// Appends to the input. Its memory doubles, up to the size of the longest script.
 fn append(input: &mut Vec<u8>, bytes: &[u8]) -> Result<(), RunFault>
     requires { length input.old.items + length bytes.now ≤ 16777216 }
     ensures ok { IfOk result (λ _. input.new.items ≡ input.old.items ++ bytes.now) }

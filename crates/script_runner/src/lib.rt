@@ -1,5 +1,5 @@
-//! Scripts and catalogues, from a reader to a writer: what the lines of a script print that is played on a demo device and its
-//! controller, and the layouts of a catalogue's plan.
+//! Scripts and catalogues, from a reader to a writer: the text that a script prints when it is run on a demo device and
+//! its controller, and the layouts of a catalogue's plan.
 #![tactic(auto)]
 
 mod fault;

@@ -1,11 +1,12 @@
-// How text is written.
+// Writes text to a writer.
 ghost use Rattle.std.specs.Prelude.{◌≡◌};
 ghost use Rattle.script_runner.specs.Output.{Puts};
 
 use crate::RunFault;
 use std::io::Write;
 
-/// Writes all of a text. A write that fails, or takes nothing, is the write fault. Many lines print nothing, and cost no call.
+/// Writes all of a text. Fails with the write fault if a write fails or writes nothing. An empty text, which many lines
+/// print, makes no call.
 #[inline(always)]
 pub(crate) fn put<W: Write>(writer: &mut W, text: &[u8]) -> Result<(), RunFault>
     ensures { Puts (W.contents writer.old) (W.contents writer.new) text.now result }
@@ -16,7 +17,7 @@ pub(crate) fn put<W: Write>(writer: &mut W, text: &[u8]) -> Result<(), RunFault>
     put_all(writer, text)
 }
 
-/// The same of a text that is mostly not empty.
+/// Writes all of a text that is usually not empty.
 fn put_all<W: Write>(writer: &mut W, text: &[u8]) -> Result<(), RunFault>
     ensures { Puts (W.contents writer.old) (W.contents writer.new) text.now result }
 {

@@ -14,18 +14,21 @@ use script_lines::show::number;
 use std::alloc::{AllocError, Global};
 use std::io::{Read, Write};
 
-/// Reads a catalogue to its end, makes its plan, and writes the layouts of the plan's cyclic frames, a place a line. Nothing is
-/// written before the whole plan was made.
+/// Reads a catalogue to its end, makes its plan, and writes the layouts of the plan's cyclic frames, one place per line.
+/// Nothing is written before the whole plan is made.
 pub fn plan_text<R: Read, W: Write>(
     alloc: Global,
     reader: &mut R,
     writer: &mut W,
 ) -> Result<(), RunFault>
-    // A catalogue that is too long, and only such a one, is endless input. Then, and where a read failed, nothing is written.
+    // If the bytes of the reader are known: a catalogue of more than 16,777,216 bytes gives EndlessInput unless a read
+    // fails or memory is refused, and no other catalogue gives it. Nothing is written after EndlessInput or a failed
+    // read.
     ensures whole { IfSome (R.remaining reader.old) (λ input. IsWhole (W.contents writer.old) (W.contents writer.new) input result) }
-    // What is written are the lines of the plan, or a front of them where a write failed, and nothing where there is no plan.
+    // If the bytes of the reader are known: the lines of the plan are written, less than these if a write failed, and
+    // nothing if there is no plan or memory was refused.
     ensures planned { IfSome (R.remaining reader.old) (λ input. IsPlanned (W.contents writer.old) (W.contents writer.new) input result) }
-    // Whatever the reader gives, also one that never ends: behind a read that failed and an endless input nothing was written.
+    // For any reader, also one that never ends: nothing is written after EndlessInput or a failed read.
     ensures silent { IsSilent (W.contents writer.old) (W.contents writer.new) result }
 {
     let input = read_all(alloc, reader)?;
@@ -44,7 +47,7 @@ fn text_of(alloc: Global, input: &[u8]) -> Result<Vec<u8>, RunFault>
     Ok(text)
 }
 
-/// The layouts of a plan: of the frames from the device, and of those from the controller.
+/// The layouts of a plan: of the frames from the device, and of the frames from the controller.
 fn plan_lines(plan: &Plan, text: &mut Vec<u8>) -> Result<(), AllocError>
     ensures { OnOk result (text.new.items ≡ text.old.items ++ plan_lines plan.now) }
 {
@@ -53,7 +56,7 @@ fn plan_lines(plan: &Plan, text: &mut Vec<u8>) -> Result<(), AllocError>
     layout(b"output ", &layouts.output, text)
 }
 
-/// A layout: DataLength, and its places.
+/// A layout: its DataLength and its places.
 fn layout(label: &[u8], layout: &Layout, text: &mut Vec<u8>) -> Result<(), AllocError>
     ensures { OnOk result (text.new.items ≡ text.old.items ++ layout_lines label.now layout.now) }
 {
@@ -63,7 +66,7 @@ fn layout(label: &[u8], layout: &Layout, text: &mut Vec<u8>) -> Result<(), Alloc
     places(layout.places(), text)
 }
 
-/// Places, a line each.
+/// The places, one per line.
 fn places(places: &[Place], text: &mut Vec<u8>) -> Result<(), AllocError>
     ensures { OnOk result (text.new.items ≡ text.old.items ++ flat_map place_line places.now) }
 {
@@ -73,7 +76,7 @@ fn places(places: &[Place], text: &mut Vec<u8>) -> Result<(), AllocError>
     Ok(())
 }
 
-/// A place: what lies there, of which slot and subslot, from which octet on, and of data how many octets with its IOPS.
+/// A place: its kind, its slot and subslot, its first octet, and for data the number of octets with its IOPS.
 #[tactic(auto, unfolding(crate::specs::Planned::place_line))]
 fn place(place: &Place, text: &mut Vec<u8>) -> Result<(), AllocError>
     ensures { OnOk result (text.new.items ≡ text.old.items ++ place_line place.now) }
@@ -88,7 +91,7 @@ fn place(place: &Place, text: &mut Vec<u8>) -> Result<(), AllocError>
     text.extend_from_slice(b"\n")
 }
 
-/// How many octets data takes. An IOCS is one octet, which is not said.
+/// The number of octets of data. It is omitted for an IOCS, which is always one octet.
 fn size(place: &Place, text: &mut Vec<u8>) -> Result<(), AllocError>
     ensures { OnOk result (text.new.items ≡ text.old.items ++ size_shown place.now.kind place.now.size) }
 {

@@ -1,4 +1,4 @@
-// A script, line by line.
+// Runs a script, line by line.
 ghost use Rattle.std.specs.Prelude.{◌≤◌, ℕ, List, Option, length, IfErr};
 ghost use Rattle.plans.specs.declared.parts.Parts.{Parts};
 ghost use Rattle.script_runner.specs.Script.{ArePlansOf};
@@ -12,8 +12,8 @@ use script_lines::first_line;
 use std::alloc::Global;
 use std::io::Write;
 
-/// Plays a script on the demo device over a blank flash, and writes what it prints, line by line. What is written is said
-/// up to the first line that orders a failure of the flash.
+/// Runs a script on the demo device over a blank flash, and writes what it prints, line by line. The contract covers the
+/// output up to the first line that orders a failure of the flash.
 pub(crate) fn play<W: Write>(alloc: Global, input: &[u8], writer: &mut W) -> Result<(), RunFault>
     requires { length input.now ≤ 16777216 }
     ensures faults { IfErr result IsPlayFault }

@@ -1,4 +1,5 @@
-//! Both ends of a script between two lines: the demo device over its flash, the controller, and the frames that wait between them.
+//! Both ends of a script between two lines: the demo device with its flash, the controller, and the frames that wait
+//! between them.
 
 mod both;
 mod bytes;

@@ -8,15 +8,17 @@ use crate::play::play;
 use std::alloc::Global;
 use std::io::{Read, Write};
 
-/// Reads a script to its end, plays it on a demo device over a blank flash, and writes what it prints. Nothing is
-/// written before the whole script was read.
+/// Reads a script to its end, runs it on a demo device over a blank flash, and writes what it prints. Nothing is written
+/// before the whole script is read.
 pub fn run<R: Read, W: Write>(alloc: Global, reader: &mut R, writer: &mut W) -> Result<(), RunFault>
-    // A script that is too long, and only such a one, is endless input. Then, and where a read failed, nothing is written.
+    // If the bytes of the reader are known: a script of more than 16,777,216 bytes gives EndlessInput unless a read fails
+    // or memory is refused, and no other script gives it. Nothing is written after EndlessInput or a failed read.
     ensures whole { IfSome (R.remaining reader.old) (λ input. IsWhole (W.contents writer.old) (W.contents writer.new) input result) }
-    // The output of a script is a function of its bytes and of the plans of its catalogues, up to the first line that orders a failure
-    // of the flash.
+    // If the bytes of the reader are known: up to the first line that orders a failure of the flash, the output is a
+    // function of these bytes and of the plans of the catalogues in them. Only a prefix of it is written if a write fails
+    // or memory is refused, and nothing is written after EndlessInput or a failed read.
     ensures told { IfSome (R.remaining reader.old) (λ input. IsToldByPlans (W.contents writer.old) (W.contents writer.new) input result) }
-    // Whatever the reader gives, also one that never ends: behind a read that failed and an endless input nothing was written.
+    // For any reader, also one that never ends: nothing is written after EndlessInput or a failed read.
     ensures silent { IsSilent (W.contents writer.old) (W.contents writer.new) result }
 {
     let input = read_all(alloc, reader)?;

@@ -87,7 +87,7 @@ pub(crate) fn alarm_cr_block_req(
         max_alarm_data_length tag_header_high tag_header_low)
 }
 
-/// 0x0110, 0x0112, 0x0114 and their answers
+/// 0x0110, 0x0112, 0x0114 and their responses
 pub(crate) fn control(block: &ControlBlock, table: &mut Table) -> Result<(), AllocError> {
     table.field("ar_uuid", block.ar_uuid.as_bytes())?;
     numbers!(table block session_key control_command control_block_properties)

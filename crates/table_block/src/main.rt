@@ -1,17 +1,17 @@
-//! What octets are as blocks. Each line of standard input is a block in hex; for each the program prints what
-//! `block_codec` makes of it: the fault, or the type, the octets left behind it, the block as it is written again, and
-//! its fields.
+//! Prints what octets are as blocks. Each line of standard input is a block in hex. For each line the program prints the
+//! result of `block_codec`: the fault, or the type, the number of octets after the block, the block as it is written
+//! again, and its fields.
 //!
-//! The first 936 lines of `stdin` and what `stdout` says of them come from a reference model that was written from the rules of
-//! the blocks alone and shares no line with this repository; 16 more were bent by hand, each in a field that none of these has
-//! wrong. So they pin what a definition and its code could get wrong
-//! alike: a constant, the number of a field, the place of a bit.
+//! The first 936 lines of `stdin`, and their lines of `stdout`, come from a reference model that was written from the
+//! rules of the blocks alone and shares no line with this repository. 16 more lines were changed by hand, each in a field
+//! that is not wrong in any of the 936. So these lines pin what a definition and its code could get wrong in the same
+//! way: a constant, the number of a field, the position of a bit.
 //!
 //! ```text
-//! fault NUMBER                          why the line is no block
-//! fault NUMBER field NUMBER             .. of a version or a field
-//! block TYPE rest OCTETS written HEX    what it is, how many octets are behind it, and how it is written again
-//!   NAME VALUE                          each field; octets in hex, and a list an entry a line
+//! fault NUMBER                          why the line is not a block
+//! fault NUMBER field NUMBER             the same, for a version or a field
+//! block TYPE rest OCTETS written HEX    the type, the number of octets after the block, and the block as it is written again
+//!   NAME VALUE                          a field; octets are in hex, and a list has a line for each entry
 //! ```
 #![tactic(auto)]
 

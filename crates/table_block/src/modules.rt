@@ -48,7 +48,7 @@ fn expected_submodule(submodule: &ExpectedSubmodule, table: &mut Table) -> Resul
     )
 }
 
-/// How many octets of data there are, or -1 for no data.
+/// The number of octets of data, or -1 for no data.
 fn octets_of(length: Option<u16>) -> i64 {
     match length {
         Some(octets) => i64::from(octets),

@@ -6,7 +6,7 @@ use block_codec::{
 };
 use std::alloc::AllocError;
 
-/// What the four headers of a record begin with, but for ARUUID.
+/// The fields at the start of the four headers of a record, but for ARUUID.
 fn record(header: &RecordHeader, table: &mut Table) -> Result<(), AllocError> {
     numbers!(table header seq_number api slot_number subslot_number index record_data_length)
 }

@@ -1,14 +1,14 @@
-// What one line is.
+// The output for one line.
 use crate::table::Table;
 use crate::{connect, modules, records};
 use arrayvec::ArrayVec;
 use block_codec::{Block, BlockFault, block_len, read_block, write_block};
 use std::alloc::AllocError;
 
-/// Room for a block, written: its type, its length, and what a length of two octets can count.
+/// Room for a block that is written: its type, its length, and as many octets as a length of two octets can count.
 pub(crate) type Octets = ArrayVec<u8, 65539>;
 
-/// Reads a block, and appends to the table what it is. It is written again into `written`.
+/// Reads a block, and appends its type and fields to the table. The block is written again into `written`.
 pub(crate) fn row(
     octets: &[u8],
     written: &mut Octets,
@@ -23,7 +23,7 @@ pub(crate) fn row(
     }
 }
 
-/// Why octets are no block.
+/// Appends why octets are not a block.
 fn refused(fault: BlockFault, table: &mut Table) -> Result<(), AllocError> {
     table.put("fault ")?;
     table.number(fault.number())?;
@@ -37,7 +37,7 @@ fn refused(fault: BlockFault, table: &mut Table) -> Result<(), AllocError> {
     table.put("\n")
 }
 
-/// The type of a block, how many octets are behind it, and how it is written.
+/// Appends the type of a block, the number of octets after it, and the block as it is written.
 fn head(
     block: &Block,
     rest: &[u8],
@@ -57,7 +57,7 @@ fn head(
     table.put("\n")
 }
 
-/// The fields of a block.
+/// Appends the fields of a block.
 fn fields(block: &Block, table: &mut Table) -> Result<(), AllocError> {
     match block {
         Block::ArBlockReq(block) => connect::ar_block_req(block, table),

@@ -10,7 +10,7 @@ pub(crate) struct Table {
 }
 
 impl Table {
-    /// No line.
+    /// An empty table.
     pub(crate) fn new(alloc: Global) -> Table {
         Table {
             alloc,
@@ -18,12 +18,12 @@ impl Table {
         }
     }
 
-    /// All of the lines.
+    /// The text of the table.
     pub(crate) fn as_bytes(&self) -> &[u8] {
         self.text.as_slice()
     }
 
-    /// Appends words.
+    /// Appends text.
     pub(crate) fn put(&mut self, words: &str) -> Result<(), AllocError> {
         self.text.extend_from_slice(words.as_bytes())
     }
@@ -42,21 +42,21 @@ impl Table {
         self.put(hex::encode(self.alloc, octets)?.as_str())
     }
 
-    /// The line of a field that is a number.
+    /// Appends the line of a field that is a number.
     pub(crate) fn count<I: Integer>(&mut self, name: &str, number: I) -> Result<(), AllocError> {
         self.name(name)?;
         self.number(number)?;
         self.put("\n")
     }
 
-    /// The line of a field that is octets.
+    /// Appends the line of a field that is octets.
     pub(crate) fn field(&mut self, name: &str, octets: &[u8]) -> Result<(), AllocError> {
         self.name(name)?;
         self.octets(octets)?;
         self.put("\n")
     }
 
-    /// The line of a list's entry, which is numbers.
+    /// Appends the line of a list entry, which is numbers.
     pub(crate) fn entry<I: Integer>(
         &mut self,
         name: &str,
@@ -71,7 +71,7 @@ impl Table {
         self.put("\n")
     }
 
-    /// The front of a field's line: its name.
+    /// Appends the start of a field's line: its name.
     fn name(&mut self, name: &str) -> Result<(), AllocError> {
         self.put("  ")?;
         self.put(name)?;
@@ -79,7 +79,7 @@ impl Table {
     }
 }
 
-/// The lines of fields that are numbers, under their own names.
+/// Appends the lines of fields that are numbers, under their own names.
 macro_rules! numbers {
     ($table:ident $block:ident $($field:ident)*) => {{
         $($table.count(stringify!($field), $block.$field)?;)*

@@ -1,4 +1,4 @@
-// Lines, and what they print.
+// The commands of the program, and what they print.
 use crate::words::{bytes, number, place, put_hex, put_number, state_word, two_words, uuid, wrong};
 use configurator::plan_from_json;
 use controller_core::{Controller, Event, State};
@@ -6,7 +6,7 @@ use frame_codec::Outbox;
 use std::alloc::{AllocError, Global};
 use std::io;
 
-/// The controller of a start, whose opening frame and state are appended.
+/// Starts a controller, and appends its first frame and its state.
 pub(crate) fn start(alloc: Global, rest: &str, text: &mut String) -> io::Result<Controller> {
     let (ar, rest) = two_words(rest)?;
     let (activity, catalogue) = two_words(rest)?;
@@ -19,7 +19,7 @@ pub(crate) fn start(alloc: Global, rest: &str, text: &mut String) -> io::Result<
     Ok(started)
 }
 
-/// Hears a line, and appends what comes of it.
+/// Runs a line, and appends its result.
 pub(crate) fn put_line(
     alloc: Global,
     controller: &mut Controller,
@@ -38,7 +38,7 @@ pub(crate) fn put_line(
     Ok(put_state(controller.state(), text)?)
 }
 
-/// The event of a line that is neither a question nor time.
+/// The event of a line that is neither a query nor a `tick`.
 fn event(alloc: Global, word: &str, rest: &str) -> io::Result<Event> {
     match word {
         "frame" => Ok(Event::Frame(bytes(alloc, rest)?)),
@@ -70,7 +70,7 @@ fn put_state(state: State, text: &mut String) -> Result<(), AllocError> {
     text.push_str("\n")
 }
 
-/// An event happens: appends the lines of what is sent.
+/// Makes a step of the controller, and appends the lines of what it sends.
 fn put_step(
     alloc: Global,
     controller: &mut Controller,
@@ -85,13 +85,14 @@ fn put_step(
     Ok(())
 }
 
-/// One step. It is no part of its caller, so that its instructions are counted by themselves (`bench/figures/controller.py`).
+/// Makes one step. It is a function of its own, so that its instructions are counted separately
+/// (`bench/figures/controller.py`).
 #[inline(never)]
 fn turn(controller: &mut Controller, event: &Event, outbox: &mut Outbox) {
     controller.step(event, outbox);
 }
 
-/// Units pass.
+/// Lets units of time pass, and appends the lines of what is sent.
 fn put_ticks(
     alloc: Global,
     controller: &mut Controller,

@@ -1,23 +1,24 @@
 //! A controller alone, line by line:
 //!
 //! ```text
-//! start AR ACTIVITY JSON    a controller with this ARUUID, this activity of its calls and the plan of this catalogue takes the place of
-//!                           the one before
+//! start AR ACTIVITY JSON    starts a controller with this ARUUID, this activity UUID of its calls and the plan of this catalogue, in
+//!                           place of the last one
 //! frame HEX                 these octets come from the network
 //! tick N                    N units of 31.25 microseconds pass
-//! give S SS HEX             the application gives the output of the submodule in slot S and subslot SS
+//! give S SS HEX             the application sets the output of the submodule in slot S and subslot SS
 //! stop                      the application stops the controller
-//! value S SS                asks for the input of that submodule
-//! alarm                     asks for the last alarm that was taken
-//! ar                        asks for the ARUUID
+//! value S SS                prints the input of that submodule
+//! alarm                     prints the last accepted alarm
+//! ar                        prints the ARUUID
 //! ```
 //!
-//! Behind each of the first five stand `out HEX` for each frame that is sent, and `state WORD`; behind `value` stands `value HEX`, or
-//! `value none` where no such input is; behind `alarm` stands `alarm TYPE SLOT SUBSLOT SPECIFIER HEX`, or `alarm none`; behind `ar` stands
-//! `ar HEX`. No octets are `-`.
+//! Each of the first five prints `out HEX` for each frame that is sent, and then `state WORD`. `value` prints `value
+//! HEX`, or `value none` if there is no such input. `alarm` prints `alarm TYPE SLOT SUBSLOT SPECIFIER HEX`, or `alarm
+//! none`. `ar` prints `ar HEX`. Empty octets are printed as `-`.
 //!
-//! `stdin` is what a station of Scapy's layers says (`bench/interoperation/scapy_station.py`), and `stdout` what a controller has to do by
-//! the rules alone, with each frame as Scapy builds it. Neither shares a line with this repository's crates.
+//! `stdin` is what a station of Scapy's layers says (`bench/interoperation/scapy_station.py`), and `stdout` is what a
+//! controller must do by the rules alone, with each frame as Scapy builds it. Neither shares a line with this
+//! repository's crates.
 #![tactic(auto)]
 
 mod line;

@@ -1,16 +1,16 @@
-// Words of lines.
+// The words of a line.
 use controller_core::State;
 use frame_codec::Bytes;
 use std::alloc::{AllocError, Global};
 use std::io::{self, ErrorKind};
 use uuid::Uuid;
 
-/// That a line is none of these.
+/// The error for an invalid line.
 pub(crate) fn wrong() -> io::Error {
     io::Error::from(ErrorKind::InvalidData)
 }
 
-/// The first word, and what is behind it.
+/// The first word, and the text after it.
 pub(crate) fn two_words(text: &str) -> io::Result<(&str, &str)> {
     text.split_once(' ').ok_or(wrong())
 }
@@ -25,7 +25,7 @@ pub(crate) fn place(digits: &str) -> io::Result<u16> {
     u16::try_from(number(digits)?).map_err(|_| wrong())
 }
 
-/// The octets of hex digits, of which the first 1,519 count.
+/// The octets that hex digits spell. At most the first 1,519 count.
 pub(crate) fn bytes(alloc: Global, digits: &str) -> io::Result<Bytes> {
     let Ok(octets) = hex::decode(alloc, digits) else {
         return Err(wrong());
@@ -37,12 +37,12 @@ pub(crate) fn bytes(alloc: Global, digits: &str) -> io::Result<Bytes> {
     Ok(bytes)
 }
 
-/// An identifier.
+/// A UUID.
 pub(crate) fn uuid(text: &str) -> io::Result<Uuid> {
     text.parse::<Uuid>().map_err(|_| wrong())
 }
 
-/// Appends octets in hex; `-` for none.
+/// Appends octets in hex, or `-` if there are none.
 pub(crate) fn put_hex(alloc: Global, octets: &[u8], text: &mut String) -> Result<(), AllocError> {
     if octets.is_empty() {
         return text.push_str("-");

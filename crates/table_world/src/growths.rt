@@ -1,22 +1,22 @@
-//! Two worlds beside each other: one plays four moves in a call, the other the same moves one by one. Where an allocation fails, a call
-//! leaves a world of the moves before.
+//! Two worlds side by side: one plays four moves in a call, the other plays the same moves one by one. If an allocation
+//! fails, a call leaves the world of the moves before.
 use crate::ladder::Play;
 use std::alloc::{AllocError, Global};
 use test_worlds::{Choice, Net, Schedule, Told, fresh_world};
 
-/// Both worlds, and what was found.
+/// Both worlds, and the result of their comparison.
 #[derive(Drop)]
 struct Pair {
     whole: Net,
     single: Net,
-    /// How many frames of both were compared.
+    /// The number of frames of both worlds that were compared.
     count: usize,
-    /// How many growths were refused.
+    /// The number of allocations that were refused.
     refused: u64,
     is_broken: bool,
 }
 
-/// How many frames were sent, if no more than these and four for each of four moves.
+/// The number of frames that were sent, if there are at most 20 more than `count`.
 fn count_from(net: &Net, count: usize) -> usize {
     for number in count..count.saturating_add(20) {
         if net.sent(number).is_none() {
@@ -26,7 +26,7 @@ fn count_from(net: &Net, count: usize) -> usize {
     count.saturating_add(20)
 }
 
-/// Whether both worlds have the same frame of this number.
+/// Whether both worlds have the same frame with this number.
 fn is_same(one: &Net, other: &Net, number: usize) -> bool {
     match (one.sent(number), other.sent(number)) {
         (Some(one), Some(other)) => one.as_slice() == other.as_slice(),
@@ -35,7 +35,7 @@ fn is_same(one: &Net, other: &Net, number: usize) -> bool {
     }
 }
 
-/// Whether both worlds tell the same, and from this frame on have the same frames.
+/// Whether both worlds report the same, and have the same frames from this one on.
 fn are_alike(one: &Net, other: &Net, count: usize) -> bool {
     if Told::by(one) != Told::by(other) {
         return false;
@@ -49,7 +49,7 @@ fn are_alike(one: &Net, other: &Net, count: usize) -> bool {
 }
 
 impl Pair {
-    /// One move alone, a second time where memory was refused: that world is as it was then.
+    /// Plays one move alone, and plays it again if memory was refused: the world must then be as it was before.
     fn make_single(&mut self, choice: Choice) -> Result<(), AllocError> {
         let told = Told::by(&self.single);
         let count = count_from(&self.single, self.count);
@@ -63,7 +63,7 @@ impl Pair {
         Ok(())
     }
 
-    /// All four moves in one call.
+    /// Plays all four moves in one call.
     fn make_whole(&mut self, choices: &[Choice; 4]) -> Result<(), AllocError> {
         let [first, second, third, fourth] = *choices;
         self.whole.play(&[
@@ -74,7 +74,8 @@ impl Pair {
         ])
     }
 
-    /// Memory was refused in the call of four moves: its world is that of a front of them. The others are made now.
+    /// Continues after memory was refused in the call of four moves: the world must be that of a prefix of the moves. The
+    /// remaining moves are played now.
     fn resume(&mut self, choices: &[Choice; 4]) -> Result<(), AllocError> {
         self.refused = self.refused.saturating_add(1);
         let mut is_front = false;
@@ -91,7 +92,7 @@ impl Pair {
         Ok(())
     }
 
-    /// Four moves at both worlds.
+    /// Plays four moves in both worlds.
     fn make(&mut self, choices: &[Choice; 4]) -> Result<(), AllocError> {
         if self.make_whole(choices).is_err() {
             self.resume(choices)?;
@@ -108,7 +109,7 @@ impl Pair {
     }
 }
 
-/// Four moves of a schedule, chosen where so many frames were sent.
+/// Four moves of a schedule, chosen when `count` frames were sent.
 fn four(schedule: &mut Schedule, count: usize) -> [Choice; 4] {
     [
         schedule.choose(count, 0),
@@ -118,7 +119,7 @@ fn four(schedule: &mut Schedule, count: usize) -> [Choice; 4] {
     ]
 }
 
-/// Plays a schedule at both worlds.
+/// Plays a schedule in both worlds.
 pub fn put_growths(
     alloc: Global,
     play: Play<'_>,

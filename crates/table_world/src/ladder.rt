@@ -36,7 +36,7 @@ fn end_name(end: End) -> &'static str {
     }
 }
 
-/// How far both ends are.
+/// Appends the states of both ends.
 pub(crate) fn put_told(alloc: Global, told: &Told, text: &mut String) -> Result<(), AllocError> {
     let phase = phase_name(told.phase);
     let state = state_name(told.state);
@@ -45,7 +45,7 @@ pub(crate) fn put_told(alloc: Global, told: &Told, text: &mut String) -> Result<
     text.push_str(line.as_str())
 }
 
-/// A frame that comes to an end, and how far both are behind it.
+/// Appends a frame that comes to an end, and the states of both ends after it.
 pub(crate) fn put_rung(
     alloc: Global,
     watched: &Watched,
@@ -60,7 +60,7 @@ pub(crate) fn put_rung(
     put_told(alloc, &watched.told(), text)
 }
 
-/// Puts the law that does not hold behind a move.
+/// Appends the law that does not hold after a move.
 pub(crate) fn put_broken(
     alloc: Global,
     law: Law,
@@ -72,7 +72,7 @@ pub(crate) fn put_broken(
     text.push_str(line.as_str())
 }
 
-/// What became of a schedule.
+/// The result of a schedule.
 #[derive(Drop)]
 enum Ended {
     Well(Watched),
@@ -86,7 +86,7 @@ pub struct Play<'a> {
     pub catalogue: &'a str,
     pub seed: u64,
     pub moves: u64,
-    /// Behind how many calls of the flash one fails, if one does.
+    /// The number of calls of the flash until one fails, or `None` if none fails.
     pub fault: Option<u32>,
 }
 
@@ -133,14 +133,14 @@ fn put_choice(
     }
 }
 
-/// A schedule as a ladder.
+/// Plays a schedule, and prints it as a ladder.
 pub fn put_ladder(alloc: Global, play: Play<'_>, text: &mut String) -> Result<(), AllocError> {
     let ended = play_out(alloc, play, true, text)?;
     put_ended(alloc, &ended, text)?;
     put_tally(alloc, &ended, text)
 }
 
-/// How often something was at stake.
+/// Appends the counts that show how much the laws were exercised.
 fn put_tally(alloc: Global, ended: &Ended, text: &mut String) -> Result<(), AllocError> {
     let watched = match ended {
         Ended::Well(watched) => watched,
@@ -161,7 +161,7 @@ fn put_tally(alloc: Global, ended: &Ended, text: &mut String) -> Result<(), Allo
     text.push_str(line.as_str())
 }
 
-/// How a schedule ends.
+/// Appends how a schedule ends.
 fn put_ended(alloc: Global, ended: &Ended, text: &mut String) -> Result<(), AllocError> {
     match ended {
         Ended::Well(watched) => {
@@ -176,13 +176,13 @@ fn put_ended(alloc: Global, ended: &Ended, text: &mut String) -> Result<(), Allo
     }
 }
 
-/// Whether each law was at stake.
+/// Whether each law was exercised.
 fn is_full(watched: &Watched) -> bool {
     let tally = watched.tally();
     tally.exchanging != 0 && tally.shown != 0 && tally.alarmed != 0 && tally.skipped != 0
 }
 
-/// A schedule, and nothing of it but how it ends, and how often something was at stake.
+/// Plays a schedule, and prints only how it ends and how much the laws were exercised.
 pub fn put_moves(alloc: Global, play: Play<'_>, text: &mut String) -> Result<(), AllocError> {
     let line = format!(in alloc; "moves {} {}: ", play.seed, play.moves)?;
     text.push_str(line.as_str())?;
@@ -191,8 +191,8 @@ pub fn put_moves(alloc: Global, play: Play<'_>, text: &mut String) -> Result<(),
     put_tally(alloc, &ended, text)
 }
 
-/// The schedules of so many seeds, as many as the one that is given, which is not played itself. If it is asked for, each over a flash of
-/// which a later call fails than with the seed before it.
+/// Plays the schedules of the seeds below `play.seed`. If `is_faulty` is set, a call of the flash fails in each of them,
+/// a later one with each seed.
 pub fn put_seeds(
     alloc: Global,
     play: Play<'_>,

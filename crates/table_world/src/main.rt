@@ -1,34 +1,35 @@
-//! Both ends over schedules. Each line of standard input is one of
+//! Plays schedules of both ends. Each line of standard input is one of
 //!
 //! ```text
-//! plan JSON              the lines that follow are of the station of this catalogue
+//! plan JSON              the lines that follow are for the station of this catalogue
 //! start                  each frame comes to the other end as soon as it was sent: a start-up, as a ladder of messages
 //! twice                  a Connect that comes twice
-//! again                  behind a start-up each frame comes again to both ends, the last one first
-//! left                   behind a stop and its Release: cyclic frames to an end that has left, and frames that were never sent
-//! ladder SEED MOVES      a schedule from a seed, as a ladder: each frame that comes to the end for which it is and changes something
-//!                        there or is answered, and how far both ends are behind it
-//! moves SEED MOVES       the same schedule, and nothing of it but how it ends, and how often something was at stake
-//! seeds COUNT MOVES      the schedules of so many seeds
+//! again                  after a start-up each frame comes again to both ends, the last one first
+//! left                   after a stop and its Release: cyclic frames to an end that has left, and frames that were never sent
+//! ladder SEED MOVES      a schedule from a seed, as a ladder: each frame that comes to its receiver and changes something there or is
+//!                        answered, and the states of both ends after it
+//! moves SEED MOVES       the same schedule; prints only how it ends, and how much the laws were exercised
+//! seeds COUNT MOVES      the schedules of COUNT seeds
 //! faults COUNT MOVES     the same over a flash of which one call fails, a later one with each seed
 //! growths SEED MOVES     the same schedule in calls of four moves, beside a world that makes them one by one (below)
-//! starts MOVES           every schedule of so many moves from the Connect on: a frame from the Connect on comes to the end that did not
+//! starts MOVES           every schedule of MOVES moves from the Connect on: a frame from the Connect on comes to the end that did not
 //!                        send it, or the controller is stopped
-//! exchanges MOVES        every schedule of so many moves while data is exchanged: one of the last three frames comes to the end that did
-//!                        not send it, an interval is over at one end, an output is given, an alarm raised, or the controller stopped
-//! outputs MOVES          the same of fewer choices: an output is given, an interval is over at the controller, one of the last two comes
+//! exchanges MOVES        every schedule of MOVES moves while data is exchanged: one of the last three frames comes to the end that did
+//!                        not send it, an interval passes at one end, an output is set, an alarm raised, or the controller stopped
+//! outputs MOVES          the same with fewer choices: an output is set, an interval passes at the controller, one of the last two comes
 //! alarms MOVES           the same: an alarm is raised, or one of the last three comes
 //! ```
 //!
-//! Behind each move all laws of both ends are reckoned anew (`test_worlds`), and at the end of a schedule that each frame is as it was
-//! when it was sent. The first law that does not hold is printed with the number of the move.
+//! After each move all laws of both ends are checked again (`test_worlds`). At the end of a schedule it is checked that
+//! each frame is as it was when it was sent. The first law that does not hold is printed with the number of the move.
 //!
-//! `growths` is for a run in which an allocation fails: where `play` has no memory, its world has to be that of a front of the moves, and
-//! at the end both worlds are the same, as without. How many were refused goes to standard error.
+//! `growths` is for a run in which an allocation fails: if `play` has no memory, its world must be that of a prefix of
+//! the moves, and at the end both worlds must be the same, as they are without failures. The number of refused
+//! allocations goes to standard error.
 //!
-//! `stdout` has no text of this program that was not judged: the rows are those that the standard's start-up has, the ladders and the
-//! counts behind `moves` are those of a reference model (`bench/gate/world_model.py`), and how many schedules there are is reckoned by
-//! `bench/gate/worlds.py` from the rules of a start-up alone.
+//! No text in `stdout` was taken from this program unchecked: the rows are those of the standard's start-up, the ladders
+//! and the counts of `moves` are those of a reference model (`bench/gate/world_model.py`), and the numbers of schedules
+//! are computed by `bench/gate/worlds.py` from the rules of a start-up alone.
 #![tactic(auto)]
 
 mod growths;
@@ -58,7 +59,7 @@ fn main(rt: HostRuntime) -> io::Result<()> {
     io::writer(&rt).write_all(text.as_bytes())
 }
 
-/// The number that a word is, 0 where it is none.
+/// The number that a word spells, or 0 if it is not a number.
 fn number_of(word: Option<&str>) -> u64 {
     match word {
         Some(word) => word.parse::<u64>().unwrap_or(0),

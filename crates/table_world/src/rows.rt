@@ -1,16 +1,16 @@
-//! Single schedules: a start-up, a Connect that comes twice, every frame again, and what is skipped behind an end.
+//! Single schedules: a start-up, a Connect that comes twice, every frame again, and what is skipped after an end.
 use crate::ladder::{put_broken, put_rung, put_told};
 use network_world::{End, Move};
 use std::alloc::{AllocError, Global};
 use test_worlds::{Choice, Law, Net, Told, Watched, fresh_world};
 
-/// Longer than the interval of any plan that is played.
+/// A number of units that is longer than the interval of any plan that is played.
 const INTERVAL: u8 = 32;
 
 /// The number of a frame that was never sent.
 const NEVER: usize = 1_000;
 
-/// Makes moves, one behind the other, up to the first behind which a law does not hold.
+/// Makes moves, one after the other, up to the first one after which a law does not hold.
 fn make(watched: &mut Watched, choices: &[Choice]) -> Result<Option<Law>, AllocError> {
     for choice in choices {
         if let Some(law) = watched.make(*choice)? {
@@ -20,18 +20,18 @@ fn make(watched: &mut Watched, choices: &[Choice]) -> Result<Option<Law>, AllocE
     Ok(None)
 }
 
-/// How many frames a start-up has: Identify, the Set, the Connect, PrmEnd and a Write for each record with their answers, ApplicationReady
-/// with its own.
+/// The number of frames of a start-up: Identify, the Set, the Connect, PrmEnd and a Write for each record with their
+/// responses, and ApplicationReady with its confirmation.
 pub(crate) fn start_up(watched: &Watched) -> usize {
     watched.records().saturating_mul(2).saturating_add(10)
 }
 
-/// A frame comes to the end that did not send it.
+/// The choice that a frame comes to the end that did not send it.
 pub(crate) fn across(watched: &Watched, number: usize) -> Choice {
     Choice::Deliver(watched.other_end(number), number)
 }
 
-/// Each of these frames comes to the end that did not send it.
+/// Lets each of these frames come to the end that did not send it.
 pub(crate) fn advance(
     watched: &mut Watched,
     from: usize,
@@ -46,7 +46,7 @@ pub(crate) fn advance(
     Ok(None)
 }
 
-/// So many units are over at both ends.
+/// Lets this number of units pass at both ends.
 fn wait(watched: &mut Watched, units: u8) -> Result<Option<Law>, AllocError> {
     for _ in 0..units {
         if let Some(law) = make(
@@ -59,7 +59,7 @@ fn wait(watched: &mut Watched, units: u8) -> Result<Option<Law>, AllocError> {
     Ok(None)
 }
 
-/// Both ends exchange data, and a cyclic frame went each way.
+/// Lets both ends exchange data, with a cyclic frame in each direction.
 fn exchange(watched: &mut Watched) -> Result<Option<Law>, AllocError> {
     let begun = start_up(watched);
     if let Some(law) = advance(watched, 0, begun)? {
@@ -75,7 +75,7 @@ fn exchange(watched: &mut Watched) -> Result<Option<Law>, AllocError> {
     advance(watched, begun, count)
 }
 
-/// A world in which nothing happened yet.
+/// A world in which nothing has happened yet.
 fn watch(alloc: Global, catalogue: &str, text: &mut String) -> Result<Option<Watched>, AllocError> {
     match fresh_world(alloc, catalogue, None) {
         Some(fresh) => Ok(Some(Watched::new(alloc, fresh)?)),
@@ -86,7 +86,7 @@ fn watch(alloc: Global, catalogue: &str, text: &mut String) -> Result<Option<Wat
     }
 }
 
-/// Puts how far both ends are, or the law that does not hold.
+/// Appends the states of both ends, or the law that does not hold.
 fn put_judged(
     alloc: Global,
     broken: Option<Law>,
@@ -119,7 +119,7 @@ pub fn put_start(alloc: Global, catalogue: &str, text: &mut String) -> Result<()
     Ok(())
 }
 
-/// How many frames from this one on have its octets.
+/// The number of frames from this one on that have its octets.
 fn alike(net: &Net, number: usize) -> u32 {
     let mut found = 0_u32;
     if let Some(frame) = net.sent(number) {
@@ -182,7 +182,7 @@ pub fn put_again(alloc: Global, catalogue: &str, text: &mut String) -> Result<()
     put_judged(alloc, broken, &watched, text)
 }
 
-/// Behind a stop and its Release.
+/// After a stop and its Release.
 pub fn put_left(alloc: Global, catalogue: &str, text: &mut String) -> Result<(), AllocError> {
     let mut watched = match watch(alloc, catalogue, text)? {
         Some(watched) => watched,

@@ -7,26 +7,26 @@ use test_worlds::{Choice, Law, Watched, fresh_world};
 /// The most moves of a schedule.
 const MOST: usize = 8;
 
-/// More schedules than there are.
+/// More schedules than there can be.
 const ENOUGH: u64 = 10_000_000;
 
-/// The choices of a schedule, by their numbers among those that there are.
+/// The choices of a schedule, as indices into the choices at each point.
 type Digits = [usize; MOST];
 
-/// What may happen at a point.
+/// The choices at each point.
 #[derive(Clone, Copy)]
 enum Game {
     /// From the Connect on: a frame from the Connect on comes to the other end, or the controller is stopped.
     Starts,
-    /// While data is exchanged: everything.
+    /// While data is exchanged: every choice.
     Exchanges,
-    /// While data is exchanged: outputs are given, sent and come.
+    /// While data is exchanged: outputs are set, sent and received.
     Outputs,
-    /// While data is exchanged: alarms are raised, and their frames come.
+    /// While data is exchanged: alarms are raised, and their frames are received.
     Alarms,
 }
 
-/// What was found of all schedules.
+/// The result of all schedules.
 #[derive(Clone, Copy)]
 struct Found {
     schedules: u64,
@@ -34,25 +34,26 @@ struct Found {
     fault: Option<Fault>,
 }
 
-/// Why a search ends in front of its last schedule.
+/// Why a search ends before its last schedule.
 #[derive(Clone, Copy)]
 enum Fault {
     /// The catalogue has no plan.
     NoWorld,
     /// A law does not hold.
     Broken(Law),
-    /// There are more schedules than are played.
+    /// There are more schedules than the program plays.
     TooMany,
 }
 
-/// Where the schedules of a game begin.
+/// The start of the schedules of a game.
 #[derive(Drop)]
 enum Begun {
     Well(Watched),
     Fault(Fault),
 }
 
-/// How a schedule went: to its end, up to a choice that there is not, or to a law that does not hold.
+/// The result of a schedule: played to its end, stopped at a choice that does not exist, or stopped at a law that does
+/// not hold.
 #[derive(Clone, Copy)]
 enum Went {
     Whole(bool),
@@ -65,7 +66,7 @@ fn back(watched: &Watched, place: usize) -> Choice {
     across(watched, watched.count().saturating_sub(place))
 }
 
-/// What is given: another value each time.
+/// An output is set, to another value each time.
 fn give(watched: &Watched) -> Choice {
     let low = match u8::try_from(watched.count()) {
         Ok(low) => low,
@@ -88,7 +89,7 @@ impl Game {
         }
     }
 
-    /// The point from which the schedules begin: the Connect was sent, or both ends exchange data.
+    /// The point from which the schedules start: the Connect was sent, or both ends exchange data.
     fn begin(self, alloc: Global, catalogue: &str) -> Result<Begun, AllocError> {
         let mut watched = match fresh_world(alloc, catalogue, None) {
             Some(fresh) => Watched::new(alloc, fresh)?,
@@ -104,7 +105,7 @@ impl Game {
         }
     }
 
-    /// How many choices there are.
+    /// The number of choices at this point.
     fn count(self, watched: &Watched) -> usize {
         match self {
             Game::Starts => watched.count().saturating_sub(3),
@@ -114,7 +115,7 @@ impl Game {
         }
     }
 
-    /// The choice of this number.
+    /// The choice with this index.
     fn choice(self, watched: &Watched, digit: usize) -> Choice {
         match self {
             Game::Starts => start(watched, digit.saturating_add(4)),
@@ -132,7 +133,7 @@ impl Game {
     }
 }
 
-/// The last choice is to stop.
+/// The choice with this number: a frame comes to the other end, or, as the last choice, the controller is stopped.
 fn start(watched: &Watched, number: usize) -> Choice {
     if number < watched.count() {
         across(watched, number)
@@ -177,7 +178,7 @@ fn play(
     }
 }
 
-/// The schedule behind those that begin with so many choices. False where there is none.
+/// Goes on to the first schedule with other choices than the first `place` of this one. Returns false if there is none.
 fn step(digits: &mut Digits, place: usize) -> bool {
     for (there, digit) in digits.iter_mut().enumerate() {
         if there >= place {
@@ -189,7 +190,7 @@ fn step(digits: &mut Digits, place: usize) -> bool {
     place != 0
 }
 
-/// Plays all schedules of so many moves.
+/// Plays all schedules of this number of moves.
 fn search(alloc: Global, game: Game, catalogue: &str, moves: usize) -> Result<Found, AllocError> {
     let mut digits = [0; MOST];
     let mut found = Found {
@@ -249,7 +250,7 @@ fn put_found(
     text.push_str(line.as_str())
 }
 
-/// Plays all schedules of a game, and says what was found.
+/// Plays all schedules of a game, and prints the result.
 fn put_game(
     alloc: Global,
     game: Game,

@@ -1,15 +1,15 @@
-//! What a frame is, by its octets alone.
+//! The kind of a frame, from its octets alone.
 
 /// The kinds of frames that either end sends.
 #[derive(Clone, Copy, Debug, PartialEq, Eq)]
 pub enum Kind {
     /// Identify.
     Identify,
-    /// The answer to it.
+    /// The response to Identify.
     Found,
     /// A Set.
     Set,
-    /// The answer to one.
+    /// The response to a Set.
     SetDone,
     /// A Connect.
     Connect,
@@ -19,13 +19,13 @@ pub enum Kind {
     Write,
     /// A PrmEnd.
     PrmEnd,
-    /// The positive answer to a call of the controller.
+    /// The positive response to a call of the controller.
     Positive,
-    /// The negative answer to one.
+    /// The negative response to a call of the controller.
     Negative,
     /// ApplicationReady.
     Ready,
-    /// The answer to it.
+    /// The confirmation of ApplicationReady.
     Confirm,
     /// A cyclic frame of the device: inputs.
     Inputs,
@@ -33,11 +33,11 @@ pub enum Kind {
     Outputs,
     /// An alarm.
     Alarm,
-    /// The AlarmAck of one.
+    /// The AlarmAck of an alarm.
     AlarmAck,
-    /// The ACK of one.
+    /// The ACK of an alarm PDU.
     Ack,
-    /// The NACK of one.
+    /// The NACK of an alarm PDU.
     Nack,
     /// The end of a relation.
     Err,
@@ -49,14 +49,14 @@ fn octet_at(octets: &[u8], place: usize) -> u8 {
     octets.get(place).copied().unwrap_or(0)
 }
 
-/// The number of two octets at a place, 0 where they are not there.
+/// The number in the two octets at an offset, or 0 if they are not there.
 fn number_at(octets: &[u8], place: usize) -> u16 {
     let high = octet_at(octets, place);
     let low = octet_at(octets, place.saturating_add(1));
     u16::from_be_bytes([high, low])
 }
 
-/// Where the EtherType is: behind the tag, if there is one.
+/// The offset of the EtherType: after the tag, if there is one.
 fn type_place(octets: &[u8]) -> usize {
     if number_at(octets, 12) == 0x8100 {
         16
@@ -65,7 +65,7 @@ fn type_place(octets: &[u8]) -> usize {
     }
 }
 
-/// What data of alarms is, by the type of its block.
+/// The kind of the data of an alarm PDU, by the type of its block.
 fn data_kind(block_type: u16) -> Kind {
     match block_type {
         0x0001 => Kind::Alarm,
@@ -74,7 +74,7 @@ fn data_kind(block_type: u16) -> Kind {
     }
 }
 
-/// A PDU of alarms, by the low bits of its PDUType.
+/// The kind of an alarm PDU, by the low bits of its PDUType.
 fn alarm_kind(pdu_type: u8, block_type: u16) -> Kind {
     match pdu_type & 0x0f {
         1 => data_kind(block_type),
@@ -85,7 +85,7 @@ fn alarm_kind(pdu_type: u8, block_type: u16) -> Kind {
     }
 }
 
-/// A Set, or the answer to one, by its ServiceType.
+/// A Set, or the response to one, by its ServiceType.
 fn set_kind(service_type: u8) -> Kind {
     if service_type == 0 {
         Kind::Set
@@ -94,7 +94,7 @@ fn set_kind(service_type: u8) -> Kind {
     }
 }
 
-/// A frame of EtherType 0x8892, whose FrameID stands at a place.
+/// The kind of a frame of EtherType 0x8892 whose FrameID is at an offset.
 fn real_time_kind(octets: &[u8], place: usize) -> Kind {
     let pdu_type = octet_at(octets, place.saturating_add(6));
     let block_type = number_at(octets, place.saturating_add(14));
@@ -110,7 +110,7 @@ fn real_time_kind(octets: &[u8], place: usize) -> Kind {
     }
 }
 
-/// A call to the device, by its operation.
+/// The kind of a call to the device, by its operation.
 fn call_kind(operation: u16) -> Kind {
     match operation {
         0 => Kind::Connect,
@@ -121,7 +121,7 @@ fn call_kind(operation: u16) -> Kind {
     }
 }
 
-/// A response to a call of the controller, by PNIOStatus.
+/// The kind of a response to a call of the controller, by its PNIOStatus.
 fn answer_kind(high: u16, low: u16) -> Kind {
     if high == 0 && low == 0 {
         Kind::Positive
@@ -130,7 +130,8 @@ fn answer_kind(high: u16, low: u16) -> Kind {
     }
 }
 
-/// A datagram with a call (0) or a response (2), by the interface that it goes to, of the device (1) or of the controller (2).
+/// The kind of a datagram with a call (0) or a response (2), by the interface to which it goes: of the device (1) or of
+/// the controller (2).
 fn datagram_kind(octets: &[u8]) -> Kind {
     match (octet_at(octets, 43), octet_at(octets, 69)) {
         (0, 1) => call_kind(number_at(octets, 110)),
@@ -142,7 +143,7 @@ fn datagram_kind(octets: &[u8]) -> Kind {
 }
 
 impl Kind {
-    /// What these octets are.
+    /// The kind of the frame with these octets.
     pub fn of(octets: &[u8]) -> Kind {
         let place = type_place(octets);
         match number_at(octets, place) {
@@ -152,12 +153,12 @@ impl Kind {
         }
     }
 
-    /// Whether it is a cyclic frame.
+    /// Whether the frame is cyclic.
     pub fn is_cyclic(self) -> bool {
         self == Kind::Inputs || self == Kind::Outputs
     }
 
-    /// Its name.
+    /// The name of the kind.
     pub fn name(self) -> &'static str {
         match self {
             Kind::Identify => "Identify",
@@ -184,17 +185,17 @@ impl Kind {
     }
 }
 
-/// The SendSeqNum of a PDU of alarms: 8 octets behind the place of its FrameID.
+/// The SendSeqNum of an alarm PDU: 8 octets after the offset of its FrameID.
 pub(crate) fn send_number_of(octets: &[u8]) -> u16 {
     number_at(octets, type_place(octets).saturating_add(10))
 }
 
-/// The CycleCounter of a cyclic frame: it stands in front of the last two octets.
+/// The CycleCounter of a cyclic frame: the two octets before its last two.
 pub(crate) fn counter_of(octets: &[u8]) -> u16 {
     number_at(octets, octets.len().saturating_sub(4))
 }
 
-/// The two octets of an output that stand at a place of a cyclic frame, which has a tag; zeros where the IOPS behind them is not good.
+/// The two octets of an output at an offset of a cyclic frame with a tag; zeros if the IOPS after them is not GOOD.
 pub(crate) fn output_at(octets: &[u8], place: usize) -> [u8; 2] {
     let place = place.saturating_add(20);
     if octet_at(octets, place.saturating_add(2)) == 0x80 {
@@ -204,7 +205,7 @@ pub(crate) fn output_at(octets: &[u8], place: usize) -> [u8; 2] {
     }
 }
 
-/// A sum over octets by which a changed frame is seen (FNV-1a, 32 bits).
+/// A checksum of octets that shows whether a frame was changed (FNV-1a, 32 bits).
 pub(crate) fn sum_of(octets: &[u8]) -> u32 {
     let mut sum = 0x811c_9dc5_u32;
     for octet in octets {

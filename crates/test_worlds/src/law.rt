@@ -1,4 +1,4 @@
-//! The laws of both ends, by their names, and the rows by which either end goes on.
+//! The laws of both ends with their names, and the state transitions of either end.
 use crate::kind::Kind;
 use controller_core::State;
 use relations::Phase;
@@ -6,35 +6,37 @@ use relations::Phase;
 /// The laws.
 #[derive(Clone, Copy, Debug, PartialEq, Eq)]
 pub enum Law {
-    /// A controller that exchanges data was handed an ApplicationReady which the device had sent while it waited for the answer to it, in
-    /// the relation of this controller, all records taken in their order, each once.
+    /// If the controller exchanges data, it received an ApplicationReady that the device had sent while it waited for the
+    /// confirmation, in the relation of this controller, with all records accepted in order, each once.
     StartUp,
-    /// Where the device exchanges data, the controller did so at an earlier point.
+    /// The device never exchanges data before its controller does.
     Confirmed,
-    /// The device goes on by the rows of its phases, each by the frame that the row names, and makes one relation of this controller.
+    /// The device changes its phase only by a row of its phase table, on the frame that the row names, and makes at most
+    /// one relation.
     Phases,
-    /// So does the controller, by the rows of its states.
+    /// The controller changes its state only by a row of its state table, on the frame that the row names.
     States,
-    /// The records that the device took are a front of those of the plan, and it takes one at most in a move, by a Write.
+    /// The records that the device accepted are a prefix of those of the plan, and it accepts at most one in a move, by a
+    /// Write.
     Records,
-    /// All outputs are zeros, or those of the last frame that the device took in its relation: the controller sent it, and it brings what
-    /// had been given last then.
+    /// The outputs are all zeros, or those of the last frame that the device accepted in its relation: the controller
+    /// sent that frame, with the values that its application had set when it was sent.
     Outputs,
-    /// Of n alarms that were raised the controller's last is the n-th or the one before it, none before the first, and it sent an AlarmAck
-    /// for each that it took, once.
+    /// If n alarms were raised, the last one of the controller is the n-th or the one before it, or it has none yet if n
+    /// is at most 1. It sent one AlarmAck for each alarm that it accepted.
     Alarms,
-    /// A frame that there is not, and a cyclic frame to an end that has left, changes nothing.
+    /// A frame that does not exist, and a cyclic frame to an end that has left, change nothing.
     Skipped,
-    /// Only the end at which something happens changes.
+    /// A move changes only the end at which it is made.
     OneEnd,
-    /// Each frame that was ever sent stays as it was, in its place.
+    /// Each frame that was sent stays as it was, in its place.
     Frames,
-    /// Where there is no memory for a move, the world is that of the moves before.
+    /// If there is no memory for a move, the world is that of the moves before.
     Front,
 }
 
 impl Law {
-    /// Its name.
+    /// The name of the law.
     pub fn name(self) -> &'static str {
         match self {
             Law::StartUp => "start-up",
@@ -52,7 +54,7 @@ impl Law {
     }
 }
 
-/// Whether the device may go on so: by this frame, if one came.
+/// Whether the device may make this transition, by this frame if one came.
 pub(crate) fn is_row_of_device(
     before: Option<Phase>,
     now: Option<Phase>,
@@ -67,14 +69,14 @@ pub(crate) fn is_row_of_device(
     }
 }
 
-/// Whether the controller may go on so.
+/// Whether the controller may make this transition, by this frame if one came.
 pub(crate) fn is_row_of_controller(before: State, now: State, came: Option<Kind>) -> bool {
     match (before, now) {
         (State::Looking, State::Addressing) => came == Some(Kind::Found),
         (State::Looking, State::Connecting) => came == Some(Kind::Found),
         (State::Addressing, State::Connecting) => came == Some(Kind::SetDone),
         (State::Connecting, State::Writing) => came == Some(Kind::Positive),
-        // Of a plan without records.
+        // This is for a plan without records.
         (State::Connecting, State::Ending) => came == Some(Kind::Positive),
         (State::Writing, State::Ending) => came == Some(Kind::Positive),
         (State::Ending, State::Waiting) => came == Some(Kind::Positive),

@@ -1,5 +1,5 @@
-//! A small world of both ends, and a watch over it: behind each move the laws of both ends are reckoned anew, from the octets of the
-//! frames and from what both ends tell, by code that shares nothing with the definitions of these laws.
+//! A small world of both ends, and a watch over it. After each move the laws of both ends are checked again, from the
+//! octets of the frames and from what both ends report, by code that shares nothing with the definitions of these laws.
 #![tactic(auto)]
 
 mod kind;

@@ -1,26 +1,26 @@
-//! What may happen next, and schedules from a seed.
+//! The moves that are possible next, and schedules from a seed.
 use network_world::{End, Move};
 use test_stations::octets;
 
-/// A move, without what it is made of.
+/// A move, without the data structures of the world.
 #[derive(Clone, Copy, Debug, PartialEq, Eq)]
 pub enum Choice {
-    /// The frame of this number comes to this end.
+    /// The frame with this number comes to this end.
     Deliver(End, usize),
-    /// A unit of time is over at this end.
+    /// A unit of time passes at this end.
     Tick(End),
-    /// The input of slot 1 is given.
+    /// The input of slot 1 is set.
     Input([u8; 2]),
     /// An alarm of slot 1 is raised, with these octets.
     Alarm([u8; 2]),
-    /// The output of slot 2 or 3 is given.
+    /// The output of slot 2 or 3 is set.
     Give(u16, [u8; 2]),
     /// The controller is stopped.
     Stop,
 }
 
 impl Choice {
-    /// The move.
+    /// The move of this choice.
     pub fn to_move(self) -> Move {
         match self {
             Choice::Deliver(end, number) => Move::Deliver(end, number),
@@ -32,7 +32,7 @@ impl Choice {
         }
     }
 
-    /// At which end it is.
+    /// The end at which the move is made.
     pub fn end(self) -> End {
         match self {
             Choice::Deliver(end, _) => end,
@@ -52,7 +52,7 @@ pub struct Schedule {
 }
 
 impl Schedule {
-    /// The numbers of a seed.
+    /// The numbers from a seed.
     pub fn new(seed: u64) -> Schedule {
         Schedule {
             state: seed.wrapping_mul(0x9e37_79b9_7f4a_7c15) | 1,
@@ -68,7 +68,7 @@ impl Schedule {
         state
     }
 
-    /// A number below this one, or 0.
+    /// A number below `limit`, or 0 if `limit` is 0.
     fn below(&mut self, limit: u64) -> u64 {
         (self.next() >> 16).checked_rem(limit).unwrap_or(0)
     }
@@ -86,7 +86,7 @@ impl Schedule {
         }
     }
 
-    /// A frame comes: most often one of the last, to either end, and now and then one that was never sent.
+    /// A frame comes: most often one of the last ones, to either end, and sometimes one that was never sent.
     fn deliver(&mut self, count: usize) -> Choice {
         let count = count as u64;
         let number = match self.below(50) {
@@ -97,7 +97,7 @@ impl Schedule {
         Choice::Deliver(self.end(), number as usize)
     }
 
-    /// What happens next, where so many frames were sent and so many alarms raised.
+    /// The next move, after `count` frames were sent and `raised` alarms raised.
     pub fn choose(&mut self, count: usize, raised: u16) -> Choice {
         match self.below(100) {
             0..30 => Choice::Tick(self.end()),

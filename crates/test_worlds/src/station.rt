@@ -18,14 +18,14 @@ use std::alloc::{AllocError, Global};
 use test_stations::{Station, no_modules, set_pump, step};
 use uuid::Uuid;
 
-/// The world: over the smallest flash.
+/// The type of the world: over the smallest flash.
 pub type Net = World<MemoryFlash<768>, 768>;
 
-/// A world in which nothing happened yet.
+/// A world in which nothing has happened yet.
 #[derive(Drop)]
 pub struct Fresh {
     pub net: Net,
-    /// How many records its controller writes.
+    /// The number of records that its controller writes.
     pub records: usize,
 }
 
@@ -51,7 +51,7 @@ fn copied_submodules(submodules: &[RealSubmodule]) -> ArrayVec<RealSubmodule, 4>
     copied
 }
 
-/// The same modules.
+/// A copy of the modules.
 fn copied(real: &Real) -> Real {
     let mut modules = ArrayVec::new();
     for module in real.modules.as_slice() {
@@ -64,7 +64,8 @@ fn copied(real: &Real) -> Real {
     Real { modules }
 }
 
-/// The plan of a catalogue. It has no contract, so that what reading one promises is read here alone.
+/// The plan of a catalogue. The function has no contract, so that the proofs of its callers do not read the contract of
+/// the reader.
 fn plan_of(alloc: Global, catalogue: &str) -> Option<Plan> {
     plan_from_json(alloc, catalogue.as_bytes()).ok()
 }
@@ -80,7 +81,7 @@ fn named_flash() -> Option<MemoryFlash<768>> {
     Some(device.into_flash())
 }
 
-/// Has the flash call behind so many further ones fail, if it is asked for.
+/// Makes the flash fail at the call after this number of calls, if one is given.
 fn arm(device: &mut Station, fault: Option<u32>)
     ensures live { device.new.live ≡ device.old.live }
     ensures station { device.new.station ≡ device.old.station }
@@ -94,7 +95,7 @@ fn arm(device: &mut Station, fault: Option<u32>)
     }
 }
 
-/// The world of a station that starts with these modules from what this flash keeps, and of a controller that was just made.
+/// The world of a station that starts with these modules from this flash, and of a controller that was just made.
 fn begun(
     alloc: Global,
     real: Real,
@@ -114,11 +115,11 @@ pub(crate) fn play(net: &mut Net, moves: &[Move]) -> Result<(), AllocError> {
     net.play(moves)
 }
 
-/// The station "pump-1" with the modules of a catalogue, and a controller of its plan that was just made. If it is asked for, the flash
-/// call behind so many further ones fails. None where the catalogue has no plan, or none of which the law of a start-up speaks, or there
-/// is no memory to read it.
+/// The station "pump-1" with the modules of a catalogue, and a controller of its plan that was just made. If `fault` is
+/// given, the flash fails at the call after that number of calls. `None` if the catalogue has no plan, if its plan is not
+/// one for which the law of a start-up is stated, or if there is no memory to read it.
 pub fn fresh_world(alloc: Global, catalogue: &str, fault: Option<u32>) -> Option<Fresh>
-    // What the law of a start-up asks of a world at its beginning, and of both ends.
+    // A world that is returned meets what the law of a start-up requires at its beginning, and of both ends.
     ensures begins { IfSome result (λ fresh. IsLawful demo fresh.net) }
 {
     let plan = plan_of(alloc, catalogue)?;

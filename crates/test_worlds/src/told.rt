@@ -1,4 +1,4 @@
-//! What both ends tell.
+//! The values that both ends report.
 use crate::station::Net;
 use controller_core::State;
 use records::TakenRecord;
@@ -11,32 +11,32 @@ pub struct Outputs {
     pub third: [u8; 2],
 }
 
-/// Nothing was given yet.
+/// The outputs before any was set.
 pub(crate) const ZEROS: Outputs = Outputs {
     second: [0; 2],
     third: [0; 2],
 };
 
-/// What both ends tell, but for octets of frames.
+/// The values that both ends report, but for the octets of frames.
 #[derive(Clone, Copy, PartialEq, Eq)]
 pub struct Told {
-    /// How far the controller is.
+    /// The state of the controller.
     pub state: State,
-    /// What the relation of the device waits for, if there is one.
+    /// The phase of the device's relation, if there is one.
     pub phase: Option<Phase>,
-    /// Whether that is the relation of this controller.
+    /// Whether the relation is that of this controller.
     pub is_own: bool,
-    /// How many records the device took.
+    /// The number of records that the device accepted.
     pub taken: usize,
-    /// Whether they are a front of the records of the plan.
+    /// Whether these records are a prefix of the records of the plan.
     pub is_front: bool,
-    /// What the device shows of its outputs.
+    /// The outputs that the device shows.
     pub outputs: Outputs,
-    /// The number that the last alarm brought which the controller took.
+    /// The number in the last alarm that the controller accepted.
     pub alarm: Option<u16>,
 }
 
-/// Two octets, zeros where they are not there.
+/// The first two octets, with zeros for those that are missing.
 fn pair_of(octets: &[u8]) -> [u8; 2] {
     [
         octets.get(0).copied().unwrap_or(0),
@@ -51,7 +51,7 @@ fn output_of(net: &Net, slot: u16) -> [u8; 2] {
     }
 }
 
-/// The number in the octets of the last alarm.
+/// The number in the octets of the last alarm, or `None` if there was none.
 fn alarm_of(net: &Net) -> Option<u16> {
     match net.controller().alarm() {
         Some(alarm) => Some(u16::from_be_bytes(pair_of(alarm.alarm_data.octets()))),
@@ -67,7 +67,7 @@ fn is_own(net: &Net) -> bool {
     }
 }
 
-/// Whether this is the record of this index of slot 1, with this as the last of its four octets.
+/// Whether this is the record with this index of slot 1, with `last` as the last of its four octets.
 fn is_record(taken: &TakenRecord, index: u16, last: u8) -> bool {
     taken.slot == 1
         && taken.subslot == 1
@@ -75,7 +75,7 @@ fn is_record(taken: &TakenRecord, index: u16, last: u8) -> bool {
         && taken.value.as_slice() == &[0, 0, 0, last][..]
 }
 
-/// Whether the records that the device took are a front of the plan's.
+/// Whether the records that the device accepted are a prefix of those of the plan.
 fn are_front(taken: &[TakenRecord]) -> bool {
     match taken {
         [] => true,
@@ -86,7 +86,7 @@ fn are_front(taken: &[TakenRecord]) -> bool {
 }
 
 impl Told {
-    /// What both ends tell now.
+    /// The values that both ends report now.
     pub fn by(net: &Net) -> Told {
         Told {
             state: net.controller().state(),
@@ -102,8 +102,8 @@ impl Told {
         }
     }
 
-    /// Whether the device waits for the answer to ApplicationReady, in the relation of this controller, with so many records taken in
-    /// their order, each once.
+    /// Whether the device waits for the confirmation of ApplicationReady, in the relation of this controller, with this
+    /// number of records accepted in order, each once.
     pub fn is_ready(&self, records: usize) -> bool {
         self.phase == Some(Phase::Awaiting) && self.is_own && self.taken == records && self.is_front
     }
@@ -113,7 +113,7 @@ impl Told {
         self.state == State::Exchanging && self.phase == Some(Phase::Exchanging)
     }
 
-    /// Whether the controller is over.
+    /// Whether the controller has ended.
     pub fn is_ended(&self) -> bool {
         matches!(self.state, State::Ended(_))
     }

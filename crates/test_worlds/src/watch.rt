@@ -1,4 +1,4 @@
-//! The watch: what was seen of each frame as it was sent, and the laws behind each move.
+//! The watch: what was seen of each frame when it was sent, and the laws after each move.
 use crate::kind::{Kind, counter_of, output_at, send_number_of, sum_of};
 use crate::law::{Law, is_newer, is_row_of_controller, is_row_of_device};
 use crate::schedule::Choice;
@@ -9,36 +9,36 @@ use network_world::End;
 use relations::Phase;
 use std::alloc::{AllocError, Global};
 
-/// What was seen of a frame as it was sent.
+/// What was seen of a frame when it was sent.
 #[derive(Clone, Copy)]
 struct Seen {
-    /// Who sent it.
+    /// The end that sent it.
     from: End,
     kind: Kind,
-    /// Whether the device waited for the answer to ApplicationReady then, with all records taken.
+    /// Whether the device waited for the confirmation of ApplicationReady then, with all records accepted.
     is_ready: bool,
-    /// What outputs had been given last.
+    /// The outputs that were set last.
     given: Outputs,
-    /// What its octets bring of them, if it is a cyclic frame of the controller.
+    /// The outputs in its octets, if it is a cyclic frame of the controller.
     brings: Outputs,
-    /// Its CycleCounter, if it is one.
+    /// Its CycleCounter, if it is a cyclic frame.
     counter: u16,
-    /// Its SendSeqNum, if it is a PDU of alarms.
+    /// Its SendSeqNum, if it is an alarm PDU.
     send_number: u16,
-    /// A sum over its octets.
+    /// A checksum of its octets.
     sum: u32,
 }
 
-/// How often something was at stake.
+/// Counts that show how much the laws were exercised.
 #[derive(Clone, Copy)]
 pub struct Tally {
-    /// Moves behind which both ends exchanged data.
+    /// The moves after which both ends exchanged data.
     pub exchanging: u64,
-    /// Moves behind which an output was not zeros.
+    /// The moves after which an output was not zeros.
     pub shown: u64,
-    /// Moves behind which an alarm had been taken.
+    /// The moves after which an alarm had been accepted.
     pub alarmed: u64,
-    /// Moves that were skipped.
+    /// The moves that were skipped.
     pub skipped: u64,
 }
 
@@ -46,24 +46,24 @@ pub struct Tally {
 #[derive(Drop)]
 pub struct Watched {
     net: Net,
-    /// How many records the controller writes.
+    /// The number of records that the controller writes.
     records: usize,
     told: Told,
     seen: Vec<Seen>,
     given: Outputs,
-    /// The last cyclic frame that the device took in its relation.
+    /// The last cyclic frame that the device accepted in its relation.
     last: Option<Seen>,
     was_handed: bool,
     was_exchanging: bool,
     relations: u32,
     raised: u16,
-    /// How many AlarmAcks the controller sent, repeats apart, and the number of the last.
+    /// The number of AlarmAcks that the controller sent, without repeats, and the number of the last one.
     acknowledged: u16,
     last_ack: Option<u16>,
     tally: Tally,
 }
 
-/// What is seen of these octets as this end sends them.
+/// What is seen of these octets when this end sends them.
 fn seen_of(octets: &[u8], from: End, is_ready: bool, given: Outputs) -> Seen {
     Seen {
         from,
@@ -93,13 +93,13 @@ fn is_at_one(end: End, before: &Told, now: &Told) -> bool {
     }
 }
 
-/// Whether this is what was given, or zeros.
+/// Whether `shown` is what was set, or zeros.
 fn is_given(shown: [u8; 2], given: [u8; 2]) -> bool {
     shown == given || shown == [0; 2]
 }
 
 impl Watched {
-    /// A world in which nothing happened yet.
+    /// A watch over a world in which nothing has happened yet.
     pub fn new(alloc: Global, fresh: Fresh) -> Result<Watched, AllocError> {
         let Fresh { net, records } = fresh;
         let told = Told::by(&net);
@@ -132,37 +132,37 @@ impl Watched {
         &self.net
     }
 
-    /// What both ends tell.
+    /// The values that both ends report.
     pub fn told(&self) -> Told {
         self.told
     }
 
-    /// How many frames were sent.
+    /// The number of frames that were sent.
     pub fn count(&self) -> usize {
         self.seen.len()
     }
 
-    /// How many alarms were raised.
+    /// The number of alarms that were raised.
     pub fn raised(&self) -> u16 {
         self.raised
     }
 
-    /// How many records the controller writes.
+    /// The number of records that the controller writes.
     pub fn records(&self) -> usize {
         self.records
     }
 
-    /// How many relations the device made.
+    /// The number of relations that the device made.
     pub fn relations(&self) -> u32 {
         self.relations
     }
 
-    /// How often something was at stake.
+    /// The counts that show how much the laws were exercised.
     pub fn tally(&self) -> Tally {
         self.tally
     }
 
-    /// What the frame of this number is.
+    /// The kind of the frame with this number.
     pub fn kind(&self, number: usize) -> Kind {
         match self.seen.get(number) {
             Some(seen) => seen.kind,
@@ -170,7 +170,7 @@ impl Watched {
         }
     }
 
-    /// The end that did not send the frame of this number.
+    /// The end that did not send the frame with this number.
     pub fn other_end(&self, number: usize) -> End {
         match self.seen.get(number) {
             Some(seen) => match seen.from {
@@ -181,7 +181,7 @@ impl Watched {
         }
     }
 
-    /// Makes a move, and tells which law does not hold behind it, if one does not.
+    /// Makes a move. Returns the law that does not hold after it, or `None` if all hold.
     pub fn make(&mut self, choice: Choice) -> Result<Option<Law>, AllocError> {
         let before = self.told;
         let count = self.seen.len();
@@ -197,7 +197,7 @@ impl Watched {
         Ok(self.broken(choice, came, &before, count))
     }
 
-    /// Whether each frame that was ever sent is as it was seen then, and no other is there.
+    /// Whether each frame that was sent is still as it was, and there is no other frame.
     pub fn are_kept(&self) -> bool {
         for (number, seen) in self.seen.iter().enumerate() {
             match self.net.sent(number) {
@@ -212,7 +212,7 @@ impl Watched {
         self.net.sent(self.seen.len()).is_none()
     }
 
-    /// There was no memory for a move.
+    /// Handles a move for which there was no memory: the error, or a law if the world is not that of the moves before.
     fn without_memory(&self, error: AllocError) -> Result<Option<Law>, AllocError> {
         if Told::by(&self.net) == self.told && self.are_kept() {
             Err(error)
@@ -221,7 +221,7 @@ impl Watched {
         }
     }
 
-    /// Sees the frames that this end sent now: at most four.
+    /// Records the frames that this end just sent: at most four.
     fn see(&mut self, from: End) -> Result<(), AllocError> {
         let is_ready = self.told.is_ready(self.records);
         for _ in 0..4 {
@@ -235,7 +235,7 @@ impl Watched {
         Ok(())
     }
 
-    /// Whether a move is to change nothing.
+    /// Whether a move must change nothing.
     fn is_skipped(&self, choice: Choice, before: &Told) -> bool {
         match choice {
             Choice::Deliver(End::Device, number) => {
@@ -248,7 +248,7 @@ impl Watched {
         }
     }
 
-    /// What came from the network, if it was a frame that the other end sent.
+    /// The kind of the frame that came from the network, if the other end sent it.
     fn came(&self, choice: Choice, before: &Told) -> Option<Kind> {
         match choice {
             Choice::Deliver(end, number) => {
@@ -262,7 +262,7 @@ impl Watched {
         }
     }
 
-    /// Notes what was given, and what came.
+    /// Records the values that were set and the frame that came.
     fn note(&mut self, choice: Choice, before: &Told) {
         match choice {
             Choice::Give(2, value) => self.given.second = value,
@@ -285,7 +285,8 @@ impl Watched {
         }
     }
 
-    /// A cyclic frame of the controller comes to the device in its relation, which takes it where its counter is newer.
+    /// A cyclic frame of the controller comes to the device in its relation. The device accepts it if its counter is
+    /// newer.
     fn note_outputs(&mut self, number: usize, before: &Told) {
         let seen = match self.seen.get(number) {
             Some(seen) => *seen,
@@ -300,7 +301,8 @@ impl Watched {
         }
     }
 
-    /// An ApplicationReady that the device sent while it waited for its answer came to the controller, which exchanges data now.
+    /// An ApplicationReady that the device sent while it waited for the confirmation came to the controller, which now
+    /// exchanges data.
     fn note_handed(&mut self, number: usize) {
         let seen = match self.seen.get(number) {
             Some(seen) => *seen,
@@ -315,7 +317,7 @@ impl Watched {
         }
     }
 
-    /// An AlarmAck that is not a repeat has another number than the last.
+    /// An AlarmAck that is not a repeat has another number than the last one.
     fn note_ack(&mut self, seen: &Seen) {
         if seen.from == End::Controller
             && seen.kind == Kind::AlarmAck
@@ -335,7 +337,7 @@ impl Watched {
         }
     }
 
-    /// Reckons what is at stake.
+    /// Updates the counts that show how much the laws were exercised.
     fn reckon(&mut self) {
         if self.told.is_exchanging() {
             self.tally.exchanging = self.tally.exchanging.saturating_add(1);
@@ -348,7 +350,7 @@ impl Watched {
         }
     }
 
-    /// The first law that does not hold.
+    /// The first law that does not hold, or `None` if all hold.
     fn broken(
         &self,
         choice: Choice,
@@ -382,7 +384,7 @@ impl Watched {
         }
     }
 
-    /// Whether the records are a front of the plan's, and at most one more than before: by a Write.
+    /// Whether the records are a prefix of those of the plan, with at most one more than before, by a Write.
     fn are_in_order(&self, before: &Told, came: Option<Kind>) -> bool {
         let is_more = before.taken.saturating_add(1) == self.told.taken;
         self.told.is_front
@@ -391,7 +393,7 @@ impl Watched {
                 || (is_more && came == Some(Kind::Write)))
     }
 
-    /// Whether the outputs are those of the last frame that the device took, and had been given, or zeros.
+    /// Whether the outputs are those of the last frame that the device accepted and had been set, or zeros.
     fn are_given(&self) -> bool {
         match &self.last {
             Some(last) => {
@@ -403,8 +405,8 @@ impl Watched {
         }
     }
 
-    /// Whether the last alarm of the controller is the last that was raised, or the one before it, and an AlarmAck was sent for each that
-    /// was taken, once.
+    /// Whether the last alarm of the controller is the last one that was raised or the one before it, and an AlarmAck was
+    /// sent once for each that was accepted.
     fn is_last(&self) -> bool {
         let taken = match self.told.alarm {
             Some(number) => number.saturating_add(1),

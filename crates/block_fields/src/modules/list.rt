@@ -1,4 +1,4 @@
-//! Modules with their submodules, where they lie.
+//! Lists of modules with their submodules, read without copying them.
 ghost use Rattle.std.specs.Prelude.{◌≡◌, ◌+◌, ◌≤◌, ◌++◌, List, ℕ, length};
 ghost use Rattle.arrayvec.specs.ArrayVec.{array_vec_len};
 ghost use Rattle.wire.specs.Codec.{Gives};
@@ -12,18 +12,18 @@ use crate::modules::writing::{lists_len, put_lists};
 use arrayvec::ArrayVec;
 use std::marker::Model;
 
-/// Modules with their submodules, in place: in the octets that were read, or in lists that are lent to be written.
+/// Modules with their submodules. They are borrowed: from the octets that were read, or from lists to write.
 #[derive(Drop)]
 pub struct Modules<'a, M: Module, S: Entry> {
     place: Place<'a, M, S>,
 }
 
-/// Where they lie.
+/// The memory that the modules borrow.
 #[derive(Drop)]
 enum Place<'a, M: Module, S: Entry> {
-    /// In octets, from their count on, and how many of the octets they take as they are written.
+    /// The octets from the count of modules on, and the number of octets that the modules take when they are written.
     Octets(&'a [u8], usize),
-    /// In a list of modules, and in one of the submodules of all of them: first those of the first module.
+    /// A list of modules, and one list of the submodules of all of them, those of the first module first.
     Lists(&'a [M], &'a [S]),
 }
 
@@ -39,8 +39,8 @@ impl<'a, M: Module, S: Entry> Model for Modules<'a, M, S> {
 }
 
 impl<'a, M: Module, S: Entry> Modules<'a, M, S> {
-    /// The modules of a list, and in a second one the submodules of all of them: first those of the first module. Either has
-    /// room for at most 256.
+    /// Borrows a list of modules, and a list of the submodules of all of them, those of the first module first. Each list
+    /// has room for at most 256 entries.
     pub fn lent<const N: usize, const K: usize>(
         modules: &'a ArrayVec<M, N>,
         submodules: &'a ArrayVec<S, K>,
@@ -54,8 +54,8 @@ impl<'a, M: Module, S: Entry> Modules<'a, M, S> {
         }
     }
 
-    /// The modules behind their count, each with its submodules, and what is behind them. They are read into these lists to
-    /// be judged, and stay where they lie.
+    /// Reads a count of modules and each module with its submodules. Returns them and the rest. The entries are read into
+    /// the lists `modules` and `submodules` to check them; the result borrows `bytes`.
     #[tactic(auto, unfolding(crate::specs::modules::Lists::listed_modules, crate::specs::modules::Lists::modules_in))]
     pub fn at(
         bytes: &'a [u8],
@@ -70,8 +70,8 @@ impl<'a, M: Module, S: Entry> Modules<'a, M, S> {
         Ok((Modules { place }, rest))
     }
 
-    /// Copies them: the modules to a list, and the submodules of all of them to a second one, first those of the first
-    /// module.
+    /// Copies the modules to one list and the submodules of all of them to a second list, those of the first module
+    /// first.
     #[tactic(auto, unfolding(crate::specs::modules::Lists::listed_modules, crate::specs::modules::Lists::modules_in))]
     pub fn copy_to(&self, modules: &mut ArrayVec<M, 256>, submodules: &mut ArrayVec<S, 256>)
         ensures modules { modules.new.items ≡ self.now.modules }
@@ -89,7 +89,7 @@ impl<'a, M: Module, S: Entry> Modules<'a, M, S> {
     }
 }
 
-/// Copies the modules at the front of octets to these lists.
+/// Copies the modules at the start of the octets to these lists.
 #[tactic(auto, unfolding(crate::specs::modules::Lists::listed_modules, crate::specs::modules::Lists::modules_in))]
 fn copy_read<M: Module, S: Entry>(
     bytes: &[u8],
@@ -105,8 +105,8 @@ fn copy_read<M: Module, S: Entry>(
     }
 }
 
-/// Appends a count of modules, and each with as many of the submodules as it counts. There must be room. Modules that were
-/// read are copied to these lists first.
+/// Appends a count of modules, and each module with as many submodules as it counts. There must be room. Modules that
+/// were read are first copied to the lists `copied` and `copied_parts`.
 #[tactic(auto, unfolding(crate::specs::modules::Lists::listed_modules, crate::specs::modules::Lists::modules_in))]
 pub fn put_modules<const N: usize, M: Module + Put<N>, S: Put<N>>(
     out: &mut ArrayVec<u8, N>,
@@ -131,7 +131,7 @@ pub fn put_modules<const N: usize, M: Module + Put<N>, S: Put<N>>(
     }
 }
 
-/// How many octets a count of modules takes, and each of them with its submodules.
+/// The number of octets that a count of modules and the modules with their submodules take.
 #[tactic(auto, unfolding(crate::specs::modules::Lists::listed_modules))]
 pub fn modules_len<M: Module, S: Entry>(value: &Modules<M, S>) -> usize
     ensures size { result ≡ (listed_modules M.format M.own S.format).size value.now }

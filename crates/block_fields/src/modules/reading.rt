@@ -1,4 +1,4 @@
-//! Lists of modules from octets.
+//! Reads lists of modules from octets.
 ghost use Rattle.std.specs.Prelude.{◌≡◌, ◌<◌, ◌≤◌, OnOk};
 ghost use Rattle.arrayvec.specs.ArrayVec.{array_vec_len};
 ghost use Rattle.wire.specs.Codec.{Gives};
@@ -8,7 +8,8 @@ use crate::modules::entry::{Entry, Module};
 use crate::{BlockFault, u16_at};
 use arrayvec::ArrayVec;
 
-/// One more entry behind these, if there is room for it, and what is behind it. Those that judge it begin at a place.
+/// Reads one more entry if there is room for it. Returns it and the rest. The entries from index `start` on decide
+/// whether it is accepted.
 #[tactic(auto, unfolding(crate::specs::modules::Lists::next_entry))]
 fn next_at<'a, E: Entry>(
     bytes: &'a [u8],
@@ -28,7 +29,7 @@ fn next_at<'a, E: Entry>(
     }
 }
 
-/// So many submodules of one module, which come to those before them, and what is behind them.
+/// Reads `count` submodules of one module, and appends them to those before them. Returns the rest.
 #[tactic(auto, using(crate::proofs::ModulesTaken::submodules_go_on, crate::proofs::ModulesTaken::submodules_fail, crate::proofs::ModulesTaken::submodules_end))]
 fn submodules_at<'a, S: Entry>(
     bytes: &'a [u8],
@@ -48,7 +49,7 @@ fn submodules_at<'a, S: Entry>(
     Ok(rest)
 }
 
-/// So many modules with their submodules, which come to those before them, and what is behind them.
+/// Reads `count` modules with their submodules, and appends them to those before them. Returns the rest.
 #[tactic(auto, using(crate::proofs::ModulesTaken::modules_go_on, crate::proofs::ModulesTaken::modules_fail, crate::proofs::ModulesTaken::modules_fail_inside, crate::proofs::ModulesTaken::modules_end))]
 fn modules_at<'a, M: Module, S: Entry>(
     bytes: &'a [u8],
@@ -68,7 +69,8 @@ fn modules_at<'a, M: Module, S: Entry>(
     Ok(rest)
 }
 
-/// Reads a count of modules, and each with its submodules, into these lists: what is behind them. At a fault they are any.
+/// Reads a count of modules, and each module with its submodules, into these lists. Returns the rest. After a fault the
+/// lists may hold anything.
 #[tactic(auto, unfolding(crate::specs::modules::Lists::module_list, crate::specs::modules::Lists::modules_read))]
 pub(crate) fn fill_modules<'a, M: Module, S: Entry>(
     bytes: &'a [u8],

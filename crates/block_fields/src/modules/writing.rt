@@ -1,4 +1,4 @@
-//! Lists of modules to octets.
+//! Writes lists of modules to octets.
 ghost use Rattle.std.specs.Prelude.{◌≡◌, ◌+◌, ◌*◌, ◌≤◌, ◌++◌, List, ℕ, length};
 ghost use Rattle.std.specs.List.{AllByRecursion};
 ghost use Rattle.arrayvec.specs.ArrayVec.{array_vec_len};
@@ -22,7 +22,7 @@ fn put_submodules<const N: usize, S: Put<N>>(out: &mut ArrayVec<u8, N>, submodul
     }
 }
 
-/// Appends the entries of modules, each with as many of the submodules as it counts. There must be room.
+/// Appends the entries of modules, each with as many submodules as it counts. There must be room.
 #[tactic(auto, using(crate::proofs::ModulesWritten::first_outer, wire::proofs::Nesting::nested_fits_on))]
 fn put_entries<const N: usize, M: Module + Put<N>, S: Put<N>>(
     out: &mut ArrayVec<u8, N>,
@@ -44,7 +44,7 @@ fn put_entries<const N: usize, M: Module + Put<N>, S: Put<N>>(
     }
 }
 
-/// Appends a count of modules, and each with as many of the submodules as it counts. There must be room.
+/// Appends a count of modules, and each module with as many submodules as it counts. There must be room.
 pub(crate) fn put_lists<const N: usize, M: Module + Put<N>, S: Put<N>>(
     out: &mut ArrayVec<u8, N>,
     modules: &[M],
@@ -61,7 +61,7 @@ pub(crate) fn put_lists<const N: usize, M: Module + Put<N>, S: Put<N>>(
     put_entries(out, modules, submodules);
 }
 
-/// How many octets the entries of submodules take.
+/// The number of octets that the entries of submodules take.
 #[tactic(auto, using(crate::proofs::ModulesWritten::first_inner))]
 fn submodules_len<S: Entry>(submodules: &[S]) -> usize
     requires { length submodules.now ≤ 256 }
@@ -75,7 +75,7 @@ fn submodules_len<S: Entry>(submodules: &[S]) -> usize
     size
 }
 
-/// How many octets the entries of modules take with their submodules.
+/// The number of octets that the entries of modules and their submodules take.
 #[tactic(auto, using(crate::proofs::ModulesWritten::first_outer))]
 fn entries_len<M: Module, S: Entry>(modules: &[M], submodules: &[S]) -> usize
     requires modules { length modules.now ≤ 256 }
@@ -93,7 +93,7 @@ fn entries_len<M: Module, S: Entry>(modules: &[M], submodules: &[S]) -> usize
     size
 }
 
-/// How many octets a count of modules takes, and each of them with its submodules.
+/// The number of octets that a count of modules and the modules with their submodules take.
 pub(crate) fn lists_len<M: Module, S: Entry>(modules: &[M], submodules: &[S]) -> usize
     requires modules { length modules.now ≤ 256 }
     requires submodules { length submodules.now ≤ 256 }

@@ -1,4 +1,4 @@
--- The one block that every call but Connect consists of (IEC 61158-6-10, 5.2).
+-- The single block of every call but Connect (IEC 61158-6-10, 5.2).
 use Rattle.std.specs.Prelude.{◌==◌, ℕ, not, List, [], ◌∷◌, length, nat_lt, Result, Ok, Err}
 use Rattle.wire.specs.Formats.{big_number}
 use Rattle.block_fields.specs.declared.fault.BlockFault.{BlockFault}
@@ -10,13 +10,13 @@ use Rattle.records.specs.declared.status.call_fault.CallFault.{CallFault}
 use Rattle.records.specs.declared.status.call_fault.CallFault.TheVariants as fault
 use Rattle.records.specs.calls.Judged.{judged}
 
--- what was read, or the one fault that the form of a block is in a call
+-- What was read; any fault of the block becomes the fault BlockForm of the call.
 abbrev pub formed : {A : Type 0} → Result A BlockFault → Result A CallFault
 formed (Ok value) = Ok value
 formed (Err _) = Err fault.BlockForm
 
--- the block that a call consists of, of this type, and what is behind it: judged are that there is a block, its header, its type,
--- and then its form
+-- The single block of a call, of this type, and the rest; the checks are, in order: there is a block, its header, its
+-- type, its form.
 unfoldable pub single_of : BlockType → List ℕ → Result (Block × List ℕ) CallFault
 single_of kind blocks = judged
     ((length blocks == 0, fault.BlockMissing)

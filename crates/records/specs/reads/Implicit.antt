@@ -1,4 +1,4 @@
--- Read Implicit: anybody reads a record of a device.
+-- Read Implicit: a record of a device is read without a relation.
 use Rattle.std.specs.Prelude.{ℕ, List, Result}
 use Rattle.pn_values.specs.declared.identity.Identity.{Identity}
 use Rattle.pn_values.specs.declared.real.Real.{Real}
@@ -8,7 +8,7 @@ use Rattle.im_records.specs.Records.{record_of}
 use Rattle.records.specs.declared.status.call_fault.CallFault.{CallFault}
 use Rattle.records.specs.reads.Judged.{request_of, read_of}
 
--- the blocks that answer a call, or why it is refused; ARUUID is not looked at
+-- The blocks of the response to a call, or why it is refused; ARUUID is ignored.
 unfoldable pub implicit_read : Identity → Real → Settings → List ℕ → Result (List ℕ) CallFault
 implicit_read identity real settings blocks =
     request_of blocks >>= λ request. read_of real request (record_of request.header.index request.header.slot_number request.header.subslot_number identity real settings)

@@ -1,4 +1,4 @@
--- In which order calls of Read are judged.
+-- The order in which calls of Read are checked.
 use Rattle.std.specs.Prelude.{◌==◌, ◌||◌, ℕ, Bool, not, List, [], ◌∷◌, Option, Result, Ok, is_some}
 use Rattle.pn_values.specs.declared.real.Real.{Real}
 use Rattle.wire.specs.Checks.{or_fault}
@@ -15,11 +15,11 @@ use Rattle.records.specs.calls.Single.{single_of}
 use Rattle.records.specs.reads.Answer.{answer_of}
 use Rattle.records.specs.reads.Parameters.{parameter_length}
 
--- the IODReadReqHeader that a call consists of, whatever is behind it
+-- The IODReadReqHeader of a call, with any octets after it.
 unfoldable pub request_of : List ℕ → Result IodReadReq CallFault
 request_of blocks = single_of kind.IodReadReq blocks >>= λ x. or_fault fault.BlockForm (in_iod_read_req x.0)
 
--- where a record stands: the API, and then the slot and subslot
+-- The checks of the place of a record: the API, and then the slot and subslot.
 unfoldable pub placed : Real → ℕ → ℕ → ℕ → ℕ → Result (Unit {0}) CallFault
 placed real api slot subslot index = judged
     ((not (api == 0), fault.Api)
@@ -27,18 +27,18 @@ placed real api slot subslot index = judged
     ∷ [])
     (Ok tt)
 
--- whether the submodule in this slot and subslot has a parameter record of this index
+-- Whether the submodule in this slot and subslot has a parameter record with this index.
 abbrev pub has_parameter : Real → ℕ → ℕ → ℕ → Bool
 has_parameter real slot subslot index = is_some (parameter_length real.modules.items slot subslot index)
 
--- the record: that there is one of this index at its place, and then that it can be read
+-- The checks of the record: there is one with this index at its place, and it is readable.
 abbrev pub found : Real → IodReadReq → Option (List ℕ) → Result (List ℕ) CallFault
 found real request readable = judged
     ((not (is_some readable || has_parameter real request.header.slot_number request.header.subslot_number request.header.index), fault.Index)
     ∷ [])
     (or_fault fault.Access readable)
 
--- the answer to a request of what is, or is not, a readable record
+-- The response to a request; `readable` is the record if there is a readable one.
 unfoldable pub read_of : Real → IodReadReq → Option (List ℕ) → Result (List ℕ) CallFault
 read_of real request readable = placed real request.header.api request.header.slot_number request.header.subslot_number request.header.index
     >>= λ _. found real request readable >>= λ octets. Ok (answer_of request octets)

@@ -11,27 +11,27 @@ use Rattle.records.specs.declared.status.call_fault.CallFault.{CallFault}
 use Rattle.records.specs.calls.Naming.{in_relation, is_relation}
 use Rattle.records.specs.reads.Judged.{request_of, read_of}
 
--- the record that a request means where the ModuleDiffBlock of the relation is these octets: it stands at each place, and anybody
--- reads the others
+-- The record that a request names if the ModuleDiffBlock of the relation is `differing`: that block exists at each place,
+-- and the other records are those of a Read Implicit.
 abbrev pub record_within : List ℕ → IodReadReq → Identity → Real → Settings → Option (List ℕ)
 record_within differing request identity real settings =
     if is_module_diff (record_with request.header.index) then Some differing
     else record_of request.header.index request.header.slot_number request.header.subslot_number identity real settings
 
--- the IODReadReqHeader that a call consists of while this relation stands: ARUUID is judged right behind the block
+-- The IODReadReqHeader of a call while this relation is active; ARUUID is checked directly after the block.
 unfoldable pub request_within : Option (List ℕ) → List ℕ → Result IodReadReq CallFault
 request_within standing blocks = request_of blocks >>= λ request. in_relation standing request.header.ar_uuid >>= λ _. Ok request
 
--- the blocks that answer a call while this relation stands, or why it is refused
+-- The blocks of the response to a call while this relation is active, or why it is refused.
 unfoldable pub relation_read : Option (List ℕ) → List ℕ → Identity → Real → Settings → List ℕ → Result (List ℕ) CallFault
 relation_read standing differing identity real settings blocks =
     request_within standing blocks >>= λ request. read_of real request (record_within differing request identity real settings)
 
--- whether the IODReadReqHeader of a call names the relation that stands
+-- Whether the IODReadReqHeader of a call names the active relation.
 abbrev pub is_named : Option (List ℕ) → Result IodReadReq CallFault → Bool
 is_named standing (Ok request) = is_relation standing request.header.ar_uuid
 is_named standing (Err _) = false
 
--- the same of the octets of a Read
+-- Whether the octets of a Read name the active relation.
 unfoldable pub names_relation : Option (List ℕ) → List ℕ → Bool
 names_relation standing blocks = is_named standing (request_of blocks)

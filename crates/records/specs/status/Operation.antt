@@ -3,7 +3,7 @@ use Rattle.std.specs.Prelude.{◌==◌, ℕ, Option, Some, None, if◌then◌els
 use Rattle.records.specs.declared.status.operation.Operation.{Operation}
 use Rattle.records.specs.declared.status.operation.Operation.TheVariants.{Connect, Release, Read, Write, Control, ReadImplicit}
 
--- the operation of a number, if it is one
+-- The operation with a number, if there is one.
 unfoldable pub operation_of : ℕ → Option Operation
 operation_of number =
     if number == 0 then Some Connect
@@ -14,7 +14,7 @@ operation_of number =
     else if number == 5 then Some ReadImplicit
     else None
 
--- ErrorCode (IEC 61158-6-10, 5.2.6): which kind of call failed
+-- ErrorCode (IEC 61158-6-10, 5.2.6): the kind of call that failed.
 abbrev pub code_of : Operation → ℕ
 code_of Connect = 0xDB
 code_of Release = 0xDC

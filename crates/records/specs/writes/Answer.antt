@@ -1,11 +1,11 @@
--- What answers a Write (IEC 61158-6-10, 5.2.3).
+-- The response to a Write (IEC 61158-6-10, 5.2.3).
 use Rattle.std.specs.Prelude.{ℕ, List}
 use Rattle.block_codec.specs.declared.block.Block.TheVariants as is
 use Rattle.block_codec.specs.Block.{block_bytes}
 use Rattle.record_blocks.specs.declared.write_record.IodWriteReq.{IodWriteReq}
 use Rattle.record_blocks.specs.declared.write_record.IodWriteRes.{IodWriteRes}
 
--- the IODWriteResHeader that answers a request which is done
+-- The IODWriteResHeader of the response to a request that succeeded.
 abbrev pub header_of : IodWriteReq → IodWriteRes
 header_of request = record {
   header = request.header;
@@ -14,6 +14,6 @@ header_of request = record {
   pnio_status = 0;
 }
 
--- the answer: that header alone
+-- The response: that header alone.
 unfoldable pub answer_of : IodWriteReq → List ℕ
 answer_of request = block_bytes (is.IodWriteRes (header_of request))

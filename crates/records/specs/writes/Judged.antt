@@ -1,4 +1,4 @@
--- In which order a Write is judged, and what it asks for.
+-- The order in which a Write is checked, and what it asks for.
 use Rattle.std.specs.Prelude.{◌==◌, ◌&&◌, ◌||◌, ℕ, Bool, false, not, List, [], ◌∷◌, length, take, nat_le, nat_lt, Option, Some, None, Result, Ok, if◌then◌else◌}
 use Rattle.pn_values.specs.declared.real.Real.{Real}
 use Rattle.pn_values.specs.declared.command.Command.{Command}
@@ -23,15 +23,15 @@ use Rattle.records.specs.declared.writes.write.Effect.{Effect}
 use Rattle.records.specs.declared.writes.write.Effect.TheVariants.{Stores, Keeps}
 use Rattle.records.specs.declared.writes.write.Write.{Write}
 
--- ---- what it asks for
+-- ---- what a Write asks for
 
--- whether there is a record of the index of a request at its slot and subslot, where a submodule is plugged in
+-- Whether there is a record with the index of a request at its slot and subslot, in which a submodule is plugged.
 abbrev pub is_known : Real → IodWriteReq → Bool
 is_known real request = is_read_only (record_with request.header.index)
     || is_writable request.header.index request.header.slot_number request.header.subslot_number
     || has_parameter real request.header.slot_number request.header.subslot_number request.header.index
 
--- the I&M text that a record is, if it is whole
+-- The I&M text of a record, if it is whole.
 abbrev pub text_in : Result Command RecordFault → Option Effect
 text_in (Ok (SetIm value)) = Some (Stores value)
 text_in _ = None
@@ -39,12 +39,12 @@ text_in _ = None
 abbrev pub stored : ℕ → List ℕ → Option Effect
 stored index octets = text_in (command_of index octets)
 
--- whether a record of so many octets is one of this length, which is at most 64
+-- Whether a record of `count` octets has the required length, which is at most 64.
 abbrev pub is_length : Option ℕ → ℕ → Bool
 is_length (Some size) count = count == size && nat_le count 64
 is_length None count = false
 
--- the parameter record that is kept, if it is as long as the submodule takes it
+-- The parameter record to store, if it has the length that the submodule requires.
 abbrev pub kept : Real → IodWriteReq → List ℕ → Option Effect
 kept real request octets =
     if is_length (parameter_length real.modules.items request.header.slot_number request.header.subslot_number request.header.index) (length octets)
@@ -56,15 +56,15 @@ kept real request octets =
     }))
     else None
 
--- what a request asks for whose record is these octets, if they are a whole one
+-- What a request with this record asks for, if the record is whole.
 abbrev pub effect_of : Real → IodWriteReq → List ℕ → Option Effect
 effect_of real request octets =
     if is_writable request.header.index request.header.slot_number request.header.subslot_number then stored request.header.index octets else kept real request octets
 
--- ---- in which order it is judged
+-- ---- the order of the checks
 
--- the record: that there is one of this index at its place, that it can be written, that its octets are all there, and that they are
--- a whole one; what is behind them is not looked at
+-- The checks of the record: there is one with this index at its place, it is writable, its octets are all there, and they
+-- are a whole record; the octets after it are ignored.
 unfoldable pub written : Real → IodWriteReq → List ℕ → Result Effect CallFault
 written real request behind = judged
     ((not (is_known real request), fault.Index)
@@ -73,18 +73,18 @@ written real request behind = judged
     ∷ [])
     (or_fault fault.WriteLength (effect_of real request (take request.header.record_data_length behind)))
 
--- what a request is for: the relation, and then the place
+-- The checks of the target of a request: the relation, and then the place.
 unfoldable pub targeted : Option (List ℕ) → Real → IodWriteReq → Result (Unit {0}) CallFault
 targeted standing real request = in_relation standing request.header.ar_uuid
     >>= λ _. placed real request.header.api request.header.slot_number request.header.subslot_number request.header.index
 
--- a request, with these octets behind its header
+-- The checks of a request, with these octets after its header.
 unfoldable pub judged_request : Option (List ℕ) → Real → IodWriteReq → List ℕ → Result Write CallFault
 judged_request standing real request behind = targeted standing real request
     >>= λ _. written real request behind
     >>= λ effect. Ok (record { request = request; effect = effect })
 
--- a Write while this relation stands: judged are its block, the relation, the place, and then the record
+-- The checks of a Write while this relation is active: its block, the relation, the place, and then the record.
 unfoldable pub write_of : Option (List ℕ) → Real → List ℕ → Result Write CallFault
 write_of standing real blocks = single_of kind.IodWriteReq blocks
     >>= λ x. or_fault fault.BlockForm (in_iod_write_req x.0)

@@ -1,4 +1,4 @@
-//! ARUUID, by which a call names a relation.
+//! ARUUID, which names a relation in a call.
 ghost use Rattle.std.specs.Prelude.{◌≡◌};
 ghost use Rattle.std.specs.Option.{option_map};
 ghost use Rattle.records.specs.calls.Naming.{in_relation, is_relation};
@@ -6,7 +6,8 @@ ghost use Rattle.records.specs.calls.Naming.{in_relation, is_relation};
 use crate::CallFault;
 use block_fields::Uuid;
 
-/// Whether this is the ARUUID of the relation that stands. Where none stands it is not.
+/// Whether this is the ARUUID of the active relation; false if there is none. `standing` is the ARUUID of the active
+/// relation.
 pub fn is_relation(standing: Option<&Uuid>, ar_uuid: &Uuid) -> bool
     ensures { result ≡ is_relation (option_map (λ uuid. uuid.now) standing.entry) ar_uuid.now }
 {
@@ -16,7 +17,8 @@ pub fn is_relation(standing: Option<&Uuid>, ar_uuid: &Uuid) -> bool
     }
 }
 
-/// Whether a call with this ARUUID names the relation that stands: UnknownRelation where it names another, or none stands.
+/// Checks that a call with this ARUUID names the active relation. Fails with UnknownRelation if it names another one or
+/// if there is none.
 #[tactic(auto, unfolding(crate::specs::calls::Naming::in_relation))]
 pub fn check_relation(standing: Option<&Uuid>, ar_uuid: &Uuid) -> Result<(), CallFault>
     ensures { result ≡ in_relation (option_map (λ uuid. uuid.now) standing.entry) ar_uuid.now }

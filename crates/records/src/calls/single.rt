@@ -1,4 +1,4 @@
-//! The block of a call.
+//! The single block of a call.
 ghost use Rattle.std.specs.Prelude.{◌≡◌};
 ghost use Rattle.wire.specs.Codec.{Gives};
 ghost use Rattle.records.specs.calls.Single.{single_of};
@@ -7,9 +7,9 @@ use crate::CallFault;
 use block_codec::{Block, BlockType, read_block};
 use wire::u16_at;
 
-/// The one block of a call, which has to be of this type, and what is behind it: a Write has its record there. No other call has
-/// anything there that is looked at. The first fault counts: BlockMissing where there is nothing, BlockHeader where one to three
-/// octets are left, BlockType, and then BlockForm.
+/// Reads the single block of a call, which must be of type `kind`. Returns it and the rest: in a Write the record is
+/// there, in other calls it is ignored. The first fault found is reported: BlockMissing if there is no octet, BlockHeader
+/// if there are one to three, BlockType, and then BlockForm.
 #[tactic(auto, unfolding(crate::specs::calls::Single::single_of))]
 pub fn single_block(blocks: &[u8], kind: BlockType) -> Result<(Block<'_>, &[u8]), CallFault>
     ensures { Gives (λ x. (x.0, x.1.now)) result (single_of kind blocks.now) }

@@ -1,4 +1,4 @@
-//! What answers a call of Read.
+//! The response to a Read.
 ghost use Rattle.std.specs.Prelude.{◌≡◌, ◌+◌, ◌≤◌, ◌++◌, length, take};
 ghost use Rattle.arrayvec.specs.ArrayVec.{array_vec_len};
 ghost use Rattle.records.specs.reads.Answer.{answer_of};
@@ -8,7 +8,7 @@ use block_codec::{Block, IodReadReq, IodReadRes, RecordHeader, write_block};
 use record_blocks::iod_read_res_len;
 use wire::append;
 
-/// At most so many octets of a record.
+/// The first `most` octets of a record, or all if there are fewer.
 fn cut_to(octets: &[u8], most: u32) -> &[u8]
     ensures cut { result.now ≡ take most octets.now }
     ensures few { length result.now ≤ length octets.now }
@@ -16,8 +16,8 @@ fn cut_to(octets: &[u8], most: u32) -> &[u8]
     &octets[..octets.len().min(most as usize)]
 }
 
-/// Appends the IODReadResHeader that answers a request, of 64 octets, and behind it the octets of the record, cut to the
-/// RecordDataLength that the request asks for. There must be room for the whole record.
+/// Appends the response to a Read: the IODReadResHeader of 64 octets, and the octets of the record, cut to the
+/// RecordDataLength of the request. There must be room for the whole record.
 #[tactic(auto, unfolding(crate::specs::reads::Answer::answer_of, block_codec::specs::Block::block_size, block_codec::specs::Block::fields_of, block_fields::specs::Fields::body, block_fields::specs::Fields::version, record_blocks::specs::RecordHeader::record_header, record_blocks::specs::ReadRecord::iod_read_res))]
 pub fn put_read_answer<const N: usize>(
     answer: &mut ArrayVec<u8, N>,
@@ -27,7 +27,7 @@ pub fn put_read_answer<const N: usize>(
     requires { array_vec_len answer.old + 64 + length octets.now ≤ N }
     ensures { answer.new.items ≡ answer.old.items ++ answer_of request.now octets.now }
 {
-    // A reader says how much it has room for, and gets so much of the record.
+    // The reader says how much room it has, and gets that much of the record.
     let sent = cut_to(octets, request.header.record_data_length);
     let header = IodReadRes {
         header: RecordHeader {
@@ -37,7 +37,7 @@ pub fn put_read_answer<const N: usize>(
         additional_value_1: 0,
         additional_value_2: 0,
     };
-    // what counts its octets says that there is room for them
+    // The length bounds the octets, so there is room for them.
     let _size = iod_read_res_len(&header);
     write_block(answer, &Block::IodReadRes(header));
     append(answer, sent);

@@ -7,8 +7,9 @@ use crate::reads::judging::read_request;
 use crate::reads::serving::{Blocks, serve};
 use pn_values::{Identity, Real, Settings};
 
-/// Serves a Read Implicit, by which anybody reads a record of a device: puts the blocks of the answer into an empty list, or
-/// says why the call is refused. Of the faults the first in the order of the statuses counts.
+/// Serves a Read Implicit, which reads a record of the device without a relation. Puts the blocks of the response into
+/// `answer`, which must be empty, or returns why the call is refused. The first fault in the order of the checks is
+/// reported.
 #[tactic(auto, unfolding(crate::specs::reads::Implicit::implicit_read))]
 pub fn read_implicit(
     identity: &Identity,
@@ -18,9 +19,9 @@ pub fn read_implicit(
     answer: &mut Blocks,
 ) -> Result<(), CallFault>
     requires empty { answer.old.items ≡ [] }
-    // The answer,
+    // If the call succeeds, `answer` holds the response that the definition `implicit_read` gives.
     ensures done { IfOk result (λ _. implicit_read identity.now real.now settings.now blocks.now ≡ Ok answer.new.items) }
-    // or which fault it is; then there is none.
+    // If the call is refused, the fault is the one that `implicit_read` gives, and `answer` is empty.
     ensures refused { IfErr result (λ fault. (implicit_read identity.now real.now settings.now blocks.now ≡ Err fault)
         × (answer.new.items ≡ [])) }
 {

@@ -1,4 +1,4 @@
-//! The judgements that calls of Read and Write have in common.
+//! The checks that calls of Read and Write share.
 ghost use Rattle.std.specs.Prelude.{◌≡◌};
 ghost use Rattle.wire.specs.Codec.{Gives};
 ghost use Rattle.records.specs.reads.Judged.{placed, request_of};
@@ -8,12 +8,12 @@ use block_codec::{Block, BlockType, IodReadReq};
 use im_records::{is_anywhere, is_real};
 use pn_values::Real;
 
-/// The IODReadReqHeader that a call consists of. What is behind it is not looked at.
+/// Reads the IODReadReqHeader of a call. The octets after it are ignored.
 #[tactic(auto, unfolding(crate::specs::reads::Judged::request_of))]
 pub fn read_request(blocks: &[u8]) -> Result<IodReadReq, CallFault>
     ensures { Gives (λ x. x) result (request_of blocks.now) }
 {
-    // TargetARUUID and padding may follow, and decide nothing.
+    // TargetARUUID and padding may follow; they are ignored.
     let (block, _behind) = single_block(blocks, BlockType::IodReadReq)?;
     match block {
         Block::IodReadReq(request) => Ok(request),
@@ -21,7 +21,7 @@ pub fn read_request(blocks: &[u8]) -> Result<IodReadReq, CallFault>
     }
 }
 
-/// Whether a request names API 0 and, where its index wants one, a submodule that is plugged in.
+/// Checks that a request names API 0 and, if its index needs one, a submodule that is plugged.
 #[tactic(auto, unfolding(crate::specs::reads::Judged::placed))]
 pub fn check_place(
     real: &Real,

@@ -7,8 +7,8 @@ use crate::is_relation;
 use crate::reads::judging::read_request;
 use block_fields::Uuid;
 
-/// Whether the ARUUID of a Read is that of the relation that stands. A Read Implicit does not need it, and yet shows the device that
-/// the controller is there.
+/// Whether the ARUUID of a Read is that of the active relation. A Read Implicit does not need it, but it shows the device
+/// that the controller is still there.
 #[tactic(auto, unfolding(crate::specs::reads::Within::names_relation))]
 pub fn names_relation(standing: Option<&Uuid>, blocks: &[u8]) -> bool
     ensures { result ≡ names_relation (option_map (λ uuid. uuid.now) standing.entry) blocks.now }

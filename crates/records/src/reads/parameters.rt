@@ -1,10 +1,11 @@
-//! Which parameter records there are.
+//! The parameter records of a device.
 ghost use Rattle.std.specs.Prelude.{◌≡◌};
 ghost use Rattle.records.specs.reads.Parameters.{length_in, parameter_length, submodule_length};
 
 use pn_values::{ParameterRecord, Real, RealSubmodule};
 
-/// The exact length, in octets, of the parameter record of this index of the submodule in this slot and subslot, if it has one.
+/// The exact length, in octets, of the parameter record with this index of the submodule in this slot and subslot, or
+/// `None` if there is no such record.
 pub fn parameter_length(real: &Real, slot: u16, subslot: u16, index: u16) -> Option<u16>
     ensures { result ≡ parameter_length real.now.modules.items slot subslot index }
 {
@@ -18,7 +19,7 @@ pub fn parameter_length(real: &Real, slot: u16, subslot: u16, index: u16) -> Opt
     None
 }
 
-/// The length of the record of this index of the submodule in this subslot, if it has one.
+/// The length of the record with this index of the submodule in this subslot, or `None` if there is no such record.
 fn submodule_length(parts: &[RealSubmodule], subslot: u16, index: u16) -> Option<u16>
     ensures { result ≡ submodule_length subslot index parts.now }
 {
@@ -32,7 +33,7 @@ fn submodule_length(parts: &[RealSubmodule], subslot: u16, index: u16) -> Option
     None
 }
 
-/// The length of the record of this index, if it is one of these.
+/// The length of the record with this index, or `None` if it is not in the list.
 fn length_in(parameters: &[ParameterRecord], index: u16) -> Option<u16>
     ensures { result ≡ length_in index parameters.now }
 {

@@ -1,4 +1,4 @@
-//! What each Read is answered once it is known which record is meant.
+//! The response to each Read, once the record is known.
 ghost use Rattle.std.specs.Prelude.{◌≡◌, [], IfErr, IfOk, Err, Ok};
 ghost use Rattle.im_records.specs.Records.{record_of};
 ghost use Rattle.records.specs.reads.Judged.{read_of};
@@ -12,10 +12,10 @@ use block_codec::IodReadReq;
 use im_records::read_record;
 use pn_values::{Identity, Real, Settings};
 
-/// The blocks of a call or an answer: at most 1,372 octets.
+/// The blocks of a call or a response: at most 1,372 octets.
 pub type Blocks = ArrayVec<u8, 1372>;
 
-/// Puts the answer to a request of a record of the device into an empty list, or says why it is refused.
+/// Puts the response to a request for a record of the device into an empty list, or returns why it is refused.
 #[tactic(auto, unfolding(crate::specs::reads::Judged::read_of))]
 pub(crate) fn serve(
     identity: &Identity,
@@ -46,7 +46,7 @@ pub(crate) fn serve(
             put_read_answer(answer, request, record.as_slice());
             Ok(())
         }
-        // A parameter is known, and is for writing only: what is kept is the controller's own.
+        // A parameter record is known but write-only: what is stored belongs to the controller.
         None if parameter_length(real, slot, subslot, index).is_some() => Err(CallFault::Access),
         None => Err(CallFault::Index),
     }

@@ -13,9 +13,10 @@ use block_fields::Uuid;
 use im_records::is_module_diff;
 use pn_values::{Identity, Real, Settings};
 
-/// Serves a Read of the controller while the relation of this ARUUID stands, if one does: puts the blocks of the answer into an empty
-/// list, or says why the call is refused. Of the faults the first in the order of the statuses counts. To what anybody reads comes
-/// the ModuleDiffBlock of the relation, which is these octets: none where nothing differs.
+/// Serves a Read of the controller. `standing` is the ARUUID of the active relation, if there is one. Puts the blocks of
+/// the response into `answer`, which must be empty, or returns why the call is refused. The first fault in the order of
+/// the checks is reported. Besides the records of a Read Implicit it serves the ModuleDiffBlock of the relation, which is
+/// `differing`: it is empty if nothing differs.
 #[tactic(auto, unfolding(crate::specs::reads::Within::relation_read))]
 pub fn read_within(
     standing: Option<&Uuid>,
@@ -28,10 +29,10 @@ pub fn read_within(
 ) -> Result<(), CallFault>
     requires empty { answer.old.items ≡ [] }
     requires room { length differing.now ≤ 1308 }
-    // The answer,
+    // If the call succeeds, `answer` holds the response that the definition `relation_read` gives.
     ensures done { IfOk result (λ _. relation_read (option_map (λ uuid. uuid.now) standing.entry) differing.now identity.now real.now
         settings.now blocks.now ≡ Ok answer.new.items) }
-    // or which fault it is; then there is none.
+    // If the call is refused, the fault is the one that `relation_read` gives, and `answer` is empty.
     ensures refused { IfErr result (λ fault. (relation_read (option_map (λ uuid. uuid.now) standing.entry) differing.now identity.now
         real.now settings.now blocks.now ≡ Err fault) × (answer.new.items ≡ [])) }
 {
@@ -39,19 +40,19 @@ pub fn read_within(
     serve_within(differing, identity, real, settings, &request, answer)
 }
 
-/// The IODReadReqHeader that a call consists of, if it names the relation that stands.
+/// Reads the IODReadReqHeader of a call, and checks that it names the active relation.
 #[tactic(auto, unfolding(crate::specs::reads::Within::request_within))]
 fn request_within(standing: Option<&Uuid>, blocks: &[u8]) -> Result<IodReadReq, CallFault>
     ensures { result ≡ request_within (option_map (λ uuid. uuid.now) standing.entry) blocks.now }
 {
     let request = read_request(blocks)?;
-    // Before the place: a stranger is told that he has no relation, and not what is plugged.
+    // This comes before the check of the place: a caller without the relation does not learn what is plugged.
     check_relation(standing, &request.header.ar_uuid)?;
     Ok(request)
 }
 
-/// Puts the answer to a request within the relation whose ModuleDiffBlock is these octets into an empty list, or says why it is
-/// refused.
+/// Puts the response to a request within the relation into an empty list, or returns why it is refused. `differing` is
+/// the ModuleDiffBlock of the relation.
 #[tactic(auto, unfolding(crate::specs::reads::Judged::read_of))]
 fn serve_within(
     differing: &[u8],

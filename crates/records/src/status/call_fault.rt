@@ -4,33 +4,33 @@ ghost use Rattle.records.specs.status.Status.{done, status_of};
 use crate::status::Operation;
 use rpc_core::Status;
 
-/// ErrorDecode: a fault of a record that was to be read or written.
+/// ErrorDecode for a fault in reading or writing a record.
 const RECORD: u8 = 0x80;
-/// ErrorDecode: a fault of anything else.
+/// ErrorDecode for every other fault.
 const PROTOCOL: u8 = 0x81;
-/// ErrorCode1: the fault is none of a field, but of the call.
+/// ErrorCode1 for a fault of the call itself, not of a field.
 const CM_RPC: u8 = 0x40;
 
-/// Why a call is refused. Fields are counted from 0, BlockType, on: BlockLength is field 1, the two octets of BlockVersion are 2
-/// and 3.
+/// Why a call is refused. Fields are counted from 0 (BlockType): BlockLength is field 1, and the two octets of
+/// BlockVersion are fields 2 and 3.
 #[derive(Clone, Copy, Debug, PartialEq, Eq)]
 pub enum CallFault {
-    /// Offset is not 0, or ArgsLength differs from ActualCount or exceeds what is there.
+    /// Offset is not 0, or ArgsLength differs from ActualCount or exceeds the octets of the call.
     Arguments,
-    /// One to three octets are left where a block should be.
+    /// One to three octets remain where a block should begin.
     BlockHeader,
-    /// A block does not belong into the call or to its place: it is of another type, the first block of a Connect is no
-    /// ARBlockReq, or there is a further ARBlockReq.
+    /// A block does not belong in the call or at its position: it has another type, the first block of a Connect is not
+    /// an ARBlockReq, or there is a second ARBlockReq.
     BlockType,
     /// A block is missing, other than an IOCRBlockReq or an AlarmCRBlockReq.
     BlockMissing,
-    /// BlockLength or BlockVersion of a block is wrong that has no numbers of fields of its own in a status.
+    /// BlockLength or BlockVersion is wrong in a block whose fields have no numbers of their own in a status.
     BlockForm,
     /// The input or the output IOCRBlockReq is missing.
     IocrMissing,
     /// The AlarmCRBlockReq is missing.
     AlarmCrMissing,
-    /// There is a further AlarmCRBlockReq.
+    /// There is more than one AlarmCRBlockReq.
     AlarmCrRepeated,
     /// This field of the ARBlockReq is not accepted.
     ArField(u8),
@@ -44,11 +44,11 @@ pub enum CallFault {
     LayoutOutside,
     /// Two places of an IOCRBlockReq overlap.
     LayoutOverlap,
-    /// A place of an IOCRBlockReq belongs to no submodule, or is there twice.
+    /// A place of an IOCRBlockReq belongs to no submodule, or is listed twice.
     LayoutUnknown,
     /// A submodule has no place in an IOCRBlockReq.
     LayoutMissing,
-    /// The relation that is asked for exists already.
+    /// The requested relation exists already.
     RelationExists,
     /// Another relation exists.
     OtherRelationExists,
@@ -56,11 +56,11 @@ pub enum CallFault {
     TooManyModules,
     /// More than 64 submodules are expected.
     TooManySubmodules,
-    /// ARUUID is not that of the relation.
+    /// ARUUID is not the ARUUID of the relation.
     UnknownRelation,
-    /// SessionKey is not that of the relation.
+    /// SessionKey is not the SessionKey of the relation.
     UnknownSession,
-    /// ControlCommand is not that of the block.
+    /// ControlCommand does not match the block.
     ControlCommand,
     /// The relation is in a phase in which the call is not expected.
     Phase,
@@ -68,22 +68,22 @@ pub enum CallFault {
     Api,
     /// No submodule is plugged in this slot and subslot.
     Place,
-    /// No record has this index there.
+    /// There is no record with this index there.
     Index,
-    /// The record there can't be read, or can't be written.
+    /// The record there is not readable, or not writable.
     Access,
-    /// The record is written with another length than its own, or its block is not whole.
+    /// The record is written with a wrong length, or its block is incomplete.
     WriteLength,
-    /// The settings can't be stored any more.
+    /// No more settings can be stored.
     JournalExhausted,
     /// The flash failed.
     FlashFault,
-    /// 64 parameter records are kept already.
+    /// 64 parameter records are stored already.
     TooManyRecords,
 }
 
 impl CallFault {
-    /// PNIOStatus of a call of this operation that is refused so.
+    /// The PNIOStatus of a call of this operation that is refused for this reason.
     #[tactic(auto, unfolding(crate::specs::status::Status::status_of))]
     pub fn number(self, operation: Operation) -> Status
         ensures { result ≡ status_of operation self }
@@ -127,7 +127,7 @@ impl CallFault {
     }
 }
 
-/// PNIOStatus of a call that is done: four zeros.
+/// The PNIOStatus of a call that succeeded: four zeros.
 pub fn done() -> Status
     ensures { result ≡ done }
 {

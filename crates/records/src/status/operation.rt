@@ -1,25 +1,25 @@
 ghost use Rattle.std.specs.Prelude.{◌≡◌};
 ghost use Rattle.records.specs.status.Operation.{code_of, operation_of};
 
-/// What a call asks of a device (IEC 61158-6-10, 4.10.3.2.9).
+/// The operation that a call requests from a device (IEC 61158-6-10, 4.10.3.2.9).
 #[derive(Clone, Copy, Debug, PartialEq, Eq)]
 pub enum Operation {
-    /// 0: an application relation is asked for.
+    /// 0: establishes an application relation.
     Connect,
-    /// 1: the relation is ended.
+    /// 1: ends the relation.
     Release,
-    /// 2: a record is read within the relation.
+    /// 2: reads a record within the relation.
     Read,
-    /// 3: a record is written within the relation.
+    /// 3: writes a record within the relation.
     Write,
-    /// 4: the parameters of the relation are all written.
+    /// 4: reports that all parameters of the relation are written.
     Control,
-    /// 5: a record is read by anybody.
+    /// 5: reads a record without a relation.
     ReadImplicit,
 }
 
 impl Operation {
-    /// The operation of this number, if it is one.
+    /// The operation with this number, or `None` if there is no such operation.
     #[tactic(auto, unfolding(crate::specs::status::Operation::operation_of))]
     pub fn of(number: u16) -> Option<Operation>
         ensures { result ≡ operation_of number }
@@ -35,7 +35,7 @@ impl Operation {
         }
     }
 
-    /// ErrorCode: which kind of call failed.
+    /// ErrorCode: the kind of call that failed.
     pub(crate) fn error_code(self) -> u8
         ensures { result ≡ code_of self }
     {

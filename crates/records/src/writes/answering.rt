@@ -1,4 +1,4 @@
-//! What answers a Write.
+//! The response to a Write.
 ghost use Rattle.std.specs.Prelude.{◌≡◌, ◌+◌, ◌≤◌, ◌++◌};
 ghost use Rattle.arrayvec.specs.ArrayVec.{array_vec_len};
 ghost use Rattle.records.specs.writes.Answer.{answer_of};
@@ -7,7 +7,7 @@ use arrayvec::ArrayVec;
 use block_codec::{Block, IodWriteReq, IodWriteRes, write_block};
 use record_blocks::iod_write_res_len;
 
-/// Appends the IODWriteResHeader that answers a Write which is done, of 64 octets. There must be room.
+/// Appends the response to a Write that succeeded: the IODWriteResHeader of 64 octets. There must be room.
 #[tactic(auto, unfolding(crate::specs::writes::Answer::answer_of, block_codec::specs::Block::block_size, block_codec::specs::Block::fields_of, block_fields::specs::Fields::body, block_fields::specs::Fields::version, record_blocks::specs::RecordHeader::record_header, record_blocks::specs::WriteRecord::iod_write_res))]
 pub fn put_write_answer<const N: usize>(answer: &mut ArrayVec<u8, N>, request: &IodWriteReq)
     requires { array_vec_len answer.old + 64 ≤ N }
@@ -19,7 +19,7 @@ pub fn put_write_answer<const N: usize>(answer: &mut ArrayVec<u8, N>, request: &
         additional_value_2: 0,
         pnio_status: 0,
     };
-    // what counts its octets says that there is room for them
+    // The length bounds the octets, so there is room for them.
     let _size = iod_write_res_len(&header);
     write_block(answer, &Block::IodWriteRes(header));
 }

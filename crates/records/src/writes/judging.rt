@@ -1,4 +1,4 @@
-//! The judgements of a Write.
+//! The checks of a Write.
 ghost use Rattle.std.specs.Prelude.{◌≡◌};
 ghost use Rattle.std.specs.Option.{option_map};
 ghost use Rattle.records.specs.writes.Judged.{effect_of, is_known, judged_request, kept, stored, targeted, write_of, written};
@@ -11,8 +11,8 @@ use block_fields::Uuid;
 use im_records::{is_read_only, is_writable, read_write};
 use pn_values::{Command, Real};
 
-/// What a Write asks for while the relation of this ARUUID stands, if one does, or why it is refused. Of the faults the first in the
-/// order of the statuses counts.
+/// Returns what a Write asks for, or why it is refused. `standing` is the ARUUID of the active relation, if there is one.
+/// The first fault in the order of the checks is reported.
 #[tactic(auto, unfolding(crate::specs::writes::Judged::write_of))]
 pub fn judge_write(blocks: &[u8], standing: Option<&Uuid>, real: &Real) -> Result<Write, CallFault>
     ensures { result ≡ write_of (option_map (λ uuid. uuid.now) standing.entry) real.now blocks.now }
@@ -24,7 +24,7 @@ pub fn judge_write(blocks: &[u8], standing: Option<&Uuid>, real: &Real) -> Resul
     }
 }
 
-/// What a request asks for, with these octets behind its header.
+/// Returns what a request asks for. `behind` is the octets after its header.
 #[tactic(auto, unfolding(crate::specs::writes::Judged::judged_request))]
 fn judge_request(
     standing: Option<&Uuid>,
@@ -34,7 +34,7 @@ fn judge_request(
 ) -> Result<Write, CallFault>
     ensures { result ≡ judged_request (option_map (λ uuid. uuid.now) standing.entry) real.now request.now behind.now }
 {
-    // Whose call it is comes first: nothing is told of a record to one without the relation.
+    // The relation is checked first: a caller without the relation learns nothing about records.
     check_target(standing, real, request)?;
     match check_record(real, request, behind) {
         Ok(effect) => Ok(Write {
@@ -45,7 +45,7 @@ fn judge_request(
     }
 }
 
-/// Whether a request names the relation that stands, API 0 and, where its index wants one, a submodule that is plugged in.
+/// Checks that a request names the active relation, API 0 and, if its index needs one, a submodule that is plugged.
 #[tactic(auto, unfolding(crate::specs::writes::Judged::targeted))]
 fn check_target(
     standing: Option<&Uuid>,
@@ -64,7 +64,7 @@ fn check_target(
     )
 }
 
-/// What a request at a proper place asks for, with these octets behind its header.
+/// Returns what a request with a valid place asks for. `behind` is the octets after its header.
 #[tactic(auto, unfolding(crate::specs::writes::Judged::written))]
 fn check_record(real: &Real, request: &IodWriteReq, behind: &[u8]) -> Result<Effect, CallFault>
     ensures { result ≡ written real.now request.now behind.now }
@@ -76,7 +76,8 @@ fn check_record(real: &Real, request: &IodWriteReq, behind: &[u8]) -> Result<Eff
     if is_read_only(request.header.index) {
         return Err(CallFault::Access);
     }
-    // Judged behind index and access, so that a wrong record is told as such even where its octets are missing.
+    // This comes after the checks of index and access, so that a wrong record is reported as such even if its octets are
+    // missing.
     if behind.len() < size {
         return Err(CallFault::WriteLength);
     }
@@ -86,7 +87,7 @@ fn check_record(real: &Real, request: &IodWriteReq, behind: &[u8]) -> Result<Eff
     }
 }
 
-/// Whether there is a record of this index where a request means it, at a proper place.
+/// Whether there is a record with this index at the valid place of the request.
 fn is_known(real: &Real, request: &IodWriteReq) -> bool
     ensures { result ≡ is_known real.now request.now }
 {
@@ -100,7 +101,7 @@ fn is_known(real: &Real, request: &IodWriteReq) -> bool
         || parameter_length(real, slot, subslot, index).is_some()
 }
 
-/// What a request asks for whose record is these octets, if they are a whole one.
+/// What a request with this record asks for, or `None` if the record is not whole.
 fn effect_of(real: &Real, request: &IodWriteReq, octets: &[u8]) -> Option<Effect>
     ensures { result ≡ effect_of real.now request.now octets.now }
 {
@@ -112,7 +113,7 @@ fn effect_of(real: &Real, request: &IodWriteReq, octets: &[u8]) -> Option<Effect
     }
 }
 
-/// The I&M text that a record is, if it is whole.
+/// The I&M text of a record, or `None` if the record is not whole.
 fn stored(index: u16, octets: &[u8]) -> Option<Effect>
     ensures { result ≡ stored index octets.now }
 {
@@ -122,7 +123,7 @@ fn stored(index: u16, octets: &[u8]) -> Option<Effect>
     }
 }
 
-/// The parameter record that is kept, if it is as long as the submodule takes it.
+/// The parameter record to store, or `None` if it does not have the length that the submodule requires.
 fn kept(real: &Real, request: &IodWriteReq, octets: &[u8]) -> Option<Effect>
     ensures { result ≡ kept real.now request.now octets.now }
 {

@@ -1,4 +1,4 @@
-//! The parameter records that a relation has taken.
+//! The parameter records that a relation has accepted.
 ghost use Rattle.std.specs.Prelude.{◌≡◌, [], IfErr, IfOk, Err, Ok};
 ghost use Rattle.records.specs.writes.Taken.{keep_of};
 
@@ -15,11 +15,12 @@ pub struct TakenRecord {
     pub subslot: u16,
     /// Index of the record.
     pub index: u16,
-    /// Its octets: as many as the submodule takes.
+    /// Its octets: as many as the submodule requires.
     pub value: ArrayVec<u8, 64>,
 }
 
-/// The parameter records that a relation has taken, in their order: at most 64. A record that is written again is there again.
+/// The parameter records that a relation has accepted, in their order: at most 64. A record that is written again is
+/// listed again.
 #[derive(Drop)]
 pub struct TakenRecords {
     records: ArrayVec<TakenRecord, 64>,
@@ -35,7 +36,7 @@ impl Model for TakenRecords {
 }
 
 impl TakenRecords {
-    /// None.
+    /// An empty list.
     pub fn new() -> Self
         ensures { result ≡ [] }
     {
@@ -44,30 +45,32 @@ impl TakenRecords {
         }
     }
 
-    /// Forgets them.
+    /// Removes all records.
     pub fn clear(&mut self)
         ensures { self.new ≡ [] }
     {
         self.records.clear();
     }
 
-    /// Keeps one more: TooManyRecords where 64 are kept already.
+    /// Appends a record. Fails with TooManyRecords if there are 64 already.
     #[tactic(auto, unfolding(crate::specs::writes::Taken::keep_of))]
     pub fn keep(&mut self, taken: TakenRecord) -> Result<(), CallFault>
-        // It comes behind the others,
+        // If the call succeeds, the record is appended to the others.
         ensures kept { IfOk result (λ _. keep_of taken self.old ≡ Ok self.new) }
-        // or it is refused, and they stay.
+        // If the call is refused, the fault is the one that the definition `keep_of` gives, and the records stay as they
+        // were.
         ensures refused { IfErr result (λ fault. (keep_of taken self.old ≡ Err fault) × (self.new ≡ self.old)) }
     {
         if self.records.is_full() {
             return Err(CallFault::TooManyRecords);
         }
-        // Also where the same record is there already: a parameter may be written twice, and both are shown in their order.
+        // This also holds if the same record is in the list: a parameter may be written twice, and both are listed in
+        // their order.
         self.records.push(taken);
         Ok(())
     }
 
-    /// Them, in the order in which they were taken.
+    /// The records, in the order in which they were accepted.
     pub fn as_slice(&self) -> &[TakenRecord]
         ensures { result.now ≡ self.now }
     {

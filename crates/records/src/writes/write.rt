@@ -2,20 +2,20 @@ use crate::writes::TakenRecord;
 use block_codec::IodWriteReq;
 use pn_values::ImValue;
 
-/// A Write that is to be carried out.
+/// A Write that passed all checks.
 #[derive(Drop)]
 pub struct Write {
-    /// Its header, which the answer repeats.
+    /// The header of the request, which the response repeats.
     pub request: IodWriteReq,
-    /// What it asks for.
+    /// The effect that it asks for.
     pub effect: Effect,
 }
 
-/// What a Write asks for.
+/// The effect that a Write asks for.
 #[derive(Drop)]
 pub enum Effect {
     /// An I&M text is stored.
     Stores(ImValue),
-    /// A parameter record is kept until the relation ends.
+    /// A parameter record is stored until the relation ends.
     Keeps(TakenRecord),
 }

@@ -1,7 +1,7 @@
--- The device that scripts are run on.
+-- The device on which scripts run.
 use Rattle.pn_values.specs.demo.Demo.{demo, demo_real}
 use Rattle.device_core.specs.State.{Station as Device}
 
--- the demo station
+-- The demo station.
 abbrev pub demo_device : Device
 demo_device = record { identity = demo; real = demo_real }

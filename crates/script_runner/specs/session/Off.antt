@@ -1,4 +1,5 @@
--- What a line does while there is no power, what it prints and leaves where power is lost in it, and what an order to the flash does.
+-- What a line does while the power is off, what it prints and leaves if power is lost in it, and what an order to the
+-- flash does.
 use Rattle.std.specs.Prelude.{◌≡◌, ℕ, Bool, true, false, List, [], ◌++◌, Option, Some, None, Result, Ok, Err, OnOk, ⊤}
 use Rattle.flash_model.specs.declared.flash.Order.{Order}
 use Rattle.configurator.specs.declared.fault.PlanFault.{PlanFault}
@@ -9,39 +10,41 @@ use Rattle.script_runner.specs.session.Ends.{Other, cleared}
 use Rattle.script_runner.specs.declared.session.power.Power.{Power}
 use Rattle.script_runner.specs.session.Power.{Held, IsArmed, IsBack, is_off, refusal_of}
 
--- What a line prints while there is no power, where it is no restart. None where it is refused: only for its length, or for a
--- byte that is not ASCII.
+-- What a line other than a restart prints while the power is off. None if the line is refused, which happens only for its
+-- length or for a byte that is not ASCII.
 abbrev pub off_text : Line → Option (List ℕ)
 off_text Unfit = None
 off_text Skipped = Some []
 off_text (Asks command) = Some off_line
 off_text Unknown = Some off_line
 
--- a line was heard while there is no power: it printed this, or it was refused, or memory was refused
+-- A line was run while the power was off: it printed this text, or it was refused, or memory was refused.
 abbrev pub PrintsOff : Option (List ℕ) → List ℕ → List ℕ → Result Bool PlanFault → Type 0
 PrintsOff text before now (Ok true) = (line : List ℕ) × (text ≡ Some line) × (now ≡ before ++ line)
 PrintsOff text before now (Ok false) = text ≡ None
 PrintsOff text before now (Err fault) = fault ≡ OutOfMemory
 
--- power was given back, no frame waits, and the start is told, or memory was refused
+-- Power was switched on again, no frame waits, and the result of the start is printed; or memory was refused.
 abbrev pub GivesBack : Held → Held → List ℕ → List ℕ → Result Bool PlanFault → Type 0
 GivesBack old new before now (Ok true) = IsBack old.power new.power × (new.other ≡ cleared old.other) × (now ≡ before ++ boot_line (refusal_of new.power))
 GivesBack old new before now (Ok false) = ⊥
 GivesBack old new before now (Err fault) = fault ≡ OutOfMemory
 
--- what taking a line does while there is no power: a restart gives it back, and no other line changes anything at either end
+-- What a line does while the power is off: a restart switches it on again, and no other line changes anything at either
+-- end.
 abbrev pub TakesOff : Line → Held → Held → List ℕ → List ℕ → Result Bool PlanFault → Type 0
 TakesOff (Asks Restart) old new before now result = GivesBack old new before now result
 TakesOff line old new before now result = (new ≡ old) × PrintsOff (off_text line) before now result
 
--- a line that is more than 'off' while there is no power: it is refused, is skipped, or gives the power back
+-- A line that gives more than 'off' while the power is off: it is refused, is skipped, or switches the power on again.
 abbrev pub is_heard_off : Line → Bool
 is_heard_off Unfit = true
 is_heard_off Skipped = true
 is_heard_off (Asks Restart) = true
 is_heard_off line = false
 
--- a command that hands something to the device, in which a call of its flash may fail: a frame, an input, an alarm, or what waits
+-- A command that hands something to the device, in which a call of its flash may fail: a frame, an input, an alarm, or
+-- the frames that wait.
 abbrev pub hands : Command → Bool
 hands (Frame bytes) = true
 hands Restart = false
@@ -56,15 +59,16 @@ hands (Give slot subslot bytes) = false
 hands Stop = false
 hands Deliver = true
 
--- a line that does
+-- A line that hands something to the device.
 abbrev pub is_handed : Line → Bool
 is_handed Unfit = false
 is_handed Skipped = false
 is_handed (Asks command) = hands command
 is_handed Unknown = false
 
--- what a line leaves at the other end where power is lost in it: all as it was. Of what waits for the device nothing waits any longer where
--- it was handed over, and its answers from before the loss wait for the controller, which has its plan and its state still.
+-- What a line leaves at the other end if power is lost in it: all as it was. If it handed over the frames that wait for
+-- the device, none of these waits any longer; the answers from before the loss wait for the controller, and the plan and
+-- the controller stay as they were.
 abbrev pub Delivers : Other → Other → Type 0
 Delivers old new = (new.plan ≡ old.plan) × (new.controller ≡ old.controller) × (new.to_device ≡ [])
 
@@ -76,19 +80,20 @@ abbrev pub LeavesBy : Line → Other → Other → Type 0
 LeavesBy (Asks command) old new = Leaves command old new
 LeavesBy line old new = ⊤
 
--- where power was there before, and is lost now, this was printed and nothing else, and the other end was left so, if there was memory
+-- If there was power before and there is none now, only this loss was printed and the other end was left like this,
+-- unless memory was refused.
 abbrev pub TellsLoss : {T E : Type 0} → Type 0 → Power → Power → List ℕ → List ℕ → Result T E → Type 0
 TellsLoss is_left old new before now result = is_off old ≡ false → is_off new ≡ true → OnOk result ((now ≡ before ++ lost_line) × is_left)
 
 -- ---- orders to the flash
 
--- an order was taken: it stands in the flash, nothing else changed at either end, and nothing is printed; or memory was refused, and nothing
--- happened
+-- An order is pending in the flash, nothing else changed at either end, and nothing is printed; or memory was refused,
+-- and nothing changed.
 abbrev pub Orders : Order → Held → Held → List ℕ → List ℕ → Result Bool PlanFault → Type 0
 Orders order old new before now (Ok is) = (is ≡ true) × IsArmed order old.power new.power × (new.other ≡ old.other) × (now ≡ before)
 Orders order old new before now (Err fault) = (fault ≡ OutOfMemory) × (new ≡ old) × (now ≡ before)
 
--- a line that is one, and not another
+-- The effect of a line that is an order to the flash; nothing is said of other lines.
 abbrev pub TakesOrder : Line → Held → Held → List ℕ → List ℕ → Result Bool PlanFault → Type 0
 TakesOrder (Asks (Arm order)) old new before now result = Orders order old new before now result
 TakesOrder line old new before now result = ⊤

@@ -17,7 +17,7 @@ use Rattle.script_runner.specs.declared.session.power.Power.TheVariants.{On, Off
 use Rattle.script_runner.specs.session.Demo.{demo_device}
 use Rattle.script_runner.specs.session.Ends.{Other, Station}
 
--- this station, over a flash whose calls do not fail, and none has
+-- This station runs over a flash whose calls do not fail, and none has failed.
 pub record Runs (station : Station) (device : State (MemoryFlash 4096)) : Type 0 where
   pub station_is : device.station ≡ station.device
   pub live_is : device.live ≡ station.live
@@ -25,37 +25,38 @@ pub record Runs (station : Station) (device : State (MemoryFlash 4096)) : Type 0
   pub unfailed : device.live.values.has_failed ≡ false
   pub left : LeftByDevice (image_of device.flash)
 
--- the device runs, in this state
+-- The device runs, in this state.
 abbrev pub IsRunning : Station → Power → Type 0
 IsRunning station (On device) = Runs station device
 IsRunning station (Off fault flash) = ⊥
 IsRunning station Away = ⊥
 
--- why the device did not start, if it did not
+-- The reason why the device did not start, if it did not start.
 abbrev pub refusal_of : Power → Option BootFault
 refusal_of (On device) = None
 refusal_of (Off fault flash) = Some fault
 refusal_of Away = None
 
--- whether there is no device that has power
+-- Whether there is no device with power.
 abbrev pub is_off : Power → Bool
 is_off (On device) = is_powerless device.flash
 is_off (Off fault flash) = true
 is_off Away = true
 
--- the demo device runs, whatever its settings, or its start was refused
+-- The demo device runs, with any settings, or its start was refused.
 abbrev pub IsDemo : Power → Type 0
 IsDemo (On device) = device.station ≡ demo_device
 IsDemo (Off fault flash) = Unit {0}
 IsDemo Away = ⊥
 
--- The same flash: no byte of it has changed, and what is armed against its program and erase calls is armed still. A read may have
--- spent an order to reads.
+-- The same flash: no byte of it has changed, and the orders against its program and erase calls are still armed. A read
+-- may have used up an order against reads.
 abbrev pub IsSameFlash : MemoryFlash 4096 → MemoryFlash 4096 → Type 0
 IsSameFlash old new = (image_of new ≡ image_of old) × (against_writes (armed_in new) ≡ against_writes (armed_in old))
 
--- The demo device was started over this flash, which is the same still: it runs what is stored, and nothing is left of an
--- earlier cycle; or its start was refused, for a cause of its own. A flash is foreign where it cannot be read.
+-- The demo device was started over this flash, which is still the same. It runs what is stored, and nothing of an earlier
+-- cycle remains; or its start was refused, for a reason that holds of the flash. The reason Foreign means that no journal
+-- of this layout left the flash.
 abbrev pub IsOver : MemoryFlash 4096 → Power → Type 0
 IsOver flash (On device) =
     IsDemo (On device) × (device.live ≡ started device.live.values.stored device.live.values.room)
@@ -64,20 +65,20 @@ IsOver flash (Off fault left) =
     HasBootCause fault (failures_of flash) (failures_of left) × (fault ≡ Foreign → IsForeign (image_of left)) × IsSameFlash flash left
 IsOver flash Away = ⊥
 
--- The flash was told this, and nothing else of the run changed.
+-- The flash was given this order, and nothing else of the run changed.
 abbrev pub IsArmed : Order → Power → Power → Type 0
 IsArmed order (On old) (On new) = (new.station ≡ old.station) × (new.live ≡ old.live) × IsAsked old.flash (Arms order ∷ []) new.flash
 IsArmed order (Off fault old) (Off still new) = (still ≡ fault) × IsAsked old (Arms order ∷ []) new
 IsArmed order Away Away = Unit {0}
 IsArmed order old new = ⊥
 
--- the flash has power again, and the demo device was started over it
+-- The flash has power again, and the demo device was started over it.
 abbrev pub IsBack : Power → Power → Type 0
 IsBack (On device) power = IsOver device.flash power
 IsBack (Off fault flash) power = IsOver flash power
 IsBack Away power = power ≡ Away
 
--- both ends, as a run holds them
+-- Both ends, as a run holds them.
 pub record Held : Type 0 where
   pub power : Power
   pub other : Other

@@ -1,4 +1,4 @@
--- What comes of a line: a command to the demo device, whose flash never fails, or to the other end.
+-- The effect of a line: a command to the demo device, whose flash never fails, or to the other end.
 use Rattle.std.specs.Prelude.{◌+◌, ℕ, Bool, true, false, List, [], ◌++◌, codes, length, replicate, take, Option, Some, None}
 use Rattle.std.specs.Str.Lines.{lines}
 use Rattle.arrayvec.specs.ArrayVec.{ArrayVec}
@@ -22,37 +22,38 @@ use Rattle.script_lines.specs.Line.{Command, Frame, Restart, Tick, Show, Arm, In
 use Rattle.script_lines.specs.Show.{shown, outputs_shown, controller_shown}
 use Rattle.script_lines.specs.Text.{boot_line, moved_line, note_line, printed}
 
--- the demo device, started from these settings
+-- The demo device, started from these settings.
 abbrev pub demo_started : Settings → ℕ → Station
 demo_started settings room = record { device = demo_device; live = started settings room }
 
--- what is at both ends after a line, and what the line prints
+-- Both ends after a line, and the text that the line prints.
 pub record Answer : Type 0 where
   pub network : Network
   pub text : List ℕ
 
--- a step of the device: a line for each frame that it sends, as long as there is no controller, and one for its note
+-- The answer to a step of the device: a line for each frame that it sends, as long as there is no controller, and one for
+-- its note.
 abbrev pub step_answer : Network → Stepped → Answer
 step_answer network step = record {
   network = with_ends (turned_to network.station step.live) (with_sent network.other step.frames);
   text = printed_for network.other.controller step.frames ++ note_line step.note;
 }
 
--- of more than 1,519 bytes the first 1,519 are handed in, which are refused alike
+-- The part of some bytes that is handed in: the first 1,519 of them, because longer frames are refused alike.
 abbrev pub handed : List ℕ → ArrayVec ℕ
 handed bytes = record { items = take 1519 bytes }
 
 abbrev pub event_answer : Network → Event → Answer
 event_answer network event = step_answer network (step_of [] network.station.device network.station.live event)
 
--- a restart starts the device from what is stored; no frame waits then, and the controller is as it was
+-- A restart starts the device from what is stored; no frame waits afterwards, and the controller is as it was.
 abbrev pub restart_answer : Network → Answer
 restart_answer network = record {
   network = with_ends (demo_started network.station.live.values.stored network.station.live.values.room) (cleared network.other);
   text = boot_line None;
 }
 
--- units of time at either end, and then the note
+-- Units of time at both ends, and then the note.
 abbrev pub tick_answer : Network → ℕ → Answer
 tick_answer network units =
     let run = device_run network.station (replicate units event.Tick) in
@@ -70,19 +71,19 @@ show_answer network =
           ++ (outputs_shown network.station.device.real live.rest.link ++ controller_shown network.other.controller);
     }
 
--- an order to the flash is none to either end
+-- An order to the flash changes nothing at either end.
 abbrev pub unchanged : Network → Answer
 unchanged network = record { network = network; text = [] }
 
--- ---- lines that a script may have at some times alone
+-- ---- lines that are valid only at some times
 
--- what comes of a line: it is answered, none that a script may have here, or a catalogue that has no plan
+-- The outcome of a line: it is answered, it is not valid here, or its catalogue has no plan.
 pub data Outcome : Type 0 where
   Answers : (answer : Answer) → Outcome
   Refuses : Outcome
   HasNoPlan : (catalogue : List ℕ) → Outcome
 
--- what is at the other end is this, and the line says what the controller is at
+-- The other end is now this one, and the line prints the state of the controller.
 abbrev pub at_other : Network → Other → Outcome
 at_other network other = Answers (record { network = with_ends network.station other; text = controller_shown other.controller })
 
@@ -98,11 +99,13 @@ abbrev pub heard_outcome : Network → ControllerEvent → Option Controlling �
 heard_outcome network event (Some controller) = at_other network (with_run network.other (controller_step controller event))
 heard_outcome network event None = Refuses
 
--- what waits for the device was handed over: it waits no longer, and what the device answered waits for the controller
+-- The frames that waited for the device were handed over: they wait no longer, and what the device sent waits for the
+-- controller.
 abbrev pub handed_over : Other → DeviceRun → Other
 handed_over other run = record other { to_device = []; to_controller = other.to_controller ++ run.frames }
 
--- what waits for the device is handed over, and then what then waits for the controller: also what the device answered
+-- The frames that wait for the device are handed over, and then those that wait for the controller, with the ones that
+-- the device just sent.
 abbrev pub deliver_answer : Network → Answer
 deliver_answer network =
     let run = device_run network.station (frames_for_device network.other.to_device) in
@@ -117,7 +120,7 @@ abbrev pub deliver_outcome : Network → Option Controlling → Outcome
 deliver_outcome network (Some controller) = Answers (deliver_answer network)
 deliver_outcome network None = Refuses
 
--- what a command does, by the plans of catalogues
+-- The outcome of a command, with the plans of catalogues.
 unfoldable pub said : (List ℕ → Option Parts) → Network → Command → Outcome
 said plans network (Frame bytes) = Answers (event_answer network (event.Frame (handed bytes)))
 said plans network Restart = Answers (restart_answer network)
@@ -132,14 +135,14 @@ said plans network (Give slot subslot bytes) = heard_outcome network (heard.Give
 said plans network Stop = heard_outcome network heard.Stop network.other.controller
 said plans network Deliver = deliver_outcome network network.other.controller
 
--- what comes of a line
+-- The outcome of a line.
 abbrev pub outcome_of : (List ℕ → Option Parts) → Network → Line → Outcome
 outcome_of plans network Skipped = Answers (unchanged network)
 outcome_of plans network (Asks command) = said plans network command
 outcome_of plans network Unfit = Refuses
 outcome_of plans network Unknown = Refuses
 
--- a command that orders a failure of the flash
+-- A command that orders a failure of the flash.
 abbrev pub arms : Command → Bool
 arms (Frame bytes) = false
 arms Restart = false
@@ -154,14 +157,14 @@ arms (Give slot subslot bytes) = false
 arms Stop = false
 arms Deliver = false
 
--- a line that does
+-- A line that orders a failure of the flash.
 abbrev pub is_order : Line → Bool
 is_order Unfit = false
 is_order Skipped = false
 is_order (Asks command) = arms command
 is_order Unknown = false
 
--- the demo device as it leaves the factory, and nobody at the other end
+-- The demo device with the factory settings.
 abbrev pub factory_device : Station
 factory_device = demo_started factory_settings (capacity 4096)
 

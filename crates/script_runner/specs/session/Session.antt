@@ -1,4 +1,4 @@
--- What a line does to both ends, and what it prints.
+-- The effect of a line at both ends, and the text that it prints.
 use Rattle.std.specs.Prelude.{◌≡◌, ◌⊎◌, ℕ, Bool, true, false, List, ◌++◌, length, Option, Result, Ok, Err}
 use Rattle.arrayvec.specs.ArrayVec.{ArrayVec}
 use Rattle.flash_model.specs.declared.memory.MemoryFlash.{MemoryFlash}
@@ -14,70 +14,71 @@ use Rattle.script_runner.specs.session.Ends.{DeviceRun, IsRightFor, Network, Oth
 use Rattle.script_runner.specs.session.Power.{Held, IsRunning, Runs}
 use Rattle.script_runner.specs.session.Said.{Answer, Outcome, Answers, Refuses, HasNoPlan, handed_over}
 
--- both ends are as this says
+-- Both ends are as the network says.
 abbrev pub Are : Network → Held → Type 0
 Are network held = IsRunning network.station held.power × (held.other ≡ network.other)
 
--- what plan the catalogue of a line has is known here, if it has one
+-- The table of plans is right for the catalogue of a line, if it has one.
 abbrev pub AreRightFor : (List ℕ → Option Parts) → Line → Type 0
 AreRightFor plans (Asks (Config catalogue)) = IsRightFor plans catalogue
 AreRightFor plans line = Unit {0}
 
--- a command was obeyed: both ends are as the answer says, and its text is rendered
+-- A command was carried out: both ends are as the answer says, and its text is rendered.
 pub record IsObeyed (answer : Answer) (held : Held) (before now : List ℕ) : Type 0 where
   pub runs : IsRunning answer.network.station held.power
   pub waits : held.other ≡ answer.network.other
   pub text : now ≡ before ++ answer.text
 
--- the same of what comes of a command, and whether it is one that a script may have here
+-- The outcome of a command as its effect, and whether the command is valid here.
 abbrev pub Comes : Outcome → Held → List ℕ → List ℕ → Bool → Type 0
 Comes (Answers answer) held before now is = (is ≡ true) × IsObeyed answer held before now
 Comes Refuses held before now is = is ≡ false
 Comes (HasNoPlan catalogue) held before now is = ⊥
 
--- what comes of a line is that its catalogue has no plan, for this fault
+-- The outcome of a line is that its catalogue has no plan, for this fault.
 abbrev pub IsWithoutPlan : Outcome → PlanFault → Type 0
 IsWithoutPlan (HasNoPlan catalogue) fault = IsRefused catalogue fault
 IsWithoutPlan (Answers answer) fault = ⊥
 IsWithoutPlan Refuses fault = ⊥
 
--- what obeying does, by what comes of a line: it is answered or refused, its catalogue has no plan, or memory was refused
+-- The effect of a line by its outcome: it is answered or refused, its catalogue has no plan, or memory was refused.
 abbrev pub Obeys : Outcome → Held → List ℕ → List ℕ → Result Bool PlanFault → Type 0
 Obeys outcome held before now (Ok is) = Comes outcome held before now is
 Obeys outcome held before now (Err fault) = (fault ≡ OutOfMemory) ⊎ IsWithoutPlan outcome fault
 
 -- ---- steps of the device
 
--- a step was made: the device runs on, and this is what it sends and what became of the event
+-- A step was made: the device runs on, the outbox holds the frames that it sends, and the note is the result of the
+-- event.
 pub record IsStepped (station : Station) (step : Stepped) (device : State (MemoryFlash 4096)) (outbox : ArrayVec (ArrayVec ℕ)) (note : Note) : Type 0 where
   pub runs : Runs (turned_to station step.live) device
   pub frames : octets_of outbox.items ≡ step.frames
   pub note_is : note ≡ step.note
 
--- a step was made: the device runs on, and what it sent is rendered or waits
+-- A step was made: the device runs on, and the frames that it sent are rendered or wait.
 pub record IsTurned (station : Station) (step : Stepped) (device : State (MemoryFlash 4096)) (far other : Other) (before now : List ℕ) : Type 0 where
   pub runs : Runs (turned_to station step.live) device
   pub waits : other ≡ with_sent far step.frames
   pub text : now ≡ before ++ printed_for far.controller step.frames
 
--- the same of some steps
+-- Several steps were made: the device runs on, and the frames that it sent are rendered or wait.
 pub record IsRunOf (run : DeviceRun) (device : State (MemoryFlash 4096)) (far other : Other) (before now : List ℕ) : Type 0 where
   pub runs : Runs run.station device
   pub waits : other ≡ with_sent far run.frames
   pub text : now ≡ before ++ printed_for far.controller run.frames
 
--- frames were handed over to the device: it runs on, and what it sent waits behind what waited
+-- Frames were handed to the device: it runs on, and what it sent waits after the frames that waited already.
 pub record IsHandedTo (run : DeviceRun) (device : State (MemoryFlash 4096)) (before now : List (ArrayVec ℕ)) : Type 0 where
   pub runs : Runs run.station device
   pub waits : octets_of now ≡ octets_of before ++ run.frames
 
--- all that waited for it was
+-- All frames that waited for the device were handed to it.
 pub record IsHandedOver (run : DeviceRun) (device : State (MemoryFlash 4096)) (far other : Other) (moved : ℕ) : Type 0 where
   pub runs : Runs run.station device
   pub waits : other ≡ handed_over far run
   pub moved_is : moved ≡ length far.to_device
 
--- the device did this: it runs on, the other end is as the answer says, and its text is rendered
+-- The device carried this out: it runs on, the other end is as the answer says, and its text is rendered.
 pub record IsDone (answer : Answer) (device : State (MemoryFlash 4096)) (other : Other) (before now : List ℕ) : Type 0 where
   pub runs : Runs answer.network.station device
   pub waits : other ≡ answer.network.other

@@ -1,4 +1,4 @@
-// What comes of a line at both ends.
+// The effect of a line at both ends.
 ghost use Rattle.std.specs.Prelude.{◌≡◌, ◌++◌, [], true, OnOk, replicate};
 ghost use Rattle.flash_model.specs.Memory.{is_powerless};
 ghost use Rattle.device_frames.specs.declared.event.Event.TheVariants as event;
@@ -19,8 +19,8 @@ use frame_codec::Outbox;
 use script_lines::render;
 use std::alloc::AllocError;
 
-/// Makes a step of the device, and renders what became of the event, or that power was lost. What the device sends is rendered or,
-/// once there is a controller, waits for it.
+/// Makes a step of the device, and renders the result of the event, or that power was lost. The frames that the device
+/// sends are rendered, or wait for the controller once there is one.
 pub(crate) fn respond(
     device: &mut DemoDevice<'_>,
     event: &Event,
@@ -49,7 +49,7 @@ fn lost(text: &mut Vec<u8>) -> Result<(), AllocError>
     text.extend_from_slice(b"power lost\n")
 }
 
-/// Lets a unit of time go by at the device.
+/// Lets a unit of time pass at the device.
 fn tick(
     device: &mut DemoDevice<'_>,
     outbox: &mut Outbox,
@@ -65,7 +65,7 @@ fn tick(
     other.send(outbox.as_slice(), text)
 }
 
-/// Lets units of time go by at the device.
+/// Lets units of time pass at the device.
 pub(crate) fn ticks(
     device: &mut DemoDevice<'_>,
     units: u32,
@@ -86,7 +86,8 @@ pub(crate) fn ticks(
     Ok(())
 }
 
-/// Hands over what waits at either end, and renders how much that was and what the controller is at, or that power was lost.
+/// Hands over the frames that wait at either end, and renders how many they were and the state of the controller, or that
+/// power was lost.
 pub(crate) fn exchange(
     device: &mut DemoDevice<'_>,
     outbox: &mut Outbox,

@@ -2,7 +2,7 @@ ghost use Rattle.std.specs.Prelude.{◌≡◌, ◌≤◌, length};
 
 use arrayvec::ArrayVec;
 
-/// A list of these bytes, which fit it.
+/// A list of these bytes. There must be at most `N`.
 pub(crate) fn copied<const N: usize>(bytes: &[u8]) -> ArrayVec<u8, N>
     requires { length bytes.now ≤ N }
     ensures { result ≡ record { items = bytes.now } }

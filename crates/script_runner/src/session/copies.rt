@@ -1,4 +1,4 @@
-// Copies of a plan, which takes no memory: a later controller is given the same one.
+// Copies of a plan, which need no memory: each later controller gets the same plan.
 ghost use Rattle.std.specs.Prelude.{◌≡◌, ◌≤◌, length};
 
 use crate::session::bytes::copied;
@@ -6,7 +6,7 @@ use arrayvec::ArrayVec;
 use plans::{Controller, Parts, Plan, PlanRecord, Station};
 use pn_values::{Real, RealModule, RealSubmodule};
 
-/// The same plan.
+/// A copy of the plan.
 pub(crate) fn plan_copy(plan: &Plan) -> Plan
     ensures { result ≡ plan.now }
 {

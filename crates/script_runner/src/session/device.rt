@@ -16,7 +16,8 @@ use frame_codec::{Frame, Outbox};
 use std::alloc::AllocError;
 use wire::at_most;
 
-/// Makes the event of bytes that come from the network, in the room of the last one. At most 1,519 of them: no frame is so long.
+/// Makes the event of bytes that come from the network, in place of the last event. At most the first 1,519 bytes count,
+/// because no frame is that long.
 pub(crate) fn receive(received: &mut Event, bytes: &[u8])
     ensures { received.new ≡ event.Frame (handed bytes.now) }
 {
@@ -41,7 +42,7 @@ pub(crate) fn step(device: &mut DemoDevice<'_>, event: &Event, outbox: &mut Outb
     device.step(event, outbox)
 }
 
-/// Hands frames over to the device, until power is lost. What it sends waits for the controller.
+/// Hands frames to the device, until power is lost. What the device sends waits for the controller.
 pub(crate) fn hand_over(
     device: &mut DemoDevice<'_>,
     frames: &[Frame],

@@ -1,11 +1,13 @@
-//! What holds of catalogues and their plans.
+//! Facts about catalogues and their plans.
 ghost use Rattle.script_runner.specs.session.Ends.{KnowsThePlan, KnowsTheRefusal};
 
-/// What plan a catalogue has is known by its plan, or by why it is refused: laws of the configurator's definitions, and no code. So the
-/// tables of plans of which `Session::take` speaks are those that the configurator makes.
+/// The plan of a catalogue is known from its plan, or from the reason why it is refused. Laws about the configurator's
+/// definitions; they have no code. By these laws the tables of plans in the contract of `Session::take` are those that
+/// the configurator makes.
 pub fn plans_are_known()
-    // A table that has a plan of a catalogue is right for it.
+    // A table of plans that has the plan of a catalogue is right for that catalogue.
     ensures planned { KnowsThePlan }
-    // So is one that has none for a catalogue which is refused, and not for want of memory.
+    // A table of plans that has no plan for a catalogue is right for it, if the catalogue is refused for another cause
+    // than missing memory.
     ensures refused { KnowsTheRefusal }
 {}

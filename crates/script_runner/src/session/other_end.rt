@@ -1,4 +1,4 @@
-// The other end of the wire: the controller, and what waits between the two ends.
+// The other end of the wire: the controller, and the frames that wait between the two ends.
 ghost use Rattle.std.specs.Prelude.{◌≡◌, ◌++◌, OnOk, IfOk, replicate};
 ghost use Rattle.controller_core.specs.Machine.{step_of};
 ghost use Rattle.controller_core.specs.declared.event.Event.TheVariants as event;
@@ -22,8 +22,8 @@ use std::alloc::{AllocError, Global};
 use std::marker::Model;
 use uuid::Uuid;
 
-/// The other end of the wire: the plan that the next controller gets, the controller, once there is one, and the frames that wait
-/// at either end. A clause sees these four.
+/// The other end of the wire: the plan of the next controller, the controller once there is one, and the frames that wait
+/// at either end. In clauses it is these four.
 #[derive(Drop)]
 pub(crate) struct OtherEnd {
     alloc: Global,
@@ -52,7 +52,7 @@ impl OtherEnd {
     ghost use Rattle.script_lines.specs.Show.{controller_shown};
     ghost use Rattle.script_runner.specs.session.Ends.{Hears, Plans, Starts, arrived_at, cleared, nobody, printed_for, ticked_by, with_sent};
 
-    /// Nobody, before a catalogue was read.
+    /// The other end before a catalogue was read: no plan, no controller and no frames.
     pub(crate) fn new(alloc: Global) -> OtherEnd
         ensures { result ≡ nobody }
     {
@@ -81,7 +81,7 @@ impl OtherEnd {
         self.controller.is_some()
     }
 
-    /// Says what the controller is at, if there is one.
+    /// Appends the state of the controller, if there is one.
     pub(crate) fn show(&self, text: &mut Vec<u8>) -> Result<(), AllocError>
         ensures { OnOk result (text.new.items ≡ text.old.items ++ controller_shown self.now.controller) }
     {
@@ -91,7 +91,7 @@ impl OtherEnd {
         }
     }
 
-    /// Prints frames that the device sends, or has them wait once there is a controller.
+    /// Prints the frames that the device sends, or lets them wait once there is a controller.
     pub(crate) fn send(&mut self, frames: &[Frame], text: &mut Vec<u8>) -> Result<(), AllocError>
         ensures { OnOk result ((self.new ≡ with_sent self.old (octets_of frames.now))
             × (text.new.items ≡ text.old.items ++ printed_for self.old.controller (octets_of frames.now))) }
@@ -110,8 +110,8 @@ impl OtherEnd {
         Ok(())
     }
 
-    /// Puts a controller of the plan in the place of the one that was. Its first request waits behind what waits already. Says
-    /// whether there is a plan.
+    /// Replaces the controller by a new one with the plan. Its first request waits after the frames that wait already.
+    /// Returns whether there is a plan.
     pub(crate) fn start(&mut self, ar: Uuid, activity: Uuid) -> Result<bool, AllocError>
         ensures { IfOk result (Starts self.old.plan self.old ar activity self.new) }
     {
@@ -124,7 +124,7 @@ impl OtherEnd {
         Ok(true)
     }
 
-    /// Has the controller take an event. What it sends waits. Says whether there is a controller.
+    /// Hands an event to the controller. What it sends waits. Returns whether there is a controller.
     pub(crate) fn take(&mut self, event: &Event) -> Result<bool, AllocError>
         ensures { IfOk result (Hears self.old.controller self.old event.now self.new) }
     {
@@ -135,8 +135,8 @@ impl OtherEnd {
         Ok(true)
     }
 
-    /// Hands what waits for the device over to it, in order, unless power is lost. What it answers waits for the controller. Says how
-    /// many frames waited.
+    /// Hands the frames that wait for the device to it, in order, unless power is lost. What it sends waits for the
+    /// controller. Returns how many frames waited.
     pub(crate) fn hand_over(
         &mut self,
         device: &mut DemoDevice<'_>,
@@ -159,7 +159,8 @@ impl OtherEnd {
         Ok(moved)
     }
 
-    /// Hands what waits for the controller over to it, in order, if there is one. What it sends waits. Says how many frames waited.
+    /// Hands the frames that wait for the controller to it, in order, if there is one. What it sends waits. Returns how
+    /// many frames waited.
     pub(crate) fn deliver(&mut self) -> Result<usize, AllocError>
         ensures { IfOk result (λ moved. (moved ≡ length self.old.to_controller) × (self.new ≡ arrived_at self.old.controller self.old)) }
     {
@@ -177,7 +178,7 @@ impl OtherEnd {
         Ok(moved)
     }
 
-    /// Lets units of time go by at the controller, if there is one.
+    /// Lets units of time pass at the controller, if there is one.
     pub(crate) fn ticks(&mut self, units: u32) -> Result<(), AllocError>
         ensures { OnOk result (self.new ≡ ticked_by self.old.controller self.old units) }
     {
@@ -201,7 +202,7 @@ fn step(
     append(outbox.as_slice(), to_device)
 }
 
-/// Makes a step for each of some units of time.
+/// Makes a step for each of `units` units of time.
 fn ticks(
     controller: &mut Controller,
     units: u32,
@@ -219,7 +220,7 @@ fn ticks(
     Ok(())
 }
 
-/// Hands frames over to the controller.
+/// Hands frames to the controller.
 fn hear(
     controller: &mut Controller,
     frames: &[Frame],

@@ -17,7 +17,7 @@ pub(crate) fn outputs(device: &DemoDevice<'_>, text: &mut Vec<u8>) -> Result<(),
     Ok(())
 }
 
-/// Those of a module.
+/// The outputs of a module.
 fn module_outputs(
     device: &DemoDevice<'_>,
     entry: &RealModule,
@@ -31,7 +31,7 @@ fn module_outputs(
     Ok(())
 }
 
-/// That of a submodule, if it has one.
+/// The output of a submodule, if it has one.
 fn part_output(
     device: &DemoDevice<'_>,
     slot: u16,

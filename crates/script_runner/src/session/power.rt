@@ -9,18 +9,18 @@ use device_core::Device;
 use flash_model::{Flash, Lent, MemoryFlash};
 use settings_journal::BootFault;
 
-/// The flash of the demo device, which is lent to it: it is large, and stays where it is.
+/// The flash of the demo device. The device borrows it: it is large, and is not moved.
 pub(crate) type DemoFlash<'a> = Lent<'a, MemoryFlash<4096>>;
 
 /// The demo device.
 pub(crate) type DemoDevice<'a> = Device<DemoFlash<'a>, 4096>;
 
-/// The demo device as it runs, or why it did not start and what its flash holds.
+/// The running demo device, or why it did not start and the flash that it left.
 #[derive(Drop)]
 pub(crate) enum Power<'a> {
     On(DemoDevice<'a>),
     Off(BootFault, DemoFlash<'a>),
-    /// In the middle of a restart: the flash is with what starts it.
+    /// In the middle of a restart: the flash is passed to the start.
     Away,
 }
 
@@ -29,7 +29,7 @@ impl<'a> Power<'a> {
     ghost use Rattle.script_runner.specs.session.Said.{demo_started, factory_device};
     ghost use Rattle.script_runner.specs.session.Power.{IsRunning, IsBack, IsOver, is_off, refusal_of};
 
-    /// Starts the device from what a flash keeps.
+    /// Starts the device from the content of a flash.
     pub(crate) fn start(flash: DemoFlash<'a>) -> Power<'a>
         ensures stored { (settings : Settings) (room : ℕ) → IsReliable flash.entry → LeftByDevice (image_of flash.entry) →
             StartsWith (image_of flash.entry) settings room →
@@ -44,7 +44,7 @@ impl<'a> Power<'a> {
         }
     }
 
-    /// Takes the device's power away, and gives it back.
+    /// Switches the device's power off and on again.
     pub(crate) fn restart(self) -> Power<'a>
         ensures runs { (station : Station) → IsRunning station self.entry →
             IsRunning (demo_started station.live.values.stored station.live.values.room) result }
@@ -52,7 +52,7 @@ impl<'a> Power<'a> {
     {
         match self {
             Power::On(device) => {
-                // What is stored is what the flash holds.
+                // The flash holds what is stored.
                 let _ = device.stored();
                 Power::with_power(device.into_flash())
             }
@@ -61,7 +61,7 @@ impl<'a> Power<'a> {
         }
     }
 
-    /// Gives a flash its power back, and starts the device. An order that is pending stays armed.
+    /// Switches the power of a flash on again, and starts the device. A pending order stays armed.
     fn with_power(flash: DemoFlash<'a>) -> Power<'a>
         ensures runs { (settings : Settings) (room : ℕ) → IsReliable flash.entry → LeftByDevice (image_of flash.entry) →
             StartsWith (image_of flash.entry) settings room →
@@ -83,7 +83,7 @@ impl<'a> Power<'a> {
         }
     }
 
-    /// Why the device did not start, if it did not.
+    /// The reason why the device did not start, or `None` if it started.
     pub(crate) fn refusal(&self) -> Option<BootFault>
         ensures { result ≡ refusal_of self.now }
     {

@@ -1,4 +1,4 @@
-//! What a run holds from line to line.
+//! The state of a run from line to line.
 ghost use Rattle.std.specs.Prelude.{◌≡◌, ◌++◌, IfOk, IsErr, MatchResult, OnOk, Ok, true};
 ghost use Rattle.controller_core.specs.declared.event.Event.TheVariants as heard;
 ghost use Rattle.device_frames.specs.declared.event.Event.TheVariants as event;
@@ -28,8 +28,8 @@ use std::mem;
 use uuid::Uuid;
 use wire::at_most;
 
-/// A run between two lines: the device, the other end, the last event that came from the network, and the frames that the device
-/// sends at a time. A clause sees both ends.
+/// A run between two lines: the device, the other end, the last event that came from the network, and the frames of one
+/// step of the device. In clauses it is both ends.
 #[derive(Drop)]
 pub struct Session<'a> {
     power: Power<'a>,
@@ -62,7 +62,7 @@ impl<'a> Session<'a> {
     ghost use Rattle.script_runner.specs.session.Session.{Are, AreRightFor, Comes, Obeys};
     ghost use Rattle.script_runner.specs.session.Off.{Delivers, GivesBack, Leaves, LeavesBy, Orders, TakesOff, TakesOrder, hands, is_handed};
 
-    /// The demo device over this flash, as it starts, and nobody at the other end.
+    /// The demo device over this flash, as it starts, and an empty other end.
     pub fn new(alloc: Global, flash: &'a mut MemoryFlash<4096>) -> Session<'a>
         ensures runs { IsReliable flash.old → image_of flash.old ≡ record { first = erased 4096; second = erased 4096 } →
             IsRunning factory_device result.power }
@@ -76,30 +76,36 @@ impl<'a> Session<'a> {
         }
     }
 
-    /// Takes a line of the script, and appends what it prints to a text. Says whether it is a line that a script may have here. `buffer`
-    /// is for the bytes that the line spells. A line fails where its catalogue has no plan, or for want of memory.
+    /// Runs a line of the script, and appends what it prints to `text`. Returns whether the line is valid here. `buffer`
+    /// holds the bytes that the line spells. Fails if the catalogue of the line has no plan, or if there is no memory.
     pub fn take(
         &mut self,
         line: &[u8],
         buffer: &mut Vec<u8>,
         text: &mut Vec<u8>,
     ) -> Result<bool, PlanFault>
-        // Both ends become what the line makes of them, and its text is printed, where the flash does not fail.
+        // If the device runs over a reliable flash of which no call has failed, the line is not an order to the flash and
+        // the table of plans is right for its catalogue: a line that `outcome_of` answers has the effect and the text of
+        // that answer, one that it refuses returns false, and a catalogue without a plan fails with its fault, unless
+        // memory is refused.
         ensures takes { (plans : List ℕ → Option Parts) (network : Network) → AreRightFor plans (meaning_of line.now) →
             Are network self.old → is_order (meaning_of line.now) ≡ false →
             Obeys (outcome_of plans network (meaning_of line.now)) self.new text.old.items text.new.items result }
-        // While there is no power a line does nothing but a restart.
+        // While the power is off, a restart switches it on again unless memory is refused, and no other line changes
+        // anything at either end.
         ensures off { is_off self.old.power ≡ true → TakesOff (meaning_of line.now) self.old self.new text.old.items text.new.items result }
-        // Where power is lost as something is handed to the device, that alone is printed, and no time goes by at the other end.
+        // If power is lost while a line hands something to the device, and the call succeeds, only the loss is printed,
+        // and the plan and the controller at the other end stay as they were.
         ensures lost { is_handed (meaning_of line.now) ≡ true →
             TellsLoss (LeavesBy (meaning_of line.now) self.old.other self.new.other) self.old.power self.new.power text.old.items
             text.new.items result }
-        // An order to the flash stands there, and changes nothing else; it prints nothing.
+        // While the power is on, an order to the flash becomes pending, changes nothing else and prints nothing, or
+        // memory was refused.
         ensures ordered { is_off self.old.power ≡ false →
             TakesOrder (meaning_of line.now) self.old self.new text.old.items text.new.items result }
         ensures demo { IsDemo self.old.power → IsDemo self.new.power }
     {
-        // An empty line asks for nothing, and nothing is made for it.
+        // An empty line has no command, and needs no memory.
         if line.is_empty() {
             return Ok(true);
         }
@@ -119,8 +125,8 @@ impl<'a> Session<'a> {
         }
     }
 
-    /// Does what a command asks for, and renders what it prints. Says whether it is one that a script may have here. It stands in `take`
-    /// where that is called: what the commands keep on the stack, a plan among it, is more than a page, which each call would touch.
+    /// Carries out a command, and renders what it prints. Returns whether it is valid here. It is inlined into `take`:
+    /// the commands keep more than a page on the stack, a plan among it, and each call would touch that.
     #[inline(always)]
     #[tactic(auto, using(crate::proofs::SessionObeying::always_obeys, crate::proofs::SessionObeying::if_there_obeys, crate::proofs::SessionObeying::always_tells, crate::proofs::SessionObeying::if_there_tells), unfolding(crate::specs::session::Said::said))]
     fn answer(&mut self, command: Command<'_>, text: &mut Vec<u8>) -> Result<bool, PlanFault>
@@ -156,7 +162,8 @@ impl<'a> Session<'a> {
         }
     }
 
-    /// Hands bytes to the device, as from the network, at most 1,519 of them: no frame is so long.
+    /// Hands bytes to the device, as if from the network. At most the first 1,519 bytes count, because no frame is that
+    /// long.
     fn hand_in(&mut self, bytes: &[u8], text: &mut Vec<u8>) -> Result<(), AllocError>
         ensures obeys { (network : Network) → Are network self.old →
             OnOk result (IsObeyed (event_answer network (event.Frame (handed bytes.now))) self.new text.old.items text.new.items) }
@@ -173,7 +180,7 @@ impl<'a> Session<'a> {
         )
     }
 
-    /// Gives a submodule its input.
+    /// Sets the input of a submodule.
     fn give(
         &mut self,
         slot: u16,
@@ -221,7 +228,7 @@ impl<'a> Session<'a> {
         )
     }
 
-    /// Takes the device's power away, and gives it back. Frames that wait are lost with it.
+    /// Switches the device's power off and on again. The frames that wait are lost.
     fn restart(&mut self, text: &mut Vec<u8>) -> Result<(), AllocError>
         ensures obeys { (network : Network) → Are network self.old →
             OnOk result (IsObeyed (restart_answer network) self.new text.old.items text.new.items) }
@@ -235,7 +242,7 @@ impl<'a> Session<'a> {
         render::boot(self.power.refusal(), text)
     }
 
-    /// Lets units of time go by at either end.
+    /// Lets units of time pass at both ends.
     fn tick(&mut self, units: u32, text: &mut Vec<u8>) -> Result<(), AllocError>
         ensures obeys { (network : Network) → Are network self.old →
             OnOk result (IsObeyed (tick_answer network units) self.new text.old.items text.new.items) }
@@ -251,7 +258,7 @@ impl<'a> Session<'a> {
         }
     }
 
-    /// Shows the settings, the relation, the lamp, the outputs and, where there is one, what the controller is at.
+    /// Shows the settings, the relation, the lamp, the outputs and, if there is a controller, its state.
     fn show(&self, text: &mut Vec<u8>) -> Result<(), AllocError>
         ensures { (network : Network) → Are network self.now →
             OnOk result (IsObeyed (show_answer network) self.now text.old.items text.new.items) }
@@ -267,7 +274,7 @@ impl<'a> Session<'a> {
         }
     }
 
-    /// Tells the flash what to do to a later call.
+    /// Orders the flash to fail at a later call.
     fn arm(&mut self, order: Order)
         ensures armed { IsArmed order self.old.power self.new.power }
         ensures other { self.new.other ≡ self.old.other }
@@ -290,7 +297,7 @@ impl<'a> Session<'a> {
         always(text.extend_from_slice(b"plan ok\n"))
     }
 
-    /// Puts a controller at the other end. Says whether there is a plan for it.
+    /// Starts a controller at the other end. Returns whether there is a plan for it.
     fn start(&mut self, ar: Uuid, activity: Uuid, text: &mut Vec<u8>) -> Result<bool, AllocError>
         ensures obeys { (network : Network) → Are network self.old →
             IfOk result (Comes (start_outcome network ar activity network.other.plan) self.new text.old.items text.new.items) }
@@ -303,7 +310,7 @@ impl<'a> Session<'a> {
         Ok(true)
     }
 
-    /// Gives the controller's output to a submodule. Says whether there is a controller.
+    /// Sets the controller's output for a submodule. Returns whether there is a controller.
     #[inline(never)]
     fn give_output(
         &mut self,
@@ -320,7 +327,7 @@ impl<'a> Session<'a> {
         self.hear(&output(slot, subslot, bytes), text)
     }
 
-    /// Has the controller end the relation. Says whether there is a controller.
+    /// Makes the controller end the relation. Returns whether there is a controller.
     #[inline(never)]
     fn stop(&mut self, text: &mut Vec<u8>) -> Result<bool, AllocError>
         ensures obeys { (network : Network) → Are network self.old →
@@ -330,7 +337,7 @@ impl<'a> Session<'a> {
         self.hear(&ControllerEvent::Stop, text)
     }
 
-    /// Has the controller take an event of its application. Says whether there is a controller.
+    /// Hands an event of its application to the controller. Returns whether there is a controller.
     fn hear(&mut self, event: &ControllerEvent, text: &mut Vec<u8>) -> Result<bool, AllocError>
         ensures obeys { (network : Network) → Are network self.old →
             IfOk result (Comes (heard_outcome network event.now network.other.controller) self.new text.old.items text.new.items) }
@@ -343,7 +350,8 @@ impl<'a> Session<'a> {
         Ok(true)
     }
 
-    /// Hands over what waits for the device, and then what waits for the controller. Says whether there is a controller.
+    /// Hands over the frames that wait for the device, and then those that wait for the controller. Returns whether there
+    /// is a controller.
     fn deliver(&mut self, text: &mut Vec<u8>) -> Result<bool, AllocError>
         ensures obeys { (network : Network) → Are network self.old →
             IfOk result (Comes (deliver_outcome network network.other.controller) self.new text.old.items text.new.items) }
@@ -357,7 +365,7 @@ impl<'a> Session<'a> {
         Ok(true)
     }
 
-    /// Hands over what waits at either end.
+    /// Hands over the frames that wait at both ends.
     fn hand_over(&mut self, text: &mut Vec<u8>) -> Result<(), AllocError>
         ensures obeys { (network : Network) → Are network self.old →
             OnOk result (IsObeyed (deliver_answer network) self.new text.old.items text.new.items) }
@@ -371,7 +379,7 @@ impl<'a> Session<'a> {
     }
 }
 
-/// Has the device, where there is one, answer an event.
+/// Hands an event to the device, if it runs.
 fn answered(
     power: &mut Power<'_>,
     event: &Event,
@@ -391,7 +399,7 @@ fn answered(
     }
 }
 
-/// The result of what a script may have at any time.
+/// The result for a line that is valid at any time.
 fn always(done: Result<(), AllocError>) -> Result<bool, PlanFault>
     ensures { MatchResult result (λ is. (is ≡ true) × (done ≡ Ok tt)) (λ fault. (fault ≡ plan_fault.OutOfMemory) × IsErr done) }
 {
@@ -401,7 +409,7 @@ fn always(done: Result<(), AllocError>) -> Result<bool, PlanFault>
     }
 }
 
-/// The same of what a script may have where something is there.
+/// The result for a line that is valid only if there is a plan or a controller.
 fn if_there(is: Result<bool, AllocError>) -> Result<bool, PlanFault>
     ensures { MatchResult result (λ there. is ≡ Ok there) (λ fault. (fault ≡ plan_fault.OutOfMemory) × IsErr is) }
 {
@@ -411,22 +419,23 @@ fn if_there(is: Result<bool, AllocError>) -> Result<bool, PlanFault>
     }
 }
 
-/// The event of an output that is given.
+/// The event of an output that is set.
 fn output(slot: u16, subslot: u16, bytes: &[u8]) -> ControllerEvent
     ensures { result ≡ heard.Give slot subslot (handed bytes.now) }
 {
     ControllerEvent::Give(slot, subslot, handed(bytes))
 }
 
-/// What is handed over of some bytes, at most 1,519 of them: no frame, input, output or alarm is so long.
+/// The part of some bytes that is handed over: at most the first 1,519, because no frame, input, output or alarm is that
+/// long.
 fn handed(bytes: &[u8]) -> Bytes
     ensures { result ≡ handed bytes.now }
 {
     copied(at_most(bytes, 1519))
 }
 
-/// Whether a line is more than `off` while there is no power: it is skipped, is none that a script may have, or gives
-/// the power back.
+/// Whether a line gives more than `off` while the power is off: it is skipped, is not a valid script line, or switches
+/// the power on again.
 fn is_heard_without_power(line: &Line<'_>) -> bool
     ensures { result ≡ is_heard_off (line_read line.now) }
 {

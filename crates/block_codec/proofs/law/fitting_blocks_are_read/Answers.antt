@@ -1,4 +1,4 @@
--- By the proofs of the formats.
+-- The proof uses that the formats are sound.
 use Rattle.block_codec.proofs.Fitting.{long, read}
 use Rattle.block_codec.proofs.law.fitting_blocks_are_read.Goals as goal
 

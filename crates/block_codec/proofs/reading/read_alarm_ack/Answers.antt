@@ -1,4 +1,4 @@
--- What is read is spelled, and what is spelled is read.
+-- What is read are the octets of the block, and the octets of a block are read.
 use Rattle.std.proofs.Common.{ℕ, List}
 use Rattle.wire.proofs.Given.{found, only}
 use Rattle.block_codec.specs.declared.block.Block.{Block}

@@ -1,4 +1,4 @@
--- What is read is accepted.
+-- The fields of a block that is read are accepted.
 use Rattle.block_codec.specs.declared.block.Block.TheVariants.{ExpectedSubmoduleBlockReq as expected_req}
 use Rattle.block_codec.specs.Kinds.{type_of}
 use Rattle.block_codec.proofs.Accepted.{body_read_accepted}

@@ -1,4 +1,4 @@
--- The header and the fields, with the data behind them, are the block, which is spelled by them.
+-- The header and the fields, followed by the data, are the octets of the block.
 use Rattle.std.proofs.Common.{◌≡◌, ℕ, ◌+◌, List, ◌++◌, ◌∷◌, arith, lit<, refl, sym, ap, ◌∙◌}
 use Rattle.wire.specs.Formats.{big_bytes}
 use Rattle.block_fields.specs.Fields.{number_bytes, open_body, version}

@@ -1,4 +1,4 @@
--- The header and the fields are the block, which is spelled by them.
+-- The header and the fields are the octets of the block.
 use Rattle.std.proofs.Common.{◌≡◌, ℕ, List, ◌++◌, sym, ap, ◌∙◌}
 use Rattle.std.proofs.lemmas.List.{append-nil}
 use Rattle.wire.specs.Formats.{big_bytes}

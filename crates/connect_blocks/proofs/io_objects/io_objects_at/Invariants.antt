@@ -1,4 +1,4 @@
--- the places so far, and those that are still to be read
+-- The places read so far, and those still to be read.
 use Rattle.std.proofs.Common.{◌≡◌, ◌-◌, ◌≤◌, List, length, []}
 use Rattle.wire.specs.Counted.{read_each}
 use Rattle.wire.proofs.Counts.{with_before}

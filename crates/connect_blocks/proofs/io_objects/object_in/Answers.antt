@@ -1,4 +1,4 @@
--- The place of a number, where it lies.
+-- The place with an index, in the octets.
 use Rattle.std.proofs.Common.{rules}
 use Rattle.connect_blocks.proofs.Objects.{place_inside, place_found, place_missed}
 use Rattle.connect_blocks.proofs.io_objects.object_in.Goals as goal

@@ -1,4 +1,4 @@
--- One place after another.
+-- Appends one place after another.
 use Rattle.std.proofs.Common.{rules, ◌≡◌, ◌≤◌, ◌++◌, ℕ, List, [], length, take, arith}
 use Rattle.std.proofs.lemmas.List.{take_all}
 use Rattle.wire.specs.Counted.{write_each}

@@ -1,4 +1,4 @@
--- some of the places are written
+-- The first places are written.
 use Rattle.connect_blocks.proofs.Objects.{IsPut}
 use Rattle.connect_blocks.proofs.io_objects.put_io_objects.Given as goal
 

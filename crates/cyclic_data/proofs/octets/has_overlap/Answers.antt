@@ -1,4 +1,4 @@
--- One place after another.
+-- One place after the other.
 use Rattle.std.proofs.Common.{refl, arith}
 use Rattle.cyclic_data.proofs.Overlap.{hit_blank}
 use Rattle.cyclic_data.proofs.Checked.{goes_on_hit, goes_on_clear, inside_rest, no_place}

@@ -1,4 +1,4 @@
--- the places that are left, judged by the marks of those before them, tell of all
+-- The remaining places, checked with the marks of those before them, give the result for all places.
 use Rattle.std.proofs.Common.{◌≡◌, drop, length}
 use Rattle.std.specs.List.{AllByRecursion}
 use Rattle.cyclic_data.specs.Layout.{IsInside, AreAllApart, DoMeet}

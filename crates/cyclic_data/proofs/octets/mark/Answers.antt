@@ -1,4 +1,4 @@
--- What was marked on a part of the frame.
+-- The marks of a part of the frame.
 use Rattle.std.proofs.Common.{sym, ◌∙◌, arith}
 use Rattle.cyclic_data.proofs.Marks.{part_taken, part_free, part_marked, part_long}
 use Rattle.cyclic_data.proofs.octets.mark.Goals as goal

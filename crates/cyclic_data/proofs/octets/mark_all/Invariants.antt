@@ -1,4 +1,4 @@
--- those so far are marked
+-- The marks so far are set.
 use Rattle.std.proofs.Common.{◌≡◌, ◌<◌, ℕ, true, false, get_or}
 use Rattle.cyclic_data.proofs.octets.mark_all.Given as goal
 

@@ -1,4 +1,4 @@
--- the places so far are others
+-- The places so far are of other kinds or submodules.
 use Rattle.std.proofs.Common.{◌≡◌, drop}
 use Rattle.cyclic_data.specs.Image.{place_at}
 use Rattle.cyclic_data.proofs.octets.place_at.Given as goal

@@ -1,4 +1,4 @@
--- A status is read behind the data.
+-- A status is read after the data.
 use Rattle.std.proofs.Common.{length, arith}
 use Rattle.cyclic_data.specs.Layout.{IsInside, IsSolid}
 use Rattle.cyclic_data.proofs.Taken.{of_found, status_read}

@@ -1,4 +1,4 @@
--- Data is read where it lies.
+-- Data is read at its place.
 use Rattle.std.proofs.Common.{length, arith}
 use Rattle.cyclic_data.specs.declared.place.PlaceKind.TheVariants.{Data}
 use Rattle.cyclic_data.specs.Layout.{IsInside, IsSolid}

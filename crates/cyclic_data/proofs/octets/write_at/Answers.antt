@@ -1,4 +1,4 @@
--- What stands in the octets then.
+-- The octets after the write.
 use Rattle.std.proofs.Common.{arith}
 use Rattle.cyclic_data.proofs.Cells.{mid_written}
 use Rattle.cyclic_data.proofs.octets.write_at.Goals as goal

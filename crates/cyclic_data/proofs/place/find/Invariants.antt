@@ -1,4 +1,4 @@
--- the submodules so far are in other subslots
+-- The submodules so far are in other subslots.
 use Rattle.std.proofs.Common.{◌≡◌, drop}
 use Rattle.cyclic_data.specs.Places.{found_from}
 use Rattle.cyclic_data.proofs.place.find.Given as goal

@@ -1,4 +1,4 @@
--- the submodules so far stand in order
+-- The submodules so far are in order.
 use Rattle.std.proofs.Common.{◌≡◌, drop}
 use Rattle.cyclic_data.specs.Rising.{rises_from}
 use Rattle.cyclic_data.proofs.place.rises_from.Given as goal

@@ -1,4 +1,4 @@
--- What is read is spelled, and what is spelled is read.
+-- What is read are the octets of the data and the fields, and these octets are read.
 use Rattle.std.proofs.Common.{◌≡◌, ℕ, List, length}
 use Rattle.wire.proofs.Given.{found, only}
 use Rattle.cyclic_data.specs.declared.tail.CyclicTail.{CyclicTail}

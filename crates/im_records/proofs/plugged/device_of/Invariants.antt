@@ -1,4 +1,4 @@
--- the modules so far are not it
+-- The modules so far do not represent the device.
 use Rattle.std.proofs.Common.{◌≡◌, drop}
 use Rattle.im_records.specs.Plugged.{device_in}
 use Rattle.im_records.proofs.plugged.device_of.Given as goal

@@ -1,4 +1,4 @@
--- the submodules so far are in other subslots
+-- The submodules so far are in other subslots.
 use Rattle.std.proofs.Common.{◌≡◌, drop}
 use Rattle.im_records.specs.Plugged.{ident_in}
 use Rattle.im_records.proofs.plugged.ident_of.Given as goal

@@ -1,4 +1,4 @@
--- the entries so far, and those of the modules that are left
+-- The entries so far, and those of the remaining modules.
 use Rattle.std.proofs.Common.{◌≡◌, ◌*◌, ◌≤◌, ◌++◌, length, drop}
 use Rattle.im_records.specs.Plugged.{modules_in, submodules_in}
 use Rattle.im_records.proofs.plugged.push_all.Given as goal

@@ -1,4 +1,4 @@
--- the entries so far, and those that are left
+-- The entries so far, and the remaining ones.
 use Rattle.std.proofs.Common.{◌≡◌, ◌+◌, ◌++◌, length, drop}
 use Rattle.im_records.specs.Plugged.{parts_in}
 use Rattle.im_records.proofs.plugged.push_parts.Given as goal

@@ -1,4 +1,4 @@
--- By the sizes of the rows.
+-- The proof uses the sizes of the rows.
 use Rattle.module_blocks.proofs.Diff.{diff_short}
 use Rattle.module_blocks.proofs.law.diffs_are_short.Goals as goal
 

@@ -1,4 +1,4 @@
--- The rows count their submodules.
+-- The counts of the rows add up to their submodules.
 use Rattle.module_diff.specs.Diff.{wanted_in}
 use Rattle.module_diff.proofs.Listed.{are_rows}
 use Rattle.module_diff.proofs.differing.diff.Goals as goal

@@ -1,4 +1,4 @@
--- the rows so far, and those of the modules that are left with the submodules that are left
+-- The rows so far, and those of the remaining modules with the remaining submodules.
 use Rattle.std.proofs.Common.{◌≡◌, ◌+◌, ◌≤◌, ◌++◌, length, drop}
 use Rattle.module_diff.specs.Diff.{module_rows, submodule_rows, wanted_in}
 use Rattle.module_diff.proofs.differing.fill_rows.Given as goal

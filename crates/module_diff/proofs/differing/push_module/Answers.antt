@@ -1,4 +1,4 @@
--- What is listed of one module.
+-- The rows that are listed for one module.
 use Rattle.std.proofs.Common.{List, [], ◌∷◌, ◌++◌, ◌||◌, Bool, not, cond, nat_lt, ap, ◌∙◌}
 use Rattle.module_blocks.specs.declared.module_diff.DiffModule.{DiffModule}
 use Rattle.module_blocks.specs.declared.module_diff.DiffSubmodule.{DiffSubmodule}

@@ -1,4 +1,4 @@
--- the rows so far, and those of the submodules that are left
+-- The rows so far, and those of the remaining submodules.
 use Rattle.std.proofs.Common.{◌≡◌, ◌+◌, ◌≤◌, ◌++◌, ◌&&◌, not, length, drop, map}
 use Rattle.std.specs.List.{filter}
 use Rattle.module_diff.specs.Diff.{is_as_expected, submodule_row}

@@ -1,4 +1,4 @@
--- the submodules so far are in other subslots
+-- The submodules so far are in other subslots.
 use Rattle.std.proofs.Common.{◌≡◌, drop}
 use Rattle.module_diff.specs.Plugged.{part_ident}
 use Rattle.module_diff.proofs.plugged.part_ident.Given as goal

@@ -1,4 +1,4 @@
--- the rows so far list it not, and the submodules that are left are those of the modules that are left
+-- The rows so far do not list the subslot, and the remaining submodules are those of the remaining modules.
 use Rattle.std.proofs.Common.{◌≡◌, drop}
 use Rattle.module_diff.specs.Diff.{lists}
 use Rattle.module_diff.proofs.rows.lists.Given as goal

@@ -1,4 +1,4 @@
--- What the words of the program are to its two commands.
+-- The result of the program's words for its two subcommands.
 use Rattle.std.proofs.Common.{refl, ap, ap₂, ◌∙◌}
 use Rattle.std.proofs.lemmas.Result.{err_from_is_err_and}
 use Rattle.clap.specs.Words.{is_simple, subcommand_of, takes}

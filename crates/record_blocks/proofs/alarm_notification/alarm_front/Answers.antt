@@ -1,4 +1,4 @@
--- The two parts, with the data behind them, are what is written.
+-- The two parts followed by the data are the octets that are written.
 use Rattle.std.proofs.Common.{refl}
 use Rattle.block_fields.specs.Fields.{number_bytes}
 use Rattle.record_blocks.specs.AlarmNotification.{alarm_notification, alarm_place, alarm_subject}

@@ -4,7 +4,7 @@ use Rattle.hex.proofs.Pairs.{decode_step, decode_done}
 use Rattle.script_lines.proofs.Hex.{IsJoined, joined, pair_of}
 use Rattle.script_lines.proofs.digits.join.Goals as goal
 
--- the byte of the pair at the place
+-- The byte of the pair with the index.
 join_step : (c : goal.After-values-both) → IsJoined c.args.digits.now c.loop-place.place ((c.values-both.result * 4097) % 65536 / 256)
 join_step c =
     let pair = pair_of c.args.digits.now c.as_chunks.result.0.now (length c.args.digits.now / 2) c.loop-place.place c.from_le_bytes.result _

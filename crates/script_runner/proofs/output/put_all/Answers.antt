@@ -4,7 +4,7 @@ use Rattle.std.proofs.lemmas.List.{take-append-drop, take_rest}
 use Rattle.script_runner.proofs.Known.{so_far_less, so_far_on, so_far_still}
 use Rattle.script_runner.proofs.output.put_all.Goals as goal
 
--- what was taken, and the rest
+-- The bytes that were written, and the rest.
 two_parts : (text : List ℕ) (taken : ℕ) → text ≡ take taken text ++ take (length text - taken) (drop taken text)
 two_parts text taken = rw (take_rest text taken) (sym (take-append-drop taken text))
 

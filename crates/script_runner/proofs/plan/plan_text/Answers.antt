@@ -12,8 +12,8 @@ use Rattle.script_runner.proofs.Known.{same_keeps}
 use Rattle.script_runner.proofs.Silent.{silent_same, silent_put}
 use Rattle.script_runner.proofs.plan.plan_text.Goals as goal
 
--- The lines of the plan were written, or a front of them. The lists are what was read, the text that was planned, its lines, and
--- what was handed to the writer.
+-- The lines of the plan are written, or a prefix of them. The lists are the bytes read, the text of the catalogue, its
+-- lines, and the text handed to the writer.
 planned_by_put : (remaining old new : Option (List ℕ)) (read input text shown : List ℕ) (result : Result (Unit {0}) RunFault)
     → IfSome remaining (λ bytes. read ≡ bytes) → input ≡ read → shown ≡ text → HasText input text → Puts old new shown result
     → IfSome remaining (λ bytes. IsPlanned old new bytes result)
@@ -24,7 +24,7 @@ planned_by_put (Some bytes) old new read input text shown (Err fault) all whole 
     subst (λ fault. IsPlanned old new bytes (Err fault)) (sym puts.0)
     (shown, subst (λ lines. HasText bytes lines) (sym same) (subst (λ bytes. HasText bytes text) (whole ∙ all) has), puts.1)
 
--- no fault of a catalogue is one of a write, nor of a line
+-- The fault of a catalogue is not the fault of a write or of a line.
 no_write : (found : PlanFault) → Write ≡ fault_of found → ⊥
 no_write plan.OutOfMemory e = cc
 no_write plan.Json e = cc
@@ -51,7 +51,7 @@ no_line n plan.ConnectTooLong e = cc
 no_line n plan.Name e = cc
 no_line n plan.Address e = cc
 
--- there is no plan, and nothing was written
+-- There is no plan, and nothing is written.
 planned_by_none : (old new : Option (List ℕ)) (input : List ℕ) (fault : RunFault) → HasNoText input fault → Keeps old new
     → IsPlanned old new input (Err fault)
 planned_by_none old new input Read none keeps = keeps

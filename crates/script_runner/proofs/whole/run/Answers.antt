@@ -9,7 +9,7 @@ use Rattle.script_runner.proofs.Known.{none_front, same_keeps}
 use Rattle.script_runner.proofs.Silent.{silent_same, silent_played}
 use Rattle.script_runner.proofs.whole.run.Goals as goal
 
--- a script that was played was read
+-- A script that was run was read.
 told_of : (plans : List ℕ → Option Parts) (old new : Option (List ℕ)) (input : List ℕ) (result : Result (Unit {0}) RunFault)
     → IfErr result IsPlayFault → IsPlayed plans old new input result → IsTold plans old new input result
 told_of plans old new input (Ok done) faults played = played
@@ -20,7 +20,7 @@ told_of plans old new input (Err OutOfMemory) faults played = played
 told_of plans old new input (Err (Config n)) faults played = played
 told_of plans old new input (Err EndlessInput) faults played = absurd faults
 
--- what was read is what the reader had
+-- The bytes that were read are those of the reader.
 told_by_play : (remaining old new : Option (List ℕ)) (read input : List ℕ) (result : Result (Unit {0}) RunFault)
     → IfSome remaining (λ bytes. read ≡ bytes) → input ≡ read → IfErr result IsPlayFault
     → ((plans : List ℕ → Option Parts) → ArePlansOf plans input → IsPlayed plans old new input result)
@@ -30,7 +30,7 @@ told_by_play (Some bytes) old new read input result all whole faults played = λ
     told_of plans old new bytes result faults
     (subst (λ bytes. IsPlayed plans old new bytes result) (whole ∙ all) (played plans (subst (ArePlansOf plans) (sym (whole ∙ all)) are)))
 
--- nothing was played
+-- No script was run.
 told_by_fault : (remaining old : Option (List ℕ)) (fault : RunFault) → (fault ≡ Read) ⊎ (fault ≡ OutOfMemory) ⊎ (fault ≡ EndlessInput)
     → IfSome remaining (λ bytes. IsToldByPlans old old bytes (Err fault))
 told_by_fault None old fault cause = tt

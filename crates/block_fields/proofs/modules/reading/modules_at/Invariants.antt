@@ -1,4 +1,4 @@
--- the modules so far, and those that are still to be read
+-- The modules read so far, and those still to be read.
 use Rattle.std.proofs.Common.{◌≡◌, ◌-◌}
 use Rattle.block_fields.specs.modules.Lists.{modules_read}
 use Rattle.block_fields.proofs.modules.reading.modules_at.Given as goal

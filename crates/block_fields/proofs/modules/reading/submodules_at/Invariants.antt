@@ -1,4 +1,4 @@
--- the submodules so far, and those that are still to be read
+-- The submodules read so far, and those still to be read.
 use Rattle.std.proofs.Common.{◌≡◌, ◌≤◌, ◌-◌, length}
 use Rattle.block_fields.specs.modules.Lists.{submodules_read}
 use Rattle.block_fields.proofs.modules.reading.submodules_at.Given as goal

@@ -1,4 +1,4 @@
--- the octets so far, and those of the entries that are left
+-- The octets counted so far, and those of the remaining entries.
 use Rattle.std.proofs.Common.{◌≡◌, ◌+◌, ◌*◌, ◌≤◌, length, drop}
 use Rattle.block_fields.specs.modules.Lists.{modules_size}
 use Rattle.block_fields.proofs.modules.writing.entries_len.Given as goal

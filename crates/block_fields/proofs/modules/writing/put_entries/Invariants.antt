@@ -1,4 +1,4 @@
--- the entries so far, and those that are left, which have room
+-- The entries written so far, and the remaining ones, for which there is room.
 use Rattle.std.proofs.Common.{◌≡◌, ◌+◌, ◌++◌, ℕ, List, drop}
 use Rattle.arrayvec.specs.ArrayVec.{array_vec_len}
 use Rattle.wire.specs.Nested.{FitsNested}

@@ -1,4 +1,4 @@
--- the octets so far, and those of the entries that are left
+-- The octets counted so far, and those of the remaining entries.
 use Rattle.std.proofs.Common.{◌≡◌, ◌+◌, ◌*◌, ◌≤◌, drop}
 use Rattle.block_fields.specs.modules.Lists.{submodules_size}
 use Rattle.block_fields.proofs.modules.writing.submodules_len.Given as goal

@@ -1,4 +1,4 @@
--- The place of a number, where it lies.
+-- The place with an index, in the borrowed memory.
 use Rattle.std.proofs.Common.{◌≡◌, List, length, sym, ap, subst, ◌∙◌, arith}
 use Rattle.std.proofs.lemmas.Option.{slice_get-get_or}
 use Rattle.connect_blocks.specs.declared.io_object.IoObject.{IoObject}

@@ -1,4 +1,4 @@
--- The front of the octets.
+-- The first octets of the image.
 use Rattle.cyclic_data.proofs.Frames.{frame_of}
 use Rattle.cyclic_data.proofs.EachOctet.{octets_are}
 use Rattle.cyclic_data.proofs.image.Image.bytes.Goals as goal

@@ -1,4 +1,4 @@
--- An image of no place.
+-- An image with no places.
 use Rattle.std.proofs.Common.{[]}
 use Rattle.cyclic_data.proofs.Frames.{new_image, no_table}
 use Rattle.cyclic_data.proofs.image.Image.new.Goals as goal

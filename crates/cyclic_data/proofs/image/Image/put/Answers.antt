@@ -1,4 +1,4 @@
--- Data is written at its place.
+-- Data is written to its place.
 use Rattle.std.proofs.Common.{◌+◌, length, Option, sym, ap, ◌∙◌, arith}
 use Rattle.std.proofs.lemmas.Bool.{eq-eqb, ne_eqb}
 use Rattle.cyclic_data.specs.declared.place.PlaceKind.TheVariants.{Data}

@@ -1,4 +1,4 @@
--- A status is written behind the data.
+-- A status is written after the data.
 use Rattle.std.proofs.Common.{[], ◌∷◌, Option, is_some, sym, ap, arith}
 use Rattle.cyclic_data.specs.Image.{Cell, with_status}
 use Rattle.cyclic_data.proofs.Cells.{at_none, at_some, inside_place, solid_place, image_after, state_after, status_there}

@@ -1,4 +1,4 @@
--- A submodule is looked for behind the last one only where that finds the first.
+-- The search starts after the last submodule only if that finds the first one.
 use Rattle.std.proofs.Common.{◌≡◌, ◌⊎◌, inl, inr, ℕ, true, Option, Some, sym, ap, ◌∙◌}
 use Rattle.module_blocks.specs.declared.submodule_data.SubmoduleData.{SubmoduleData}
 use Rattle.cyclic_data.specs.Rising.{rises}

@@ -1,4 +1,4 @@
--- the submodules so far lack nothing
+-- No place of the submodules so far is missing.
 use Rattle.std.proofs.Common.{◌≡◌, drop}
 use Rattle.cyclic_data.specs.Seen.{has_missing}
 use Rattle.cyclic_data.proofs.judge.Judge.has_missing.Given as goal

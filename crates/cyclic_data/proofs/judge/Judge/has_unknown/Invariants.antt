@@ -1,4 +1,4 @@
--- the places so far are new, and the marks are theirs
+-- The places so far are new, and the marks are theirs.
 use Rattle.std.proofs.Common.{◌≡◌, length, drop}
 use Rattle.cyclic_data.specs.Seen.{has_unknown, seen_behind}
 use Rattle.cyclic_data.proofs.judge.Judge.has_unknown.Given as goal

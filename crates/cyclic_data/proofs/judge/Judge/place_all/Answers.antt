@@ -1,4 +1,4 @@
--- One object after another.
+-- One object after the other.
 use Rattle.std.proofs.Common.{arith}
 use Rattle.std.proofs.lemmas.Result.{err_from_is_err_and}
 use Rattle.cyclic_data.specs.Places.{place_of}

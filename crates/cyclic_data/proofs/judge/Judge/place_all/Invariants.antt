@@ -1,4 +1,4 @@
--- the places so far, and those of the objects that are left, which have room
+-- The places so far, and those of the remaining objects, for which there is room.
 use Rattle.std.proofs.Common.{◌≡◌, ◌+◌, ◌++◌, length, drop, map}
 use Rattle.std.specs.List.{AllByRecursion}
 use Rattle.cyclic_data.specs.Places.{place_of}

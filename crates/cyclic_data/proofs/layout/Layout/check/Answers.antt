@@ -1,4 +1,4 @@
--- One judgement after another.
+-- One check after the other.
 use Rattle.std.proofs.Common.{List, sym, subst}
 use Rattle.std.proofs.lemmas.Result.{err_from_is_err_and}
 use Rattle.cyclic_data.specs.declared.place.Place.{Place}

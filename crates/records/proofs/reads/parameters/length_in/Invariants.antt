@@ -1,4 +1,4 @@
--- the records so far have another index
+-- The records so far have another index.
 use Rattle.std.proofs.Common.{◌≡◌, drop}
 use Rattle.records.specs.reads.Parameters.{length_in}
 use Rattle.records.proofs.reads.parameters.length_in.Given as goal

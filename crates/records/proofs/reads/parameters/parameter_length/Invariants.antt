@@ -1,4 +1,4 @@
--- the modules so far do not have it
+-- The modules so far do not have the record.
 use Rattle.std.proofs.Common.{◌≡◌, drop}
 use Rattle.records.specs.reads.Parameters.{parameter_length}
 use Rattle.records.proofs.reads.parameters.parameter_length.Given as goal

@@ -1,4 +1,4 @@
--- the submodules so far do not have it
+-- The submodules so far do not have the record.
 use Rattle.std.proofs.Common.{◌≡◌, drop}
 use Rattle.records.specs.reads.Parameters.{submodule_length}
 use Rattle.records.proofs.reads.parameters.submodule_length.Given as goal

@@ -1,4 +1,4 @@
--- the submodules so far are copied
+-- The submodules so far are copied.
 use Rattle.std.proofs.Common.{◌≡◌, take}
 use Rattle.script_runner.proofs.session.copies.module_copy.Given as goal
 

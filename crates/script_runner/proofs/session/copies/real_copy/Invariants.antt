@@ -1,4 +1,4 @@
--- the modules so far are copied
+-- The modules so far are copied.
 use Rattle.std.proofs.Common.{◌≡◌, take}
 use Rattle.script_runner.proofs.session.copies.real_copy.Given as goal
 

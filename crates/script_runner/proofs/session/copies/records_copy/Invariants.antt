@@ -1,4 +1,4 @@
--- the records so far are copied
+-- The records so far are copied.
 use Rattle.std.proofs.Common.{◌≡◌, take}
 use Rattle.script_runner.proofs.session.copies.records_copy.Given as goal
 

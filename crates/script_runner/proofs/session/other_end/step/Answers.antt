@@ -3,7 +3,7 @@ use Rattle.std.proofs.lemmas.Result.{on_ok_weaker}
 use Rattle.script_runner.specs.session.Ends.{octets_of}
 use Rattle.script_runner.proofs.session.other_end.step.Goals as goal
 
--- what the controller sent is what the box holds
+-- The outbox holds what the controller sent.
 pub returns : goal.returns
 returns c =
     on_ok_weaker c.append.result

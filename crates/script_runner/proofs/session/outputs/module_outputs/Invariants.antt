@@ -1,4 +1,4 @@
--- the outputs so far, and those of what is left
+-- The outputs so far, and those of the remaining modules or submodules.
 use Rattle.std.proofs.Common.{◌≡◌, ◌++◌, drop}
 use Rattle.std.specs.Prelude.{flat_map}
 use Rattle.script_lines.specs.Show.{part_shown}

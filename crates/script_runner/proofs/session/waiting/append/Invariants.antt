@@ -1,4 +1,4 @@
--- the frames so far are there
+-- The frames so far are appended.
 use Rattle.std.proofs.Common.{◌≡◌, ◌++◌, take}
 use Rattle.script_runner.specs.session.Ends.{octets_of}
 use Rattle.script_runner.proofs.session.waiting.append.Given as goal
