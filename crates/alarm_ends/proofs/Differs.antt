@@ -183,7 +183,7 @@ found_all : (most : ℕ) (found : Found) → found_in (suc most) [] found ≡ So
 unfolding found_in
 found_all most found = refl
 
--- the blocks, one behind the other
+-- the blocks, one after the other
 behind_one_another : (first second third fourth rest : List ℕ) → ((first ++ (second ++ third)) ++ fourth) ++ rest ≡ first ++ (second ++ (third ++ (fourth ++ rest)))
 behind_one_another first second third fourth rest =
     append_assoc (first ++ (second ++ third)) fourth rest

@@ -132,7 +132,7 @@ module _ (rules : Rules TakenRecord Request) where
   kept_is P small.Confirms before after frames (inr rests) was all answer is = was answer (ap (λ (d : Small). d.kept) (sym rests.0) ∙ is)
   kept_is P small.Idle before after frames goes was all answer is = was answer (sym goes.keeps ∙ is)
 
-  -- where none is kept behind a step none was before
+  -- where none is kept after a step none was before
   none_kept : (heard : ToDevice) (before after : Small) (frames : List (List ℕ)) → DeviceSteps rules heard before after frames → after.kept ≡ None → before.kept ≡ None
   none_kept (small.Call sequence ask) before after frames (inl answered) none = absurd (none_some _ after.kept none answered.keeps)
   none_kept (small.Call sequence ask) before after frames (inr (inl repeats)) none = ap (λ (d : Small). d.kept) (sym repeats.unchanged) ∙ none

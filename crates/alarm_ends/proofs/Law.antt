@@ -413,7 +413,7 @@ module _ {F : Type 0} where
 
 -- ---- the last of those that were raised
 
--- a front that lacks at most the last is all, or all but the last
+-- a prefix that lacks at most the last is all, or all but the last
 front_is : (raised taken : List AlarmNotification) → IsPrefixOf taken raised → length raised ≤ length taken + 1
     → (taken ≡ raised) ⊎ ((last : AlarmNotification) × (raised ≡ taken ++ last ∷ []))
 front_is raised taken front lacks = by_rest front.0 front.1

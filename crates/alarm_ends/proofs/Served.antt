@@ -54,7 +54,7 @@ empty_well : IsChosenWell []
 empty_well found e whole same frame_id there =
     absurd (false≢true (ap (λ (one : Found). is_whole one) (some_is nothing found (sym (none_found 399) ∙ e)) ∙ whole))
 
--- ---- PrmEnd and Release where there is no relation
+-- ---- PrmEnd and Release if there is no relation
 
 err_ok : {A B : Type 0} (why : B) (value : A) → ◌≡◌ {A = Result A B} (Err why) (Ok value) → ⊥
 err_ok why value e = absurd cc

@@ -25,7 +25,7 @@ abbrev pub one_in : {A : Type 0} → Option A → List A
 one_in None = []
 one_in (Some value) = value ∷ []
 
--- the alarm that stands behind one that was raised
+-- the alarm that stands after one that was raised
 abbrev pub raised_in : Option Flow → List AlarmNotification
 raised_in None = []
 raised_in (Some flow) = one_in flow.alarms.sender.standing

@@ -240,7 +240,7 @@ runs (move ∷ moves) w =
 lacks_one : (w : World) → IsWorld w → length w.alarms.sent ≤ length w.alarms.taken + 1
 lacks_one w i = omega (arith, i.settled, i.few, few_taken _ _ _ i.confirms, one_stands w.device.sender.standing)
 
--- of a world behind any moves
+-- of a world after any moves
 pub ordered : (factor retries : ℕ) (moves : List Move) (w : World) → w ≡ behind_all moves (start factor retries) → length w.alarms.sent ≤ 32768 → IsPrefixOf w.alarms.taken w.alarms.sent
 ordered factor retries moves w e few =
     let i = subst IsWorld (sym e) ((runs moves (start factor retries)).1 (subst (λ (v : World). length v.alarms.sent ≤ 32768) e few) (starts factor retries)) in

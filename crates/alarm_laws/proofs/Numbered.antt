@@ -7,12 +7,12 @@ abbrev pub number_of : ℕ → ℕ
 number_of zero = 0xFFFF
 number_of (suc n) = n % 0x8000
 
--- the number of the last of so many
+-- the number of the last of that many
 abbrev pub last_of : ℕ → Option ℕ
 last_of zero = None
 last_of (suc n) = Some (number_of n)
 
--- the number behind so many
+-- the number after that many
 pub next_is : (n : ℕ) → next_number (last_of n) ≡ number_of n
 next_is zero = refl
 next_is (suc zero) = refl

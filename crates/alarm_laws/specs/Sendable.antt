@@ -13,7 +13,7 @@ pub record IsHeader (header : Header) : Type 0 where
   pub send_number : header.send_number < 65536
   pub ack_number : header.ack_number < 65536
 
--- a PDU that can be sent: behind the FrameID its header has ten octets, and VarPartLen two; an ERR says why
+-- a PDU that can be sent: after the FrameID its header has ten octets, and VarPartLen two; an ERR says why
 pub record CanBeSaid (said : Said) : Type 0 where
   pub header : IsHeader said.header
   pub long : is_long said.header.kind (length said.body) ≡ true

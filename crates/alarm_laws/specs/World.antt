@@ -18,7 +18,7 @@ use Rattle.alarm_laws.specs.Line.{Line, empty, with_sent, with_again, with_come}
 
 -- both ends; the alarms on their way to the controller, and the AlarmAcks on theirs to the device; and each ACK that ever was
 -- sent to either, and each NACK, by the number of the data that it refused. Of an ERR there is nothing here: who sends one has ended the
--- relation, and who gets one ends it, so that nothing is taken behind it
+-- relation, and who gets one ends it, so that nothing is taken after it
 pub record World : Type 0 where
   pub device : DeviceEnd
   pub controller : ControllerEnd
@@ -153,7 +153,7 @@ abbrev pub after_nack_to_device : World → Option ℕ → World
 after_nack_to_device w None = w
 after_nack_to_device w (Some number) = record w { device = end_behind w.device message.Nack }
 
--- behind a move
+-- after a move
 abbrev pub happens : World → Move → World
 happens w (Raise alarm) = after_raise w alarm w.device.sender.standing
 happens w (Confirm ack) = after_confirm w ack
@@ -166,7 +166,7 @@ happens w (AckComesToController k) = after_ack_to_controller w (slice_get w.acks
 happens w (NackComesToDevice k) = after_nack_to_device w (slice_get w.nacks_to_device k)
 happens w (NackComesToController k) = w
 
--- behind a list of moves
+-- after a list of moves
 abbrev pub behind_all : List Move → World → World
 behind_all [] w = w
 behind_all (move ∷ moves) w = behind_all moves (happens w move)

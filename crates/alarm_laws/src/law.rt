@@ -20,7 +20,7 @@ use pn_alarms::fitting_pdus_are_read;
 
 /// What is written of a PDU is read as that PDU: a law of the definitions, and no code.
 pub fn pdus_are_read()
-    // Whatever stands behind it.
+    // Whatever stands after it.
     ensures read { (said : Said) (more : List ℕ) → CanBeSaid said → pdu_of (pdu_bytes said ++ more) ≡ Ok said }
     // How many octets it takes.
     ensures long { (said : Said) → length (pdu_bytes said) ≡ 12 + length said.body }

@@ -29,7 +29,7 @@ pub record IsRecord (header : RecordHeader) : Type 0 where
   pub index : header.index < 65536
   pub record_data_length : header.record_data_length < 4294967296
 
--- what stands in front of a record that is written
+-- what comes before a record that is written
 pub record IsWrite (block : IodWriteReq) : Type 0 where
   pub header : IsRecord block.header
 
@@ -87,12 +87,12 @@ CanBeWritten (is.AlarmNotification alarm) = IsAlarm alarm
 CanBeWritten (is.AlarmAck ack) = IsAck ack
 CanBeWritten block = ((fields_of (kind_of block)).size block < 65536) × (fields_of (kind_of block)).Fits block
 
--- blocks, one behind the other
+-- blocks, one after the other
 abbrev pub octets_of : List Block → List ℕ
 octets_of [] = []
 octets_of (block ∷ blocks) = block_bytes block ++ octets_of blocks
 
--- octets are read as these blocks, one behind the other, and then come these octets
+-- octets are read as these blocks, one after the other, and then come these octets
 abbrev pub AreRead : List ℕ → List Block → List ℕ → Type 0
 AreRead octets [] rest = octets ≡ rest
 AreRead octets (block ∷ blocks) rest = (behind : List ℕ) × (block_of octets ≡ front block behind) × AreRead behind blocks rest

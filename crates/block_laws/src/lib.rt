@@ -1,4 +1,4 @@
-//! Laws of blocks, and no code: what is written is read as that, also where blocks stand one behind the other.
+//! Laws of blocks, and no code: what is written is read as that, also where blocks stand one after the other.
 #![tactic(auto)]
 
 mod law;

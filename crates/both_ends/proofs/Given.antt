@@ -123,7 +123,7 @@ module _ {O V : Type 0} (rules : Outputs O V) where
 
   -- ---- any list of moves
 
-  -- what is behind a run, from one of its points on
+  -- what follows a run, from one of its points on
   end_behind : (first : Shown O V) (before : List (Move × Shown O V)) (one : Move × Shown O V) (later : List (Move × Shown O V))
       → shown_last first (before ++ one ∷ later) ≡ shown_last one.1 later
   end_behind first [] one later = refl

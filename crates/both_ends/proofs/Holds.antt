@@ -11,17 +11,17 @@ IsSomeKept None = ⊥
 IsSomeKept (Some kept) = Unit {0}
 
 module _ {T Q : Type 0} where
-  -- the first so many records were taken, or there is no relation any more
+  -- the first that many records were taken, or there is no relation any more
   abbrev pub TookIn : ℕ → Option (Link T Q) → Type 0
   TookIn count None = Unit {0}
   TookIn count (Some link) = count ≤ length link.taken
 
-  -- The device accepted the Connect, and took so many records. It stays true for ever.
+  -- The device accepted the Connect, and took that many records. It stays true for ever.
   pub record Took (count : ℕ) (kept : Option Kept) (link : Option (Link T Q)) : Type 0 where
     pub called : IsSomeKept kept
     pub taken : TookIn count link
 
-  -- the relation, behind the answer that is kept
+  -- the relation, after the answer that is kept
   pub record IsHeld (rules : Rules T Q) (sequence : ℕ) (link : Link T Q) : Type 0 where
     pub few : length link.taken ≤ sequence
     pub made : link.request ≡ rules.request

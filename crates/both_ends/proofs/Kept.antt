@@ -12,7 +12,7 @@ use Rattle.both_ends.proofs.Goes.{Grows, are_fine_on, keeps_on, same_grows, fine
 some_is : {A : Type 0} (x y : A) → Some x ≡ Some y → x ≡ y
 some_is x y e = cc
 
--- the item of a number is the first of what is left behind so many
+-- the item of a number is the first of the rest after that many
 next_item : {A : Type 0} (taken rest : List A) (value : A) → slice_get (taken ++ rest) (length taken) ≡ Some value → (more : List A) × (rest ≡ value ∷ more)
 next_item [] [] value is = absurd cc
 next_item {A = A} [] (x ∷ xs) value is = (xs, ap (λ (y : A). y ∷ xs) (some_is x value is))
@@ -68,7 +68,7 @@ module _ {T Q : Type 0} (rules : Rules T Q) where
       subst (λ (l : Option (Link T Q)). TookIn count l) (sym comes.becomes) (subst (λ (l : Option (Link T Q)). TookIn count l) comes.was took.taken)
   took_by sequence Releases true kept link after count new call comes took = subst (λ (l : Option (Link T Q)). TookIn count l) (sym comes) tt
 
-  -- the relation is held behind a later answer too
+  -- the relation is held after a later answer too
   past_later : (sequence later : ℕ) (link : Link T Q) → sequence < later → (link.phase ≡ Started) ⊎ ((length rules.records < sequence) × (link.taken ≡ rules.records))
       → (link.phase ≡ Started) ⊎ ((length rules.records < later) × (link.taken ≡ rules.records))
   past_later sequence later link before (inl started) = inl started
@@ -85,7 +85,7 @@ module _ {T Q : Type 0} (rules : Rules T Q) where
     past = past_later kept.sequence sequence link new held.past;
   }
 
-  -- the relation that is there is held behind the answer that is kept
+  -- the relation that is there is held after the answer that is kept
   is_held : (kept : Option Kept) (link : Option (Link T Q)) (there : Link T Q) → link ≡ Some there → HoldsAt rules kept link → (answer : Kept) × (kept ≡ Some answer) × IsHeld rules answer.sequence there
   is_held None link there is none = absurd cc
   is_held (Some kept) link there is held = (kept, refl, subst (λ (l : Option (Link T Q)). IsHeldIn rules kept.sequence l) is held)

@@ -68,7 +68,7 @@ module _ {T Q : Type 0} (rules : Rules T Q) where
 
   module _ (Was WasNow Past PastNow : Type 0) (Good GoodNow : List ℕ → Type 0) (Handed HandedNow : Type 0) (w : World T Q) (move : Move) (v : World T Q)
       (passes : Passes Was WasNow Past PastNow Good GoodNow Handed HandedNow w move v) (holds : Holds rules Was Past Good Handed w) where
-    -- what holds of the relation behind a step of the device, whatever it sends
+    -- what holds of the relation after a step of the device, whatever it sends
     held_behind : (heard : ToDevice) → TellsDevice rules PastNow w.device.kept w.device.link heard → StepsAtDevice rules heard w v → HoldsAt rules v.device.kept v.device.link
     held_behind heard tells steps =
         let leaves = device_leaves rules Was WasNow Past PastNow Good (λ (frame : List ℕ). Unit {0}) passes.was_on passes.past_on (λ frame good. tt) w.device v.device steps.frames

@@ -66,7 +66,7 @@ module _ {O V : Type 0} where
   ShowsBehind rules before AtDevice after = (after ≡ before) ⊎ ShowsAtDevice rules None before after
   ShowsBehind rules before AtController after = (after ≡ before) ⊎ GivesAtController rules before after
 
-  -- a run, of moves and what is shown behind each of them
+  -- a run, of moves and what is shown after each of them
   abbrev pub IsShownRun : Outputs O V → Shown O V → List (Move × Shown O V) → Type 0
   IsShownRun rules first run = AreSteps (ShowsBehind rules) first run
 

@@ -6,11 +6,11 @@ use Rattle.both_ends.specs.Runs.{AreSteps, end_of}
 use Rattle.both_ends.specs.Steps.{IsDull, Steps}
 
 module _ {T Q : Type 0} where
-  -- a run, of moves and the world behind each of them: each move is a step from the world behind the one before it
+  -- a run, of moves and the world after each of them: each move is a step from the world after the one before it
   abbrev pub IsRun : Rules T Q → World T Q → List (Move × World T Q) → Type 0
   IsRun rules first run = AreSteps (Steps rules) first run
 
-  -- the world behind a run
+  -- the world after a run
   abbrev pub last_of : World T Q → List (Move × World T Q) → World T Q
   last_of first run = end_of first run
 

@@ -1,4 +1,4 @@
--- What each end does, as far as a start-up goes. A step is a relation: what is left open here, a real machine decides.
+-- What each end does, as far as a start-up goes. A step is a relation: the rest open here, a real machine decides.
 use Rattle.std.specs.Prelude.{◌≡◌, ◌⊎◌, ◌+◌, ◌<◌, ◌≤◌, ℕ, Bool, true, false, List, [], ◌∷◌, ◌++◌, length, slice_get, Option, Some, None}
 use Rattle.std.specs.List.{AllByRecursion}
 use Rattle.both_ends.specs.Small.{Ask, Connects, Writes, Parameterized, Releases, ToDevice, Call, Confirms, Idle, ToController, Answers, Readies, Nothing, Rules, Started, Awaiting, Exchanging, Link, Kept, Device, Controller, Asking, Waiting, Exchanges, Ended, World, Move, ComesToDevice, ComesToController, AtDevice, AtController}
@@ -12,7 +12,7 @@ IsNew sequence (Some kept) = kept.sequence < sequence
 
 -- ---- the calls of a controller
 
--- what the controller asks by the call of a sequence, where so many records are to be written
+-- what the controller asks by the call of a sequence, where that many records are to be written
 abbrev pub IsAsked : ℕ → ℕ → Ask → Type 0
 IsAsked count sequence Connects = sequence ≡ 0
 IsAsked count sequence (Writes number) = (number < count) × (sequence ≡ number + 1)
@@ -29,7 +29,7 @@ SaysToDevice count now (Call sequence ask) = CallsWhile count now sequence ask
 SaysToDevice count now Confirms = now ≡ Exchanges
 SaysToDevice count now Idle = Unit {0}
 
--- an answer to the call by which it asks: it asks by the next one, or behind the last waits for ApplicationReady
+-- an answer to the call by which it asks: it asks by the next one, or after the last waits for ApplicationReady
 pub record IsNext (count : ℕ) (heard : ToController) (before after : Controller) : Type 0 where
   pub sequence : ℕ
   pub asked : before ≡ Asking sequence
@@ -61,7 +61,7 @@ module _ {T Q : Type 0} where
     pub started : link.phase ≡ Started
     pub becomes : after ≡ Some (record link { phase = Awaiting })
 
-  -- what a call does to the relation that is answered positively; of a Connect this is said where there is none yet
+  -- what a call does to the relation that is answered positively; of a Connect this is said if there is none yet
   abbrev pub Carries : Rules T Q → Ask → Option (Link T Q) → Option (Link T Q) → Type 0
   Carries rules Connects before after = before ≡ None → after ≡ Some (made rules)
   Carries rules (Writes number) before after = TakesRecord rules number before after
@@ -89,7 +89,7 @@ module _ {T Q : Type 0} where
   abbrev pub IsDull : Rules T Q → List ℕ → Type 0
   IsDull rules frame = (rules.to_device frame ≡ Idle) × (rules.to_controller frame ≡ Nothing)
 
-  -- A new call: it is answered, and the answer is kept. Behind a PrmEnd that is accepted ApplicationReady is sent.
+  -- A new call: it is answered, and the answer is kept. After a PrmEnd that is accepted ApplicationReady is sent.
   pub record IsAnswered (rules : Rules T Q) (sequence : ℕ) (ask : Ask) (before after : Device T Q) (frames : List (List ℕ)) : Type 0 where
     pub new : IsNew sequence before.kept
     pub positive : Bool

@@ -55,7 +55,7 @@ module _ (relation : ArBlockRes) (input output : IocrBlockRes) (r : IsOne (is.Ar
   abbrev alarm_bytes : List ℕ
   alarm_bytes = block_bytes (is.AlarmCrBlockRes (record {}))
 
-  -- the blocks, one behind the other
+  -- the blocks, one after the other
   behind_one_another : (first second third fourth : List ℕ) → ((first ++ (second ++ third)) ++ fourth) ++ [] ≡ first ++ (second ++ (third ++ (fourth ++ [])))
   behind_one_another first second third fourth =
       append_assoc (first ++ (second ++ third)) fourth []

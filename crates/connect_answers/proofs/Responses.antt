@@ -68,7 +68,7 @@ module _ {F A : Type 0} where
   refused_by test f codec bytes x e t =
       ap (λ (r : Result (A × List ℕ) F). r >>= λ y. if test y.0 then Ok y else Err f) e ∙ ap (λ (is : Bool). if is then Ok x else Err f) t
 
--- ---- four tests, one behind the other
+-- ---- four tests, one after the other
 
 module _ {F A : Type 0} (cut : Codec F A) (version known whole served : A → Bool) (f g h k : F) where
   abbrev tested : Codec F A

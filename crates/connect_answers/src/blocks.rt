@@ -7,7 +7,7 @@ use arrayvec::ArrayVec;
 use block_codec::{AlarmCrBlockRes, ArBlockRes, Block, IocrBlockRes, write_block};
 use connect_blocks::{alarm_cr_block_res_len, ar_block_res_len, iocr_block_res_len};
 
-// A block of few octets is read as it, whatever is behind it.
+// A block of few octets is read as it, whatever is after it.
 #[tactic(auto, unfolding(block_codec::specs::Block::block_size))]
 fn block_is_read(block: &Block<'_>)
     requires few { block_size block.now ≤ 64 }

@@ -38,7 +38,7 @@ pub answer_block_sound : IsSound answer_block
 unfolding answer_block
 answer_block_sound = judged_sound _ _ (block everything) (block_sound everything everything_sound)
 
--- so many bytes go into a number
+-- that many bytes go into a number
 number_takes : {F : Type 0} (short : F) (size : ℕ) (bytes : List ℕ) (value : ℕ) (rest : List ℕ) → (number short size).Spells bytes value rest → length bytes ≡ size + length rest
 number_takes short size bytes value rest s = ap length s.2 ∙ length-append s.0 rest ∙ ap (λ (n : ℕ). n + length rest) s.1
 
@@ -105,7 +105,7 @@ pub answer_again : (frame_id : ℕ) (bytes : List ℕ) (said : Answered) → IsA
 unfolding answer_of IsAnswer
 answer_again frame_id bytes said s = (answer_sound frame_id).again bytes said s
 
--- and so are they with anything behind them
+-- and so are they with anything after them
 pub answer_behind : (frame_id : ℕ) (bytes more : List ℕ) (said : Answered) → IsAnswer frame_id bytes said → IsAnswer frame_id (bytes ++ more) said
 unfolding IsAnswer answer
 answer_behind frame_id bytes more said s = loose_behind (answer_header_and_data frame_id) bytes said more (onward frame_id) s

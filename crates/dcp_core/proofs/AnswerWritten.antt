@@ -46,7 +46,7 @@ two_bytes short n rest below = (number_sound short 2).written n rest below
 four_bytes : {F : Type 0} (short : F) (n : ℕ) (rest : List ℕ) → n < 2 ^ 32 → (number short 4).Spells (to_be_bytes w32 n ++ rest) n rest
 four_bytes short n rest below = (number_sound short 4).written n rest below
 
--- a block is spelled with anything behind it
+-- a block is spelled with anything after it
 block_spelled : (about : Kind) (contents rest : List ℕ) → length contents < 65536
     → (block everything).Spells (block_bytes about contents ++ rest) (record { kind = named about; contents = contents }) rest
 unfolding block kind
@@ -75,7 +75,7 @@ block_spelled about contents rest below =
       ),
     )
 
--- a value behind a BlockInfo
+-- a value after a BlockInfo
 value_spelled : (about : Kind) (high low : ℕ) (value rest : List ℕ) → named about ≡ about → said_by about (high ∷ low ∷ value) ≡ value_in about (high ∷ low ∷ value)
     → length value + 2 < 65536 → answer_block.Spells (block_bytes about (high ∷ low ∷ value) ++ rest) (told about (high * 256 + low) value) rest
 unfolding answer_block

@@ -86,7 +86,7 @@ pub record IsSoFar (got : Kind → List ℕ) (written : List ℕ) (blocks : List
 pub so_far_none : (got : Kind → List ℕ) (written : List ℕ) (blocks : List Block) → written ≡ [] → IsSoFar got written blocks 0
 so_far_none got written blocks none = record { all = rw none refl; room = rw none (omega arith) }
 
--- behind the last one
+-- after the last one
 pub so_far_all : (got : Kind → List ℕ) (written : List ℕ) (blocks : List Block) (i : ℕ) → length blocks ≤ i → IsSoFar got written blocks i
     → written ≡ flat_map got (firsts_of [] (kinds_in blocks))
 so_far_all got written blocks i end h =

@@ -114,7 +114,7 @@ pub request_again : (frame_id : ℕ) (bytes : List ℕ) (asked : Asked) → IsRe
 unfolding request_of IsRequest
 request_again frame_id bytes asked s = (request_sound frame_id).again bytes asked s
 
--- and so are they with anything behind them
+-- and so are they with anything after them
 pub request_behind : (frame_id : ℕ) (bytes more : List ℕ) (asked : Asked) → IsRequest frame_id bytes asked → IsRequest frame_id (bytes ++ more) asked
 unfolding IsRequest request
 request_behind frame_id bytes more asked s = loose_behind (header_and_data frame_id) bytes asked more (onward frame_id) s

@@ -18,7 +18,7 @@ use Rattle.dcp_core.proofs.Sound.{block_of_sound, blocks_sound, kind_sound, requ
 
 -- ---- a block
 
--- a kind, a length, so many bytes, and a zero where the length is odd
+-- a kind, a length, that many bytes, and a zero where the length is odd
 pub block_parts : (value : AskedBlock)
     → (block everything).write value [] ≡ kind.write value.kind [] ++ (big_bytes 2 (length value.contents) ++ (value.contents ++ replicate (length value.contents % 2) 0))
 unfolding block
@@ -26,7 +26,7 @@ block_parts value =
     kind_sound.local value.kind (big_bytes 2 (length value.contents) ++ (value.contents ++ (replicate (length value.contents % 2) 0 ++ [])))
     ∙ ap (λ (xs : List ℕ). kind.write value.kind [] ++ (big_bytes 2 (length value.contents) ++ (value.contents ++ xs))) (append-nil (replicate (length value.contents % 2) 0))
 
--- four parts, one behind the other
+-- four parts, one after the other
 pub four : (old a b c new first second third fourth : List ℕ) → a ≡ old ++ first → b ≡ a ++ second → c ≡ b ++ third → new ≡ c ++ fourth
     → new ≡ old ++ (first ++ (second ++ (third ++ fourth)))
 four old a b c new first second third fourth x y z w =
@@ -118,13 +118,13 @@ spelled value w short small =
     (request_sound (frame_id_of value.service)).written value
     (fits_request value.service value.xid value.blocks (all_fit value.service value.blocks w.0 w.1) short w.1 small)
 
--- and with anything behind it is read as it
+-- and with anything after it is read as it
 pub read_behind : (value : Asked) (more : List ℕ) → IsRequest (frame_id_of value.service) (request_bytes value) value
     → request_of (frame_id_of value.service) (request_bytes value ++ more) ≡ Ok value
 read_behind value more s =
     request_again (frame_id_of value.service) (request_bytes value ++ more) value (request_behind (frame_id_of value.service) (request_bytes value) more value s)
 
--- six parts, one behind the other
+-- six parts, one after the other
 pub six : (old a b c d e new p1 p2 p3 p4 p5 p6 : List ℕ) → a ≡ old ++ p1 → b ≡ a ++ p2 → c ≡ b ++ p3 → d ≡ c ++ p4 → e ≡ d ++ p5 → new ≡ e ++ p6
     → new ≡ old ++ (p1 ++ (p2 ++ (p3 ++ (p4 ++ (p5 ++ p6)))))
 six old a b c d e new p1 p2 p3 p4 p5 p6 x y z w v u =

@@ -1,4 +1,4 @@
--- How an answer is spelled behind its FrameID (IEC 61158-6-10, 4.3.1).
+-- How an answer is spelled after its FrameID (IEC 61158-6-10, 4.3.1).
 use Rattle.std.specs.Prelude.{◌≡◌, ◌==◌, ◌&&◌, ℕ, Bool, true, false, List, [], ◌∷◌, ◌++◌, length, nat_lt, slice_index, drop, if◌then◌else◌, Result, Ok, Err}
 use Rattle.std.specs.Int.{w16, to_be_bytes}
 use Rattle.wire.specs.Codec.{Codec, Whole, ◌>>=◌}

@@ -1,4 +1,4 @@
--- Values of one format, one behind the other, however many there are.
+-- Values of one format, one after the other, however many there are.
 use Rattle.std.specs.Prelude.{ℕ, zero, suc, List, [], ◌∷◌, length, sum_by, Ok, Err}
 use Rattle.std.specs.List.{AllByRecursion}
 use Rattle.wire.specs.Codec.{Codec, Whole}
@@ -14,7 +14,7 @@ every more codec = record {
   read = λ bytes. read_all (length bytes) more codec bytes;
 }
 
--- at most so many values, up to the end or to bytes that are none
+-- at most that many values, up to the end or to bytes that are none
 abbrev pub values_within : {F A : Type 0} → ℕ → Codec F A → List ℕ → List A
 values_within zero codec bytes = []
 values_within (suc most) codec bytes = elim (codec.read bytes) [ Ok x ↦ x.0 ∷ values_within most codec x.1 | Err why ↦ [] ]

@@ -1,4 +1,4 @@
--- How a request is spelled behind its FrameID (IEC 61158-6-10, 4.3.1).
+-- How a request is spelled after its FrameID (IEC 61158-6-10, 4.3.1).
 use Rattle.std.specs.Prelude.{◌≡◌, ◌≤◌, ◌%◌, ◌==◌, ◌&&◌, ℕ, Bool, List, [], length, nat_lt, if◌then◌else◌, Result, Ok, Err}
 use Rattle.wire.specs.Codec.{Codec, Whole, ◌>>=◌}
 use Rattle.wire.specs.Formats.{number, then_by, ◌⨾◌, seen, padding, unchecked, framed}
@@ -34,7 +34,7 @@ viewed_whole {A = A} to from whole = record {
   read = λ bytes. whole.read bytes >>= λ x. Ok (to x);
 }
 
--- all the bytes, which are at least so many
+-- all the bytes, which are at least that many
 abbrev pub at_least : {F : Type 0} → F → ℕ → Whole F (List ℕ)
 at_least short least = record {
   Spells = λ bytes value. (bytes ≡ value) × (least ≤ length value);
@@ -54,7 +54,7 @@ kind = viewed (λ x. kind_of x.0 x.1) (λ k. (option_of k, suboption_of k)) (num
 unfoldable pub pair : Codec DcpFault AskedBlock
 pair = viewed (λ k. record { kind = k; contents = [] }) (λ block. block.kind) kind
 
--- a block: a kind, a Length, so many bytes, and a byte of padding where Length is odd, which may be missing at the end
+-- a block: a kind, a Length, that many bytes, and a byte of padding where Length is odd, which may be missing at the end
 unfoldable pub block : Whole DcpFault (List ℕ) → Codec DcpFault AskedBlock
 block contents = seen (λ x. x.0) (λ asked. (asked, tt)) (then_by
     (seen (λ x. record { kind = x.0; contents = x.1 }) (λ asked. (asked.kind, asked.contents)) (kind ⨾ framed (number fault.Block 2) fault.Block contents))

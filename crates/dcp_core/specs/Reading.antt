@@ -1,4 +1,4 @@
--- What the bytes behind a FrameID are as a request.
+-- What the bytes after a FrameID are as a request.
 use Rattle.std.specs.Prelude.{ℕ, List, Result}
 pub use Rattle.wire.specs.Codec.{Gives}
 use Rattle.dcp_core.specs.declared.request.DcpFault.{DcpFault}

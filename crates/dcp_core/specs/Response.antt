@@ -6,7 +6,7 @@ use Rattle.dcp_core.specs.declared.response.Outcome.{Outcome}
 
 -- a block
 pub data AnsweredBlock : Type 0 where
-  -- a value of a kind, behind its BlockInfo
+  -- a value of a kind, after its BlockInfo
   told : Kind → ℕ → List ℕ → AnsweredBlock
   -- how a block of a Set, or a pair of a Get, came out
   came_out : Kind → Outcome → AnsweredBlock

@@ -25,11 +25,11 @@ qualifier_of contents = from_be_bytes w16 (take 2 contents)
 abbrev pub is_permanent : List ℕ → Bool
 is_permanent contents = qualifier_of contents % 2 == 1
 
--- the value behind the qualifier
+-- the value after the qualifier
 abbrev pub value_in : List ℕ → List ℕ
 value_in contents = drop 2 contents
 
--- address, mask and gateway, one behind the other
+-- address, mask and gateway, one after the other
 abbrev pub suite_in : List ℕ → Suite
 suite_in value = record { address = take 4 value; mask = take 4 (drop 4 value); gateway = take 4 (drop 8 value) }
 

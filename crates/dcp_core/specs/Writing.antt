@@ -26,6 +26,6 @@ blocks_size asked = sum_by (block_of asked.service).size asked.blocks
 abbrev pub IsRequestable : Asked → Type 0
 IsRequestable asked = AllByRecursion (IsWritable asked.service) asked.blocks × (blocks_size asked ≤ 1488)
 
--- the bytes that are sent for a request, behind the FrameID of its service
+-- the bytes that are sent for a request, after the FrameID of its service
 unfoldable pub request_bytes : Asked → List ℕ
 request_bytes asked = (header_and_data (frame_id_of asked.service)).write asked []

@@ -21,7 +21,7 @@ use crate::{DcpFault, Kind, Outcome, Response, ResponseBlock, ResponseBlocks, Se
 use pn_values::BlockError;
 use wire::{skip, split, u8_at, u16_at, u32_at};
 
-/// Reads the answer that begins behind a FrameID; what follows it is padding. The first fault counts: Length, then
+/// Reads the answer that begins after a FrameID; what follows it is padding. The first fault counts: Length, then
 /// Service, then Block. It may have any number of blocks.
 pub fn read_answer<'a>(frame_id: u16, bytes: &'a [u8]) -> Result<Response<'a>, DcpFault>
     ensures found { IfOk result (λ response. IsAnswer frame_id bytes.now (answered response)) }
@@ -101,7 +101,7 @@ fn blocks_at(bytes: &[u8]) -> Result<ResponseBlocks<'_>, DcpFault>
     Ok(ResponseBlocks { bytes })
 }
 
-/// One block, and the bytes behind it.
+/// One block, and the bytes after it.
 #[tactic(auto, unfolding(crate::specs::Answer::answer_block, crate::specs::Format::block))]
 fn block_at(bytes: &[u8]) -> Result<(ResponseBlock<'_>, &[u8]), DcpFault>
     ensures { Gives (λ x. (answered_block x.0, x.1.now)) result (answer_block.read bytes.now) }
@@ -137,7 +137,7 @@ fn outcome_at(contents: &[u8]) -> Result<ResponseBlock<'_>, DcpFault>
     Ok(ResponseBlock::Outcome { kind, outcome })
 }
 
-/// A value behind its BlockInfo.
+/// A value after its BlockInfo.
 fn value_at(kind: Kind, contents: &[u8]) -> Result<ResponseBlock<'_>, DcpFault>
     ensures { Gives answered_block result (value_in kind contents.now) }
 {

@@ -16,7 +16,7 @@ ghost use Rattle.dcp_core.specs.Sendable.{CanBeAsked};
 
 /// What is written for a request is read as that request: a law of the definitions, and no code.
 pub fn requests_are_read()
-    // Under the FrameID of its service, whatever stands behind it.
+    // Under the FrameID of its service, whatever stands after it.
     ensures read { (asked : Asked) (more : List ℕ) → CanBeAsked asked →
         request_of (frame_id_of asked.service) (request_bytes asked ++ more) ≡ Ok asked }
     // It fits a frame.
@@ -25,7 +25,7 @@ pub fn requests_are_read()
 
 /// What is written for an answer is read as what it says: laws of the definitions, and no code.
 pub fn answers_are_read()
-    // What a station tells of itself, with the Xid of the request, whatever stands behind it.
+    // What a station tells of itself, with the Xid of the request, whatever stands after it.
     ensures identify { (identity : Identity) (settings : Settings) (xid : ℕ) (more : List ℕ) → xid < 4294967296 →
         length (identify_bytes identity settings xid) ≤ 1498
         → answer_of 0xFEFF (identify_bytes identity settings xid ++ more) ≡ Ok (identify_said identity settings xid) }

@@ -8,7 +8,7 @@ use crate::{Block, DcpFault, Kind, Request, Service};
 use arrayvec::ArrayVec;
 use wire::{skip, split, u8_at, u16_at, u32_at};
 
-/// Reads the request that begins behind a FrameID; what follows it is padding. The first fault counts: Length, then
+/// Reads the request that begins after a FrameID; what follows it is padding. The first fault counts: Length, then
 /// Service, then Block.
 pub fn read_request<'a>(frame_id: u16, bytes: &'a [u8]) -> Result<Request<'a>, DcpFault>
     ensures found { IfOk result (λ request. IsRequest frame_id bytes.now (asked request)) }
@@ -74,7 +74,7 @@ fn read_blocks<'a>(
     Ok(())
 }
 
-/// One block or pair, and the bytes behind it.
+/// One block or pair, and the bytes after it.
 #[tactic(auto, unfolding(crate::specs::Format::block_of, crate::specs::Format::pair, crate::specs::Format::block))]
 fn block_at(service: Service, bytes: &[u8]) -> Result<(Block<'_>, &[u8]), DcpFault>
     ensures { Gives (λ x. (asked_block x.0, x.1.now)) result ((block_of service).read bytes.now) }
@@ -93,7 +93,7 @@ fn block_at(service: Service, bytes: &[u8]) -> Result<(Block<'_>, &[u8]), DcpFau
     Ok((Block { kind, contents }, skip(rest, contents.len() % 2)))
 }
 
-/// A kind, and the bytes behind it.
+/// A kind, and the bytes after it.
 #[tactic(auto, unfolding(crate::specs::Format::kind))]
 pub(crate) fn kind_at(bytes: &[u8]) -> Result<(Kind, &[u8]), DcpFault>
     ensures { Gives (λ x. (x.0, x.1.now)) result (kind.read bytes.now) }

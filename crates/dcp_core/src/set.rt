@@ -60,7 +60,7 @@ fn unless_operating(in_operation: bool, command: Command) -> SetItem
     }
 }
 
-/// The name, or none where there are no bytes.
+/// The name, or none if there are no bytes.
 fn plan_name(contents: &[u8], in_operation: bool) -> SetItem
     ensures { result ≡ name_item in_operation contents.now }
 {
@@ -79,7 +79,7 @@ fn plan_name(contents: &[u8], in_operation: bool) -> SetItem
     }
 }
 
-/// The IP suite behind its qualifier.
+/// The IP suite after its qualifier.
 fn plan_suite(contents: &[u8], in_operation: bool) -> SetItem
     ensures { result ≡ suite_item in_operation contents.now }
 {

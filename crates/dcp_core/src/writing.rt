@@ -12,7 +12,7 @@ use crate::{Block, Kind, Request, Service};
 use arrayvec::ArrayVec;
 use wire::{append, append_u8, append_u16, append_u32};
 
-/// The blocks or pairs of a request, which fit a frame behind a FrameID and the header of ten octets.
+/// The blocks or pairs of a request, which fit a frame after a FrameID and the header of ten octets.
 type Asking = ArrayVec<u8, 1488>;
 
 impl Service {
@@ -59,7 +59,7 @@ fn put_kind(data: &mut Asking, value: Kind)
     append_u8(data, value.suboption());
 }
 
-/// Appends a block, and behind it a zero where its length is odd.
+/// Appends a block, and after it a zero where its length is odd.
 fn put_contents(data: &mut Asking, value: &Block<'_>)
     requires { array_vec_len data.old + (4 + length value.now.contents.now + length value.now.contents.now % 2) ≤ 1488 }
     ensures items { data.new.items ≡ data.old.items ++ (block everything).write (asked_block value.now) [] }
@@ -111,7 +111,7 @@ pub fn write_request<const N: usize>(request: &Request<'_>, out: &mut ArrayVec<u
     ensures len { array_vec_len out.new ≡ array_vec_len out.old + 10 + blocks_size (asked request.now) }
     // They spell what was given.
     ensures spelled { IsRequest (frame_of request.now.service) (request_bytes (asked request.now)) (asked request.now) }
-    // With anything behind them, they are read as that.
+    // With anything after them, they are read as that.
     ensures behind { (more : List ℕ) → request_of (frame_of request.now.service) (request_bytes (asked request.now) ++ more)
         ≡ Ok (asked request.now) }
 {

@@ -262,7 +262,7 @@ stored_plain header error.Suboption = tt
 stored_plain header error.Value = tt
 stored_plain header error.InOperation = tt
 
--- ---- a Connect that is accepted where there is no relation
+-- ---- a Connect that is accepted if there is no relation
 
 conflict_plain : (standing asked : List ℕ) → IsPlain (conflict standing asked)
 conflict_plain standing asked = by_name (pointwise nat_eq asked standing)

@@ -251,7 +251,7 @@ farewell_other : (link : Option Link) (farewell : Option Farewell) → AreOther 
 farewell_other link None = tt
 farewell_other link (Some farewell) = (tt, tt)
 
--- ApplicationReady behind an answer, of a relation that waits for the answer to it
+-- ApplicationReady after an answer, of a relation that waits for the answer to it
 abbrev IsReadyCall : Option Link → Sent → Type 0
 IsReadyCall link (IdentifyAnswer asker running xid) = ⊥
 IsReadyCall link (GetAnswer asker running request) = ⊥
@@ -594,7 +594,7 @@ module _ (refusals_are_not_done : RefusalsAreNotDone) (rules : Rules TakenRecord
           by_name false e = absurd cc
 
       module _ (fresh : told_by call.header.sequence (kept_of activity live.rest.calls) ≡ new) where
-        -- it is answered, by its outcome, behind which this is the relation, and then this is sent
+        -- it is answered, by its outcome, after which this is the relation, and then this is sent
         serves : (ask : small.Ask) (which : Operation) (outcome : Result (List ℕ) CallFault) (link : Option Link) (behind : List Sent)
             → Comes rules (is_well outcome) ask (option_map link_of live.rest.link) (option_map link_of link) → AreReady link behind
             → Comes_to (small.Call call.header.sequence ask) (served station live caller call which outcome link behind)

@@ -260,7 +260,7 @@ module _ (rules : Rules TakenRecord Request) (activity : List ℕ) (station : St
   farewells_owed true None = tt
   farewells_owed false link = tt
 
-  -- ApplicationReady, behind PrmEnd and again
+  -- ApplicationReady, after PrmEnd and again
   readies_owed : (address : List ℕ) (link : Option Link) → live.rest.link ≡ link → AreOwed (ready_calls address (option_map awaiting_from link))
   readies_owed address None is = tt
   readies_owed address (Some link) is = (record { link = link; is = is; header = refl; block = refl }, tt)
@@ -428,7 +428,7 @@ module _ (rules : Rules TakenRecord Request) (activity : List ℕ) (station : St
       status = outcome_sized which outcome plain;
     }
 
-    -- the call is answered so, behind which this is the relation
+    -- the call is answered so, after which this is the relation
     answered_so : (from : List ℕ) (which : Operation) (outcome : Result (List ℕ) CallFault) (link : Option Link) (behind : List Sent) → IsPlainIn outcome → AreOwed behind
         → IsTurn station.real.modules.items live.rest.calls live.rest.link heard link (answer_from from caller call which outcome ∷ behind)
         → Turn station live heard (kept_behind station.identity live.rest call (answer_from from caller call which outcome) link) (answer_from from caller call which outcome ∷ behind)

@@ -1,4 +1,4 @@
--- What a controller sends of its outputs behind moves is what was given with them.
+-- What a controller sends of its outputs after moves is what was given with them.
 use Rattle.std.proofs.Common.{◌≡◌, ◌==◌, ◌&&◌, ◌+◌, ◌-◌, ◌≤◌, ◌++◌, ℕ, Bool, true, false, cond, List, [], ◌∷◌, length, map, Option, Some, None, refl, sym, ap, subst, ◌∙◌, arith}
 use Rattle.std.specs.Prelude.{unwrap_or}
 use Rattle.std.specs.List.{AllByRecursion}
@@ -24,7 +24,7 @@ use Rattle.exchange_ends.proofs.Values.{cells_given, cells_of, first_cells, now_
 abbrev pub ArePlacedOnce : Setup → Type 0
 ArePlacedOnce setup = (slot subslot : ℕ) → times_listed Data slot subslot (places_for setup) ≤ 1
 
--- what the controller sends of its outputs behind a move
+-- what the controller sends of its outputs after a move
 abbrev pub shown_with : Live → Move → Image
 shown_with live (move.Give slot subslot value) = (given live slot subslot value.items).cyclic.shown
 shown_with live (move.Deliver end number) = live.cyclic.shown
@@ -55,7 +55,7 @@ still setup moves one none =
     (cells_same (λ place. last_given place None moves) (λ place. last_given place None (moves ++ one ∷ []))
     (λ place. sym (last_more place None moves one ∙ none place (last_given place None moves))) (places_for setup))
 
--- behind a value that is given
+-- after a value that is given
 given_image : (setup : Setup) → ArePlacedOnce setup → (moves : List Move) (live : Live) → live.cyclic.shown ≡ image_given setup moves → (slot subslot : ℕ) (value : List ℕ)
     → (given live slot subslot value).cyclic.shown ≡ image_with setup (cells_of (now_given slot subslot value (λ place. last_given place None moves)) (places_for setup))
 given_image setup once moves live was slot subslot value =
@@ -79,7 +79,7 @@ given_image setup once moves live was slot subslot value =
         ∙ (image_if (has_size (length value) (cell_at Data slot subslot (image_given setup moves).cells))
         ∙ ap (λ (cs : List Cell). image_with setup cs) (cells_given slot subslot value (λ place. last_given place None moves) (places_for setup) (once slot subslot))))
 
--- behind a move
+-- after a move
 pub given_more : (setup : Setup) → ArePlacedOnce setup → (moves : List Move) (live : Live) → live.cyclic.shown ≡ image_given setup moves → (one : Move)
     → shown_with live one ≡ image_given setup (moves ++ one ∷ [])
 given_more setup once moves live was (move.Give slot subslot value) =

@@ -34,7 +34,7 @@ header_fits : (meaning : Meaning) → IsMac meaning.destination → IsMac meanin
 unfolding ethernet mac
 header_fits meaning destination source tag = (destination, (source, tag_fits meaning.tag meaning.content tag))
 
--- what stands behind the Ethernet header
+-- what stands after the Ethernet header
 abbrev pub rest_of : Meaning → List ℕ
 rest_of meaning = (content_under (type_of meaning.content)).write meaning.content ++ padding_of meaning
 
@@ -54,7 +54,7 @@ header_read sound meaning one other tagged =
 
 -- ---- the frame
 
--- what was read is between these stations, and its content is what stands behind the Ethernet header
+-- what was read is between these stations, and its content is what stands after the Ethernet header
 abbrev pub IsReadAs : Meaning → List ℕ → Result Meaning FrameFault → Type 0
 IsReadAs meaning rest (Ok found) =
     (found.destination ≡ meaning.destination) × (found.source ≡ meaning.source) × ((content_under (type_of meaning.content)).read rest ≡ Ok found.content)
@@ -101,7 +101,7 @@ unfolding datagram
 datagram_other bytes content e =
     other_made {A = ValueOf packet} ((loose packet).read bytes) (λ x. datagram_in x) content (λ x. tt) e
 
--- the octets of a FrameID and what is behind them
+-- the octets of a FrameID and what follows them
 abbrev number_if : ℕ → List ℕ → Bool → Result (ℕ × List ℕ) FrameFault
 number_if frame_id behind b = cond b (Err TooShort) (Ok (big_number 2 (big_bytes 2 frame_id ++ behind), drop 2 (big_bytes 2 frame_id ++ behind)))
 
@@ -116,7 +116,7 @@ real_time_if : (frame_id : ℕ) (behind : List ℕ) (content : Content) (b : Boo
 real_time_if frame_id behind content true e = absurd cc
 real_time_if frame_id behind content false e = sym (same_ok (RealTime (big_number 2 (big_bytes 2 frame_id)) behind) content e)
 
--- real-time data is read with all that stands behind the two octets of its FrameID
+-- real-time data is read with all that stands after the two octets of its FrameID
 pub real_time_is : (frame_id : ℕ) (behind : List ℕ) (content : Content) → real_time.read (big_bytes 2 frame_id ++ behind) ≡ Ok content
     → content ≡ RealTime (big_number 2 (big_bytes 2 frame_id)) behind
 unfolding real_time

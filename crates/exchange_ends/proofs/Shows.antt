@@ -284,7 +284,7 @@ module _ (setup : Setup) (station : Station) where
 
     module _ (live : Live) (heard : Heard) (ours : IsOursIn live.rest.link) (silent : AreKeptSilent live.rest.calls)
         (planned : IsPlanned (rules_of setup station) setup.activity station.real heard) where
-      -- what is shown behind a turn, and that it is of the plan
+      -- what is shown after a turn, and that it is of the plan
       abbrev ShowsSo : Option Link → Type 0
       ShowsSo after = ShowsIn (brought_in setup heard) live.rest.link after × IsOursIn after
 

@@ -50,7 +50,7 @@ use Rattle.controller_laws.specs.Turns.{Came, Hears, Passes, Gets, Halts, IsKind
 use Rattle.controller_laws.specs.Turns as sort
 use Rattle.exchange_ends.proofs.Brings.{IsAddressed, IsNow, IsWay}
 
--- a controller that sends to stations, with an image of so many octets
+-- a controller that sends to stations, with an image of that many octets
 pub record IsKeptAs (many : ℕ) (station : Mac) (route : Route) (shown : Image) : Type 0 where
   pub device : IsMac station
   pub way : IsWay route
@@ -78,7 +78,7 @@ IsSixAt setup Ticks = Unit {0}
 IsSixAt setup (Give slot subslot value) = Unit {0}
 IsSixAt setup Stop = Unit {0}
 
--- what is sent of outputs behind an event: a value that is given is
+-- what is sent of outputs after an event: a value that is given is
 abbrev pub shown_behind : Live → Event → Image
 shown_behind live (Frame bytes) = live.cyclic.shown
 shown_behind live Ticks = live.cyclic.shown
@@ -97,7 +97,7 @@ abbrev pub KindsSo : Type 0
 KindsSo = (setup : Setup) (live : Live) (event : Event) → IsTurn setup live (came_by setup event) (turn_of setup live event)
 
 module _ (size : ℕ) where
-  -- a turn of it, behind which it goes on so, and this is what it sends of its outputs
+  -- a turn of it, after which it goes on so, and this is what it sends of its outputs
   pub record Tells (shown : Image) (turn : Turn) : Type 0 where
     pub told : AllByRecursion (IsSaid turn.live.cyclic.shown) turn.sent
     pub kept : IsKept size turn.live

@@ -169,7 +169,7 @@ module _ (slot subslot : ℕ) (value : List ℕ) where
                   ∙ ap (λ (cs : List Cell). cell place ∷ cs) rest.change_same;
             }
 
-    -- the cells behind a value that is given: where the output has its length, and else as they were
+    -- the cells after a value that is given: where the output has its length, and else as they were
     abbrev behind : Bool → List Place → List Cell
     behind fits places = cond fits (map change (cells_of given places)) (cells_of given places)
 

@@ -38,7 +38,7 @@ anded_split [] (n ∷ ns) = refl
 anded_split (o ∷ os) [] = refl
 anded_split (o ∷ os) (n ∷ ns) = ap (λ rest. bit_and o n ∷ rest) (anded_split os ns)
 
--- a programmed sector is the part before, the range and the part behind
+-- a programmed sector is the part before, the range and the part after
 pub programmed_split : (sector : List ℕ) (place end : ℕ) (bytes : List ℕ) → end ≡ place + length bytes →
     programmed sector place bytes ≡ take place sector ++ (anded (slice_range sector place end) bytes ++ drop end sector)
 programmed_split sector place end bytes e =
@@ -59,7 +59,7 @@ pub take-programmed : (sector : List ℕ) (place : ℕ) (bytes : List ℕ) (n : 
 take-programmed sector place bytes n h within =
     take-append-le n (take place sector) (anded (drop place sector) bytes) (omega (arith, length-take-le place sector within)) ∙ take-take n place sector h
 
--- behind the range nothing changes
+-- after the range nothing changes
 pub drop-programmed : (sector : List ℕ) (place : ℕ) (bytes : List ℕ) (n : ℕ) → place + length bytes ≤ n → n ≤ length sector →
     drop n (programmed sector place bytes) ≡ drop n sector
 drop-programmed sector place bytes n h within =

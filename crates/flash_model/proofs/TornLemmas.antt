@@ -12,7 +12,7 @@ chosen : (mask kept old new : ℕ) → mask < 2 → old < 2 → new < 2 → kept
 chosen zero kept old new m o n e = omega arith
 chosen (suc mask) kept old new m o n e = omega arith
 
--- behind the last bit of a byte
+-- after the last bit of a byte
 chosen_past : (mask kept old new : ℕ) → mask ≡ 0 → old ≡ 0 → new ≡ 0 → max (min old kept) (min new mask) ≡ chosen_bit mask old new
 chosen_past zero kept old new m o n = omega arith
 chosen_past (suc mask) kept old new m o n = absurd (omega arith)

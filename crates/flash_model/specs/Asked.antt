@@ -17,7 +17,7 @@ pub record Chip : Type 0 where
 abbrev pub chip_of : {S : ℕ} → MemoryFlash S → Chip
 chip_of flash = record { image = image_of flash; armed = against_writes (armed_in flash); is_lost = is_powerless flash }
 
--- the chip behind a call on the places from start to end, which finished would have left those bytes in the sector
+-- the chip after a call on the places from start to end, which finished would have left those bytes in the sector
 abbrev pub written : Chip → Sector → ℕ → ℕ → List ℕ → Chip
 written chip sector start end finished =
     let fate = fate_of chip.is_lost chip.armed in record {
@@ -26,13 +26,13 @@ written chip sector start end finished =
       is_lost = lost_after chip.is_lost chip.armed;
     }
 
--- the chip behind a call, whether it passed, was torn or failed
+-- the chip after a call, whether it passed, was torn or failed
 abbrev pub after_call : Chip → Call → Chip
 after_call chip (Programs sector place bytes) = written chip sector place (place + length bytes) (programmed (sector_of chip.image sector) place bytes)
 after_call chip (Erases sector) = written chip sector 0 (length (sector_of chip.image sector)) (erased (length (sector_of chip.image sector)))
 after_call chip (Arms order) = record chip { armed = against_writes (Some order) }
 
--- the chip behind some calls, in order
+-- the chip after some calls, in order
 abbrev pub after_calls : Chip → List Call → Chip
 after_calls chip [] = chip
 after_calls chip (call ∷ calls) = after_calls (after_call chip call) calls

@@ -17,7 +17,7 @@ fate_of false (Some (Fault zero mask)) = Tears mask
 fate_of false (Some (Fault (suc after) mask)) = Passes
 fate_of false (Some (ReadFault after)) = Passes
 
--- What is armed behind a program or erase call: an order that struck is gone, and one that let the call pass lets one fewer pass.
+-- What is armed after a program or erase call: an order that struck is gone, and one that let the call pass lets one fewer pass.
 abbrev pub armed_after : Bool → Option Order → Option Order
 armed_after true armed = armed
 armed_after false None = None
@@ -36,7 +36,7 @@ is_readable false (Some (Fault after mask)) = true
 is_readable false (Some (ReadFault zero)) = false
 is_readable false (Some (ReadFault (suc after))) = true
 
--- What is armed behind a read: an order to reads that struck is gone, and one that let the read pass lets one fewer pass.
+-- What is armed after a read: an order to reads that struck is gone, and one that let the read pass lets one fewer pass.
 abbrev pub armed_after_read : Bool → Option Order → Option Order
 armed_after_read true armed = armed
 armed_after_read false None = None
@@ -52,7 +52,7 @@ against_writes (Some (Cut after mask)) = Some (Cut after mask)
 against_writes (Some (Fault after mask)) = Some (Fault after mask)
 against_writes (Some (ReadFault after)) = None
 
--- whether power is lost behind a program or erase call: it was before, or a cut strikes
+-- whether power is lost after a program or erase call: it was before, or a cut strikes
 abbrev pub lost_after : Bool → Option Order → Bool
 lost_after true armed = true
 lost_after false None = false
@@ -75,13 +75,13 @@ abbrev pub torn_bytes : List ℕ → List ℕ → List ℕ → List ℕ
 torn_bytes mask old finished =
     map (λ k. torn_byte (slice_index old k) (slice_index finished k) (slice_index mask (k % 8))) (range_with_len 0 (length old))
 
--- a sector behind a call on its places from start to end, which finished would have left those bytes
+-- a sector after a call on its places from start to end, which finished would have left those bytes
 abbrev pub sector_after : Fate → ℕ → ℕ → List ℕ → List ℕ → List ℕ
 sector_after Passes start end finished old = finished
 sector_after (Tears mask) start end finished old =
     take start old ++ torn_bytes mask (slice_range old start end) (slice_range finished start end) ++ drop end old
 sector_after Fails start end finished old = old
 
--- the count of failed calls behind this result, which stays where 64 bits count no further
+-- the count of failed calls after this result, which stays where 64 bits count no further
 abbrev pub failures_after : {T E : Type 0} → ℕ → Result T E → ℕ
 failures_after before result = if is_ok result then before else min (before + 1) 18446744073709551615

@@ -35,7 +35,7 @@ programmed sector place bytes = take place sector ++ anded (drop place sector) b
 abbrev pub erased : ℕ → List ℕ
 erased size = replicate size 255
 
--- how many slots of 256 bytes there are behind the first 512
+-- how many slots of 256 bytes there are after the first 512
 abbrev pub slots_in : ℕ → ℕ
 slots_in size = (size - 512) / 256
 

@@ -30,11 +30,11 @@ IsReliable flash = (is_powerless flash ≡ false) × (armed_in flash ≡ None)
 abbrev pub next_fate : {S : ℕ} → MemoryFlash S → Fate
 next_fate flash = fate_of (is_powerless flash) (armed_in flash)
 
--- what is armed behind the next program or erase call
+-- what is armed after the next program or erase call
 abbrev pub next_armed : {S : ℕ} → MemoryFlash S → Option Order
 next_armed flash = armed_after (is_powerless flash) (armed_in flash)
 
--- whether power is lost behind the next program or erase call
+-- whether power is lost after the next program or erase call
 abbrev pub next_lost : {S : ℕ} → MemoryFlash S → Bool
 next_lost flash = lost_after (is_powerless flash) (armed_in flash)
 
@@ -42,6 +42,6 @@ next_lost flash = lost_after (is_powerless flash) (armed_in flash)
 abbrev pub next_readable : {S : ℕ} → MemoryFlash S → Bool
 next_readable flash = is_readable (is_powerless flash) (armed_in flash)
 
--- what is armed behind the next read
+-- what is armed after the next read
 abbrev pub next_read_armed : {S : ℕ} → MemoryFlash S → Option Order
 next_read_armed flash = armed_after_read (is_powerless flash) (armed_in flash)

@@ -31,13 +31,13 @@ pub enum Order {
     /// a 0 and the new bit where it has a 1; the mask's 8 bytes repeat from the start of the call's range.
     Cut { after: u32, mask: [u8; 8] },
     /// Fails the program or erase call after `after` further ones, which leaves bits as a cut does. Power stays, and the
-    /// calls behind it pass.
+    /// calls after it pass.
     Fault { after: u32, mask: [u8; 8] },
-    /// Fails the read after `after` further ones. No byte changes, power stays, and the reads behind it pass.
+    /// Fails the read after `after` further ones. No byte changes, power stays, and the reads after it pass.
     ReadFault { after: u32 },
 }
 
-/// Two sectors of `S` bytes: 512 and 256 for each of 1 to 255 slots behind them. `erase` turns a sector to FF,
+/// Two sectors of `S` bytes: 512 and 256 for each of 1 to 255 slots after them. `erase` turns a sector to FF,
 /// `program` turns ones to zeros. A call that fails leaves each bit of its range old or new.
 pub trait Flash<const S: usize>: Drop {
     /// The bytes of both sectors.

@@ -216,7 +216,7 @@ impl<const S: usize> Flash<S> for MemoryFlash<S> {
 
     ghost asked = { IsAsked };
 
-    /// Reads the bytes from `place` on. It fails exactly where there is no power or an order to reads strikes, and counts
+    /// Reads the bytes from `place` on. It fails exactly if there is no power or an order to reads strikes, and counts
     /// for no other order.
     fn read(&mut self, sector: Sector, place: usize, buffer: &mut [u8]) -> Result<(), FlashFault>
         requires { place + length buffer.old ≤ S }
@@ -244,7 +244,7 @@ impl<const S: usize> Flash<S> for MemoryFlash<S> {
         Ok(())
     }
 
-    /// Turns to 0 each bit that is 0 in `bytes`, from `place` on. It fails exactly where there is no power or the order
+    /// Turns to 0 each bit that is 0 in `bytes`, from `place` on. It fails exactly if there is no power or the order
     /// that is armed strikes.
     fn program(&mut self, sector: Sector, place: usize, bytes: &[u8]) -> Result<(), FlashFault>
         requires { place + length bytes.now ≤ S }
@@ -277,7 +277,7 @@ impl<const S: usize> Flash<S> for MemoryFlash<S> {
         self.outcome(fate)
     }
 
-    /// Turns every bit of a sector to 1. It fails exactly where there is no power or the order that is armed strikes.
+    /// Turns every bit of a sector to 1. It fails exactly if there is no power or the order that is armed strikes.
     fn erase(&mut self, sector: Sector) -> Result<(), FlashFault>
         // What the trait asks, and that a call without power changes no byte.
         ensures done { OnOk result (image_of self.new ≡ with_sector (image_of self.old) sector (erased S)) }

@@ -24,14 +24,14 @@ pub carried_most : (n : ℕ) → carried n ≤ 65535
 carried_most zero = omega arith
 carried_most (suc n) = let e = carried_suc n in let below : n % 65535 < 65535 = mod-lt n (omega arith) in omega (arith, e, below)
 
--- 65,535 more or less does not count where there is something
+-- a multiple of 65,535 more does not change the carried sum of a number above 0
 pub carried_over : (times n : ℕ) → 0 < n → carried (65535 * times + n) ≡ carried n
 carried_over times zero some = absurd (omega (arith, some))
 carried_over times (suc n) some =
     let one : 65535 * times + suc n ≡ suc (65535 * times + n) = omega arith in
     ap carried one ∙ carried_suc (65535 * times + n) ∙ ap (λ (k : ℕ). k + 1) (mul-add-mod_self_left 65535 times n) ∙ sym (carried_suc n)
 
--- what was carried may be added to
+-- adding to a carried sum gives the carried sum of the total
 pub carried_on : (n m : ℕ) → carried (carried n + m) ≡ carried (n + m)
 carried_on zero m = refl
 carried_on (suc n) m =
@@ -45,12 +45,12 @@ carried_once n more most =
     let one : n ≡ 65535 * 1 + (n - 65535) = omega (arith, more) in
     sym (ap carried one ∙ carried_over 1 (n - 65535) (omega (arith, more)) ∙ carried_small (n - 65535) (omega (arith, most)))
 
--- nothing else has the sum 0
+-- only 0 has the sum 0
 pub carried_zero : (n : ℕ) → carried n ≡ 0 → n ≡ 0
 carried_zero zero e = refl
 carried_zero (suc n) e = absurd (let s = carried_suc n in omega (arith, e, s))
 
--- it is the same number modulo 65,535
+-- a carried sum equals the number modulo 65,535
 pub carried_equal : (n : ℕ) → carried n % 65535 ≡ n % 65535
 carried_equal zero = refl
 carried_equal (suc n) =
@@ -60,7 +60,7 @@ carried_equal (suc n) =
 
 -- ---- words
 
--- behind an even number of bytes the words go on
+-- after an even number of bytes, the words of the rest are added
 pub words_append : (pairs : ℕ) (xs ys : List ℕ) → length xs ≡ 2 * pairs → words_total (xs ++ ys) ≡ words_total xs + words_total ys
 words_append zero [] ys even = omega arith
 words_append zero (x ∷ xs) ys even = absurd (omega (arith, even))
@@ -134,7 +134,7 @@ sum_ends_odd bytes index total next word whole high end h w n so_far =
     ap words_total (one ∙ ap (λ (xs : List ℕ). get_or bytes (2 * index) 0 ∷ xs) none) in
     n ∙ ap carried (omega (arith, parts, h, w)) ∙ so_far
 
--- a sum that goes on behind an even number of bytes
+-- a sum that goes on after an even number of bytes
 pub sum_parts : (front body : List ℕ) (first sum pairs : ℕ) → length front ≡ 2 * pairs → first ≡ ones_sum_of front
     → sum ≡ carried (first + words_total body) → sum ≡ ones_sum_of (front ++ body)
 unfolding ones_sum_of

@@ -24,7 +24,7 @@ FittingIsRead = (meaning : Meaning) → FitsFrame meaning → layers.Fits meanin
 pub back : FittingIsRead → DatagramsFit → (meaning : Meaning) → CanBeSent meaning → IsReadBack meaning
 back reads fit meaning is = reads meaning (frame_fits meaning is.content) (layers_fit fit meaning is)
 
--- with nothing more behind it
+-- with nothing more after it
 pub alone_back : FittingIsRead → DatagramsFit → (meaning : Meaning) → CanBeSent meaning → frame_of (frame_bytes meaning) ≡ Ok (with_behind meaning (padding_of meaning))
 alone_back reads fit meaning is =
     let b = back reads fit meaning is in

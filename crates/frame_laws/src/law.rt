@@ -12,7 +12,7 @@ use frame_codec::{fitting_frames_are_read, formats_are_sound};
 /// What is written for a frame is read as that frame: laws of the definitions, and no code.
 pub fn frames_are_read()
     // Whatever it carries, it has 60 octets at least and no more than a frame may have, and is read as what was given with its padding
-    // behind it, also where more stands behind that, up to the limit.
+    // after it, also where more stands after that, up to the limit.
     ensures back { (meaning : Meaning) → CanBeSent meaning → IsReadBack meaning }
     // Real-time data is read with the padding at its end.
     ensures real_time { (destination source : Mac) (tag : Option ℕ) (frame_id : ℕ) (body : List ℕ)

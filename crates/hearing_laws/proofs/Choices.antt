@@ -47,7 +47,7 @@ pub faulty : {A E B : Type 0} (made : Result A E → B) (value : B) (read : Resu
 faulty made value (Ok found) each none = absurd (false≢true none)
 faulty made value (Err fault) each none = each fault
 
--- octets with nothing behind them
+-- octets with nothing after them
 pub bare : {A : Type 0} (f : List ℕ → A) (octets : List ℕ) (value : A) → f (octets ++ []) ≡ value → f octets ≡ value
 bare f octets value e = ap f (sym (append-nil octets)) ∙ e
 

@@ -64,7 +64,7 @@ header_is setup request good numbered = record {
 
 -- ---- the blocks
 
--- how long the ARBlockReq is hangs on the length of the ARUUID alone
+-- how long the ARBlockReq is depends on the length of the ARUUID alone
 ar_size : (parts : Parts) (ar : List ℕ) → length ar ≡ 16 → block_size (is.ArBlockReq (ar_block parts ar)) ≡ block_size (is.ArBlockReq (ar_block parts some_uuid))
 unfolding block_size fields_of body version ar_block_req ar_uuid initiator_mac
 ar_size parts ar sixteen = rw sixteen refl

@@ -58,6 +58,6 @@ IsUncalled heard = ⊤
 
 -- ---- both
 
--- what is heard of the octets of real-time data: with the padding behind them
+-- what is heard of the octets of real-time data: with the padding after them
 abbrev pub padded : Mac → Mac → Option ℕ → ℕ → List ℕ → List ℕ
 padded source destination tag frame_id body = body ++ padding_of (carrying destination source tag (RealTime frame_id body))

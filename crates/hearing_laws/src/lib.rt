@@ -1,6 +1,6 @@
 //! Hearing laws, and no code: what either end hears of each message of the other end, and of its own.
 //!
-//! A message is a meaning with one way to octets (`bytes_of`), and what is heard of octets hangs on these alone. Each law says of a kind
+//! A message is a meaning with one way to octets (`bytes_of`), and what is heard of octets depends on these alone. Each law says of a kind
 //! of message what a device hears of its octets, and what a controller does. A message that can be sent is heard as itself where it is
 //! meant, and as nothing anywhere else.
 #![tactic(auto)]

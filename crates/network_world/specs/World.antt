@@ -71,7 +71,7 @@ is_skipped device controller end octets = is_cyclic_frame octets && has_left dev
 
 -- ---- what a move does
 
--- A device heard this, whatever its flash did: it made a step, and what it sent stands behind all that was sent.
+-- A device heard this, whatever its flash did: it made a step, and what it sent stands after all that was sent.
 pub record IsHeard {F : Type 0} {S : ℕ} (as_flash : Flash F S) (before : State F) (sent : List (List ℕ)) (heard : Heard) (after : State F) (all : List (List ℕ)) : Type 0 where
   pub frames : List (List ℕ)
   pub note : Note
@@ -127,7 +127,7 @@ Happens as_flash before (move.Alarm slot subslot octets) after = AtDevice as_fla
 Happens as_flash before (move.Give slot subslot value) after = after ≡ at_controller before (controller.Give slot subslot value)
 Happens as_flash before move.Stop after = after ≡ at_controller before controller.Stop
 
--- moves are made, one behind the other: a world that they allow
+-- moves are made, one after the other: a world that they allow
 abbrev pub Played : {F : Type 0} {S : ℕ} → Flash F S → World F → List Move → World F → Type 0
 Played as_flash before [] after = after ≡ before
 Played {F} as_flash before (one ∷ moves) after =

@@ -16,7 +16,7 @@ const MOST_FRAMES: usize = 4;
 pub(crate) struct SentFrames {
     /// The frame with which the controller begins, in a field of its own, so that it takes no memory.
     opening: Frame,
-    /// The frames behind it.
+    /// The frames after it.
     others: Vec<Frame>,
 }
 
@@ -43,7 +43,7 @@ fn copy_of(frame: &Frame) -> Frame
     copy
 }
 
-/// Puts copies of frames behind others. There is room for them.
+/// Puts copies of frames after others. There is room for them.
 fn append(all: &mut Vec<Frame>, frames: &[Frame])
     requires room { vec_len all.old + length frames.now ≤ vec_capacity all.old }
     ensures { octets_of all.new.items ≡ octets_of all.old.items ++ octets_of frames.now }
@@ -94,7 +94,7 @@ impl SentFrames {
         self.others.reserve(MOST_FRAMES)
     }
 
-    /// Puts what an event sent behind all that was sent before. There is room for it.
+    /// Puts what an event sent after all that was sent before. There is room for it.
     pub(crate) fn keep(&mut self, outbox: &Outbox)
         requires room { 4 ≤ self.old.room }
         ensures { self.new.frames ≡ self.old.frames ++ octets_of outbox.now.items }

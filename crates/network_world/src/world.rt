@@ -226,12 +226,12 @@ impl<F: Flash<S>, const S: usize> World<F, S> {
         self.sent.at(number)
     }
 
-    /// Plays moves, one behind the other, whatever the flash does. For want of memory it ends in front of a move, and the moves before
+    /// Plays moves, one after the other, whatever the flash does. For want of memory it ends in front of a move, and the moves before
     /// it stand.
     pub fn play(&mut self, moves: &[Move]) -> Result<(), AllocError>
-        // Each move does what it is, one behind the other.
+        // Each move does what it is, one after the other.
         ensures played { OnOk result (Played F.Flash self.old moves.now self.new) }
-        // So do those of a front, where memory ends.
+        // So do those of a prefix, where memory ends.
         ensures front { OnErr result ((count : ℕ) × (count < length moves.now)
             × Played F.Flash self.old (take count moves.now) self.new) }
     {

@@ -12,7 +12,7 @@ use Rattle.pn_values.specs.IpSuite.{Suite, zero_suite, IsMask, IsHost, IsSuite, 
 Decides-leb : (a b : ℕ) → Decides (leb a b) (a ≤ b)
 Decides-leb a b = grind (arith, nat_tests)
 
--- the sum that makes a mask of so many zeros
+-- the sum that makes a mask of that many zeros
 abbrev is_ones : ℕ → ℕ → Bool
 is_ones number zeros = eqb (number + 2 ^ zeros) (2 ^ 32)
 

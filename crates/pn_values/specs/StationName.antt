@@ -25,7 +25,7 @@ abbrev pub labels_of : List ℕ → List (List ℕ)
 labels_of [] = [] ∷ []
 labels_of (byte ∷ bytes) = if byte == dot then [] ∷ labels_of bytes else onto_first byte (labels_of bytes)
 
--- all of them digits, and so many
+-- all of them digits, and that many
 abbrev pub IsDigits : ℕ → List ℕ → Type 0
 IsDigits count label = (length label ≡ count) × All (λ byte. IsTrue (is_digit byte)) label
 

@@ -47,7 +47,7 @@ impl IpSuite {
         suite_of(address, mask, gateway)
     }
 
-    /// The IP address; zeros where there is none.
+    /// The IP address; zeros if there is none.
     pub fn address(&self) -> [u8; 4]
         ensures value { result ≡ self.now.address }
         ensures valid { IsSuite self.now }
@@ -64,7 +64,7 @@ impl IpSuite {
         self.mask
     }
 
-    /// The default gateway; the address itself or zeros where there is none.
+    /// The default gateway; the address itself or zeros if there is none.
     pub fn gateway(&self) -> [u8; 4]
         ensures value { result ≡ self.now.gateway }
         ensures length { length self.now.gateway ≡ 4 }

@@ -43,7 +43,7 @@ impl StationName {
         }
     }
 
-    /// Its bytes; none where there is no name.
+    /// Its bytes; none if there is no name.
     pub fn as_bytes(&self) -> &[u8]
         ensures value { result.now ≡ self.now }
         ensures valid { IsNameOrNone self.now }

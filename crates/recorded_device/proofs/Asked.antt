@@ -56,7 +56,7 @@ use Rattle.recorded_device.proofs.Few.{of_bind, few_data}
 abbrev head : ℕ → Codec DcpFault (ℕ × (ℕ × (ℕ × Unit {0})))
 head frame_id = number fault.Length 1 ⨾ number fault.Length 1 ⨾ number fault.Length 4 ⨾ unchecked fault.Length 2 (delay_under frame_id)
 
--- the data behind it
+-- the data after it
 abbrev behind : ℕ → ℕ × (ℕ × (ℕ × Unit {0})) → Codec DcpFault (Service × List AskedBlock)
 behind frame_id front = framed (number fault.Length 2) fault.Length (data_of (service_of frame_id front.0 front.1.0))
 

@@ -42,7 +42,7 @@ calls_length : (image : Image) (calls : List Call) → length (all_carried_out i
 calls_length image [] = refl
 calls_length image (call ∷ calls) = calls_length (carried_out image call) calls ∙ call_length image call
 
--- ---- where calls behind calls are cut off
+-- ---- where calls after calls are cut off
 
 cut_split : (image chip : Image) (front back : List Call) → CutOff image (front ++ back) chip → CutOff image front chip ⊎ CutOff (all_carried_out image front) back chip
 cut_split image chip [] back cut = inr cut
@@ -60,7 +60,7 @@ made_append : (front back : List Accepted) (first : Settings) → made_of (front
 made_append [] back first = refl
 made_append (one ∷ front) back first = made_append front back (apply one.command first)
 
--- a legal end behind the commands of earlier steps
+-- a legal end after the commands of earlier steps
 behind_earlier : (chip : Image) (earlier some : List Accepted) (first stored : Settings) → stored ≡ made_of earlier first → LegalEnd chip some stored → LegalEnd chip (earlier ++ some) first
 behind_earlier chip earlier some first stored made (inl boots) =
     inl (subst (BootsTo chip) (ap (made_of some) made ∙ sym (made_append earlier some first)) boots)
@@ -73,7 +73,7 @@ behind_earlier chip earlier some first stored made (inr but) =
       boots = subst (BootsTo chip) (ap (made_of but.front) made ∙ sym (made_append earlier but.front first)) but.boots;
     })
 
--- and behind one more
+-- and after one more
 behind_one : (chip : Image) (one : Accepted) (rest : List Accepted) (stored : Settings) → LegalEnd chip rest (apply one.command stored) → LegalEnd chip (one ∷ rest) stored
 behind_one chip one rest stored legal = behind_earlier chip (one ∷ []) rest stored (apply one.command stored) refl legal
 

@@ -48,7 +48,7 @@ pub after_image : (before : Record) (calls : List Call) → (after_all before ca
 after_image before [] = refl
 after_image before (call ∷ calls) = after_image (after_one before call) calls
 
--- one call behind those that are kept: they stay, while there is room for it too
+-- one call after those that are kept: they stay, while there is room for it too
 pushed_behind : (front back : List Call) (call : Call) → length back + 1 ≤ 48 → (old : List Call) × (pushed (front ++ back) call ≡ old ++ (back ++ call ∷ []))
 pushed_behind [] back call few =
     let short : nat_lt (length back) 48 ≡ true = lt-ltb _ _ (omega (arith, few)) in
@@ -59,7 +59,7 @@ pushed_behind (one ∷ front) back call few =
       | inr long ↦ (front, rw long (append_assoc front back (call ∷ [])))
     ]
 
--- calls behind those that are kept stay there while there is room for all of them
+-- calls after those that are kept stay there while there is room for all of them
 kept_behind : (front back calls : List Call) → length back + length calls ≤ 48 → (before : Record) → before.recent ≡ front ++ back
     → (old : List Call) × ((after_all before calls).recent ≡ old ++ (back ++ calls))
 kept_behind front back [] few before is = (front, is ∙ ap (λ l. front ++ l) (sym (append-nil back)))

@@ -1,4 +1,4 @@
--- The calls of accepted commands, and what is left of a chip on which a host carries them out and is cut off.
+-- The calls of accepted commands, and the rest of a chip on which a host carries them out and is cut off.
 use Rattle.std.specs.Prelude.{◌≡◌, ◌⊎◌, ◌-◌, ◌≤◌, ℕ, Bool, false, List, [], ◌∷◌, ◌++◌, length}
 use Rattle.pn_values.specs.Command.{apply}
 use Rattle.pn_values.specs.declared.settings.Settings.{Settings}
@@ -10,7 +10,7 @@ use Rattle.settings_journal.specs.Image.{BootsTo, LeftByDevice, StartsWith}
 use Rattle.settings_store.specs.Legal.{LegalEnd, made_of}
 use Rattle.settings_store.specs.Machine.{Accepted}
 
--- The calls of accepted commands over an image that is read as these settings, with room for so many commits: those of the
+-- The calls of accepted commands over an image that is read as these settings, with room for that many commits: those of the
 -- commit of each, in order, over what the commands before it left. A start on what all leave gives what all make, and what
 -- this device left stays so.
 abbrev pub CallsOf : Image → Settings → ℕ → List Accepted → List Call → Type 0
@@ -29,7 +29,7 @@ abbrev pub AcceptedOf : List Accepted → List Accepted → Type 0
 AcceptedOf [] some = some ≡ []
 AcceptedOf (one ∷ more) some = (some ≡ unanswered one ∷ []) ⊎ ((rest : List Accepted) × (some ≡ one ∷ rest) × AcceptedOf more rest)
 
--- The chip is left by this device, and a legal end of commands of which it had accepted some, behind those of earlier steps: a
+-- The chip is left by this device, and a legal end of commands of which it had accepted some, after those of earlier steps: a
 -- start gives what the commands of earlier steps, and some first ones of these, make of the first settings.
 pub record EndsLegally (chip : Image) (earlier accepted : List Accepted) (first : Settings) : Type 0 where
   pub some : List Accepted

@@ -10,7 +10,7 @@ use frame_codec::Outbox;
 use recorded_flash::RecordedFlash;
 
 /// Takes an event, and puts the frames to be sent into the box. What the step asks of the flash is recorded; a host carries
-/// it out on its chip, call by call, and sends the frames behind the last of them.
+/// it out on its chip, call by call, and sends the frames after the last of them.
 pub fn step<const S: usize>(
     device: &mut Device<RecordedFlash<S>, S>,
     event: &Event,

@@ -25,15 +25,15 @@ record_of flash = record { image = image_of flash; recent = map call_of flash.ca
 abbrev pub filled : ℕ → Record → Sector → List ℕ → Record
 filled size before sector bytes = record before { image = with_sector before.image sector (programmed (erased size) 0 bytes) }
 
--- a call behind others: at most 48 are kept, the oldest one goes
+-- a call after others: at most 48 are kept, the oldest one goes
 abbrev pub pushed : List Call → Call → List Call
 pushed recent call = if nat_lt (length recent) 48 then recent ++ call ∷ [] else drop 1 recent ++ call ∷ []
 
--- the record behind a call, which is carried out on the image
+-- the record after a call, which is carried out on the image
 abbrev pub after_one : Record → Call → Record
 after_one before call = record { image = carried_out before.image call; recent = pushed before.recent call; count = (before.count + 1) % 2 ^ 32 }
 
--- the record behind some calls, in order
+-- the record after some calls, in order
 abbrev pub after_all : Record → List Call → Record
 after_all before [] = before
 after_all before (call ∷ calls) = after_all (after_one before call) calls

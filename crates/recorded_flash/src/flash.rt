@@ -71,7 +71,7 @@ impl<const S: usize> RecordedFlash<S> {
         self.calls.as_slice()
     }
 
-    /// Puts a call behind the others, and forgets the oldest one where there is no room.
+    /// Puts a call after the others, and forgets the oldest one if there is no room.
     fn push(&mut self, call: Recorded)
         ensures memory { self.new.memory ≡ self.old.memory }
         ensures recent { (record_of self.new).recent ≡ pushed (record_of self.old).recent (call_of call) }

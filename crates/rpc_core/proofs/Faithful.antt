@@ -96,7 +96,7 @@ case_of : (kept : Kept) (sequence : ℕ) → Case kept sequence
 case_of kept sequence = case_by kept sequence (eqb sequence kept.sequence) (ltb sequence kept.sequence) refl refl
 
 module _ (most : ℕ) (activity : List ℕ) (sequence : ℕ) (frame : List ℕ) where
-  -- what is held of the activity behind a call of the activity
+  -- what is held of the activity after a call of the activity
   own_call : (call : Kept) (cache : List Kept) → activity ≡ call.activity → Holds activity sequence frame cache → Holds activity sequence frame (behind_call most call cache)
   own_call call cache same_as holds = by (case_of holds.kept call.sequence)
     where
@@ -116,7 +116,7 @@ module _ (most : ℕ) (activity : List ℕ) (sequence : ℕ) (frame : List ℕ) 
       by (same told e) = rw (found, told) holds
       by (earlier told) = rw (found, told) holds
 
-  -- and behind a call of another
+  -- and after a call of another
   other_call : (call : Kept) (cache : List Kept) → call.activity ≢ activity → (told : Told) → IsSome (kept_of activity (behind_told most call cache told))
       → Holds activity sequence frame cache → Holds activity sequence frame (behind_told most call cache told)
   other_call call cache differs new held holds = record {
@@ -179,7 +179,7 @@ first_held most call cache frame answered = by (kept_of call.activity cache) ref
     by None e = fresh (rw e refl)
     by (Some kept) e = known kept e (case_of kept call.sequence)
 
--- a call that was answered, and comes again behind any calls while its activity is held
+-- a call that was answered, and comes again after any calls while its activity is held
 pub faithful : (most : ℕ) (cache calls : List Kept) (call : Kept) (frame : List ℕ) → answer_of call cache ≡ Some frame
     → HoldsThrough most call.activity calls (behind_call most call cache)
     → IsFaithful frame (looked call.activity call.sequence (behind_calls most calls (behind_call most call cache)))

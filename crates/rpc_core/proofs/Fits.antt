@@ -15,7 +15,7 @@ use Rattle.rpc_core.specs.Sendable.{CanBeAnswered, CanBeCalled, IsHeader, IsStat
 
 -- ---- the header
 
--- what stands in front of the identifiers of a call, and of a response
+-- what comes before the identifiers of a call, and of a response
 pub request_opening_fits : opening.Fits (record { version = 4; packet_type = 0; flags = 0x20; representation = 0 })
 unfolding opening
 request_opening_fits = (omega arith, (omega arith, (omega arith, (refl, (omega arith, refl)))))

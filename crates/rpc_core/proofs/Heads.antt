@@ -1,4 +1,4 @@
--- One header stands in front of octets, and it says whether they are a call or a response, and to whom.
+-- One header comes before octets, and it says whether they are a call or a response, and to whom.
 use Rattle.std.proofs.Common.{◌≡◌, ◌==◌, ◌&&◌, nat_eq, nat_le, ℕ, Bool, true, false, List, [], ◌∷◌, ◌++◌, Option, Some, None, Result, Ok, Err, refl, sym, ap, subst, ◌∙◌, append_assoc, arith}
 use Rattle.std.specs.Prelude.{IsErr}
 use Rattle.std.specs.Cmp.Lexicographic.{pointwise, same_text}
@@ -44,7 +44,7 @@ middle false false c e = absurd cc
 
 -- ---- the header of octets
 
--- A header stands in front of these octets, with this packet type, and where an interface has to be meant, it is.
+-- A header comes before these octets, with this packet type, and where an interface has to be meant, it is.
 pub record IsHeaded (bytes : List ℕ) (packet_type : ℕ) (interface : Option Interface) : Type 0 where
   pub header : Head
   pub inside : List ℕ
@@ -144,7 +144,7 @@ controller_alone bytes asked e =
 
 -- ---- what is written
 
--- these octets begin with what stands in front of the identifiers
+-- these octets begin with what comes before the identifiers
 Opens : List ℕ → Opening → Type 0
 Opens bytes value = (rest : List ℕ) × (bytes ≡ opening.write value rest)
 

@@ -82,7 +82,7 @@ any_onward size written = seen_onward _ (λ _. written) _ (raw_onward fault.Shor
 
 -- ---- the header
 
--- two formats, one behind the other
+-- two formats, one after the other
 both : {A B : Type 0} (first : Codec RpcFault A) (second : Codec RpcFault B) → IsSound first → IsSound second → IsSound (first ⨾ second)
 both first second one other = then_by_sound first (λ _. second) one (λ _. other)
 

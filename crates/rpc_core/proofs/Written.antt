@@ -35,7 +35,7 @@ names_same n header e1 e2 e3 = ap (λ (object : List ℕ). record { object = obj
     ∙ ap (λ (interface : List ℕ). record { object = header.object; interface = interface; activity = n.activity }) e2
     ∙ ap (λ (activity : List ℕ). record { object = header.object; interface = header.interface; activity = activity }) e3
 
--- four parts, one behind the other, are a header
+-- four parts, one after the other, are a header
 pub head_joined : (packet_type flags size : ℕ) (header : CallHeader) (names_are : Names) (a b d out : List ℕ) → let h = head_for packet_type flags header size in
     names_are ≡ h.names → a ≡ opening.write h.opening [] → b ≡ a ++ (names Big).write names_are [] → d ≡ b ++ (turn Big).write h.turn []
     → out ≡ d ++ (extent Big).write h.extent [] → out ≡ head.write h []
@@ -71,7 +71,7 @@ pdu_fits packet_type flags size interface header inside version whole served lon
 
 -- ---- the body
 
--- a word, the counts and the blocks, one behind the other, are a body behind a header
+-- a word, the counts and the blocks, one after the other, are a body after a header
 pub body_joined : {A : Type 0} (word : Codec RpcFault A) (value : A) (maximum : ℕ) (blocks front a out : List ℕ) → IsSound word
     → let args : Args = record { maximum = maximum; blocks = Some blocks } in
     a ≡ front ++ word.write value [] → out ≡ (a ++ (counts Big).write (counts_of args) []) ++ blocks

@@ -56,13 +56,13 @@ counts_of args = record {
   actual = length (octets_of args.blocks);
 }
 
--- a word of its own, four counts, the blocks, and anything behind them
+-- a word of its own, four counts, the blocks, and anything after them
 unfoldable pub body : {A : Type 0} → Codec RpcFault A → Order → Whole RpcFault (A × Args)
 body word order = seen_whole
     (λ x. (x.0.0, record { maximum = x.0.1.maximum; blocks = blocks_in x.0.1 x.1 }))
     (λ x. ((x.0, counts_of x.1), octets_of x.1.blocks))
     (ends_by (word ⨾ counts order) (λ _. everything))
 
--- how long a body is that carries so many octets of blocks
+-- how long a body is that carries that many octets of blocks
 abbrev pub body_size : ℕ → ℕ
 body_size carried = 20 + carried

@@ -37,14 +37,14 @@ abbrev pub without : List ℕ → List Kept → List Kept
 without activity [] = []
 without activity (kept ∷ others) = if is_of activity kept then others else kept ∷ without activity others
 
--- a cache of at most so many activities, the newest first, with one more answer: it takes the place of the one of its
+-- a cache of at most that many activities, the newest first, with one more answer: it takes the place of the one of its
 -- activity, or else of the one that was kept longest ago
 abbrev pub kept_more : ℕ → Kept → List Kept → List Kept
 kept_more most kept cache = kept ∷ take (most - 1) (without kept.activity cache)
 
 -- ---- calls one after another
 
--- the cache behind a call, whose answer would be this: only a new call changes it
+-- the cache after a call, whose answer would be this: only a new call changes it
 abbrev pub behind_told : ℕ → Kept → List Kept → Told → List Kept
 behind_told most call cache new = kept_more most call cache
 behind_told most call cache (again frame) = cache
@@ -62,12 +62,12 @@ told_frame call old = None
 abbrev pub answer_of : Kept → List Kept → Option (List ℕ)
 answer_of call cache = told_frame call (looked call.activity call.sequence cache)
 
--- the cache behind calls
+-- the cache after calls
 abbrev pub behind_calls : ℕ → List Kept → List Kept → List Kept
 behind_calls most [] cache = cache
 behind_calls most (call ∷ calls) cache = behind_calls most calls (behind_call most call cache)
 
--- the cache holds an activity before, between and behind these calls
+-- the cache holds an activity before, between and after these calls
 abbrev pub HoldsThrough : ℕ → List ℕ → List Kept → List Kept → Type 0
 HoldsThrough most activity [] cache = IsSome (kept_of activity cache)
 HoldsThrough most activity (call ∷ calls) cache = IsSome (kept_of activity cache) × HoldsThrough most activity calls (behind_call most call cache)

@@ -12,7 +12,7 @@ use Rattle.rpc_core.specs.declared.fields.Order.TheVariants.{Big, Little}
 abbrev pub one : Codec RpcFault ℕ
 one = number Short 1
 
--- a number in so many octets, the lowest first
+-- a number in that many octets, the lowest first
 abbrev pub little : ℕ → Codec RpcFault ℕ
 little size = record {
   Spells = λ bytes value rest. (front : List ℕ) × (length front ≡ size) × (bytes ≡ front ++ rest) × (value ≡ little_number size front);
@@ -22,7 +22,7 @@ little size = record {
   read = λ bytes. (raw Short size).read bytes >>= λ x. Ok (little_number size x.0, x.1);
 }
 
--- a number in so many octets, in this order
+-- a number in that many octets, in this order
 unfoldable pub ordered : Order → ℕ → Codec RpcFault ℕ
 ordered Big size = number Short size
 ordered Little size = little size
@@ -37,6 +37,6 @@ unfoldable pub uuid : Order → Codec RpcFault (List ℕ)
 uuid Big = raw Short 16
 uuid Little = seen turned turned (raw Short 16)
 
--- so many octets that are read with any value and written as these
+-- that many octets that are read with any value and written as these
 abbrev pub any : ℕ → List ℕ → Codec RpcFault (Unit {0})
 any size written = seen (λ _. tt) (λ _. written) (raw Short size)

@@ -124,7 +124,7 @@ impl<const N: usize> CallCache<N> {
     /// What is told of the call of this number within an activity.
     pub fn look(&self, activity: &Uuid, sequence: u32) -> Looked<'_>
         ensures told { looked activity.now sequence self.now ≡ told result }
-        // A call that was answered, and comes again behind any calls while its activity is held, is answered by the same frame or,
+        // A call that was answered, and comes again after any calls while its activity is held, is answered by the same frame or,
         // where a later call of its activity was answered, not at all.
         ensures faithful { (cache calls : List Kept) (call : Kept) (frame : List ℕ) → call.activity ≡ activity.now →
             call.sequence ≡ sequence →
@@ -147,7 +147,7 @@ impl<const N: usize> CallCache<N> {
     }
 
     /// Keeps the answer to a call as its frame, so that a call that is repeated is answered alike whatever has changed since. It takes the
-    /// place of the answer that is kept of its activity or, where there is none and the cache is full, of the answer that was kept longest
+    /// place of the answer that is kept of its activity or, if there is none and the cache is full, of the answer that was kept longest
     /// ago.
     pub fn keep(&mut self, activity: &Uuid, sequence: u32, frame: &Frame)
         requires { 0 < N }

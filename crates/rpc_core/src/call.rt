@@ -65,14 +65,14 @@ fn call_in(interface: Interface, bytes: &[u8]) -> Result<Call<'_>, RpcFault>
     })
 }
 
-/// Reads a call to this interface from a datagram. What is behind the body's length, and behind the blocks, is not read. Of the
+/// Reads a call to this interface from a datagram. What follows the body's length, and after the blocks, is not read. Of the
 /// faults the first in their order counts. Numbers are read in big endian where the representation is neither.
 pub fn read_call(interface: Interface, bytes: &[u8]) -> Result<Call<'_>, RpcFault>
     // What is read is spelled so.
     ensures found { IfOk result (λ found. IsCall interface bytes.now (asked found)) }
     // What is spelled so is read, and as nothing else.
     ensures only { (meaning : Asked) → IsCall interface bytes.now meaning → Gives asked result (Ok meaning) }
-    // With anything behind it, too.
+    // With anything after it, too.
     ensures behind { (first more : List ℕ) (meaning : Asked) → IsCall interface first meaning → bytes.now ≡ first ++ more →
         Gives asked result (Ok meaning) }
     // Which fault it is.

@@ -22,7 +22,7 @@ pub struct CallHeader {
     pub operation: u16,
 }
 
-/// What stands in front of the identifiers.
+/// What comes before the identifiers.
 #[derive(Clone, Copy)]
 pub(crate) struct Opening {
     pub(crate) version: u8,
@@ -90,7 +90,7 @@ pub(crate) fn order_under(representation: u8) -> Order
     }
 }
 
-/// Version, packet type, flags and representation, and what is behind them.
+/// Version, packet type, flags and representation, and what follows them.
 #[tactic(auto, unfolding(crate::specs::Header::opening))]
 fn opening_at(bytes: &[u8]) -> Result<(Opening, &[u8]), RpcFault>
     ensures { Gives (λ x. (x.0, x.1.now)) result (opening.read bytes.now) }
@@ -112,7 +112,7 @@ fn opening_at(bytes: &[u8]) -> Result<(Opening, &[u8]), RpcFault>
     ))
 }
 
-/// Object, interface and activity, and what is behind them.
+/// Object, interface and activity, and what follows them.
 #[tactic(auto, unfolding(crate::specs::Header::names))]
 fn names_at(order: Order, bytes: &[u8]) -> Result<(Names, &[u8]), RpcFault>
     ensures { Gives (λ x. (x.0, x.1.now)) result ((names order).read bytes.now) }
@@ -130,7 +130,7 @@ fn names_at(order: Order, bytes: &[u8]) -> Result<(Names, &[u8]), RpcFault>
     ))
 }
 
-/// Sequence number and operation, and what is behind them.
+/// Sequence number and operation, and what follows them.
 #[tactic(auto, unfolding(crate::specs::Header::turn))]
 fn turn_at(order: Order, bytes: &[u8]) -> Result<(Turn, &[u8]), RpcFault>
     ensures { Gives (λ x. (x.0, x.1.now)) result ((turn order).read bytes.now) }
@@ -147,7 +147,7 @@ fn turn_at(order: Order, bytes: &[u8]) -> Result<(Turn, &[u8]), RpcFault>
     ))
 }
 
-/// The body's length, the fragment's number and the authentication, and what is behind them.
+/// The body's length, the fragment's number and the authentication, and what follows them.
 #[tactic(auto, unfolding(crate::specs::Header::extent))]
 fn extent_at(order: Order, bytes: &[u8]) -> Result<(Extent, &[u8]), RpcFault>
     ensures { Gives (λ x. (x.0, x.1.now)) result ((extent order).read bytes.now) }
@@ -167,7 +167,7 @@ fn extent_at(order: Order, bytes: &[u8]) -> Result<(Extent, &[u8]), RpcFault>
     ))
 }
 
-/// The header, and what is behind it.
+/// The header, and what follows it.
 #[tactic(auto, unfolding(crate::specs::Header::head))]
 pub(crate) fn head_at(bytes: &[u8]) -> Result<(Head, &[u8]), RpcFault>
     ensures { Gives (λ x. (x.0, x.1.now)) result (head.read bytes.now) }

@@ -9,7 +9,7 @@ ghost use Rattle.rpc_core.specs.Sendable.{CanBeAnswered, CanBeCalled, IsHeader};
 
 /// What is written for a call is read as that call: a law of the definitions, and no code.
 pub fn calls_are_read()
-    // Where its interface is served, whatever stands behind it.
+    // Where its interface is served, whatever stands after it.
     ensures read { (interface : Interface) (call : Asked) (more : List ℕ) → CanBeCalled interface call →
         call_of interface (call_bytes interface call ++ more) ≡ Ok call }
     // It fits a frame.
@@ -18,7 +18,7 @@ pub fn calls_are_read()
 
 /// What is written for a response is read as that response: a law of the definitions, and no code.
 pub fn responses_are_read()
-    // Whatever stands behind it.
+    // Whatever stands after it.
     ensures read { (response : Answered) (more : List ℕ) → CanBeAnswered response →
         response_of (response_bytes response ++ more) ≡ Ok response }
     // It fits a frame.

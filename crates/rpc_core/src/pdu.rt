@@ -19,7 +19,7 @@ pub(crate) struct Counts {
     pub(crate) actual: u32,
 }
 
-/// The header, the body that its length counts, and what is behind that.
+/// The header, the body that its length counts, and what follows that.
 #[tactic(auto, unfolding(crate::specs::Pdu::cut_off))]
 fn cut_off_at(bytes: &[u8]) -> Result<(Head, &[u8], &[u8]), RpcFault>
     ensures { Gives (λ x. ((x.0, x.1.now), x.2.now)) result (cut_off.read bytes.now) }
@@ -59,7 +59,7 @@ fn serves(interface: Option<Interface>, head: &Head) -> bool
     }
 }
 
-/// A header that passes its tests, its body, and what is behind that.
+/// A header that passes its tests, its body, and what follows that.
 #[tactic(auto, unfolding(crate::specs::Pdu::pdu))]
 pub(crate) fn pdu_at(
     packet_type: u8,
@@ -85,7 +85,7 @@ pub(crate) fn pdu_at(
     Ok((head, body, rest))
 }
 
-/// ArgsLength, MaximumCount, Offset and ActualCount, and what is behind them.
+/// ArgsLength, MaximumCount, Offset and ActualCount, and what follows them.
 #[tactic(auto, unfolding(crate::specs::Body::counts))]
 pub(crate) fn counts_at(order: Order, bytes: &[u8]) -> Result<(Counts, &[u8]), RpcFault>
     ensures { Gives (λ x. (x.0, x.1.now)) result ((counts order).read bytes.now) }

@@ -46,7 +46,7 @@ pub struct Response<'a> {
     pub blocks: &'a [u8],
 }
 
-/// PNIOStatus, and what is behind it.
+/// PNIOStatus, and what follows it.
 #[tactic(auto, unfolding(crate::specs::Body::status))]
 fn status_at(order: Order, bytes: &[u8]) -> Result<(Status, &[u8]), RpcFault>
     ensures { Gives (λ x. (x.0, x.1.now)) result ((status order).read bytes.now) }
@@ -102,14 +102,14 @@ fn response_in(bytes: &[u8]) -> Result<Response<'_>, RpcFault>
     })
 }
 
-/// Reads a response from a datagram, to whatever interface. What is behind the body's length, and behind the blocks, is not read.
+/// Reads a response from a datagram, to whatever interface. What follows the body's length, and after the blocks, is not read.
 /// Of the faults the first in their order counts. Numbers are read in big endian where the representation is neither.
 pub fn read_response(bytes: &[u8]) -> Result<Response<'_>, RpcFault>
     // What is read is spelled so.
     ensures found { IfOk result (λ found. IsResponse bytes.now (answered found)) }
     // What is spelled so is read, and as nothing else.
     ensures only { (meaning : Answered) → IsResponse bytes.now meaning → Gives answered result (Ok meaning) }
-    // With anything behind it, too.
+    // With anything after it, too.
     ensures behind { (first more : List ℕ) (meaning : Answered) → IsResponse first meaning → bytes.now ≡ first ++ more →
         Gives answered result (Ok meaning) }
     // Which fault it is.

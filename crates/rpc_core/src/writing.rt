@@ -78,7 +78,7 @@ fn put_extent(out: &mut Datagram, value: &Extent)
     append(out, &[0]);
 }
 
-/// Appends the header in front of a body that carries so many octets of blocks.
+/// Appends the header in front of a body that carries that many octets of blocks.
 fn put_head(out: &mut Datagram, packet_type: u8, flags: u8, header: &CallHeader, carried: usize)
     requires empty { out.old.items ≡ [] }
     requires room { carried ≤ 1372 }
@@ -181,7 +181,7 @@ pub fn write_request(call: &Call, datagram: &mut Datagram)
     // They spell what was given, to the interface that it names.
     ensures spelled { (interface : Interface) → call.now.header.interface ≡ interface_uuid interface →
         IsCall interface datagram.new.items (asked call.now) }
-    // With anything behind it, it is read as that.
+    // With anything after it, it is read as that.
     ensures behind { (interface : Interface) (more : List ℕ) → call.now.header.interface ≡ interface_uuid interface →
         call_of interface (datagram.new.items ++ more) ≡ Ok (asked call.now) }
 {
@@ -201,7 +201,7 @@ pub fn write_response(response: &Response, datagram: &mut Datagram)
     ensures exact { datagram.new.items ≡ response_bytes (answered response.now) }
     // They spell what was given.
     ensures spelled { IsResponse datagram.new.items (answered response.now) }
-    // With anything behind it, it is read as that.
+    // With anything after it, it is read as that.
     ensures behind { (more : List ℕ) → response_of (datagram.new.items ++ more) ≡ Ok (answered response.now) }
 {
     put_head(

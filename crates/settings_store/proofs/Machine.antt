@@ -90,7 +90,7 @@ room_left outcomes values (item ∷ items) fine =
     (λ is_lost command _ _ fine. let failed = stays_failed (rest_of outcomes) (accepted (Fault is_lost) values command).values items refl in cc)
     fine
 
--- what is left of the outcomes after so many items
+-- the rest of the outcomes after that many items
 after : List Outcome → List SetItem → List Outcome
 after outcomes [] = outcomes
 after outcomes (item ∷ items) = after (rest_of outcomes) items

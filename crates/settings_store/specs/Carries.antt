@@ -37,7 +37,7 @@ pub record Stretch {F : Type 0} {S : ℕ} (as_flash : Flash F S) (first : State 
   pub room : now.values.has_failed ≡ false → now.values.room + length accepted ≡ first.values.room
   pub stays_lost : first.values.is_lost ≡ true → now.values.is_lost ≡ true
 
--- Whatever stretch came before, these commands behind it make a longer one.
+-- Whatever stretch came before, these commands after it make a longer one.
 abbrev pub Continues : {F : Type 0} {S : ℕ} → Flash F S → State F → List Accepted → State F → Type 0
 Continues {F} as_flash old accepted new =
     (first : State F) (front : List Accepted) → Stretch as_flash first front old → Stretch as_flash first (front ++ accepted) new

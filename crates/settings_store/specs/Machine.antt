@@ -47,7 +47,7 @@ accepted (Fault is_lost) values command = record {
   accepted = record { command = command; is_done = false } ∷ [];
 }
 
--- A command: refused after a commit that failed, and where there is no room; else accepted.
+-- A command: refused after a commit that failed, and if there is no room; else accepted.
 abbrev pub committed : Outcome → Values → Command → Carried
 committed outcome values command =
     if values.has_failed then answered Local values else (if values.room == 0 then answered Exhausted values else accepted outcome values command)

@@ -30,7 +30,7 @@ fn named(bytes: &[u8]) -> Result<StationName, NameFault>
         return Err(NameFault::TooLong);
     }
     let found = Found::of(bytes);
-    // One kind of fault after another over the whole text, so that which fault is told does not hang on where it stands.
+    // One kind of fault after another over the whole text, so that which fault is told does not depend on where it stands.
     for fault in NameFault::ALL {
         if found.has(fault) {
             return Err(fault);

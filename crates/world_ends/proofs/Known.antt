@@ -68,7 +68,7 @@ pub record Holds (setup : Setup) (station : Station) (live : ControllerLive) (ke
 abbrev pub HoldsAt : {F : Type 0} → World F → Type 0
 HoldsAt w = Holds w.controller.setup w.device.station w.controller.live (device.small_of w.controller.setup.activity w.device.live).kept w.sent
 
--- the answer that is kept behind a step
+-- the answer that is kept after a step
 kept_known : (rules : Rules TakenRecord Request) (P : List ℕ → Type 0) (heard : ToDevice) (before after : small.Device TakenRecord Request) (frames : List (List ℕ)) → DeviceSteps rules heard before after frames
     → ((answer : small.Kept) → before.kept ≡ Some answer → P answer.frame) → AllByRecursion P frames → (answer : small.Kept) → after.kept ≡ Some answer → P answer.frame
 kept_known rules P (small.Call sequence ask) before after frames (inl answered) was all answer is =

@@ -1,4 +1,4 @@
--- Moves that were played, with the world behind each of them.
+-- Moves that were played, with the world after each of them.
 use Rattle.std.specs.Prelude.{◌≡◌, ◌<◌, ℕ, true, List, [], ◌∷◌, map, None}
 use Rattle.std.specs.List.{AllByRecursion}
 use Rattle.pn_values.specs.declared.identity.Identity.{Identity}
@@ -61,7 +61,7 @@ abbrev pub AreMade : {F : Type 0} {S : ℕ} → Flash F S → World F → List (
 AreMade as_flash before [] = Unit {0}
 AreMade as_flash before (one ∷ run) = Happens as_flash before one.0 one.1 × AreMade as_flash one.1 run
 
--- the world behind a run
+-- the world after a run
 abbrev pub last_world : {F : Type 0} → World F → List (Move × World F) → World F
 last_world before [] = before
 last_world before (one ∷ run) = last_world one.1 run

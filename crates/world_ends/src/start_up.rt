@@ -54,7 +54,7 @@ fn plan_is_placed(plan: &Plan)
 
 /// A start-up of this set-up with this device, over the worlds of any moves, whatever the flash of the device does.
 pub fn worlds_start_up<F: Flash<S>, const S: usize>(setup: &Setup, identity: &Identity)
-    // Moves that were played are a run: each one happens in the world behind the one before it.
+    // Moves that were played are a run: each one happens in the world after the one before it.
     ensures run { (before after : World F) (moves : List Move) → Played F.Flash before moves after
         → IsRunOf F.Flash before moves after }
     // Whatever comes and is sent with each move is heard as it is meant: the device hears no calls but those of the plan, in octets that
