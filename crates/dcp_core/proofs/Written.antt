@@ -18,7 +18,7 @@ use Rattle.dcp_core.proofs.Sound.{block_of_sound, blocks_sound, kind_sound, requ
 
 -- ---- a block
 
--- a kind, a length, that many bytes, and a zero where the length is odd
+-- a kind, a length, that many bytes, and a zero if the length is odd
 pub block_parts : (value : AskedBlock)
     → (block everything).write value [] ≡ kind.write value.kind [] ++ (big_bytes 2 (length value.contents) ++ (value.contents ++ replicate (length value.contents % 2) 0))
 unfolding block
@@ -54,7 +54,7 @@ pub whole : (service : Service) (out : List ℕ) (left : List Block) (all : List
 whole service out left all none so =
     sym (append-nil out) ∙ ap (λ (blocks : List Block). out ++ write_all (block_of service) (map asked_block blocks)) (sym none) ∙ so
 
--- how many bytes all take
+-- how many bytes all blocks take
 pub sized : (service : Service) (blocks : List AskedBlock) → length (write_all (block_of service) blocks) ≡ sum_by (block_of service).size blocks
 unfolding blocks_of
 sized service blocks = (blocks_sound service).sized blocks
@@ -111,14 +111,14 @@ fits_request Get xid blocks fits short few small = ((omega arith, (omega arith, 
 fits_request Set xid blocks fits short few small = ((omega arith, (omega arith, (small, omega arith))), (omega (arith, few), ((fits, short), refl)))
 fits_request Identify xid blocks fits short few small = ((omega arith, (omega arith, (small, omega arith))), (omega (arith, few), ((fits, short), refl)))
 
--- what is written spells the request
+-- a written request spells the request
 pub spelled : (value : Asked) → IsRequestable value → length value.blocks ≤ 16 → value.xid < 256 ^ 4 → IsRequest (frame_id_of value.service) (request_bytes value) value
 unfolding IsRequest request_bytes request
 spelled value w short small =
     (request_sound (frame_id_of value.service)).written value
     (fits_request value.service value.xid value.blocks (all_fit value.service value.blocks w.0 w.1) short w.1 small)
 
--- and with anything after it is read as it
+-- with anything after it, a written request is read back
 pub read_behind : (value : Asked) (more : List ℕ) → IsRequest (frame_id_of value.service) (request_bytes value) value
     → request_of (frame_id_of value.service) (request_bytes value ++ more) ≡ Ok value
 read_behind value more s =

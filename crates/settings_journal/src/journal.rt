@@ -102,7 +102,7 @@ impl<F: Flash<S>, const S: usize> Journal<F, S> {
             × (journal.room ≡ room)) (λ refused. refused.0 ≡ BootFault.FlashFault) }
         ensures left { LeftByDevice (F.image flash) → IfErr result (λ refused. refused.0 ≡ BootFault.FlashFault) }
 
-        // Foreign is returned only if the image cannot be read as settings, and then the start always fails.
+        // Foreign is returned only if no journal of this layout left the image, and a start on such an image fails.
         ensures foreign { IfErr result (λ refused. refused.0 ≡ BootFault.Foreign → IsForeign (F.image flash)) }
         ensures strange { IsForeign (F.image flash) → IsErr result }
 
@@ -178,7 +178,7 @@ impl<F: Flash<S>, const S: usize> Journal<F, S> {
             MatchResult result (λ _. (self.new.settings ≡ settings) × (self.new.room ≡ room)) (λ fault. fault ≡ BootFault.FlashFault) }
         ensures left { LeftByDevice (F.image self.old.flash) → IfErr result (λ fault. fault ≡ BootFault.FlashFault) }
 
-        // Foreign is returned only if the image cannot be read as settings, and then the start always fails.
+        // Foreign is returned only if no journal of this layout left the image, and a start on such an image fails.
         ensures foreign { IfErr result (λ fault. fault ≡ BootFault.Foreign → IsForeign (F.image self.old.flash)) }
         ensures strange { IsForeign (F.image self.old.flash) → IsErr result }
 
@@ -229,8 +229,8 @@ impl<F: Flash<S>, const S: usize> Journal<F, S> {
     /// that failed, until the next start, and before a start.
     pub fn left(&self) -> u32
         ensures value { result ≡ commits_left self.now.has_failed self.now.room }
-        // If no commit failed, the result is 0 if and only if the room is 0, and a start on the flash reads the same
-        // room.
+        // If no commit failed, the result is 0 if and only if the room is 0, and a start on the flash reads these
+        // settings with this room.
         ensures exhausted { self.now.has_failed ≡ false → (result ≡ 0) ↔ (self.now.room ≡ 0) }
         ensures read { self.now.has_failed ≡ false → StartsWith (F.image self.now.flash) self.now.settings result }
     {

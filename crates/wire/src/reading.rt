@@ -20,7 +20,7 @@ pub fn skip(bytes: &[u8], most: usize) -> &[u8]
     &bytes[most.min(bytes.len())..]
 }
 
-/// The octets of `bytes` before `rest`, which must be the end of them.
+/// The octets of `bytes` before `rest`, if `rest` is the end of `bytes`.
 pub fn front<'a>(bytes: &'a [u8], rest: &[u8]) -> &'a [u8]
     ensures { result.now ≡ front_of bytes.now rest.now }
 {
