@@ -33,7 +33,7 @@ use Rattle.hearing_laws.proofs.Given.{DataIsRead}
 use Rattle.hearing_laws.proofs.Choices.{cast_chosen, own_chosen}
 use Rattle.hearing_laws.proofs.Device.{data_heard}
 
--- what is written of a request is read as it, and fits a frame
+-- a written request is read back, and fits a frame
 abbrev pub RequestsAreRead : Type 0
 RequestsAreRead = (asked : Asked) (more : List ℕ) → CanBeAsked asked → request_of (frame_id_of asked.service) (request_bytes asked ++ more) ≡ Ok asked
 

@@ -1,4 +1,4 @@
--- By the laws of the formats.
+-- This follows from the laws of the formats.
 use Rattle.alarm_laws.proofs.Blocks.{ack_long}
 use Rattle.alarm_laws.proofs.Pdus.{ack_said}
 use Rattle.alarm_laws.proofs.law.acks_are_read.Goals as goal

@@ -1,4 +1,4 @@
--- By the laws of the formats.
+-- This follows from the laws of the formats.
 use Rattle.alarm_laws.proofs.Blocks.{alarm_long}
 use Rattle.alarm_laws.proofs.Pdus.{alarm_said}
 use Rattle.alarm_laws.proofs.law.alarms_are_read.Goals as goal

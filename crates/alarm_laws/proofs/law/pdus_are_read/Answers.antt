@@ -1,4 +1,4 @@
--- By the law of the format.
+-- This follows from the law of the format.
 use Rattle.alarm_laws.proofs.Pdus.{pdu_read}
 use Rattle.alarm_laws.proofs.law.pdus_are_read.Goals as goal
 

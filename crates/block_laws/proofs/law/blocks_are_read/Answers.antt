@@ -1,4 +1,4 @@
--- By the law of the format.
+-- This follows from the law of the format.
 use Rattle.block_laws.proofs.Read.{alone, each, read}
 use Rattle.block_laws.proofs.law.blocks_are_read.Goals as goal
 

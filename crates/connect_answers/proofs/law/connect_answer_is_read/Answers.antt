@@ -1,4 +1,4 @@
--- By the law of the plan's Connect, and those of this crate.
+-- This follows from the law of the plan's Connect and the laws of this crate.
 use Rattle.std.proofs.Common.{refl, ◌∙◌}
 use Rattle.connect_answers.specs.Answer.{answer_blocks, answer_frame}
 use Rattle.connect_answers.proofs.Answered.{all_there, answers_so, blocks_written, goes_on, heard_as_made}

@@ -1,4 +1,4 @@
--- By the laws of the formats.
+-- This follows from the laws of the formats.
 use Rattle.frame_codec.specs.Meaning.{ArpPacket, RealTime, UdpDatagram}
 use Rattle.frame_laws.specs.Sendable.{carrying}
 use Rattle.frame_laws.proofs.Read.{alone, alone_back, back, long}

@@ -1,4 +1,4 @@
--- By the laws of the crates below.
+-- This follows from the laws of the crates below.
 use Rattle.hearing_laws.proofs.Datagrams.{call_at_controller, call_at_device}
 use Rattle.hearing_laws.proofs.calls.calls_are_heard.Goals as goal
 

@@ -1,4 +1,4 @@
--- By the laws of the crates below.
+-- This follows from the laws of the crates below.
 use Rattle.hearing_laws.proofs.Sendings.{answer_can, call_can, ready_can}
 use Rattle.hearing_laws.proofs.calls.calls_can_be_sent.Goals as goal
 

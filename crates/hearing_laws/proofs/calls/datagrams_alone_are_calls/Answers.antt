@@ -1,4 +1,4 @@
--- By the laws of the crates below.
+-- This follows from the laws of the crates below.
 use Rattle.hearing_laws.proofs.Controller.{uncalled}
 use Rattle.hearing_laws.proofs.Device.{untold}
 use Rattle.hearing_laws.proofs.calls.datagrams_alone_are_calls.Goals as goal

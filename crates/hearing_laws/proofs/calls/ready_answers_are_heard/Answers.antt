@@ -1,4 +1,4 @@
--- By the laws of the crates below.
+-- This follows from the laws of the crates below.
 use Rattle.hearing_laws.proofs.Datagrams.{answer_at_controller, answer_at_device}
 use Rattle.hearing_laws.proofs.calls.ready_answers_are_heard.Goals as goal
 

@@ -1,4 +1,4 @@
--- By the laws of the crates below.
+-- This follows from the laws of the crates below.
 use Rattle.hearing_laws.proofs.Datagrams.{ready_at_controller, ready_at_device}
 use Rattle.hearing_laws.proofs.calls.ready_calls_are_heard.Goals as goal
 

@@ -1,4 +1,4 @@
--- By the laws of the crates below.
+-- This follows from the laws of the crates below.
 use Rattle.frame_codec.specs.declared.arp.ArpOperation.TheVariants.{Reply}
 use Rattle.hearing_laws.proofs.Controller as controller
 use Rattle.hearing_laws.proofs.Device as device

@@ -1,4 +1,4 @@
--- By the laws of the crates below.
+-- This follows from the laws of the crates below.
 use Rattle.hearing_laws.proofs.Requests.{address_heard, identify_heard}
 use Rattle.hearing_laws.proofs.discovery.requests_are_heard.Goals as goal
 

@@ -1,4 +1,4 @@
--- Turn by turn.
+-- This is proved turn by turn.
 use Rattle.sending_laws.proofs.Turns.{first_live, turn_right}
 use Rattle.sending_laws.proofs.law.messages_can_be_sent.Goals as goal
 
