@@ -1,12 +1,12 @@
-// What is plugged in it.
+// The modules that are plugged in it.
 ghost use Rattle.std.specs.Prelude.{◌≡◌, [], ◌∷◌};
 ghost use Rattle.demo_station.specs.Demo.{demo_real, module_of, plugged};
 
 use arrayvec::ArrayVec;
 use pn_values::{Real, RealModule, RealSubmodule};
 
-/// The access point with its interface and a port, a module of two bytes of input, and one of
-/// two bytes of output.
+/// The modules of the demo station: the access point with its interface and a port, a module of two bytes of input, and
+/// one of two bytes of output.
 #[tactic(auto, unfolding(crate::specs::Demo::demo_real))]
 pub fn real() -> Real
     ensures { result ≡ demo_real }
@@ -39,7 +39,7 @@ fn single(slot: u16, ident: u32, only: RealSubmodule) -> RealModule
     }
 }
 
-/// A submodule that takes no parameter record.
+/// A submodule without parameter records.
 fn submodule(subslot: u16, ident: u32, input: u16, output: u16) -> RealSubmodule
     ensures { result ≡ plugged subslot ident input output }
 {

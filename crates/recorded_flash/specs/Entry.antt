@@ -1,4 +1,4 @@
--- The call that an entry of a record stands for.
+-- The call that an entry of a record represents.
 use Rattle.flash_model.specs.Calls.{Call, Programs, Erases}
 use Rattle.recorded_flash.specs.declared.entry.Recorded.{Recorded}
 use Rattle.recorded_flash.specs.declared.entry.Recorded.TheVariants.{Program, Erase}
